@@ -11,7 +11,7 @@ use Rattle.comp_worlds.specs.WorldContents.{core_imports}
 use Rattle.core_options.specs.Causes.{IsCause, LacksMemory, LacksRealloc, LacksEncoding}
 use Rattle.comp_check.specs.declared.fault.CheckFault.TheVariants as checks
 use Rattle.comp_encoder.specs.CanonicalNames.{IsShared}
-use Rattle.comp_encoder.specs.Outputs.{IsNameCause, IsOutputRefusal, NoOutputCause}
+use Rattle.comp_encoder.specs.Outputs.{IsCheckCause, IsOutputRefusal, NoOutputCause}
 use Rattle.comp_encoder.specs.declared.output.OutputFault.{OutputFault}
 use Rattle.comp_encoder.specs.declared.output.OutputFault.TheVariants as outputs
 use Rattle.comp_encoder.specs.Refusals.{of_state, of_output, IsEncodeRefusal, NoWorldCause, NoEncodeCause}
@@ -32,8 +32,8 @@ module _ {L B F : Type 0} (l : lower.Ghosts L B F) where
   from_output e w (outputs.Check checks.Memory) is h = tt
   from_output e w (outputs.Check (checks.Grammar place)) is h = absurd h.1
   from_output e w (outputs.Check (checks.Index definition space index)) is h = absurd h.1
-  from_output e w (outputs.Check (checks.NameTwice name)) is h = (h.0, subst (λ x. IsNameCause (naming e) x (checks.NameTwice name)) is.prepared h.1)
-  from_output e w (outputs.Check (checks.NameForm name)) is h = (h.0, subst (λ x. IsNameCause (naming e) x (checks.NameForm name)) is.prepared h.1)
+  from_output e w (outputs.Check (checks.NameTwice name)) is h = (h.0, subst (λ x. IsCheckCause (naming e) x (checks.NameTwice name)) is.prepared h.1)
+  from_output e w (outputs.Check (checks.NameForm name)) is h = (h.0, subst (λ x. IsCheckCause (naming e) x (checks.NameForm name)) is.prepared h.1)
 
   pub no_cause_holds : (e : Encoder L B) (w : ComponentWorld) → IsWorldOf l e w → NoWorldCause l e → NoOutputCause (naming e) w e.gathered.options.validate → NoEncodeCause l e
   no_cause_holds e w is none output = record { world = none; output = subst (λ x. NoOutputCause (naming e) x e.gathered.options.validate) is.prepared output }

@@ -10,7 +10,7 @@ use Rattle.comp_worlds.specs.WorldContents.{core_imports}
 use Rattle.comp_links.specs.Lists.{required_functions}
 use Rattle.comp_check.specs.declared.fault.CheckFault.TheVariants as checks
 use Rattle.comp_encoder.specs.CanonicalNames.{IsShared}
-use Rattle.comp_encoder.specs.Outputs.{IsNameCause, NoOutputCause}
+use Rattle.comp_encoder.specs.Outputs.{IsCheckCause, NoOutputCause}
 use Rattle.comp_encoder.specs.declared.canonical_names.SharedName.{SharedName}
 use Rattle.comp_encoder.specs.declared.output.OutputFault.{OutputFault}
 use Rattle.comp_encoder.specs.declared.output.OutputFault.TheVariants as outputs
@@ -71,7 +71,7 @@ module _ {L B F : Type 0} (l : lower.Ghosts L B F) where
   IsEncodeRefusal e (NoMemory place) = let w = l.prepared e.lower e.gathered in LacksMemory w (core_imports w) (required_functions w) place
   IsEncodeRefusal e (NoRealloc place) = let w = l.prepared e.lower e.gathered in LacksRealloc w (core_imports w) (required_functions w) place
   IsEncodeRefusal e (NoEncoding place) = LacksEncoding (l.prepared e.lower e.gathered) place
-  IsEncodeRefusal e (Output fault) = IsTrue e.gathered.options.validate × IsNameCause (naming e) (l.prepared e.lower e.gathered) fault
+  IsEncodeRefusal e (Output fault) = IsTrue e.gathered.options.validate × IsCheckCause (naming e) (l.prepared e.lower e.gathered) fault
   IsEncodeRefusal e (TooMany excess) = 2 ^ 32 ≤ excess
 
   -- no cause of a refusal holds for the world of what was gathered

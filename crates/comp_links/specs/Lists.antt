@@ -1,6 +1,6 @@
 -- What a component imports and exports, in order, and the section of its names (component model: the imports and exports
 -- of a component; binary format: name section).
-use Rattle.std.specs.Prelude.{◌≡◌, ◌==◌, ◌++◌, ℕ, suc, List, [], ◌∷◌, codes, map, Option, Some, None, slice_get, if◌then◌else◌, unwrap_or}
+use Rattle.std.specs.Prelude.{◌≡◌, ◌==◌, ◌++◌, ℕ, suc, List, [], ◌∷◌, codes, map, Option, Some, None, Contains, slice_get, if◌then◌else◌, unwrap_or}
 use Rattle.std.specs.List.{flat_map}
 use Rattle.std.specs.Map.{lookup}
 use Rattle.comp_bytes.specs.declared.space.Sort.{Sort}
@@ -12,6 +12,7 @@ use Rattle.comp_bytes.specs.declared.def.Item.TheVariants as parts
 use Rattle.comp_bytes.specs.declared.def.Def.{Def}
 use Rattle.comp_bytes.specs.declared.def.Def.TheVariants as defs
 use Rattle.wit_data.specs.Names.{text_of}
+use Rattle.wit_data.specs.Live.{named_types}
 use Rattle.wit_data.specs.declared.functions.Function.{Function}
 use Rattle.wit_data.specs.declared.worlds.WorldItem.{WorldItem}
 use Rattle.wit_data.specs.declared.worlds.WorldItem.TheVariants as items
@@ -20,7 +21,7 @@ use Rattle.wit_data.specs.declared.ids.InterfaceId.{InterfaceId}
 use Rattle.wit_data.specs.declared.ids.TypeId.{TypeId}
 use Rattle.comp_worlds.specs.WorldContents.{items_of, imported_types, interface_at, name_at, exported_item}
 use Rattle.world_values.specs.Items.{functions_of, functions_in}
-use Rattle.nested_terms.specs.Naming.{import_names}
+use Rattle.nested_terms.specs.Naming.{import_names, type_import_name, numbered}
 use Rattle.comp_worlds.specs.declared.world.ComponentWorld.{ComponentWorld}
 use Rattle.wit_data.specs.declared.types.Type.TheVariants.{Id}
 use Rattle.comp_trees.specs.Trees.{Origin, Resource, ImportedAt}
@@ -185,10 +186,26 @@ required_functions w = flat_map (functions_required w) (required_keys w)
 abbrev pub functions_of_interface : ComponentWorld → InterfaceId → List Function
 functions_of_interface w id = map (λ e. e.1) (functions_of w.resolve id)
 
--- The lists of names of the nested component that an item is exported by: of its imports, and of its exports. A function is
--- exported as it is.
+-- the names of its types, in order
+abbrev pub type_names : ComponentWorld → InterfaceId → List (List ℕ)
+type_names w id = map (λ t. t.0) (named_types w.resolve id)
+
+-- the names of what its nested component exports: the types, and then the functions
+abbrev pub nested_export_names : ComponentWorld → InterfaceId → List (List ℕ)
+nested_export_names w id = type_names w id ++ map (λ f. f.name) (functions_of_interface w id)
+
+-- A name under which its nested component may import a type of the interface: that of the type, with as many numbers behind it as
+-- it takes. (Which types are imported, no definition here says: those of which functions are made.)
+pub record IsTypeImport (w : ComponentWorld) (id : InterfaceId) (name : List ℕ) : Type 0 where
+  pub of : List ℕ
+  pub listed : Contains (type_names w id) of
+  pub count : ℕ
+  pub same : name ≡ numbered count (type_import_name of)
+
+-- The lists of names of the nested component that an item is exported by: of the functions that it imports, and of its exports. A
+-- function is exported as it is.
 abbrev pub nested_lists : ComponentWorld → Option WorldItem → List (List (List ℕ))
-nested_lists w (Some (items.Interface id)) = import_names (functions_of_interface w id) ∷ map (λ f. f.name) (functions_of_interface w id) ∷ []
+nested_lists w (Some (items.Interface id)) = import_names (functions_of_interface w id) ∷ nested_export_names w id ∷ []
 nested_lists w item = []
 
 -- the lists of names of all nested components, in the order of the exports

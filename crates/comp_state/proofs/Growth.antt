@@ -58,11 +58,9 @@ encoding-typed g t h = record {
 }
 
 -- after the instance of main
-pub encoding-instantiated : {w : ComponentWorld} {last : Option TypeId} {old new : Built} {maps : TypeEncodingMaps} {instances : List (InterfaceId × ℕ)} {step : Step} {functions : List (List ℕ × ℕ)} {main : Option ℕ} →
-    (index : ℕ) → Extends old new → AreImported step → IsInstanceOf new.defs index 0 → IsEncoding w last old.defs maps instances step functions main → IsEncoding w last new.defs maps instances Instantiated functions (Some index)
-encoding-instantiated {w} {last} {old} {new} {maps} {instances} index g s made h =
-    let k : IsEncoding w last new.defs maps instances _ _ _ = encoding-kept {old = old} {new = new} g h in
-    record { valid = h.valid; imported = λ _. k.imported s; made = λ _. record { index = index; known = refl; made = made } }
+pub encoding-instantiated : {w : ComponentWorld} {last : Option TypeId} {ds : List Def} {maps : TypeEncodingMaps} {instances : List (InterfaceId × ℕ)} {step : Step} {functions : List (List ℕ × ℕ)} {main : Option ℕ} →
+    (index : ℕ) → AreImported step → IsInstanceOf ds index 0 → IsEncoding w last ds maps instances step functions main → IsEncoding w last ds maps instances Instantiated functions (Some index)
+encoding-instantiated index s made h = record { valid = h.valid; imported = λ _. h.imported s; made = λ _. record { index = index; known = refl; made = made } }
 
 -- after the imports
 pub encoding-imported : {w : ComponentWorld} {last after : Option TypeId} {old new : List Def} {maps now : TypeEncodingMaps} {first instances : List (InterfaceId × ℕ)} {step : Step} {before functions : List (List ℕ × ℕ)} {main : Option ℕ} →

@@ -72,7 +72,7 @@ module _ (given : List ℕ → TypeTree) where
     item_scoped s before counted (items.Type (types.Func f)) h = (known_function_names (Within before) s.types (type_named s before counted) f h, tt)
     item_scoped s before counted (items.Type (types.Defined t)) h = (known_defined (Within before) s.types (type_named s before counted) t h, tt)
     item_scoped s before counted (items.Import name (descriptions.Func kind)) h = ((type_named s before counted kind (function_in_range s.types kind h.type h.tree), tt), tt)
-    item_scoped s before counted (items.Import name (descriptions.TypeEqual index)) h = ((type_named s before counted index h.0, tt), tt)
+    item_scoped s before counted (items.Import name (descriptions.TypeEqual index)) h = ((type_named s before counted index h, tt), tt)
     item_scoped s before counted (items.Import name descriptions.SubResource) h = (tt, tt)
     item_scoped s before counted (items.Export name sorts.Func index (Some (descriptions.Func kind))) h =
         ((function_named s before counted index h.0, (type_named s before counted kind h.1, tt)), tt)

@@ -116,7 +116,7 @@ instance_type_there w earlier index h =
     subst (λ n. index < n) (sym (length-map (inventories.inventory earlier).types inventories.entry_tree)) (slice_get_within (inventories.inventory earlier).types index (inventories.OfInstances h.outer h.members) h.is)
 
 within : (w : ComponentWorld) (earlier : List Def) (d : Def) → IsRight w earlier d → DefScoped (scope_of space_of earlier) d
-within w earlier (defs.Component inner) h = nested_scoped h.given (scope_of space_of earlier) inner h.right
+within w earlier (defs.Component inner) h = nested_scoped h.0.given (scope_of space_of earlier) inner h.0.right
 within w earlier (defs.Item (items.CoreModule bytes)) h = (tt, tt)
 within w earlier (defs.Item (items.CoreInstantiate number arguments)) h = (module_within w earlier number arguments h, tt)
 within w earlier (defs.Item (items.CoreExports entries)) h = (entries_within earlier entries h.each, tt)

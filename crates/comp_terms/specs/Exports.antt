@@ -4,7 +4,7 @@ use Rattle.std.specs.Prelude.{◌≡◌, ◌<◌, ◌&&◌, ℕ, List, [], ◌�
 use Rattle.std.specs.List.{AllByRecursion, IsDistinct, flat_map}
 use Rattle.std.specs.Str.{bytes_eq}
 use Rattle.comp_bytes.specs.ItemIndices.{IsAt}
-use Rattle.comp_bytes.specs.ScopeNames.{def_export}
+use Rattle.comp_bytes.specs.ScopeNames.{def_export, item_import}
 use Rattle.comp_bytes.specs.Spaces.{is_space, items_in, sort_space}
 use Rattle.comp_bytes.specs.declared.space.Sort.{Sort}
 use Rattle.comp_bytes.specs.declared.space.Sort.TheVariants as sorts
@@ -21,11 +21,11 @@ use Rattle.wit_data.specs.declared.worlds.WorldKey.{WorldKey}
 use Rattle.comp_trees.specs.DefinedTrees.{TypeTree}
 use Rattle.comp_trees.specs.DefinedScopes.{Denotes}
 use Rattle.comp_trees.specs.Inventories.{inventory, scope_of, no_function}
-use Rattle.nested_terms.specs.Nested.{NestedFunction, NestedImport, ImportedFunction, ImportedType, NestedExport, empty_scope, function_named, imports_after, exports_after, AreItemsRight}
+use Rattle.nested_terms.specs.Nested.{NestedFunction, NestedImport, ImportedFunction, ImportedType, NestedExport, type_import, empty_scope, function_named, imports_after, exports_after, AreItemsRight}
 use Rattle.comp_worlds.specs.WorldContents.{exported_item, function_exported}
 use Rattle.comp_worlds.specs.declared.world.ComponentWorld.{ComponentWorld}
 use Rattle.comp_links.specs.Links.{lift_of}
-use Rattle.comp_links.specs.Lists.{RequiredFunction, functions_required}
+use Rattle.comp_links.specs.Lists.{RequiredFunction, functions_required, IsTypeImport}
 use Rattle.comp_links.specs.Targets.{Main, Target}
 use Rattle.comp_terms.specs.Planned.{type_of_function, IsLiftFor}
 
@@ -33,6 +33,15 @@ use Rattle.comp_terms.specs.Planned.{type_of_function, IsLiftFor}
 pub record IsNestedRight (definitions : List Item) : Type 0 where
   pub given : List ℕ → TypeTree
   pub right : AreItemsRight given empty_scope definitions
+
+-- A nested component is one of an exported interface: the types that it imports are named after types of the interface, and no
+-- two of its imports have one name.
+pub record IsNestedFor (w : ComponentWorld) (definitions : List Item) : Type 0 where
+  pub key : WorldKey
+  pub id : InterfaceId
+  pub item : exported_item w key ≡ Some (world_items.Interface id)
+  pub types : AllByRecursion (IsTypeImport w id) (flat_map type_import definitions)
+  pub apart : IsDistinct bytes_eq (flat_map item_import definitions)
 
 -- ---- arguments
 

@@ -6,7 +6,7 @@ use Rattle.std.specs.Fmt.{decimal}
 use Rattle.std.specs.List.{AllByRecursion, AllZip, IsDistinct, flat_map, filter_map, list_any, range_with_len}
 use Rattle.std.specs.Str.{bytes_eq}
 use Rattle.comp_bytes.specs.Spaces.{items_in}
-use Rattle.comp_bytes.specs.ScopeNames.{member_export, item_import, item_export}
+use Rattle.comp_bytes.specs.ScopeNames.{member_export, item_export}
 use Rattle.comp_bytes.specs.declared.space.Space.{Space}
 use Rattle.comp_bytes.specs.declared.space.Space.TheVariants as spaces
 use Rattle.comp_bytes.specs.declared.space.ComponentExportKind.TheVariants as exports
@@ -45,18 +45,19 @@ use Rattle.wit_data.specs.declared.worlds.WorldItem.{WorldItem}
 use Rattle.wit_data.specs.declared.worlds.WorldItem.TheVariants as world_items
 use Rattle.wit_data.specs.declared.worlds.WorldKey.{WorldKey}
 use Rattle.nested_terms.specs.Naming.{import_names}
+use Rattle.nested_terms.specs.Nested.{function_import}
 use Rattle.comp_worlds.specs.WorldContents.{exported_item}
 use Rattle.comp_worlds.specs.declared.world.ComponentWorld.{ComponentWorld}
 use Rattle.comp_links.specs.Roles.{is_used}
 use Rattle.comp_links.specs.Targets.{Main}
 use Rattle.comp_links.specs.Modules.{WorldModule, user_modules}
 use Rattle.comp_links.specs.Naming.{Naming}
-use Rattle.comp_links.specs.Lists.{ImportEntry, ImportedInterface, WorldType, RootFunction, import_entries, names_of_interface, type_of_world, Stated, root_function, root_type, described_sort, stated_import, stated_export, functions_of_interface, AreNames}
+use Rattle.comp_links.specs.Lists.{ImportEntry, ImportedInterface, WorldType, RootFunction, import_entries, names_of_interface, type_of_world, Stated, root_function, root_type, described_sort, stated_import, stated_export, functions_of_interface, nested_export_names, AreNames}
 use Rattle.comp_terms.specs.Terms.{InstanceOf as InstanceTerm, imports_in, IsFunctionType, IsResource, IsImportedFunction, Is}
 use Rattle.world_shims.specs.WorldShims.{shims_of}
 use Rattle.comp_terms.specs.Generated.{shims_number, fixup_number, GeneratedBytes, MayBeGenerated}
 use Rattle.comp_terms.specs.Planned.{IsArgumentFor, AreFillsFor}
-use Rattle.comp_terms.specs.Exports.{IsNestedRight, InstantiatesNested, ExportsFunction, ExportsInterface}
+use Rattle.comp_terms.specs.Exports.{IsNestedRight, IsNestedFor, InstantiatesNested, ExportsFunction, ExportsInterface}
 
 -- ---- landmarks
 
@@ -85,7 +86,7 @@ item_landmark _ = None
 
 abbrev pub landmark : Def → Option Landmark
 landmark (defs.Item i) = item_landmark i
-landmark (defs.Component inner) = Some (NestedOf (flat_map item_import inner) (flat_map item_export inner))
+landmark (defs.Component inner) = Some (NestedOf (flat_map function_import inner) (flat_map item_export inner))
 
 abbrev pub landmarks : List Def → List Landmark
 landmarks ds = filter_map landmark ds
@@ -272,7 +273,7 @@ IsItemRight w earlier (items.Custom name contents) = Unit {0}
 
 abbrev pub IsRight : ComponentWorld → List Def → Def → Type 0
 IsRight w earlier (defs.Item i) = IsItemRight w earlier i
-IsRight w earlier (defs.Component inner) = IsNestedRight inner
+IsRight w earlier (defs.Component inner) = IsNestedRight inner × IsNestedFor w inner
 
 -- each of these definitions keeps its rule, after the earlier ones
 abbrev pub RightAfter : ComponentWorld → List Def → List Def → Type 0
@@ -302,7 +303,7 @@ imports_marked n w = flat_map (import_marked n w) (import_entries w)
 
 -- the landmarks of an export: an interface has a nested component
 abbrev pub nested_marked : ComponentWorld → Option WorldItem → List Landmark
-nested_marked w (Some (world_items.Interface id)) = NestedOf (import_names (functions_of_interface w id)) (map (λ f. f.name) (functions_of_interface w id)) ∷ []
+nested_marked w (Some (world_items.Interface id)) = NestedOf (import_names (functions_of_interface w id)) (nested_export_names w id) ∷ []
 nested_marked w item = []
 
 abbrev pub export_marked : Naming → ComponentWorld → WorldKey → List Landmark

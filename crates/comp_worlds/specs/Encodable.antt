@@ -1,7 +1,7 @@
 -- What the encoder takes of a validated world, beside what holds of every one: that its numbers refer to something, and
 -- where it finds the types of which its functions are made (component model, WIT: types, resources, interfaces, `use`).
-use Rattle.std.specs.Prelude.{◌≡◌, ◌≤◌, ◌<◌, ◌==◌, ◌||◌, ℕ, suc, Bool, true, false, List, [], ◌∷◌, length, map, Option, Some, None, IsSome, is_some, Contains, if◌then◌else◌}
-use Rattle.std.specs.List.{AllByRecursion, IsDistinct, list_any}
+use Rattle.std.specs.Prelude.{◌≡◌, ◌≤◌, ◌<◌, ◌==◌, ◌&&◌, ℕ, suc, Bool, true, false, not, List, [], ◌∷◌, length, map, Option, Some, None, IsSome, is_none, Contains, if◌then◌else◌}
+use Rattle.std.specs.List.{AllByRecursion, IsDistinct, list_all}
 use Rattle.comp_lists.specs.Found.{found}
 use Rattle.wit_data.specs.declared.functions.Function.{Function}
 use Rattle.wit_data.specs.declared.ids.InterfaceId.{InterfaceId}
@@ -116,19 +116,27 @@ abbrev pub is_resource_kind : TypeDefKind → Bool
 is_resource_kind kinds.Resource = true
 is_resource_kind kind = false
 
--- whether a type has a name, belongs to an interface or is a resource, or is made of a type of which this holds
-abbrev pub is_titled : List TypeDef → ℕ → TypeDefKind → Bool
-is_titled types n kind = is_some (name_at types n) || (is_some (interface_at types n) || is_resource_kind kind)
+-- whether a type is no resource, and belongs to this interface, or to none and has no name
+abbrev pub is_of_interface : List TypeDef → InterfaceId → ℕ → TypeDefKind → Bool
+is_of_interface types here n kind = not (is_resource_kind kind) && elim (interface_at types n) [ Some id ↦ here.index == id.index | None ↦ is_none (name_at types n) ]
 
-abbrev pub reaching_title : List TypeDef → Making Bool
-reaching_title types = record { absent = false; simple = λ p. false; made = λ n kind found. is_titled types n kind || list_any (λ b. b) found }
+-- and so is all that it is made of
+abbrev pub staying_in : List TypeDef → InterfaceId → Making Bool
+staying_in types here = record { absent = true; simple = λ p. true; made = λ n kind parts. is_of_interface types here n kind && list_all (λ b. b) parts }
 
-abbrev pub reaches_title : List TypeDef → Option Ty → Bool
-reaches_title types part = value (reaching_title types) types part
+abbrev pub stays_in : List TypeDef → InterfaceId → Option Ty → Bool
+stays_in types here part = value (staying_in types here) types part
 
--- an exported interface has no types, and its functions are made of types without names alone; another export is like an import
+-- an exported interface lists types of its own, in the order of the resolve; they and its functions are made of these and of
+-- types without names alone, and none is a resource
+pub record IsExportedPlaced (r : Resolve) (id : InterfaceId) : Type 0 where
+  pub own : AllByRecursion (IsOwnType r.types id) (named_types r id)
+  pub ordered : AscendFrom 0 (map (λ t. t.1.index) (named_types r id))
+  pub closed : AllByRecursion (λ t. stays_in r.types id (Some t) ≡ true) (interface_types r id)
+
+-- another export is like an import
 abbrev pub IsExportPlaced : Resolve → Entries → WorldItem → Type 0
-IsExportPlaced r es (items.Interface id) = AllByRecursion (λ t. reaches_title r.types (Some t) ≡ false) (interface_types r id)
+IsExportPlaced r es (items.Interface id) = IsExportedPlaced r id
 IsExportPlaced r es item = IsItemPlaced r es item
 
 -- a resource whose handles are dropped belongs to an imported interface, or to the root

@@ -3,3 +3,4 @@ mod Made
 mod Needs
 mod Ordering
 mod Unplanned
+pub mod Defining

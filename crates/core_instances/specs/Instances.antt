@@ -1,7 +1,7 @@
 -- What the core instances add to a component, and what is taken as given (component model, explainer: core instances; this
 -- project's own).
-use Rattle.std.specs.Prelude.{◌≡◌, ℕ, Bool, List, [], ◌∷◌, length, Option, Some, None}
-use Rattle.std.specs.List.{range_with_len}
+use Rattle.std.specs.Prelude.{◌≡◌, ℕ, Bool, List, [], ◌∷◌, length, map, Option, Some, None}
+use Rattle.std.specs.List.{range_with_len, flat_map}
 use Rattle.core_bytes.specs.Modules.{Encodes}
 use Rattle.comp_bytes.specs.ItemIndices.{IsAt}
 use Rattle.comp_bytes.specs.Spaces.{items_in}
@@ -12,7 +12,14 @@ use Rattle.comp_bytes.specs.declared.def.Def.TheVariants as defs
 use Rattle.wit_data.specs.declared.ids.InterfaceId.{InterfaceId}
 use Rattle.wit_data.specs.declared.ids.TypeId.{TypeId}
 use Rattle.wit_types.specs.declared.maps.TypeEncodingMaps.{TypeEncodingMaps}
+use Rattle.wit_data.specs.Live.{named_types}
+use Rattle.wit_data.specs.declared.worlds.WorldKey.{WorldKey}
+use Rattle.comp_trees.specs.DefinedScopes.{Denotes}
+use Rattle.comp_trees.specs.Inventories.{scope_of}
 use Rattle.comp_worlds.specs.Encodable.{IsEncodable}
+use Rattle.comp_worlds.specs.WorldContents.{exported_item}
+use Rattle.comp_links.specs.Lists.{type_of_world}
+use Rattle.interface_needs.specs.RootNeeds.{interface_of_item}
 use Rattle.comp_worlds.specs.declared.world.ComponentWorld.{ComponentWorld}
 use Rattle.comp_links.specs.Modules.{user_modules}
 use Rattle.comp_terms.specs.Generated.{shims_number, fixup_number, GeneratedBytes, MayBeGenerated}
@@ -50,6 +57,25 @@ pub record IsMainAlone (w : ComponentWorld) (ds : List Def) : Type 0 where
   pub first : IsFirstModule w ds
   pub alone : items_in spaces.CoreModule ds ≡ 1
   pub nothing : instances_in ds ≡ []
+
+-- ---- types of exported interfaces
+
+-- the types that an interface lists
+abbrev pub types_listed : ComponentWorld → Option InterfaceId → List TypeId
+types_listed w (Some id) = map (λ t. t.1) (named_types w.resolve id)
+types_listed w None = []
+
+-- those of the interface that main has to export at a key, and of all
+abbrev pub types_at : ComponentWorld → WorldKey → List TypeId
+types_at w key = types_listed w (interface_of_item (exported_item w key))
+
+abbrev pub exported_types : ComponentWorld → List TypeId
+exported_types w = flat_map (types_at w) w.main_exports
+
+-- the component has a type that is this one of the world
+pub record IsDefinedType (w : ComponentWorld) (ds : List Def) (t : TypeId) : Type 0 where
+  pub index : ℕ
+  pub denotes : Denotes (scope_of ds) index (type_of_world w t)
 
 -- ---- what is added
 

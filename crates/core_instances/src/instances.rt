@@ -1,9 +1,9 @@
 //! The core instances, in order.
 #![tactic(auto, using(comp_items::proofs::Extending::extends_none, comp_items::proofs::Extending::extends_same, comp_items::proofs::Extending::extends_then))]
 
-ghost use Rattle.std.specs.Prelude.{◌≡◌, IfOk, IfErr, OnOk};
+ghost use Rattle.std.specs.Prelude.{IfOk, IfErr, OnOk};
 ghost use Rattle.std.specs.List.{AllByRecursion};
-ghost use Rattle.comp_items.specs.Items.{Extends};
+ghost use Rattle.root_imports.specs.Keeping.{RootKept};
 ghost use Rattle.comp_links.specs.Roles.{IsEncodedImport};
 ghost use Rattle.comp_terms.specs.Terms.{IsInstanceOf};
 ghost use Rattle.comp_worlds.specs.WorldContents.{core_imports};
@@ -11,6 +11,7 @@ ghost use Rattle.core_instances.specs.Instances.{AreImportsMade, IsMainAlone, Ad
 ghost use Rattle.core_options.specs.Causes.{IsCause};
 ghost use Rattle.core_options.specs.MainOptions.{HasLowerOptions};
 
+use crate::exported_types::define_exported_types;
 use crate::fixup::encode_indirect_lowerings;
 use crate::main_module::instantiate_main_module;
 use crate::plan::plan_shims;
@@ -21,8 +22,8 @@ use main_fixup::FillSources;
 use main_instance::{ImportSources, encode_shim_instantiation};
 use root_imports::RootScope;
 
-/// Adds the module of shims and its instance, main's instance, and the fixup's module and its instance; main's instance alone,
-/// where main needs no shims. The answer is the index of main's instance. `functions` has the root functions that were imported,
+/// Adds the module of shims and its instance, the types of exported interfaces, main's instance, and the fixup's module and its
+/// instance; without those of shims and fixup, where main needs no shims. The answer is the index of main's instance. `functions` has the root functions that were imported,
 /// by their names. After a refusal the definitions that were made until then stay.
 ///
 /// `E9` where an import of a function has no string encoding, `E7` where a function is lowered with a memory and main exports none,
@@ -34,8 +35,7 @@ pub fn encode_core_instantiation(
 ) -> Result<u32, StateFault>
     requires made { AreImportsMade root.old.world.now functions.now root.old.last_type root.old.items.defs root.old.maps root.old.instances }
     requires alone { IsMainAlone root.old.world.now root.old.items.defs }
-    ensures same { root.new ≡ record root.old { items = root.new.items } }
-    ensures extends { Extends root.old.items root.new.items }
+    ensures kept { RootKept root.old.world.now root.old root.new }
     ensures added { OnOk result (AddsInstances root.old.world.now root.old.items.defs root.new.items.defs) }
     ensures made { IfOk result (λ index. IsInstanceOf root.new.items.defs index 0) }
     ensures encoded { OnOk result (AllByRecursion (λ i. IsEncodedImport root.old.world.now i.role) (core_imports root.old.world.now)) }
@@ -44,6 +44,7 @@ pub fn encode_core_instantiation(
 {
     let shims = plan_shims(root.items.allocator(), root.world)?;
     let shim_instance = encode_shim_instantiation(root, &shims, debug_names)?;
+    define_exported_types(root)?;
     let sources = ImportSources {
         functions,
         shims: &shims,

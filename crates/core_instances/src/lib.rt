@@ -5,10 +5,11 @@
 //! the shims (component model, explainer: core instances). [`encode_core_instantiation`] adds the three modules' instances, or
 //! main's alone where there are no shims.
 //!
-//! In reading order: `plan` (the shims), `main_module` (main's instance), `fixup` (the fixup's module and instance), `instances`
-//! (all three, in order). `specs/Instances.antt` says what is added.
+//! In reading order: `plan` (the shims), `exported_types` (the types of exported interfaces), `main_module` (main's instance), `fixup`
+//! (the fixup's module and instance), `instances` (all of them, in order). `specs/Instances.antt` says what is added.
 #![tactic(auto)]
 
+mod exported_types;
 mod fixup;
 mod instances;
 mod main_module;

@@ -5,10 +5,11 @@ mod Places
 mod Live
 mod Needed
 mod Near
-mod Untitled
 mod Uses
 mod Sound
 pub mod InterfaceTypes
 pub mod InterfaceNeeds
 mod RootTypes
+mod Staying
+pub mod ExportedInterfaces
 pub mod RootItems

@@ -1,5 +1,5 @@
 -- The functions and the types at the root of a world, and the resources whose handles are dropped.
-use Rattle.std.proofs.Common.{arith, ◌≡◌, ◌<◌, ◌≤◌, ℕ, Bool, true, false, List, [], ◌++◌, length, map, Contains, refl, sym, ap, subst, Option, Some, None}
+use Rattle.std.proofs.Common.{arith, ◌≡◌, ◌<◌, ◌≤◌, ℕ, Bool, true, false, List, [], ◌++◌, length, Contains, refl, sym, ap, subst, Option, Some, None}
 use Rattle.std.specs.Prelude.{IsSome}
 use Rattle.std.specs.List.{AllByRecursion, flat_map}
 use Rattle.std.specs.Map.{lookup}
@@ -21,7 +21,6 @@ use Rattle.wit_data.specs.declared.worlds.WorldItem.TheVariants as items
 use Rattle.wit_data.specs.declared.worlds.WorldKey.{WorldKey}
 use Rattle.wit_data.specs.declared.worlds.WorldKey.TheVariants as keys
 use Rattle.wit_data.specs.Keys.{is_same_key}
-use Rattle.wit_data.specs.Live.{named_types}
 use Rattle.wit_data.specs.Sound.{HasFunction}
 use Rattle.wit_data.specs.Values.{kind_at}
 use Rattle.wit_types.specs.Allowing.{is_resource, IsDefinedHere, allows_function}
@@ -31,7 +30,6 @@ use Rattle.comp_roles.specs.declared.imports.Import.{Import}
 use Rattle.comp_roles.specs.declared.imports.Import.TheVariants as imports
 use Rattle.comp_roles.specs.declared.imports.ImportInstance.{ImportInstance}
 use Rattle.comp_roles.specs.declared.imports.ImportInstance.TheVariants as instances
-use Rattle.type_scopes.specs.Needs.{function_passes, is_unnamed}
 use Rattle.world_values.specs.Items.{function_in, functions_of, function_of_item}
 use Rattle.world_values.specs.Mentions.{function_types, import_types, export_types, role_types}
 use Rattle.comp_worlds.specs.Encodable.{IsEncodable, IsTypePlaced, IsFunctionPlaced, IsItemPlaced, IsExportPlaced, IsRolePlaced, place}
@@ -40,7 +38,7 @@ use Rattle.comp_worlds.specs.WorldContents.{items_of, exported_item, core_import
 use Rattle.comp_worlds.specs.Worlds.{IsImportGroup, IsImportRole, IsResource}
 use Rattle.comp_worlds.specs.declared.world.ComponentWorld.{ComponentWorld}
 use Rattle.interface_needs.specs.Needs.{IsImported}
-use Rattle.interface_needs.specs.RootNeeds.{IsRootScope, HasWorldTypes, IsUsedFunction, IsExportedFunction, IsWorldType, IsDropKnown}
+use Rattle.interface_needs.specs.RootNeeds.{IsRootScope, HasWorldTypes, IsUsedFunction, interface_of_item, IsExportedFunction, IsWorldType, IsDropKnown}
 use Rattle.interface_needs.proofs.Lists.{IsInOne, IsImage, flat_contains, map_contains, contains_flat, contains_first}
 use Rattle.interface_needs.proofs.Live.{live_given}
 use Rattle.interface_needs.proofs.Needed.{used_in, is_needed}
@@ -49,7 +47,6 @@ use Rattle.interface_needs.proofs.Places.{before_imported, place_named, place_ow
 use Rattle.interface_needs.proofs.RootTypes.{type_defined, function_allowed}
 use Rattle.interface_needs.proofs.Sound.{function_sound, import_sound, export_sound}
 use Rattle.interface_needs.proofs.Tables.{lookup_contains}
-use Rattle.interface_needs.proofs.Untitled.{untitled_placed, untitled_unnamed, interface_untitled}
 use Rattle.interface_needs.proofs.Uses.{role_used, root_function_used}
 
 -- a function that is found by its key is an item
@@ -90,64 +87,55 @@ fields_right w (name, instances.Whole which) h = absurd h
 
 -- ---- functions that are exported
 
--- a function of an item of the world's exports
-pub record IsOfExport (w : ComponentWorld) (f : Function) : Type 0 where
+-- a function of an item of the world's exports: of this interface, or, where it is none, the item itself
+pub record IsOfExport (w : ComponentWorld) (interface : Option InterfaceId) (f : Function) : Type 0 where
   pub key : WorldKey
   pub item : WorldItem
   pub name : List ℕ
   pub there : Contains (items_of w).exports (key, item)
   pub of : function_of_item w.resolve name (Some item) ≡ Some f
+  pub in_interface : interface_of_item (Some item) ≡ interface
 
-pub exported_there : (w : ComponentWorld) {f : Function} → IsExportedFunction w f → IsOfExport w f
-exported_there w {f} h = by (exported_item w h.key) refl h.exported
+pub exported_there : (w : ComponentWorld) {interface : Option InterfaceId} {f : Function} → IsExportedFunction w interface f → IsOfExport w interface f
+exported_there w {interface} {f} h = by (exported_item w h.key) refl h.exported h.of
   where
-    by : (o : Option WorldItem) → exported_item w h.key ≡ o → function_of_item w.resolve h.name o ≡ Some f → IsOfExport w f
-    by None e k = absurd (none-some f k)
-    by (Some item) e k = let there = lookup_contains (is_same_key h.key) (items_of w).exports item e in record { key = there.0; item = item; name = h.name; there = there.1; of = k }
+    by : (o : Option WorldItem) → exported_item w h.key ≡ o → function_of_item w.resolve h.name o ≡ Some f → interface_of_item o ≡ interface → IsOfExport w interface f
+    by None e k i = absurd (none-some f k)
+    by (Some item) e k i = let there = lookup_contains (is_same_key h.key) (items_of w).exports item e in record { key = there.0; item = item; name = h.name; there = there.1; of = k; in_interface = i }
 
 function_found : (r : Resolve) (id : InterfaceId) (name : List ℕ) (f : Function) → found name (functions_of r id) ≡ Some f → (n : List ℕ) × Contains (functions_of r id) (n, f)
 function_found r id name f h = lookup_contains (bytes_eq name) (functions_of r id) f h
 
 module _ (w : ComponentWorld) (ok : IsEncodable w) (f : Function) where
   -- its types are in the resolve
-  pub exported_sound : IsOfExport w f → HasFunction w.resolve f
-  exported_sound e = by e.item e.there e.of
+  pub exported_sound : {interface : Option InterfaceId} → IsOfExport w interface f → HasFunction w.resolve f
+  exported_sound {interface} e = by e.item e.there e.of
     where
       by : (item : WorldItem) → Contains (items_of w).exports (e.key, item) → function_of_item w.resolve e.name (Some item) ≡ Some f → HasFunction w.resolve f
       by (items.Function g) c k = subst (HasFunction w.resolve) (same_Some g f k) (export_sound w ok (e.key, items.Function g) c).1
       by (items.Interface id) c k = let at = function_found w.resolve id e.name f k in function_sound w ok id at.0 f at.1
       by (items.NamedType t) c k = absurd (none-some f k)
 
-  -- they are in place
-  exported_placed : IsOfExport w f → IsFunctionPlaced w.resolve (items_of w).imports (length (items_of w).imports) f
-  exported_placed e = by e.item (AllByRecursion-contains (λ e. IsExportPlaced w.resolve (items_of w).imports e.1) (items_of w).exports (e.key, e.item) ok.exports e.there) e.of
+  -- those of one at the root are in place
+  exported_placed : IsOfExport w None f → IsFunctionPlaced w.resolve (items_of w).imports (length (items_of w).imports) f
+  exported_placed e = by e.item (AllByRecursion-contains (λ e. IsExportPlaced w.resolve (items_of w).imports e.1) (items_of w).exports (e.key, e.item) ok.exports e.there) e.of e.in_interface
     where
       es : List (WorldKey × WorldItem)
       es = (items_of w).imports
 
-      by : (item : WorldItem) → IsExportPlaced w.resolve es item → function_of_item w.resolve e.name (Some item) ≡ Some f → IsFunctionPlaced w.resolve es (length es) f
-      by (items.Function g) h k = subst (IsFunctionPlaced w.resolve es (length es)) (same_Some g f k) h
-      by (items.Interface id) h k =
-          let at = function_found w.resolve id e.name f k in
-          untitled_placed w.resolve.types f (interface_untitled w.resolve id h (at.0, f) at.1) w.resolve refl es (length es)
-      by (items.NamedType t) h k = absurd (none-some f k)
+      by : (item : WorldItem) → IsExportPlaced w.resolve es item → function_of_item w.resolve e.name (Some item) ≡ Some f → interface_of_item (Some item) ≡ None → IsFunctionPlaced w.resolve es (length es) f
+      by (items.Function g) h k i = subst (IsFunctionPlaced w.resolve es (length es)) (same_Some g f k) h
+      by (items.Interface id) h k i = absurd (none-some id (sym i))
+      by (items.NamedType t) h k i = absurd (none-some f k)
 
   -- and they are types of the item
-  exported_types : (e : IsOfExport w f) (t : Ty) → Contains (function_types f) t → Contains (export_types w.resolve e.item) t
-  exported_types e t c = by e.item e.of
+  exported_types : (e : IsOfExport w None f) (t : Ty) → Contains (function_types f) t → Contains (export_types w.resolve e.item) t
+  exported_types e t c = by e.item e.of e.in_interface
     where
-      by : (item : WorldItem) → function_of_item w.resolve e.name (Some item) ≡ Some f → Contains (export_types w.resolve item) t
-      by (items.Function g) k = subst (λ (x : Function). Contains (function_types x) t) (sym (same_Some g f k)) c
-      by (items.Interface id) k =
-          let at = function_found w.resolve id e.name f k in
-          let of : List ℕ × Function → List Ty = λ x. function_types x.1 in
-          Contains-append_right (map (λ (x : List ℕ × TypeId). Id x.1) (named_types w.resolve id)) (flat_map of (functions_of w.resolve id)) t (contains_flat of (functions_of w.resolve id) (at.0, f) t at.1 c)
-      by (items.NamedType t) k = absurd (none-some f k)
-
-  -- a function of an interface that is exported is made of types without names
-  pub exported_unnamed : (key : WorldKey) (id : InterfaceId) (name : List ℕ) → Contains (items_of w).exports (key, items.Interface id) → Contains (functions_of w.resolve id) (name, f) → function_passes (is_unnamed w.resolve.types) w.resolve.types f ≡ true
-  exported_unnamed key id name there c =
-      untitled_unnamed w.resolve.types f (interface_untitled w.resolve id (AllByRecursion-contains (λ e. IsExportPlaced w.resolve (items_of w).imports e.1) (items_of w).exports (key, items.Interface id) ok.exports there) (name, f) c)
+      by : (item : WorldItem) → function_of_item w.resolve e.name (Some item) ≡ Some f → interface_of_item (Some item) ≡ None → Contains (export_types w.resolve item) t
+      by (items.Function g) k i = subst (λ (x : Function). Contains (function_types x) t) (sym (same_Some g f k)) c
+      by (items.Interface id) k i = absurd (none-some id (sym i))
+      by (items.NamedType t) k i = absurd (none-some f k)
 
 module _ (w : ComponentWorld) (ok : IsEncodable w) where
   role_right : (i : CoreImport) → Contains (core_imports w) i → IsImportRole w i.role
@@ -195,8 +183,8 @@ module _ (w : ComponentWorld) (ok : IsEncodable w) where
         let placed : IsFunctionPlaced w.resolve es (length es) f = AllByRecursion-contains (λ e. IsItemPlaced w.resolve es e.1) es (item.key, items.Function f) ok.imports item.there in
         function_allowed w ok s root world f (near_function w ok (length es) f sound placed (root_function_used w name f h.used h.imported))
 
-    -- those that are exported
-    pub exported_allowed : HasWorldTypes w s (length w.resolve.types) → (f : Function) → IsExportedFunction w f → allows_function s f ≡ true
+    -- those that are exported there
+    pub exported_allowed : HasWorldTypes w s (length w.resolve.types) → (f : Function) → IsExportedFunction w None f → allows_function s f ≡ true
     exported_allowed world f h =
         let e = exported_there w h in
         function_allowed w ok s root world f (near_function w ok (length (items_of w).imports) f (exported_sound w ok f e) (exported_placed w ok f e) (λ t c. export_used w (e.key, e.item) t e.there (exported_types w ok f e t c)))

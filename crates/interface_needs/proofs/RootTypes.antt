@@ -42,11 +42,11 @@ allowed_as s types id same =
     same (allowed_of_id s id)
 
 -- what is no resource may be defined where its parts may
-of_parts : (s : Setting) (n : ℕ) (k : TypeDefKind) (bs : List Bool) → is_resource k ≡ false → list_all (λ b. b) bs ≡ true → may_define s n k bs ≡ true
+pub of_parts : (s : Setting) (n : ℕ) (k : TypeDefKind) (bs : List Bool) → is_resource k ≡ false → list_all (λ b. b) bs ≡ true → may_define s n k bs ≡ true
 of_parts s n kinds.Resource bs values h = absurd (true≢false values)
 of_parts s n k bs values h = h
 
-all_tests : {X : Type 0} (test : X → Bool) (xs : List X) → AllByRecursion (λ x. test x ≡ true) xs → list_all test xs ≡ true
+pub all_tests : {X : Type 0} (test : X → Bool) (xs : List X) → AllByRecursion (λ x. test x ≡ true) xs → list_all test xs ≡ true
 all_tests test [] h = refl
 all_tests test (x ∷ xs) h = and_from (test x) (list_all test xs) h.0 (all_tests test xs h.1)
 

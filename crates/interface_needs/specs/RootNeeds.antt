@@ -1,17 +1,19 @@
 -- What the types and functions at the root of a world need, and have at hand, in a world that can be encoded (component
 -- model, WIT: worlds, `use`, resources).
-use Rattle.std.specs.Prelude.{◌≡◌, ◌<◌, ◌≤◌, ℕ, true, List, length, map, Some, None, IsSome, Contains}
+use Rattle.std.specs.Prelude.{◌≡◌, ◌<◌, ◌≤◌, ℕ, true, List, length, map, Option, Some, None, IsSome, Contains}
 use Rattle.wit_data.specs.declared.functions.Function.{Function}
 use Rattle.wit_data.specs.declared.ids.InterfaceId.{InterfaceId}
 use Rattle.wit_data.specs.declared.ids.TypeId.{TypeId}
 use Rattle.wit_data.specs.declared.types.Type.TheVariants.{Id}
+use Rattle.wit_data.specs.declared.worlds.WorldItem.{WorldItem}
 use Rattle.wit_data.specs.declared.worlds.WorldItem.TheVariants as items
 use Rattle.wit_data.specs.declared.worlds.WorldKey.{WorldKey}
 use Rattle.wit_data.specs.declared.worlds.WorldKey.TheVariants as keys
 use Rattle.wit_types.specs.Settings.{Setting}
+use Rattle.wit_data.specs.Live.{named_types}
 use Rattle.world_values.specs.Items.{root_function_at}
 use Rattle.comp_worlds.specs.Encodable.{place}
-use Rattle.comp_worlds.specs.WorldContents.{items_of, function_exported, imported_types, interface_at, name_at}
+use Rattle.comp_worlds.specs.WorldContents.{items_of, exported_item, function_exported, imported_types, interface_at, name_at}
 use Rattle.comp_worlds.specs.Worlds.{IsResource}
 use Rattle.comp_worlds.specs.declared.world.ComponentWorld.{ComponentWorld}
 use Rattle.comp_links.specs.Roles.{is_used}
@@ -33,11 +35,32 @@ pub record IsUsedFunction (w : ComponentWorld) (name : List ℕ) (f : Function) 
   pub imported : root_function_at (items_of w).imports (keys.Name name) ≡ Some f
   pub used : is_used w name ≡ true
 
--- a function that is exported, at the root or in an interface
-pub record IsExportedFunction (w : ComponentWorld) (f : Function) : Type 0 where
+-- the interface that an item is, if it is one
+abbrev pub interface_of_item : Option WorldItem → Option InterfaceId
+interface_of_item (Some (items.Interface id)) = Some id
+interface_of_item item = None
+
+-- a function that is exported: in this interface, or, where it is none, at the root
+pub record IsExportedFunction (w : ComponentWorld) (interface : Option InterfaceId) (f : Function) : Type 0 where
   pub key : WorldKey
   pub name : List ℕ
   pub exported : function_exported w key name ≡ Some f
+  pub of : interface_of_item (exported_item w key) ≡ interface
+
+-- an interface that is exported, and a type that it lists
+pub record IsExportedInterface (w : ComponentWorld) (interface : InterfaceId) : Type 0 where
+  pub key : WorldKey
+  pub of : exported_item w key ≡ Some (items.Interface interface)
+
+pub record IsExportedType (w : ComponentWorld) (interface : InterfaceId) (t : TypeId) : Type 0 where
+  pub exported : IsExportedInterface w interface
+  pub listed : Contains (map (λ e. e.1) (named_types w.resolve interface)) t
+
+-- the scope of an exported interface, in which every type may be defined
+pub record IsInterfaceScope (w : ComponentWorld) (id : InterfaceId) (s : Setting) : Type 0 where
+  pub types : s.types ≡ w.resolve.types
+  pub interface : s.interface ≡ Some id
+  pub own : (n : ℕ) → s.may_own n ≡ true
 
 -- a type that the world imports, made of types of imported interfaces and of the root
 pub record IsWorldType (w : ComponentWorld) (id : TypeId) : Type 0 where

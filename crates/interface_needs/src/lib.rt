@@ -6,6 +6,6 @@
 //! (elements and look-ups), `proofs/Places.antt` (places of interfaces and types), `proofs/Live.antt` (what types reach),
 //! `proofs/Needed.antt` (a live type of an imported interface is needed), `proofs/Near.antt` (live types that have no later place),
 //! `proofs/Uses.antt` and `proofs/Sound.antt` (the functions that are used, and what the resolve has). The laws are in
-//! `proofs/InterfaceTypes.antt`, `proofs/InterfaceNeeds.antt` (both of an imported interface), `proofs/RootTypes.antt` and
-//! `proofs/RootItems.antt` (of the root).
+//! `proofs/InterfaceTypes.antt`, `proofs/InterfaceNeeds.antt` (both of an imported interface), `proofs/RootTypes.antt`,
+//! `proofs/RootItems.antt` (of the root), `proofs/Staying.antt` and `proofs/ExportedInterfaces.antt` (of an exported interface).
 #![tactic(auto)]

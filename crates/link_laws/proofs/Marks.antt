@@ -2,7 +2,7 @@
 use Rattle.std.proofs.Common.{◌≡◌, ◌∙◌, ℕ, List, [], ◌∷◌, ◌++◌, map, refl, ap, ap₂, append-nil, Option, Some, None}
 use Rattle.std.proofs.lemmas.Grind.{flat_map-append}
 use Rattle.std.specs.List.{flat_map, filter_map}
-use Rattle.comp_bytes.specs.ScopeNames.{Names, member_export, def_export, item_import, item_export, item_names, inner_names}
+use Rattle.comp_bytes.specs.ScopeNames.{Names, member_export, def_export, item_export, item_names}
 use Rattle.comp_bytes.specs.declared.def.Item.{Item}
 use Rattle.comp_bytes.specs.declared.def.Item.TheVariants as items
 use Rattle.comp_bytes.specs.declared.def.Def.{Def}
@@ -10,15 +10,15 @@ use Rattle.comp_bytes.specs.declared.def.Def.TheVariants as defs
 use Rattle.comp_worlds.specs.declared.world.ComponentWorld.{ComponentWorld}
 use Rattle.comp_worlds.specs.WorldContents.{exported_item}
 use Rattle.comp_links.specs.Naming.{Naming, name_of}
-use Rattle.comp_links.specs.Lists.{ImportEntry, ImportedInterface, WorldType, RootFunction, Stated, root_function, root_type, import_entries, names_of_interface, stated_import, stated_imports, names_in, instance_type_names, AreNames, stated_export, stated_exports, functions_of_interface, nested_lists, nested_names}
+use Rattle.comp_links.specs.Lists.{ImportEntry, ImportedInterface, WorldType, RootFunction, Stated, root_function, root_type, import_entries, names_of_interface, stated_import, stated_imports, names_in, instance_type_names, AreNames, stated_export, stated_exports, functions_of_interface, nested_export_names, nested_lists, nested_names}
 use Rattle.comp_links.specs.Targets.{Main}
-use Rattle.comp_terms.specs.Rules.{Landmark, Imported, ModuleIs, InstanceOf, Exported, CustomNamed, InstanceTypeOf, landmark, import_marked, imports_marked, modules_marked, exports_marked, IsBuilt, NestedOf, nested_marked, export_marked, RightAfter}
+use Rattle.comp_terms.specs.Rules.{Landmark, Imported, ModuleIs, InstanceOf, Exported, CustomNamed, InstanceTypeOf, landmark, import_marked, imports_marked, modules_marked, exports_marked, IsBuilt, NestedOf, nested_marked, export_marked}
 use Rattle.comp_terms.specs.Generated.{shims_number, fixup_number, GeneratedBytes}
 use Rattle.wit_data.specs.declared.worlds.WorldKey.{WorldKey}
 use Rattle.wit_data.specs.declared.worlds.WorldItem.{WorldItem}
 use Rattle.wit_data.specs.declared.worlds.WorldItem.TheVariants as world_items
 use Rattle.nested_terms.specs.Naming.{import_names}
-use Rattle.nested_terms.specs.Nested.{NestedScope, empty_scope, with_item, IsItemRight, AreItemsRight}
+use Rattle.nested_terms.specs.Nested.{NestedScope, function_import, with_item, IsItemRight, AreItemsRight}
 use Rattle.comp_trees.specs.DefinedTrees.{TypeTree}
 use Rattle.link_laws.specs.Composition.{at_root, item_module, item_instantiates, item_imports, item_exports, item_customs}
 use Rattle.link_laws.proofs.Zips.{flat_map-marked}
@@ -56,10 +56,10 @@ abbrev type_mark : Landmark → List Names
 type_mark (InstanceTypeOf names) = names ∷ []
 type_mark _ = []
 
--- the names that a nested component imports, and that it exports
+-- the names of the functions that a nested component imports, and the names that it exports
 abbrev pub nested_lists_of : Def → List Names
 nested_lists_of (defs.Item i) = []
-nested_lists_of (defs.Component inner) = flat_map item_import inner ∷ flat_map item_export inner ∷ []
+nested_lists_of (defs.Component inner) = flat_map function_import inner ∷ flat_map item_export inner ∷ []
 
 abbrev nested_mark : Landmark → List Names
 nested_mark (NestedOf imports exports) = imports ∷ exports ∷ []
@@ -146,7 +146,7 @@ of_key n w f nested exported key first second =
     ∙ ap₂ (λ xs ys. xs ++ ys) first (ap (λ l. l ++ []) second ∙ append-nil exported)
 
 nothing_nested : {A : Type 0} (w : ComponentWorld) (f : Landmark → List A) → ((imports exports : Names) → f (NestedOf imports exports) ≡ []) → (o : Option WorldItem) → flat_map f (nested_marked w o) ≡ []
-nothing_nested w f none (Some (world_items.Interface id)) = rw (none (import_names (functions_of_interface w id)) (map (λ g. g.name) (functions_of_interface w id))) refl
+nothing_nested w f none (Some (world_items.Interface id)) = rw (none (import_names (functions_of_interface w id)) (nested_export_names w id)) refl
 nothing_nested w f none o = refl
 
 nested_of : (w : ComponentWorld) (o : Option WorldItem) → flat_map nested_mark (nested_marked w o) ≡ nested_lists w o
@@ -192,27 +192,16 @@ numbers_listed w (Some b) = shims_number w ∷ 0 ∷ fixup_number w ∷ []
 
 -- ---- the names of nested components
 
--- the lists of names of a nested component
-abbrev pub component_names : Def → List Names
-component_names (defs.Item i) = []
-component_names (defs.Component inner) = inner_names inner
-
--- a right one has none but those of its imports and its exports
+-- a right one has no lists of names but those of its imports and its exports
 no_names : (given : List ℕ → TypeTree) (scope : NestedScope) (i : Item) → IsItemRight given scope i → item_names i ≡ []
 no_names given scope (items.Type t) h = refl
 no_names given scope (items.Import name description) h = refl
 no_names given scope (items.Export name sort index description) h = refl
 no_names given scope _ h = absurd h
 
-no_inner_names : (given : List ℕ → TypeTree) (scope : NestedScope) (is : List Item) → AreItemsRight given scope is → flat_map item_names is ≡ []
+pub no_inner_names : (given : List ℕ → TypeTree) (scope : NestedScope) (is : List Item) → AreItemsRight given scope is → flat_map item_names is ≡ []
 no_inner_names given scope [] h = refl
 no_inner_names given scope (i ∷ is) h = ap₂ (λ xs ys. xs ++ ys) (no_names given scope i h.0) (no_inner_names given (with_item given scope i) is h.1)
-
-component_names_are : (w : ComponentWorld) (earlier ds : List Def) → RightAfter w earlier ds → flat_map component_names ds ≡ flat_map nested_lists_of ds
-component_names_are w earlier [] h = refl
-component_names_are w earlier (defs.Item i ∷ ds) h = component_names_are w (earlier ++ defs.Item i ∷ []) ds h.1
-component_names_are w earlier (defs.Component inner ∷ ds) h =
-    ap₂ (λ xs ys. xs ++ ys) (ap (λ l. flat_map item_import inner ∷ flat_map item_export inner ∷ l) (no_inner_names h.0.given empty_scope inner h.0.right)) (component_names_are w (earlier ++ defs.Component inner ∷ []) ds h.1)
 
 -- ---- what the landmarks say of a list
 
@@ -292,7 +281,7 @@ module _ (n : Naming) (w : ComponentWorld) (ds : List Def) (built : IsBuilt n w 
       read_marks (at_root item_type_names) type_mark type_is (λ n c. refl)
       ∙ rw (types_said, none_of_modules type_mark (λ b. refl) (λ k. refl), exports_nothing n w type_mark (λ i e. refl) (λ s. refl)) (append-nil (instance_type_names w))
 
-  -- the nested components import and export what the world says
+  -- the nested components import the functions, and export what, the world says
   pub root_nested_names : flat_map nested_lists_of ds ≡ nested_names w
   root_nested_names =
       read_marks nested_lists_of nested_mark nested_is (λ n c. refl)
@@ -300,10 +289,6 @@ module _ (n : Naming) (w : ComponentWorld) (ds : List Def) (built : IsBuilt n w 
       (of_keys n w nested_mark (λ key. nested_lists w (exported_item w key))
       (λ key. of_key n w nested_mark (nested_lists w (exported_item w key)) [] key (nested_of w (exported_item w key)) refl ∙ append-nil (nested_lists w (exported_item w key)))
       w.main_exports)
-
-  -- so these are all the names in nested components
-  pub root_component_names : flat_map component_names ds ≡ nested_names w
-  root_component_names = component_names_are w [] ds built.right ∙ root_nested_names
 
   pub no_customs : flat_map (at_root item_customs) built.front ≡ []
   no_customs =

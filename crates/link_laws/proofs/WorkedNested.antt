@@ -3,7 +3,8 @@
 use Rattle.std.proofs.Common.{inl, ◌≡◌, ◌∙◌, ◌++◌, ℕ, Bool, true, false, List, [], ◌∷◌, refl, sym, Some, None, cond, map, take, arith, Option}
 use Rattle.std.proofs.lemmas.Option.{none-some}
 use Rattle.std.specs.Prelude.{codes}
-use Rattle.std.specs.List.{slice_get, IsDistinct}
+use Rattle.std.specs.List.{slice_get, IsDistinct, flat_map}
+use Rattle.comp_bytes.specs.ScopeNames.{item_import}
 use Rattle.std.specs.Map.{lookup}
 use Rattle.std.specs.Str.{bytes_eq}
 use Rattle.standard_kinds.specs.declared.kinds.ExportKind.TheVariants as kinds
@@ -47,7 +48,7 @@ use Rattle.comp_links.specs.Naming.{own_names}
 use Rattle.comp_links.specs.Targets.{Main, Lifted as LiftedFrom}
 use Rattle.comp_terms.specs.Terms.{IsInstanceOf, IsFunctionType}
 use Rattle.comp_terms.specs.Planned.{IsLiftFor}
-use Rattle.comp_terms.specs.Exports.{InstantiatesNested, IsRequiredLift, ExportsInterface}
+use Rattle.comp_terms.specs.Exports.{IsNestedFor, InstantiatesNested, IsRequiredLift, ExportsInterface}
 use Rattle.comp_terms.specs.Rules.{IsBuilt}
 use Rattle.comp_runs.specs.Store.{ExportedBy, Lifting, Export}
 use Rattle.comp_runs.specs.Machine.{Outcome, Done}
@@ -285,6 +286,13 @@ arguments_apart : IsDistinct bytes_eq (map (λ (a : Argument). a.name) (given_as
 unfolding IsDistinct
 arguments_apart = ((refl, tt), (tt, tt))
 
+imports_apart : IsDistinct bytes_eq (flat_map item_import (passing_on 0 1))
+unfolding IsDistinct
+imports_apart = ((refl, tt), (tt, tt))
+
+nested_for : IsNestedFor world (passing_on 0 1)
+nested_for = record { key = key; id = interface_id 0; item = refl; types = tt; apart = imports_apart }
+
 instantiated : InstantiatesNested (ds 8) 0 (given_as 0 1)
 unfolding inventory
 instantiated = record {
@@ -331,7 +339,7 @@ keeps_the_rules = record {
             type_known,
             (
               (omega arith, tt, record { type = plain_tree; is = typed_5 }),
-              ((omega arith, tt, record { type = plain_tree; is = typed_6 }), (record { given = no_types; right = nested_right }, (instantiated, (exported, tt)))),
+              ((omega arith, tt, record { type = plain_tree; is = typed_6 }), ((record { given = no_types; right = nested_right }, nested_for), (instantiated, (exported, tt)))),
             ),
           ),
         ),

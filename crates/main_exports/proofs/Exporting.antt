@@ -13,7 +13,6 @@ use Rattle.std.proofs.lemmas.Map.Views.{lookup-from_Contains}
 use Rattle.std.proofs.lemmas.List.Elements.{filter_map-append}
 use Rattle.std.proofs.lemmas.Option.{none-some, same_Some, slice_get-get_or}
 use Rattle.comp_lists.proofs.Lists.{AllByRecursion-at, AllByRecursion-contains, AllByRecursion-weaker, Contains-map}
-use Rattle.type_scopes.specs.Needs.{function_passes, is_unnamed}
 use Rattle.comp_bytes.specs.ScopeNames.{def_export}
 use Rattle.comp_bytes.specs.declared.def.Def.{Def}
 use Rattle.comp_bytes.specs.declared.def.Def.TheVariants as defs
@@ -41,14 +40,19 @@ use Rattle.comp_links.specs.Targets.{Main}
 use Rattle.comp_terms.specs.Exports.{exports_in}
 use Rattle.comp_terms.specs.Rules.{Landmark, NestedOf, Exported, landmark, landmarks, Grows, IsExportRight, nested_marked, export_marked, exports_marked}
 use Rattle.interface_needs.proofs.Lists.{all_both, all_of_each, contains_cons, contains_first, contains_flat, contains_later, contains_none}
-use Rattle.interface_needs.proofs.RootItems.{exported_there, exported_sound, exported_unnamed}
+use Rattle.wit_data.specs.Live.{named_types}
+use Rattle.nested_components.specs.Types.{IsAtHome}
+use Rattle.interface_needs.specs.RootNeeds.{interface_of_item, IsExportedInterface}
+use Rattle.interface_needs.proofs.RootItems.{exported_there, exported_sound}
+use Rattle.interface_needs.proofs.ExportedInterfaces.{exported_titled, exported_ascend, exported_types_home, exported_functions_home, exported_every}
 use Rattle.root_imports.specs.Growing.{Grows-none, Grows-by, Grows-then}
 use Rattle.core_options.specs.Causes.{IsCause, IsCauseAmong, IsEncodedExport}
 use Rattle.core_options.specs.MainOptions.{HasLiftOptions}
 use Rattle.core_options.specs.declared.fault.StateFault.{StateFault}
 use Rattle.core_options.proofs.Refusals.{among_more}
-use Rattle.main_exports.specs.Exports.{Root, RootKept, main_function, at_key, functions_at, functions_of_key, IsMainFunction, AreMainFunctions}
-use Rattle.main_exports.proofs.Growth.{kept_then}
+use Rattle.root_imports.specs.Keeping.{Root, RootKept}
+use Rattle.main_exports.specs.Exports.{main_function, at_key, functions_at, functions_of_key, IsMainFunction, AreMainFunctions}
+use Rattle.root_imports.proofs.Keeping.{kept_then}
 
 -- ---- how many exports there are
 
@@ -203,17 +207,21 @@ module _ (w : ComponentWorld) (ok : IsEncodable w) (key : WorldKey) (id : Interf
   entry_found apart e c = ap (λ o. function_of_item w.resolve e.0 o) is ∙ lookup-from_Contains bytes_laws e.0 e.1 entries apart c
 
   one_sound : IsDistinct bytes_eq (keys_of entries) → (e : List ℕ × Function) → Contains entries e → HasFunction w.resolve e.1
-  one_sound apart e c = exported_sound w ok e.1 (exported_there w (record { key = key; name = e.0; exported = entry_found apart e c }))
+  one_sound apart e c = exported_sound w ok e.1 (exported_there w (record { key = key; name = e.0; exported = entry_found apart e c; of = ap (λ (o : Option WorldItem). interface_of_item o) is }))
 
   pub entries_sound : IsDistinct bytes_eq (keys_of entries) → AllByRecursion (λ (e : List ℕ × Function). HasFunction w.resolve e.1) entries
   entries_sound apart = all_of_each (λ (e : List ℕ × Function). HasFunction w.resolve e.1) entries (λ e c. one_sound apart e c)
 
-  pub entries_unnamed : AllByRecursion (λ f. function_passes (is_unnamed w.resolve.types) w.resolve.types f ≡ true) (map (λ (e : List ℕ × Function). e.1) entries)
-  entries_unnamed = mapped entries (all_of_each (λ (e : List ℕ × Function). function_passes (is_unnamed w.resolve.types) w.resolve.types e.1 ≡ true) entries (λ e c. exported_unnamed w ok e.1 there.0 id e.0 there.1 c))
-    where
-      mapped : (es : List (List ℕ × Function)) → AllByRecursion (λ (e : List ℕ × Function). function_passes (is_unnamed w.resolve.types) w.resolve.types e.1 ≡ true) es → AllByRecursion (λ f. function_passes (is_unnamed w.resolve.types) w.resolve.types f ≡ true) (map (λ (e : List ℕ × Function). e.1) es)
-      mapped [] h = tt
-      mapped (e ∷ es) h = (h.0, mapped es h.1)
+  pub interface_at_home : IsAtHome w.resolve.types id (named_types w.resolve id) entries
+  interface_at_home =
+      let exported : IsExportedInterface w id = record { key = key; of = is } in
+      record {
+        titled = exported_titled w ok id exported;
+        ascend = exported_ascend w ok id exported;
+        types = exported_types_home w ok id exported;
+        functions = exported_functions_home w ok id exported;
+        every = record { each = exported_every w ok id exported };
+      }
 
   pub interface_functions : functions_of_key w key ≡ functions_at key entries
   interface_functions = ap (λ o. map (λ name. record { of = Main; key = key; function = name }) (functions_in w.resolve o)) is ∙ twice entries

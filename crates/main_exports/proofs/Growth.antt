@@ -1,6 +1,7 @@
 -- What was made stays what it is while definitions are added, and the root after several steps.
 use Rattle.std.proofs.Common.{◌≡◌, ◌∙◌, ℕ, List, [], ◌∷◌, refl, sym, ap, subst, None}
-use Rattle.std.specs.List.{slice_get}
+use Rattle.std.specs.List.{slice_get, AllZip}
+use Rattle.comp_lists.proofs.Lists.{AllZip-weaker}
 use Rattle.comp_bytes.specs.declared.def.Argument.{Argument}
 use Rattle.comp_bytes.specs.declared.def.Def.{Def}
 use Rattle.comp_bytes.specs.declared.space.Space.TheVariants as spaces
@@ -19,11 +20,14 @@ use Rattle.comp_terms.specs.Planned.{type_of_function, IsLiftFor}
 use Rattle.comp_terms.specs.Terms as terms
 use Rattle.comp_items.specs.Items.{Extends}
 use Rattle.comp_items.proofs.Extending.{extends_none, extends_same, extends_then}
-use Rattle.comp_items.proofs.Kept.{Longer, instance-kept, term-kept}
+use Rattle.comp_items.proofs.Kept.{Longer, denotes-kept, instance-kept, term-kept}
 use Rattle.comp_items.proofs.Remembering.{longer}
 use Rattle.root_imports.specs.RootScopes.{AreTablesRight, ArePassed, RootGrows}
 use Rattle.root_imports.proofs.Growth.{tables_kept}
-use Rattle.main_exports.specs.Exports.{Root, AreExports, RootKept, IsTypedLift, IsLiftArgument, AreLiftArguments}
+use Rattle.nested_components.specs.declared.component.NestedComponent.{NestedComponent}
+use Rattle.nested_components.specs.declared.type_import.TypeImport.{TypeImport}
+use Rattle.root_imports.specs.Keeping.{Root, RootKept}
+use Rattle.main_exports.specs.Exports.{AreExports, IsTypedLift, IsLiftArgument, AreLiftArguments, IsTypeArgument, AreArgumentsOf}
 use Rattle.main_exports.specs.declared.sources.MainExports.{MainExports}
 
 pub ruleset growing = (extends_none, extends_same, extends_then)
@@ -45,6 +49,9 @@ module _ {w : ComponentWorld} {old new : List Def} (g : Longer old new) where
 
 -- ---- arguments
 
+pub type_argument-kept : {w : ComponentWorld} {old new : List Def} → Longer old new → (i : TypeImport) (a : Argument) → IsTypeArgument w old i a → IsTypeArgument w new i a
+type_argument-kept g i a h = record { named = h.named; sort = h.sort; denotes = denotes-kept g h.denotes }
+
 module _ (w : ComponentWorld) (old new : List Def) (g : Longer old new) where
   pub argument-kept : (key : WorldKey) (e : List ℕ × Function) (name : List ℕ) (a : Argument) → IsLiftArgument w old key e name a → IsLiftArgument w new key e name a
   argument-kept key e name a h = record { named = h.named; sort = h.sort; lifted = typed_lift-kept g h.lifted }
@@ -57,37 +64,21 @@ module _ (w : ComponentWorld) (old new : List Def) (g : Longer old new) where
   arguments-kept key (e ∷ es) [] as' h = absurd h
   arguments-kept key (e ∷ es) (name ∷ names) [] h = absurd h
 
+  type_arguments-kept : (is : List TypeImport) (as' : List Argument) → AllZip (IsTypeArgument w old) is as' → AllZip (IsTypeArgument w new) is as'
+  type_arguments-kept is as' h = AllZip-weaker (λ (i : TypeImport) (a : Argument) k. type_argument-kept g i a k) is as' h
+
+  pub all_arguments-kept : (key : WorldKey) (es : List (List ℕ × Function)) (c : NestedComponent) (arguments : List Argument) → AreArgumentsOf w old key es c arguments → AreArgumentsOf w new key es c arguments
+  all_arguments-kept key es c arguments h = record {
+    lifts = h.lifts;
+    types = h.types;
+    both = h.both;
+    lifted = arguments-kept key es c.names h.lifts h.lifted;
+    given = type_arguments-kept c.types h.types h.given;
+  }
+
 -- ---- the root
 
 module _ (w : ComponentWorld) where
-  pub kept_none : (root : Root) → AreTablesRight w root.last_type root.instances root.items.defs root.maps → RootKept w root root
-  kept_none root tables = record { world = refl; next = refl; instances = refl; extends = extends_none root.items; tables = tables }
-
-  pub kept_typed : (old new : Root) → new.world ≡ old.world → new.last_type ≡ old.last_type → new.instances ≡ old.instances → RootGrows w old.items new.items → AreTablesRight w old.last_type new.instances new.items.defs new.maps → RootKept w old new
-  kept_typed old new world next instances grows tables = record { world = world; next = next; instances = instances; extends = grows.extends; tables = tables }
-
-  -- a further step that adds items alone
-  pub kept_items : (old mid new : Root) → RootKept w old mid → new ≡ record mid { items = new.items } → Extends mid.items new.items → RootKept w old new
-  kept_items old mid new h same g =
-      let Kept : Root → Type 0 = λ r. RootKept w old (record r { items = new.items }) in
-      let whole : RootKept w old (record mid { items = new.items }) = record {
-        world = h.world;
-        next = h.next;
-        instances = h.instances;
-        extends = extends_then old.items mid.items new.items h.extends g;
-        tables = tables_kept w old.last_type mid.instances mid.items new.items mid.maps g h.tables;
-      } in
-      subst (RootKept w old) (sym same) whole
-
-  pub kept_then : (a b c : Root) → RootKept w a b → RootKept w b c → RootKept w a c
-  kept_then a b c g h = record {
-    world = h.world ∙ g.world;
-    next = h.next ∙ g.next;
-    instances = h.instances ∙ g.instances;
-    extends = extends_then a.items b.items c.items g.extends h.extends;
-    tables = subst (λ l. AreTablesRight w l c.instances c.items.defs c.maps) g.next h.tables;
-  }
-
   -- what functions are lifted from stays there
   pub exports-kept : (e : MainExports) (old new : Root) → RootKept w old new → AreExports w e old → AreExports w e new
   exports-kept e old new g h = record {

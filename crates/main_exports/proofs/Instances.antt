@@ -3,12 +3,13 @@ use Rattle.std.proofs.Common.{arith, ◌≡◌, ◌∙◌, ◌<◌, ◌&&◌, �
 use Rattle.std.specs.Prelude.{length, map, get_or}
 use Rattle.std.proofs.lemmas.List.Sums.{sum_by-append}
 use Rattle.std.proofs.lemmas.Option.{get_or_from_slice_get, none-some, same_Some, slice_get-get_or}
-use Rattle.std.specs.List.{AllByRecursion, IsDistinct, flat_map, slice_get}
+use Rattle.std.specs.List.{AllByRecursion, AllZip, IsDistinct, flat_map, slice_get}
+use Rattle.std.proofs.lemmas.List.{map-append}
 use Rattle.std.specs.Map.{keys_of}
 use Rattle.std.specs.Str.{bytes_eq}
-use Rattle.comp_lists.proofs.Lists.{AllByRecursion-weaker}
+use Rattle.comp_lists.proofs.Lists.{AllByRecursion-weaker, AllByRecursion-front, AllByRecursion-back, Contains-map}
 use Rattle.comp_bytes.specs.ItemIndices.{IsAt}
-use Rattle.comp_bytes.specs.ScopeNames.{item_import, item_export}
+use Rattle.comp_bytes.specs.ScopeNames.{item_export}
 use Rattle.comp_bytes.specs.Spaces.{is_space, items_in, sort_space, space_of}
 use Rattle.comp_bytes.proofs.ItemIndices.{in_range}
 use Rattle.comp_bytes.specs.declared.def.Argument.{Argument}
@@ -22,43 +23,57 @@ use Rattle.comp_bytes.specs.declared.space.Space.{Space}
 use Rattle.comp_bytes.specs.declared.space.Space.TheVariants as spaces
 use Rattle.standard_kinds.specs.declared.kinds.ExportKind.TheVariants as kinds
 use Rattle.wit_data.specs.declared.functions.Function.{Function}
+use Rattle.wit_data.specs.Live.{named_types}
 use Rattle.wit_data.specs.declared.ids.InterfaceId.{InterfaceId}
+use Rattle.wit_data.specs.declared.ids.TypeId.{TypeId}
+use Rattle.wit_data.specs.declared.types.TypeDef.{TypeDef}
 use Rattle.wit_data.specs.declared.worlds.WorldItem.TheVariants as world_items
 use Rattle.wit_data.specs.declared.worlds.WorldKey.{WorldKey}
 use Rattle.comp_trees.specs.Inventories.{FunctionEntry, inventory, no_function as no_entry}
 use Rattle.comp_trees.proofs.Counting.{functions-counted}
-use Rattle.comp_trees.proofs.InventoryGrowth.{function_kept}
+use Rattle.comp_trees.proofs.InventoryGrowth.{function_kept, scope_counted}
+use Rattle.comp_trees.specs.Trees.{Resource}
+use Rattle.comp_trees.specs.DefinedTrees.{TypeTree}
 use Rattle.nested_terms.specs.Naming.{import_names}
-use Rattle.nested_terms.specs.Nested.{NestedImport, ImportedFunction, ImportedType, empty_scope, imports_after, exports_after}
+use Rattle.nested_terms.specs.Nested.{NestedFunction, NestedImport, ImportedFunction, ImportedType, function_import, type_import, empty_scope, imports_after, exports_after}
 use Rattle.nested_terms.proofs.Numbering.{names_are}
 use Rattle.nested_components.specs.Functions.{no_types, functions_of as functions_among, nested_functions, exported}
-use Rattle.nested_components.proofs.Apart.{names_apart}
+use Rattle.nested_components.specs.Types.{exported_type, IsImportOf}
+use Rattle.nested_components.specs.declared.component.NestedComponent.{NestedComponent}
+use Rattle.nested_components.specs.declared.type_import.TypeImport.{TypeImport}
 use Rattle.world_values.specs.Items.{functions_of}
 use Rattle.comp_worlds.specs.Encodable.{IsEncodable}
 use Rattle.comp_worlds.specs.WorldContents.{exported_item}
 use Rattle.comp_worlds.specs.declared.world.ComponentWorld.{ComponentWorld}
-use Rattle.comp_links.specs.Lists.{resource_of}
-use Rattle.comp_terms.specs.Exports.{argument_named, IsNestedRight, IsArgumentIn, IsArgumentRight, IsImportGiven, PassesOn, ExportsInterface, exports_in}
+use Rattle.comp_links.specs.Lists.{resource_of, IsTypeImport}
+use Rattle.interface_needs.proofs.Lists.{all_both}
+use Rattle.comp_terms.specs.Exports.{argument_named, IsNestedRight, IsNestedFor, IsArgumentIn, IsArgumentRight, IsFunctionGiven, IsTypeGiven, IsImportGiven, PassesOn, ExportsInterface, exports_in}
 use Rattle.comp_terms.specs.Rules.{Grows, NestedOf, nested_marked}
 use Rattle.comp_items.proofs.Kept.{Longer, denotes-kept}
 use Rattle.root_imports.specs.Growing.{Grows-by, Grows-then}
-use Rattle.main_exports.specs.Exports.{IsNestedOf, nested_mark, functions_at, functions_of_key, AreLiftArguments, AreArgumentsFor, IsInstantiated}
+use Rattle.main_exports.specs.Exports.{IsNestedOf, nested_mark, functions_at, functions_of_key, AreLiftArguments, IsTypeArgument, AreArgumentsOf, AreArgumentsFor, IsInstantiated}
 use Rattle.main_exports.proofs.Exporting.{own_names, interface_functions}
-use Rattle.main_exports.proofs.Growth.{arguments-kept}
-use Rattle.main_exports.proofs.Nested.{AreFound, Finds, all_found, all_given, all_passed, arguments_named, arguments_sorted, exports_found, imports_named, exports_named, imported_names, exported_names, import_name, export_name}
+use Rattle.main_exports.proofs.Growth.{all_arguments-kept}
+use Rattle.main_exports.proofs.Nested.{AreFound, Finds, IsOfSort, all_found, all_given, types_given, imports_given, all_passed, arguments_named, types_named, lifts_sorted, types_sorted, exports_found, past_types, functions_named, import_types_named, functions_then_types, exports_named, imported_names, given_names, listed_names, exported_names, export_name}
 
 -- ---- arguments
 
 function_given : (ds : List Def) (a : Argument) → a.sort ≡ sorts.Func → a.index < items_in spaces.Func ds → IsArgumentRight ds a
 function_given ds a same l = subst (λ s. IsArgumentIn ds s a.index) (sym same) l
 
-all_scoped : (w : ComponentWorld) (ds : List Def) (key : WorldKey) (es : List (List ℕ × Function)) (names : List (List ℕ)) (as' : List Argument) → AreLiftArguments w ds key es names as' → AllByRecursion (IsArgumentRight ds) as'
-all_scoped w ds key [] [] [] h = tt
-all_scoped w ds key (e ∷ es) (name ∷ names) (a ∷ as') h = (function_given ds a h.0.sort (in_range h.0.lifted.lifted.is.is.made), all_scoped w ds key es names as' h.1)
-all_scoped w ds key [] [] (a ∷ as') h = absurd h
-all_scoped w ds key [] (name ∷ names) as' h = absurd h
-all_scoped w ds key (e ∷ es) [] as' h = absurd h
-all_scoped w ds key (e ∷ es) (name ∷ names) [] h = absurd h
+lifts_scoped : (w : ComponentWorld) (ds : List Def) (key : WorldKey) (es : List (List ℕ × Function)) (names : List (List ℕ)) (as' : List Argument) → AreLiftArguments w ds key es names as' → AllByRecursion (IsArgumentRight ds) as'
+lifts_scoped w ds key [] [] [] h = tt
+lifts_scoped w ds key (e ∷ es) (name ∷ names) (a ∷ as') h = (function_given ds a h.0.sort (in_range h.0.lifted.lifted.is.is.made), lifts_scoped w ds key es names as' h.1)
+lifts_scoped w ds key [] [] (a ∷ as') h = absurd h
+lifts_scoped w ds key [] (name ∷ names) as' h = absurd h
+lifts_scoped w ds key (e ∷ es) [] as' h = absurd h
+lifts_scoped w ds key (e ∷ es) (name ∷ names) [] h = absurd h
+
+types_scoped : (w : ComponentWorld) (ds : List Def) (is : List TypeImport) (as' : List Argument) → AllZip (IsTypeArgument w ds) is as' → AllByRecursion (IsArgumentRight ds) as'
+types_scoped w ds [] [] h = tt
+types_scoped w ds (i ∷ is) (a ∷ as') h = (subst (λ s. IsArgumentIn ds s a.index) (sym h.0.sort) (subst (λ n. a.index < n) (scope_counted ds) h.0.denotes.within), types_scoped w ds is as' h.1)
+types_scoped w ds [] (a ∷ as') h = absurd h
+types_scoped w ds (i ∷ is) [] h = absurd h
 
 items_more : (old new : List Def) → Longer old new → (space : Space) (index : ℕ) → index < items_in space old → index < items_in space new
 items_more old new g space index l =
@@ -114,71 +129,117 @@ module _ (old new : List Def) (g : Longer old new) where
 
 -- ---- a component and its instance
 
-pub adds_instance : (w : ComponentWorld) (old mid new : List Def) (definitions : List Item) (arguments : List Argument) (component : ℕ) → IsNestedRight definitions → AreArgumentsFor old definitions arguments →
+pub adds_instance : (w : ComponentWorld) (old mid new : List Def) (definitions : List Item) (arguments : List Argument) (component : ℕ) → IsNestedRight definitions → IsNestedFor w definitions → AreArgumentsFor old definitions arguments →
     mid ≡ old ++ defs.Component definitions ∷ [] → IsAt mid spaces.Component component (defs.Component definitions) → new ≡ mid ++ defs.Item (items.Instantiate component arguments) ∷ [] → Grows w old new (nested_mark definitions ∷ [])
-adds_instance w old mid new definitions arguments component right given first at second =
+adds_instance w old mid new definitions arguments component right of given first at second =
     let kept : AreArgumentsFor mid definitions arguments = arguments_after old mid (record { more = defs.Component definitions ∷ []; grown = first }) definitions arguments given in
-    Grows-then (Grows-by (defs.Component definitions) first right)
+    Grows-then (Grows-by (defs.Component definitions) first (right, of))
     (Grows-by (defs.Item (items.Instantiate component arguments)) second
     (record { definitions = definitions; given = kept.given; made = at; scoped = kept.scoped; apart = kept.apart; right = kept.right; each = kept.each }))
 
 -- ---- what is known of the nested component of an interface
 
-module _ (w : ComponentWorld) (key : WorldKey) (entries : List (List ℕ × Function)) (names : List (List ℕ)) (definitions : List Item) (n : IsNestedOf w entries names definitions) (arguments : List Argument) where
-  module _ (ds : List Def) (h : AreLiftArguments w ds key entries names arguments) where
-    distinct : IsDistinct bytes_eq (map (λ (a : Argument). a.name) arguments)
-    distinct = subst (IsDistinct bytes_eq) (sym (arguments_named w ds key entries names arguments h)) (names_apart (functions_among entries) names n.named)
+module _ (w : ComponentWorld) (key : WorldKey) (listed : List (List ℕ × TypeId)) (entries : List (List ℕ × Function)) (c : NestedComponent) (n : IsNestedOf w listed entries c) where
+  abbrev origin : TypeId → Resource
+  origin = resource_of w
 
-    finds : AllByRecursion (Finds arguments) arguments
-    finds = all_found arguments (arguments_sorted w ds key entries names arguments h) distinct
+  abbrev all_types : List TypeDef
+  all_types = w.resolve.types
+
+  function_names : flat_map function_import c.items ≡ c.names
+  function_names = functions_named no_types empty_scope c.items ∙ (ap (map (λ (f : NestedFunction). f.argument)) n.functions ∙ imported_names origin all_types [] (functions_among entries) c.names n.named)
+
+  type_names_are : flat_map type_import c.items ≡ map (λ (i : TypeImport). i.name) c.types
+  type_names_are = import_types_named no_types empty_scope c.items ∙ (ap (map (λ (t : List ℕ × TypeTree). t.0)) n.types ∙ given_names origin all_types c.types)
+
+  module _ (ds : List Def) (arguments : List Argument) (h : AreArgumentsOf w ds key entries c arguments) where
+    both_named : map (λ (a : Argument). a.name) (h.lifts ++ h.types) ≡ flat_map function_import c.items ++ flat_map type_import c.items
+    both_named =
+        map-append (λ (a : Argument). a.name) h.lifts h.types
+        ∙ ap₂ (λ xs ys. xs ++ ys) (arguments_named w ds key entries c.names h.lifts h.lifted ∙ sym function_names) (types_named w ds c.types h.types h.given ∙ sym type_names_are)
+
+    distinct : IsDistinct bytes_eq (map (λ (a : Argument). a.name) (h.lifts ++ h.types))
+    distinct = subst (IsDistinct bytes_eq) (sym both_named) (functions_then_types c.items n.apart)
+
+    finds : AllByRecursion (Finds (h.lifts ++ h.types)) (h.lifts ++ h.types)
+    finds =
+        all_found (h.lifts ++ h.types) (all_both IsOfSort h.lifts h.types (lifts_sorted w ds key entries c.names h.lifts h.lifted) (types_sorted w ds c.types h.types h.given)) distinct
+
+    finds_lifts : AllByRecursion (Finds (h.lifts ++ h.types)) h.lifts
+    finds_lifts = AllByRecursion-front (Finds (h.lifts ++ h.types)) h.lifts h.types finds
 
     -- the arguments are those of the component
-    pub arguments_for : AreArgumentsFor ds definitions arguments
-    arguments_for = record {
-      given = no_types;
-      scoped = all_scoped w ds key entries names arguments h;
-      apart = distinct;
-      right = n.right;
-      each = subst (AllByRecursion (IsImportGiven ds arguments)) (sym n.imports) (all_given w ds key arguments [] entries names arguments n.named h finds);
-    }
+    pub arguments_for : AreArgumentsFor ds c.items arguments
+    arguments_for =
+        let all : List Argument = h.lifts ++ h.types in
+        let whole : AreArgumentsFor ds c.items all = record {
+          given = no_types;
+          scoped = all_both (IsArgumentRight ds) h.lifts h.types (lifts_scoped w ds key entries c.names h.lifts h.lifted) (types_scoped w ds c.types h.types h.given);
+          apart = distinct;
+          right = n.right;
+          each = imports_given w ds key all (imports_after no_types empty_scope c.items)
+              (subst (AllByRecursion (λ (g : NestedFunction). IsFunctionGiven ds all g.argument g.type)) (sym n.functions) (all_given w ds key all [] entries c.names h.lifts n.named h.lifted finds_lifts))
+              (subst (AllByRecursion (λ (t : List ℕ × TypeTree). IsTypeGiven ds all t.0 t.1)) (sym n.types)
+              (types_given w ds key all c.types h.types h.given (AllByRecursion-back (Finds all) h.lifts h.types finds)));
+        } in
+        subst (AreArgumentsFor ds c.items) (sym h.both) whole
 
     -- and the lifts are passed on
-    pub lifts_passed : AllByRecursion (λ (e : List ℕ × Function). e.0 ≡ e.1.name) entries → IsDistinct bytes_eq (keys_of entries) → AllByRecursion (PassesOn w ds arguments (exports_after no_types empty_scope definitions)) (functions_at key entries)
+    pub lifts_passed : AllByRecursion (λ (e : List ℕ × Function). e.0 ≡ e.1.name) entries → IsDistinct bytes_eq (keys_of entries) → AllByRecursion (PassesOn w ds arguments (exports_after no_types empty_scope c.items)) (functions_at key entries)
     lifts_passed own apart =
-        let xs = exported (functions_among entries) (nested_functions (resource_of w) w.resolve.types (functions_among entries) names) in
-        let found : AreFound (resource_of w) w.resolve.types xs entries names = exports_found (resource_of w) w.resolve.types [] entries names n.named own apart in
-        subst (λ l. AllByRecursion (PassesOn w ds arguments l) (functions_at key entries)) (sym n.exports) (all_passed w ds key arguments xs entries names arguments found h finds)
+        let xs = exported (functions_among entries) (nested_functions origin all_types (functions_among entries) c.names) in
+        let found : AreFound origin all_types (map (exported_type origin all_types) listed ++ xs) entries c.names =
+        past_types origin all_types listed xs entries c.names (exports_found origin all_types [] entries c.names n.named own apart) in
+        subst (λ as'. AllByRecursion (PassesOn w ds as' (exports_after no_types empty_scope c.items)) (functions_at key entries)) (sym h.both)
+        (subst (λ l. AllByRecursion (PassesOn w ds (h.lifts ++ h.types) l) (functions_at key entries)) (sym n.exports)
+        (all_passed w ds key (h.lifts ++ h.types) (map (exported_type origin all_types) listed ++ xs) entries c.names h.lifts found h.lifted finds_lifts))
 
--- its landmark
-pub nested_marked_as : (w : ComponentWorld) (entries : List (List ℕ × Function)) (names : List (List ℕ)) (definitions : List Item) → IsNestedOf w entries names definitions →
-    nested_mark definitions ≡ NestedOf (import_names (functions_among entries)) (map (λ (f : Function). f.name) (functions_among entries))
-nested_marked_as w entries names definitions n =
-    let fs = functions_among entries in
-    let origin = resource_of w in
-    let types = w.resolve.types in
-    let imports : flat_map item_import definitions ≡ import_names fs =
-    imports_named no_types empty_scope definitions n.right ∙ (ap (map import_name) n.imports ∙ (imported_names origin types [] fs names n.named ∙ names_are [] fs names n.named)) in
-    let exports : flat_map item_export definitions ≡ map (λ (f : Function). f.name) fs =
-    exports_named no_types empty_scope definitions n.right ∙ (ap (map export_name) n.exports ∙ exported_names origin types [] fs names n.named) in
-    ap₂ NestedOf imports exports
+  -- its landmark
+  pub nested_marked_as : nested_mark c.items ≡ NestedOf (import_names (functions_among entries)) (map (λ (t : List ℕ × TypeId). t.0) listed ++ map (λ (f : Function). f.name) (functions_among entries))
+  nested_marked_as =
+      let fs = functions_among entries in
+      let exports : flat_map item_export c.items ≡ map (λ (t : List ℕ × TypeId). t.0) listed ++ map (λ (f : Function). f.name) fs =
+      exports_named no_types empty_scope c.items n.right
+      ∙ (ap (map export_name) n.exports
+      ∙ (listed_names origin all_types listed (exported fs (nested_functions origin all_types fs c.names))
+      ∙ ap (λ l. map (λ (t : List ℕ × TypeId). t.0) listed ++ l) (exported_names origin all_types [] fs c.names n.named))) in
+      ap₂ NestedOf (function_names ∙ names_are [] fs c.names n.named) exports
+
+-- it is one of an exported interface
+import_of : (w : ComponentWorld) (id : InterfaceId) (i : TypeImport) → IsImportOf (named_types w.resolve id) i → IsTypeImport w id i.name
+import_of w id i h = record { of = h.text; listed = Contains-map (λ (t : List ℕ × TypeId). t.0) (named_types w.resolve id) (h.text, i.id) h.listed; count = h.count; same = h.same }
+
+pub nested_for : (w : ComponentWorld) (key : WorldKey) (id : InterfaceId) → exported_item w key ≡ Some (world_items.Interface id) → (entries : List (List ℕ × Function)) (c : NestedComponent) → IsNestedOf w (named_types w.resolve id) entries c →
+    IsNestedFor w c.items
+nested_for w key id is entries c n = record {
+  key = key;
+  id = id;
+  item = is;
+  types = subst (AllByRecursion (IsTypeImport w id)) (sym (type_names_are w key (named_types w.resolve id) entries c n)) (named c.types n.own);
+  apart = n.apart;
+}
+  where
+    named : (is : List TypeImport) → AllByRecursion (IsImportOf (named_types w.resolve id)) is → AllByRecursion (IsTypeImport w id) (map (λ (i : TypeImport). i.name) is)
+    named [] h = tt
+    named (i ∷ is) h = (import_of w id i h.0, named is h.1)
 
 -- an instance of it is what an interface is exported as
-pub exports_interface : (w : ComponentWorld) → IsEncodable w → (key : WorldKey) (id : InterfaceId) → exported_item w key ≡ Some (world_items.Interface id) → (names : List (List ℕ)) (definitions : List Item) → IsNestedOf w (functions_of w.resolve id) names definitions →
-    (arguments : List Argument) (ds : List Def) (index : ℕ) → slice_get w.main_exports (exports_in ds) ≡ Some key → AreLiftArguments w ds key (functions_of w.resolve id) names arguments → IsDistinct bytes_eq (keys_of (functions_of w.resolve id)) →
-    IsInstantiated ds definitions arguments index → ExportsInterface w ds index
-exports_interface w ok key id is names definitions n arguments ds index next h apart made = record {
+pub exports_interface : (w : ComponentWorld) → IsEncodable w → (key : WorldKey) (id : InterfaceId) → exported_item w key ≡ Some (world_items.Interface id) → (c : NestedComponent) → IsNestedOf w (named_types w.resolve id) (functions_of w.resolve id) c →
+    (arguments : List Argument) (ds : List Def) (index : ℕ) → slice_get w.main_exports (exports_in ds) ≡ Some key → AreArgumentsOf w ds key (functions_of w.resolve id) c arguments → IsDistinct bytes_eq (keys_of (functions_of w.resolve id)) →
+    IsInstantiated ds c.items arguments index → ExportsInterface w ds index
+exports_interface w ok key id is c n arguments ds index next h apart made = record {
   key = key;
   id = id;
   next = next;
   item = is;
   component = made.component;
   arguments = arguments;
-  definitions = definitions;
+  definitions = c.items;
   given = no_types;
   instance = made.instance;
   made = made.made;
-  each = subst (AllByRecursion (PassesOn w ds arguments (exports_after no_types empty_scope definitions))) (sym (interface_functions w ok key id is))
-      (lifts_passed w key (functions_of w.resolve id) names definitions n arguments ds h (own_names w ok key id is) apart);
+  each = subst (AllByRecursion (PassesOn w ds arguments (exports_after no_types empty_scope c.items))) (sym (interface_functions w ok key id is))
+      (lifts_passed w key (named_types w.resolve id) (functions_of w.resolve id) c n ds arguments h (own_names w ok key id is) apart);
 }
 
 -- its functions are those of the key
@@ -188,14 +249,15 @@ functions_as w ok key id is es same = interface_functions w ok key id is ∙ ap 
 
 -- the instance that was made last is exported
 pub instance_exported : (w : ComponentWorld) → IsEncodable w → (key : WorldKey) (id : InterfaceId) → exported_item w key ≡ Some (world_items.Interface id) → (es : List (List ℕ × Function)) → es ≡ functions_of w.resolve id → IsDistinct bytes_eq (keys_of es) →
-    (names : List (List ℕ)) (definitions : List Item) → IsNestedOf w es names definitions → (arguments : List Argument) (mid new : List Def) → Longer mid new → AreLiftArguments w mid key es names arguments →
-    (index : ℕ) → slice_get w.main_exports (exports_in new) ≡ Some key → IsInstantiated new definitions arguments index → ExportsInterface w new index
-instance_exported w ok key id is es same apart names definitions n arguments mid new g lifted index next made =
-    let later : AreLiftArguments w new key es names arguments = arguments-kept w mid new g key es names arguments lifted in
-    exports_interface w ok key id is names definitions (subst (λ l. IsNestedOf w l names definitions) same n) arguments new index next (subst (λ l. AreLiftArguments w new key l names arguments) same later)
+    (c : NestedComponent) → IsNestedOf w (named_types w.resolve id) es c → (arguments : List Argument) (mid new : List Def) → Longer mid new → AreArgumentsOf w mid key es c arguments →
+    (index : ℕ) → slice_get w.main_exports (exports_in new) ≡ Some key → IsInstantiated new c.items arguments index → ExportsInterface w new index
+instance_exported w ok key id is es same apart c n arguments mid new g given index next made =
+    let later : AreArgumentsOf w new key es c arguments = all_arguments-kept w mid new g key es c arguments given in
+    exports_interface w ok key id is c (subst (λ l. IsNestedOf w (named_types w.resolve id) l c) same n) arguments new index next (subst (λ l. AreArgumentsOf w new key l c arguments) same later)
     (subst (λ (l : List (List ℕ × Function)). IsDistinct bytes_eq (keys_of l)) same apart) made
 
 -- the landmark of its nested component is the one that is expected
-pub mark_expected : (w : ComponentWorld) (id : InterfaceId) (es : List (List ℕ × Function)) → es ≡ functions_of w.resolve id → (names : List (List ℕ)) (definitions : List Item) → IsNestedOf w es names definitions →
-    nested_mark definitions ∷ [] ≡ nested_marked w (Some (world_items.Interface id))
-mark_expected w id es same names definitions n = ap (λ m. m ∷ []) (nested_marked_as w (functions_of w.resolve id) names definitions (subst (λ l. IsNestedOf w l names definitions) same n))
+pub mark_expected : (w : ComponentWorld) (key : WorldKey) (id : InterfaceId) (es : List (List ℕ × Function)) → es ≡ functions_of w.resolve id → (c : NestedComponent) → IsNestedOf w (named_types w.resolve id) es c →
+    nested_mark c.items ∷ [] ≡ nested_marked w (Some (world_items.Interface id))
+mark_expected w key id es same c n =
+    ap (λ m. m ∷ []) (nested_marked_as w key (named_types w.resolve id) (functions_of w.resolve id) c (subst (λ l. IsNestedOf w (named_types w.resolve id) l c) same n))

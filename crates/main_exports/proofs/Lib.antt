@@ -2,7 +2,8 @@ pub mod Growth
 pub mod NeededOptions
 pub mod Tabled
 pub mod Lifting
-pub mod Arguments
+pub mod LiftArguments
 pub mod Nested
 pub mod Exporting
 pub mod Instances
+pub mod TypeArguments

@@ -1,5 +1,5 @@
 -- What a lift adds, and the causes of its refusal among all functions.
-use Rattle.std.proofs.Common.{◌≡◌, ◌∙◌, ℕ, List, [], ◌∷◌, ◌++◌, refl, ap, sym, subst, Contains, Some, None, Option, Bor}
+use Rattle.std.proofs.Common.{◌≡◌, ◌∙◌, ℕ, List, [], ◌∷◌, ◌++◌, refl, ap, sym, subst, Contains, Some, None, Option, Bor, inr}
 use Rattle.std.specs.List.{AllZip, slice_get}
 use Rattle.std.specs.Option.{option_copied, option_map}
 use Rattle.standard_kinds.specs.declared.kinds.ExportKind.TheVariants as kinds
@@ -13,7 +13,8 @@ use Rattle.comp_trees.specs.DefinedTrees.{OfFunctions}
 use Rattle.comp_trees.specs.Inventories.{inventory}
 use Rattle.comp_roles.specs.declared.metadata.FunctionKey.{FunctionKey}
 use Rattle.wit_data.specs.declared.functions.Function.{Function}
-use Rattle.comp_worlds.specs.WorldContents.{function_exported}
+use Rattle.wit_data.specs.declared.ids.InterfaceId.{InterfaceId}
+use Rattle.comp_worlds.specs.WorldContents.{exported_item, function_exported}
 use Rattle.comp_worlds.specs.declared.world.ComponentWorld.{ComponentWorld}
 use Rattle.comp_links.specs.Links.{lift_options}
 use Rattle.comp_links.specs.Lists.{RequiredFunction}
@@ -29,7 +30,9 @@ use Rattle.core_options.proofs.Offered.{main_module}
 use Rattle.core_options.proofs.OptionTerms.{options_right}
 use Rattle.core_options.proofs.Refusals.{among_more}
 use Rattle.interface_needs.proofs.Lists.{contains_none, contains_one}
-use Rattle.main_exports.specs.Exports.{main_function, IsEntryOf, IsTypedLift}
+use Rattle.interface_needs.specs.RootNeeds.{interface_of_item}
+use Rattle.root_imports.specs.Imports.{IsNeededFunction}
+use Rattle.main_exports.specs.Exports.{main_function, IsMainFunction, IsEntryOf, IsTypedLift}
 
 pub record AddsLift (w : ComponentWorld) (old new : List Def) (f : FunctionKey) (function : Function) (index : ℕ) : Type 0 where
   pub grows : Grows w old new []
@@ -59,6 +62,11 @@ adds_lift w old new core kind index options f function fit entry typed exported 
     entry = made (type_of_function w function) typed;
   };
 }
+
+-- the function of a key is needed where its type is defined
+pub needed_function : (w : ComponentWorld) (interface : Option InterfaceId) (f : FunctionKey) (function : Function) → IsMainFunction w f function → interface_of_item (exported_item w f.key) ≡ interface → IsNeededFunction w interface function
+needed_function w None f function h of = inr (record { key = f.key; name = f.function; exported = h.exported; of = of })
+needed_function w (Some id) f function h of = record { key = f.key; name = f.function; exported = h.exported; of = of }
 
 -- a cause among no functions is one among any
 pub among_any : (w : ComponentWorld) (fs : List RequiredFunction) (e : StateFault) → IsCauseAmong w [] [] e → IsCauseAmong w [] fs e

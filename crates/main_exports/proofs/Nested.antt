@@ -1,7 +1,7 @@
 -- The arguments of a nested component, and what its instance passes on.
-use Rattle.std.proofs.Common.{◌≡◌, ◌∙◌, ◌&&◌, ℕ, suc, Bool, true, false, true≢false, List, [], ◌∷◌, ◌++◌, refl, ap, ap₂, sym, subst, Some, None, if◌then◌else◌}
+use Rattle.std.proofs.Common.{◌≡◌, ◌∙◌, ◌&&◌, ℕ, suc, Bool, true, false, true≢false, List, [], ◌∷◌, ◌++◌, refl, ap, ap₂, sym, subst, Some, None, if◌then◌else◌, ◌⊎◌, inl, inr}
 use Rattle.std.specs.Prelude.{length, map}
-use Rattle.std.specs.List.{AllByRecursion, IsDistinct, flat_map}
+use Rattle.std.specs.List.{AllByRecursion, AllZip, IsDistinct, flat_map}
 use Rattle.std.specs.Str.{bytes_eq}
 use Rattle.std.proofs.lemmas.Option.{get_or_from_slice_get}
 use Rattle.std.proofs.lemmas.Slice.Eq.{bytes_eq-Decides}
@@ -11,23 +11,29 @@ use Rattle.comp_bytes.specs.declared.def.Argument.{Argument}
 use Rattle.comp_bytes.specs.declared.def.Def.{Def}
 use Rattle.comp_bytes.specs.declared.def.Item.{Item}
 use Rattle.comp_bytes.specs.declared.def.Item.TheVariants as items
+use Rattle.comp_bytes.specs.declared.space.Sort.{Sort}
 use Rattle.comp_bytes.specs.declared.space.Sort.TheVariants as sorts
 use Rattle.comp_bytes.specs.declared.types.Description.TheVariants as descriptions
 use Rattle.wit_data.specs.declared.functions.Function.{Function}
 use Rattle.wit_data.specs.declared.ids.TypeId.{TypeId}
+use Rattle.wit_data.specs.declared.types.Type.TheVariants.{Id}
 use Rattle.wit_data.specs.declared.types.TypeDef.{TypeDef}
 use Rattle.wit_data.specs.declared.worlds.WorldKey.{WorldKey}
 use Rattle.comp_trees.specs.Trees.{Resource}
-use Rattle.comp_trees.specs.DefinedTrees.{TypeTree, OfFunctions}
+use Rattle.comp_trees.specs.DefinedTrees.{TypeTree, OfValues, OfFunctions}
+use Rattle.comp_trees.specs.WitTrees.{wit_tree}
 use Rattle.comp_trees.specs.Inventories.{FunctionEntry, inventory, no_function as no_entry}
 use Rattle.nested_terms.specs.Naming.{AreNamesAfter}
-use Rattle.nested_terms.specs.Nested.{NestedFunction, NestedScope, NestedImport, ImportedFunction, ImportedType, NestedExport, ExportedFunction, ExportedType, function_named, with_item, imports_after, exports_after, AreItemsRight}
-use Rattle.nested_components.specs.Functions.{functions_of, nested_functions, imported, exported, type_of}
+use Rattle.nested_terms.specs.Nested.{NestedFunction, NestedScope, NestedImport, ImportedFunction, ImportedType, NestedExport, ExportedFunction, ExportedType, function_import, type_import, functions_imported, types_imported, function_named, with_item, imports_after, exports_after, AreItemsRight}
+use Rattle.nested_components.specs.Functions.{functions_of, nested_functions, exported, type_of}
+use Rattle.nested_components.specs.Types.{type_given, exported_type}
+use Rattle.nested_components.specs.declared.type_import.TypeImport.{TypeImport}
 use Rattle.comp_worlds.specs.declared.world.ComponentWorld.{ComponentWorld}
 use Rattle.comp_links.specs.Lists.{resource_of}
-use Rattle.comp_terms.specs.Exports.{argument_named, IsImportGiven, PassesOn}
+use Rattle.comp_terms.specs.Exports.{argument_named, IsFunctionGiven, IsTypeGiven, IsImportGiven, PassesOn}
+use Rattle.interface_needs.proofs.Lists.{all_both}
 use Rattle.comp_terms.specs.Planned.{type_of_function}
-use Rattle.main_exports.specs.Exports.{functions_at, AreLiftArguments}
+use Rattle.main_exports.specs.Exports.{functions_at, AreLiftArguments, IsTypeArgument}
 
 turned : (a b : List ℕ) → bytes_eq a b ≡ false → bytes_eq b a ≡ false
 turned a b h = by (bytes_eq b a) refl
@@ -39,24 +45,31 @@ turned a b h = by (bytes_eq b a) refl
 -- ---- arguments by their names
 
 abbrev pub Finds : List Argument → Argument → Type 0
-Finds all a = argument_named sorts.Func a.name all ≡ Some a
+Finds all a = argument_named a.sort a.name all ≡ Some a
+
+-- a function, or a type
+abbrev pub IsOfSort : Argument → Type 0
+IsOfSort a = (a.sort ≡ sorts.Func) ⊎ (a.sort ≡ sorts.Type)
 
 skip : (a : Argument) (more bs : List Argument) → AllByRecursion (Finds more) bs → AllByRecursion (λ n. bytes_eq a.name n ≡ false) (map (λ b. b.name) bs) → AllByRecursion (Finds (a ∷ more)) bs
 skip a more [] h k = tt
-skip a more (b ∷ bs) h k = (by (is_space (sort_space sorts.Func) (Some (sort_space a.sort))) (turned a.name b.name k.0), skip a more bs h.1 k.1)
+skip a more (b ∷ bs) h k = (by (is_space (sort_space b.sort) (Some (sort_space a.sort))) (turned a.name b.name k.0), skip a more bs h.1 k.1)
   where
-    by : (s : Bool) → bytes_eq b.name a.name ≡ false → (if s && bytes_eq b.name a.name then Some a else argument_named sorts.Func b.name more) ≡ Some b
-    by true e = ap (λ t. if t then Some a else argument_named sorts.Func b.name more) e ∙ h.0
+    by : (s : Bool) → bytes_eq b.name a.name ≡ false → (if s && bytes_eq b.name a.name then Some a else argument_named b.sort b.name more) ≡ Some b
+    by true e = ap (λ t. if t then Some a else argument_named b.sort b.name more) e ∙ h.0
     by false e = h.0
 
--- each of several functions under distinct names is found by its name
-pub all_found : (all : List Argument) → AllByRecursion (λ a. a.sort ≡ sorts.Func) all → IsDistinct bytes_eq (map (λ a. a.name) all) → AllByRecursion (Finds all) all
+own_sort : (a : Argument) → IsOfSort a → is_space (sort_space a.sort) (Some (sort_space a.sort)) ≡ true
+own_sort a (inl is) = ap (λ s. is_space (sort_space s) (Some (sort_space s))) is
+own_sort a (inr is) = ap (λ s. is_space (sort_space s) (Some (sort_space s))) is
+
+-- each of several functions and types under distinct names is found by its name
+pub all_found : (all : List Argument) → AllByRecursion IsOfSort all → IsDistinct bytes_eq (map (λ a. a.name) all) → AllByRecursion (Finds all) all
 unfolding IsDistinct
 all_found [] h k = tt
 all_found (a ∷ more) h k =
-    let here : (is_space (sort_space sorts.Func) (Some (sort_space a.sort)) && bytes_eq a.name a.name) ≡ true =
-    ap₂ (λ s t. s && t) (ap (λ s. is_space (sort_space sorts.Func) (Some (sort_space s))) h.0) ((bytes_eq-Decides a.name a.name).1 refl) in
-    (ap (λ t. if t then Some a else argument_named sorts.Func a.name more) here, skip a more more (all_found more h.1 k.1) k.0)
+    let here : (is_space (sort_space a.sort) (Some (sort_space a.sort)) && bytes_eq a.name a.name) ≡ true = ap₂ (λ s t. s && t) (own_sort a h.0) ((bytes_eq-Decides a.name a.name).1 refl) in
+    (ap (λ t. if t then Some a else argument_named a.sort a.name more) here, skip a more more (all_found more h.1 k.1) k.0)
 
 -- ---- exports by their names
 
@@ -91,7 +104,21 @@ module _ (origin : TypeId → Resource) (types : List TypeDef) where
   exports_found taken [] (name ∷ names) h named k = absurd h
   exports_found taken (e ∷ es) [] h named k = absurd h
 
--- ---- the arguments are the lifts
+-- the types before them are no functions
+past_type : (origin : TypeId → Resource) (types : List TypeDef) (name : List ℕ) (tree : TypeTree) (xs : List NestedExport) (es : List (List ℕ × Function)) (names : List (List ℕ)) → AreFound origin types xs es names →
+    AreFound origin types (ExportedType name tree ∷ xs) es names
+past_type origin types name tree xs [] [] h = tt
+past_type origin types name tree xs (e ∷ es) (n ∷ ns) h = (h.0, past_type origin types name tree xs es ns h.1)
+past_type origin types name tree xs [] (n ∷ ns) h = absurd h
+past_type origin types name tree xs (e ∷ es) [] h = absurd h
+
+pub past_types : (origin : TypeId → Resource) (types : List TypeDef) (listed : List (List ℕ × TypeId)) (xs : List NestedExport) (es : List (List ℕ × Function)) (names : List (List ℕ)) → AreFound origin types xs es names →
+    AreFound origin types (map (exported_type origin types) listed ++ xs) es names
+past_types origin types [] xs es names h = h
+past_types origin types (t ∷ ts) xs es names h =
+    past_type origin types t.0 (OfValues (wit_tree origin types (Some (Id t.1)))) (map (exported_type origin types) ts ++ xs) es names (past_types origin types ts xs es names h)
+
+-- ---- the arguments are the lifts and the types
 
 module _ (w : ComponentWorld) (ds : List Def) (key : WorldKey) (all : List Argument) where
   abbrev origin : TypeId → Resource
@@ -100,17 +127,17 @@ module _ (w : ComponentWorld) (ds : List Def) (key : WorldKey) (all : List Argum
   abbrev types : List TypeDef
   types = w.resolve.types
 
-  found_as : (a : Argument) (name : List ℕ) → a.name ≡ name → Finds all a → argument_named sorts.Func name all ≡ Some a
-  found_as a name same h = ap (λ n. argument_named sorts.Func n all) (sym same) ∙ h
+  found_as : (a : Argument) (sort : Sort) (name : List ℕ) → a.sort ≡ sort → a.name ≡ name → Finds all a → argument_named sort name all ≡ Some a
+  found_as a sort name of same h = ap₂ (λ s n. argument_named s n all) (sym of) (sym same) ∙ h
 
-  -- each import is given its function
+  -- the import of each function is given its lift
   pub all_given : (taken : List (List ℕ)) (es : List (List ℕ × Function)) (names : List (List ℕ)) (as' : List Argument) → AreNamesAfter taken (functions_of es) names → AreLiftArguments w ds key es names as' → AllByRecursion (Finds all) as' →
-      AllByRecursion (IsImportGiven ds all) (map imported (nested_functions origin types (functions_of es) names))
+      AllByRecursion (λ g. IsFunctionGiven ds all g.argument g.type) (nested_functions origin types (functions_of es) names)
   all_given taken [] [] [] n h k = tt
   all_given taken (e ∷ es) (name ∷ names) (a ∷ as') n h k = (
     record {
       argument = a;
-      named = found_as a name h.0.named k.0;
+      named = found_as a sorts.Func name h.0.sort h.0.named k.0;
       typed = ap (λ (f : FunctionEntry). f.type) (get_or_from_slice_get (inventory ds).functions a.index (record { origin = None; type = OfFunctions (type_of_function w e.1) }) no_entry h.0.lifted.entry);
     },
     all_given (taken ++ name ∷ []) es names as' n.1 h.1 k.1,
@@ -120,12 +147,26 @@ module _ (w : ComponentWorld) (ds : List Def) (key : WorldKey) (all : List Argum
   all_given taken (e ∷ es) [] as' n h k = absurd n
   all_given taken (e ∷ es) (name ∷ names) [] n h k = absurd h
 
+  -- and that of each type, the type
+  pub types_given : (is : List TypeImport) (as' : List Argument) → AllZip (IsTypeArgument w ds) is as' → AllByRecursion (Finds all) as' → AllByRecursion (λ t. IsTypeGiven ds all t.0 t.1) (map (type_given origin types) is)
+  types_given [] [] h k = tt
+  types_given (i ∷ is) (a ∷ as') h k = (record { argument = a; named = found_as a sorts.Type i.name h.0.sort h.0.named k.0; denotes = h.0.denotes }, types_given is as' h.1 k.1)
+  types_given [] (a ∷ as') h k = absurd h
+  types_given (i ∷ is) [] h k = absurd h
+
+  -- so is each import
+  pub imports_given : (xs : List NestedImport) → AllByRecursion (λ g. IsFunctionGiven ds all g.argument g.type) (functions_imported xs) → AllByRecursion (λ t. IsTypeGiven ds all t.0 t.1) (types_imported xs) →
+      AllByRecursion (IsImportGiven ds all) xs
+  imports_given [] f t = tt
+  imports_given (ImportedFunction name type ∷ xs) f t = (f.0, imports_given xs f.1 t)
+  imports_given (ImportedType name tree ∷ xs) f t = (t.0, imports_given xs f t.1)
+
   -- the lift of each function is passed on
   pub all_passed : (xs : List NestedExport) (es : List (List ℕ × Function)) (names : List (List ℕ)) (as' : List Argument) → AreFound origin types xs es names → AreLiftArguments w ds key es names as' → AllByRecursion (Finds all) as' →
       AllByRecursion (PassesOn w ds all xs) (functions_at key es)
   all_passed xs [] [] [] f h k = tt
   all_passed xs (e ∷ es) (name ∷ names) (a ∷ as') f h k = (
-    record { function = passed origin types e.1 name; argument = a; found = f.0; named = found_as a name h.0.named k.0; lifted = h.0.lifted.lifted },
+    record { function = passed origin types e.1 name; argument = a; found = f.0; named = found_as a sorts.Func name h.0.sort h.0.named k.0; lifted = h.0.lifted.lifted },
     all_passed xs es names as' f.1 h.1 k.1,
   )
   all_passed xs [] [] (a ∷ as') f h k = absurd h
@@ -133,14 +174,26 @@ module _ (w : ComponentWorld) (ds : List Def) (key : WorldKey) (all : List Argum
   all_passed xs (e ∷ es) [] as' f h k = absurd f
   all_passed xs (e ∷ es) (name ∷ names) [] f h k = absurd h
 
--- the arguments are functions, and have the names of the imports
-pub arguments_sorted : (w : ComponentWorld) (ds : List Def) (key : WorldKey) (es : List (List ℕ × Function)) (names : List (List ℕ)) (as' : List Argument) → AreLiftArguments w ds key es names as' → AllByRecursion (λ a. a.sort ≡ sorts.Func) as'
-arguments_sorted w ds key [] [] [] h = tt
-arguments_sorted w ds key (e ∷ es) (name ∷ names) (a ∷ as') h = (h.0.sort, arguments_sorted w ds key es names as' h.1)
-arguments_sorted w ds key [] [] (a ∷ as') h = absurd h
-arguments_sorted w ds key [] (name ∷ names) as' h = absurd h
-arguments_sorted w ds key (e ∷ es) [] as' h = absurd h
-arguments_sorted w ds key (e ∷ es) (name ∷ names) [] h = absurd h
+-- the arguments are functions and types, and have the names of the imports
+pub lifts_sorted : (w : ComponentWorld) (ds : List Def) (key : WorldKey) (es : List (List ℕ × Function)) (names : List (List ℕ)) (as' : List Argument) → AreLiftArguments w ds key es names as' → AllByRecursion IsOfSort as'
+lifts_sorted w ds key [] [] [] h = tt
+lifts_sorted w ds key (e ∷ es) (name ∷ names) (a ∷ as') h = (inl h.0.sort, lifts_sorted w ds key es names as' h.1)
+lifts_sorted w ds key [] [] (a ∷ as') h = absurd h
+lifts_sorted w ds key [] (name ∷ names) as' h = absurd h
+lifts_sorted w ds key (e ∷ es) [] as' h = absurd h
+lifts_sorted w ds key (e ∷ es) (name ∷ names) [] h = absurd h
+
+pub types_sorted : (w : ComponentWorld) (ds : List Def) (is : List TypeImport) (as' : List Argument) → AllZip (IsTypeArgument w ds) is as' → AllByRecursion IsOfSort as'
+types_sorted w ds [] [] h = tt
+types_sorted w ds (i ∷ is) (a ∷ as') h = (inr h.0.sort, types_sorted w ds is as' h.1)
+types_sorted w ds [] (a ∷ as') h = absurd h
+types_sorted w ds (i ∷ is) [] h = absurd h
+
+pub types_named : (w : ComponentWorld) (ds : List Def) (is : List TypeImport) (as' : List Argument) → AllZip (IsTypeArgument w ds) is as' → map (λ (a : Argument). a.name) as' ≡ map (λ (i : TypeImport). i.name) is
+types_named w ds [] [] h = refl
+types_named w ds (i ∷ is) (a ∷ as') h = ap₂ (λ x xs. x ∷ xs) h.0.named (types_named w ds is as' h.1)
+types_named w ds [] (a ∷ as') h = absurd h
+types_named w ds (i ∷ is) [] h = absurd h
 
 pub arguments_named : (w : ComponentWorld) (ds : List Def) (key : WorldKey) (es : List (List ℕ × Function)) (names : List (List ℕ)) (as' : List Argument) → AreLiftArguments w ds key es names as' → map (λ (a : Argument). a.name) as' ≡ names
 arguments_named w ds key [] [] [] h = refl
@@ -152,22 +205,26 @@ arguments_named w ds key (e ∷ es) (name ∷ names) [] h = absurd h
 
 -- ---- the names of imports and exports
 
-abbrev pub import_name : NestedImport → List ℕ
-import_name (ImportedFunction name type) = name
-import_name (ImportedType name tree) = name
-
 abbrev pub export_name : NestedExport → List ℕ
 export_name (ExportedFunction name function) = name
 export_name (ExportedType name tree) = name
 
 module _ (given : List ℕ → TypeTree) where
-  pub imports_named : (s : NestedScope) (is : List Item) → AreItemsRight given s is → flat_map item_import is ≡ map import_name (imports_after given s is)
-  imports_named s [] h = refl
-  imports_named s (items.Import name (descriptions.Func kind) ∷ is) h = ap (λ l. name.name ∷ l) (imports_named (with_item given s (items.Import name (descriptions.Func kind))) is h.1)
-  imports_named s (items.Import name (descriptions.TypeEqual index) ∷ is) h = ap (λ l. name.name ∷ l) (imports_named (with_item given s (items.Import name (descriptions.TypeEqual index))) is h.1)
-  imports_named s (items.Import name descriptions.SubResource ∷ is) h = ap (λ l. name.name ∷ l) (imports_named (with_item given s (items.Import name descriptions.SubResource)) is h.1)
-  imports_named s (items.Import name (descriptions.Instance index) ∷ is) h = absurd h.0
-  imports_named s (i ∷ is) h = imports_named (with_item given s i) is h.1
+  pub functions_named : (s : NestedScope) (is : List Item) → flat_map function_import is ≡ map (λ (f : NestedFunction). f.argument) (functions_imported (imports_after given s is))
+  functions_named s [] = refl
+  functions_named s (items.Import name (descriptions.Func kind) ∷ is) = ap (λ l. name.name ∷ l) (functions_named (with_item given s (items.Import name (descriptions.Func kind))) is)
+  functions_named s (items.Import name (descriptions.TypeEqual index) ∷ is) = functions_named (with_item given s (items.Import name (descriptions.TypeEqual index))) is
+  functions_named s (items.Import name descriptions.SubResource ∷ is) = functions_named (with_item given s (items.Import name descriptions.SubResource)) is
+  functions_named s (items.Import name (descriptions.Instance index) ∷ is) = functions_named (with_item given s (items.Import name (descriptions.Instance index))) is
+  functions_named s (i ∷ is) = functions_named (with_item given s i) is
+
+  pub import_types_named : (s : NestedScope) (is : List Item) → flat_map type_import is ≡ map (λ (t : List ℕ × TypeTree). t.0) (types_imported (imports_after given s is))
+  import_types_named s [] = refl
+  import_types_named s (items.Import name (descriptions.Func kind) ∷ is) = import_types_named (with_item given s (items.Import name (descriptions.Func kind))) is
+  import_types_named s (items.Import name (descriptions.TypeEqual index) ∷ is) = ap (λ l. name.name ∷ l) (import_types_named (with_item given s (items.Import name (descriptions.TypeEqual index))) is)
+  import_types_named s (items.Import name descriptions.SubResource ∷ is) = ap (λ l. name.name ∷ l) (import_types_named (with_item given s (items.Import name descriptions.SubResource)) is)
+  import_types_named s (items.Import name (descriptions.Instance index) ∷ is) = import_types_named (with_item given s (items.Import name (descriptions.Instance index))) is
+  import_types_named s (i ∷ is) = import_types_named (with_item given s i) is
 
   pub exports_named : (s : NestedScope) (is : List Item) → AreItemsRight given s is → flat_map item_export is ≡ map export_name (exports_after given s is)
   exports_named s [] h = refl
@@ -177,7 +234,7 @@ module _ (given : List ℕ → TypeTree) where
   exports_named s (i ∷ is) h = exports_named (with_item given s i) is h.1
 
 module _ (origin : TypeId → Resource) (types : List TypeDef) where
-  pub imported_names : (taken : List (List ℕ)) (fs : List Function) (names : List (List ℕ)) → AreNamesAfter taken fs names → map import_name (map imported (nested_functions origin types fs names)) ≡ names
+  pub imported_names : (taken : List (List ℕ)) (fs : List Function) (names : List (List ℕ)) → AreNamesAfter taken fs names → map (λ (f : NestedFunction). f.argument) (nested_functions origin types fs names) ≡ names
   imported_names taken [] [] h = refl
   imported_names taken (f ∷ fs) (name ∷ names) h = ap (λ l. name ∷ l) (imported_names (taken ++ name ∷ []) fs names h.1)
   imported_names taken [] (name ∷ names) h = absurd h
@@ -188,6 +245,50 @@ module _ (origin : TypeId → Resource) (types : List TypeDef) where
   exported_names taken (f ∷ fs) (name ∷ names) h = ap (λ l. f.name ∷ l) (exported_names (taken ++ name ∷ []) fs names h.1)
   exported_names taken [] (name ∷ names) h = absurd h
   exported_names taken (f ∷ fs) [] h = absurd h
+
+  pub given_names : (is : List TypeImport) → map (λ (t : List ℕ × TypeTree). t.0) (map (type_given origin types) is) ≡ map (λ (i : TypeImport). i.name) is
+  given_names [] = refl
+  given_names (i ∷ is) = ap (λ l. i.name ∷ l) (given_names is)
+
+  pub listed_names : (listed : List (List ℕ × TypeId)) (xs : List NestedExport) → map export_name (map (exported_type origin types) listed ++ xs) ≡ map (λ (t : List ℕ × TypeId). t.0) listed ++ map export_name xs
+  listed_names [] xs = refl
+  listed_names (t ∷ ts) xs = ap (λ l. t.0 ∷ l) (listed_names ts xs)
+
+-- ---- distinct names of imports
+
+-- what holds of the names of imports holds of those of the functions and of the types among them
+apart_of : (P : List ℕ → Type 0) (is : List Item) → AllByRecursion P (flat_map item_import is) → AllByRecursion P (flat_map function_import is) × AllByRecursion P (flat_map type_import is)
+apart_of P [] h = (tt, tt)
+apart_of P (items.Import name (descriptions.Func kind) ∷ is) h = let rest = apart_of P is h.1 in ((h.0, rest.0), rest.1)
+apart_of P (items.Import name (descriptions.TypeEqual index) ∷ is) h = let rest = apart_of P is h.1 in (rest.0, (h.0, rest.1))
+apart_of P (items.Import name descriptions.SubResource ∷ is) h = let rest = apart_of P is h.1 in (rest.0, (h.0, rest.1))
+apart_of P (items.Import name (descriptions.Instance index) ∷ is) h = apart_of P is h.1
+apart_of P (i ∷ is) h = apart_of P is h
+
+all_inserted : (P : List ℕ → Type 0) (xs : List (List ℕ)) (x : List ℕ) (ys : List (List ℕ)) → AllByRecursion P (xs ++ ys) → P x → AllByRecursion P (xs ++ x ∷ ys)
+all_inserted P [] x ys h k = (k, h)
+all_inserted P (y ∷ xs) x ys h k = (h.0, all_inserted P xs x ys h.1 k)
+
+-- one more name between distinct ones
+between : (x : List ℕ) (xs ys : List (List ℕ)) → AllByRecursion (λ n. bytes_eq x n ≡ false) xs → AllByRecursion (λ n. bytes_eq x n ≡ false) ys → IsDistinct bytes_eq (xs ++ ys) → IsDistinct bytes_eq (xs ++ x ∷ ys)
+unfolding IsDistinct
+between x [] ys a b h = (b, h)
+between x (y ∷ xs) ys a b h = (all_inserted (λ n. bytes_eq y n ≡ false) xs x ys h.0 (turned x y a.0), between x xs ys a.1 b h.1)
+
+-- the functions' names and then the types' are distinct, where all are
+pub functions_then_types : (is : List Item) → IsDistinct bytes_eq (flat_map item_import is) → IsDistinct bytes_eq (flat_map function_import is ++ flat_map type_import is)
+unfolding IsDistinct
+functions_then_types [] h = tt
+functions_then_types (items.Import name (descriptions.Func kind) ∷ is) h =
+    let P : List ℕ → Type 0 = λ n. bytes_eq name.name n ≡ false in
+    let parts = apart_of P is h.0 in
+    (all_both P (flat_map function_import is) (flat_map type_import is) parts.0 parts.1, functions_then_types is h.1)
+functions_then_types (items.Import name (descriptions.TypeEqual index) ∷ is) h =
+    let parts = apart_of (λ n. bytes_eq name.name n ≡ false) is h.0 in between name.name (flat_map function_import is) (flat_map type_import is) parts.0 parts.1 (functions_then_types is h.1)
+functions_then_types (items.Import name descriptions.SubResource ∷ is) h =
+    let parts = apart_of (λ n. bytes_eq name.name n ≡ false) is h.0 in between name.name (flat_map function_import is) (flat_map type_import is) parts.0 parts.1 (functions_then_types is h.1)
+functions_then_types (items.Import name (descriptions.Instance index) ∷ is) h = functions_then_types is h.1
+functions_then_types (i ∷ is) h = functions_then_types is h
 
 -- there are as many names as functions
 pub names_counted : (taken : List (List ℕ)) (es : List (List ℕ × Function)) (names : List (List ℕ)) → AreNamesAfter taken (functions_of es) names → length names ≡ length es

@@ -1,6 +1,6 @@
 -- What is taken as given where the required exports are lifted, and what is lifted for each. (The rules are this project's own.)
-use Rattle.std.specs.Prelude.{◌≡◌, ℕ, List, [], ◌∷◌, map, Some, IsSome, slice_get, None}
-use Rattle.std.specs.List.{AllByRecursion, IsDistinct, flat_map}
+use Rattle.std.specs.Prelude.{◌≡◌, ℕ, List, [], ◌∷◌, ◌++◌, map, Some, IsSome, slice_get, None}
+use Rattle.std.specs.List.{AllByRecursion, AllZip, IsDistinct, flat_map}
 use Rattle.std.specs.Option.{option_copied}
 use Rattle.std.specs.Str.{bytes_eq}
 use Rattle.comp_bytes.specs.ItemIndices.{IsAt}
@@ -14,33 +14,37 @@ use Rattle.comp_bytes.specs.declared.space.Space.TheVariants as spaces
 use Rattle.comp_bytes.specs.declared.space.Sort.TheVariants as sorts
 use Rattle.standard_kinds.specs.declared.kinds.ExportKind.TheVariants as kinds
 use Rattle.wit_data.specs.Sound.{HasFunction}
+use Rattle.wit_data.specs.Live.{named_types}
+use Rattle.wit_data.specs.declared.ids.InterfaceId.{InterfaceId}
+use Rattle.wit_data.specs.declared.ids.TypeId.{TypeId}
 use Rattle.wit_data.specs.declared.functions.Function.{Function as WitFunction}
 use Rattle.wit_data.specs.declared.worlds.WorldKey.{WorldKey}
 use Rattle.comp_trees.specs.DefinedTrees.{TypeTree, OfFunctions}
 use Rattle.nested_terms.specs.Naming.{AreNames}
-use Rattle.nested_terms.specs.Nested.{empty_scope, imports_after, exports_after, AreItemsRight}
-use Rattle.nested_components.specs.Functions.{no_types, functions_of as functions_among, nested_functions, imported, exported}
-use Rattle.comp_trees.specs.Inventories.{inventory}
+use Rattle.nested_terms.specs.Nested.{function_import, functions_imported, types_imported, empty_scope, imports_after, exports_after, AreItemsRight}
+use Rattle.nested_components.specs.Functions.{no_types, functions_of as functions_among, nested_functions, exported}
+use Rattle.nested_components.specs.Types.{type_given, exported_type, IsImportOf}
+use Rattle.nested_components.specs.declared.component.NestedComponent.{NestedComponent}
+use Rattle.nested_components.specs.declared.type_import.TypeImport.{TypeImport}
+use Rattle.comp_trees.specs.DefinedScopes.{Denotes}
+use Rattle.comp_trees.specs.Inventories.{inventory, scope_of}
 use Rattle.comp_roles.specs.declared.metadata.FunctionKey.{FunctionKey}
 use Rattle.comp_worlds.specs.Encodable.{IsEncodable}
 use Rattle.comp_worlds.specs.WorldContents.{core_name_of, function_exported}
 use Rattle.comp_worlds.specs.declared.world.ComponentWorld.{ComponentWorld}
 use Rattle.comp_links.specs.Links.{lift_realloc}
-use Rattle.comp_links.specs.Lists.{RequiredFunction, functions_required, resource_of}
+use Rattle.comp_links.specs.Lists.{RequiredFunction, functions_required, resource_of, type_of_world}
 use Rattle.comp_links.specs.Targets.{Main}
 use Rattle.comp_terms.specs.Exports.{IsArgumentRight, IsImportGiven, IsRequiredLift}
 use Rattle.comp_terms.specs.Rules.{Landmark, NestedOf}
 use Rattle.comp_terms.specs.Planned.{type_of_function}
 use Rattle.comp_terms.specs.Terms.{IsExported}
-use Rattle.comp_items.specs.Items.{Extends}
-use Rattle.root_imports.specs.RootScopes.{AreTablesRight, ArePassed}
-use Rattle.root_imports.specs.declared.root_scope.RootScope.{RootScope}
+use Rattle.root_imports.specs.RootScopes.{AreTablesRight, ArePassed, AreForgotten}
+use Rattle.interface_needs.specs.RootNeeds.{IsExportedType}
+use Rattle.root_imports.specs.Keeping.{Root}
 use Rattle.core_options.specs.MainOptions.{of_main, AreOptionSources}
 use Rattle.main_exports.specs.Tables.{AreTablesOf}
 use Rattle.main_exports.specs.declared.sources.MainExports.{MainExports}
-
-abbrev pub Root : Type 0
-Root = RootScope ComponentWorld
 
 -- what functions are lifted from is there, and the tables of types are right
 pub record AreExports (w : ComponentWorld) (e : MainExports) (root : Root) : Type 0 where
@@ -50,14 +54,6 @@ pub record AreExports (w : ComponentWorld) (e : MainExports) (root : Root) : Typ
   pub realloc : option_copied e.sources.realloc ≡ lift_realloc w
   pub tables : AreTablesRight w root.last_type root.instances root.items.defs root.maps
   pub passed : ArePassed w root.last_type
-
--- the root after a step: the tables are right, and the component has only grown at its end
-pub record RootKept (w : ComponentWorld) (old new : Root) : Type 0 where
-  pub world : new.world ≡ old.world
-  pub next : new.last_type ≡ old.last_type
-  pub instances : new.instances ≡ old.instances
-  pub extends : Extends old.items new.items
-  pub tables : AreTablesRight w old.last_type new.instances new.items.defs new.maps
 
 -- a function that main has to export
 abbrev pub main_function : FunctionKey → RequiredFunction
@@ -113,7 +109,7 @@ functions_of_key w key = functions_required w (record { of = Main; key = key })
 
 -- the landmark of a nested component
 abbrev pub nested_mark : List Item → Landmark
-nested_mark definitions = NestedOf (flat_map item_import definitions) (flat_map item_export definitions)
+nested_mark definitions = NestedOf (flat_map function_import definitions) (flat_map item_export definitions)
 
 -- the arguments are earlier functions and types under distinct names, one for each import of the component
 pub record AreArgumentsFor (ds : List Def) (definitions : List Item) (arguments : List Argument) : Type 0 where
@@ -129,9 +125,37 @@ pub record IsInstantiated (ds : List Def) (definitions : List Item) (arguments :
   pub instance : IsAt ds spaces.Instance index (defs.Item (items.Instantiate component arguments))
   pub made : IsAt ds spaces.Component component (defs.Component definitions)
 
--- the names of the imports and the items of the nested component of these functions
-pub record IsNestedOf (w : ComponentWorld) (entries : List (List ℕ × WitFunction)) (names : List (List ℕ)) (definitions : List Item) : Type 0 where
-  pub named : AreNames (functions_among entries) names
-  pub right : AreItemsRight no_types empty_scope definitions
-  pub imports : imports_after no_types empty_scope definitions ≡ map imported (nested_functions (resource_of w) w.resolve.types (functions_among entries) names)
-  pub exports : exports_after no_types empty_scope definitions ≡ exported (functions_among entries) (nested_functions (resource_of w) w.resolve.types (functions_among entries) names)
+-- the nested component of an interface that lists these types and has these functions
+pub record IsNestedOf (w : ComponentWorld) (listed : List (List ℕ × TypeId)) (entries : List (List ℕ × WitFunction)) (c : NestedComponent) : Type 0 where
+  pub named : AreNames (functions_among entries) c.names
+  pub right : AreItemsRight no_types empty_scope c.items
+  pub functions : functions_imported (imports_after no_types empty_scope c.items) ≡ nested_functions (resource_of w) w.resolve.types (functions_among entries) c.names
+  pub types : types_imported (imports_after no_types empty_scope c.items) ≡ map (type_given (resource_of w) w.resolve.types) c.types
+  pub own : AllByRecursion (IsImportOf listed) c.types
+  pub apart : IsDistinct bytes_eq (flat_map item_import c.items)
+  pub exports : exports_after no_types empty_scope c.items ≡
+      map (exported_type (resource_of w) w.resolve.types) listed ++ exported (functions_among entries) (nested_functions (resource_of w) w.resolve.types (functions_among entries) c.names)
+
+-- ---- its arguments
+
+-- the imports of types are those of types that this exported interface lists
+abbrev pub AreTypesExported : ComponentWorld → InterfaceId → List TypeImport → Type 0
+AreTypesExported w id imports = AllByRecursion (λ i. IsExportedType w id i.id) imports
+
+-- the argument is a type of the root that is what the import stands for
+pub record IsTypeArgument (w : ComponentWorld) (ds : List Def) (i : TypeImport) (a : Argument) : Type 0 where
+  pub named : a.name ≡ i.name
+  pub sort : a.sort ≡ sorts.Type
+  pub denotes : Denotes (scope_of ds) a.index (type_of_world w i.id)
+
+-- the arguments are the lifts of these functions, and then the types
+pub record AreArgumentsOf (w : ComponentWorld) (ds : List Def) (key : WorldKey) (entries : List (List ℕ × WitFunction)) (c : NestedComponent) (arguments : List Argument) : Type 0 where
+  pub lifts : List Argument
+  pub types : List Argument
+  pub both : arguments ≡ lifts ++ types
+  pub lifted : AreLiftArguments w ds key entries c.names lifts
+  pub given : AllZip (IsTypeArgument w ds) c.types types
+
+-- the root has no type of this interface in its tables any more
+abbrev pub ForgetsTypes : ComponentWorld → InterfaceId → Root → Type 0
+ForgetsTypes w id root = AreForgotten w.resolve.types (map (λ t. t.1) (named_types w.resolve id)) root.maps

@@ -14,7 +14,7 @@ ghost use Rattle.comp_items.specs.Items.{Extends};
 ghost use Rattle.comp_links.specs.Links.{lift_realloc};
 ghost use Rattle.comp_links.specs.Lists.{required_functions, resource_of};
 ghost use Rattle.comp_links.specs.Naming.{name_of};
-ghost use Rattle.comp_terms.specs.Exports.{IsNestedRight, exports_in};
+ghost use Rattle.comp_terms.specs.Exports.{IsNestedRight, IsNestedFor, exports_in};
 ghost use Rattle.comp_terms.specs.Rules.{Exported, Grows, IsExportRight, export_marked, exports_marked};
 ghost use Rattle.comp_terms.specs.Terms.{IsInstanceOf};
 ghost use Rattle.comp_worlds.specs.Encodable.{IsEncodable};
@@ -23,12 +23,14 @@ ghost use Rattle.comp_worlds.specs.Worlds.{IsRequired};
 ghost use Rattle.core_options.specs.Causes.{IsCause, IsCauseAmong, IsEncodedExport};
 ghost use Rattle.core_options.specs.MainOptions.{HasLiftOptions};
 ghost use Rattle.comp_trees.specs.Trees.{Resource};
-ghost use Rattle.main_exports.specs.Exports.{AreExports, RootKept, functions_of_key, nested_mark, AreArgumentsFor, IsInstantiated, IsNestedOf};
-ghost use Rattle.nested_components.specs.Functions.{functions_of as functions_among, AreUnnamed};
+ghost use Rattle.root_imports.specs.Keeping.{RootKept};
+ghost use Rattle.main_exports.specs.Exports.{AreExports, ForgetsTypes, functions_of_key, nested_mark, AreArgumentsFor, IsInstantiated, IsNestedOf};
+ghost use Rattle.nested_components.specs.Types.{IsAtHome};
 ghost use Rattle.root_imports.specs.RootScopes.{AreTablesRight, ArePassed};
 ghost use Rattle.wit_data.specs.declared.worlds.WorldItem.TheVariants as items;
 ghost use Rattle.wit_data.specs.Sound.{IsSound, HasFunction, HasInterface, HasKey};
 ghost use Rattle.wit_data.specs.declared.ids.TypeId.{TypeId};
+ghost use Rattle.wit_data.specs.Live.{named_types};
 ghost use Rattle.world_values.specs.Items.{functions_of};
 
 use crate::sources::MainExports;
@@ -39,9 +41,9 @@ use comp_lists::{Keyed, Seq, Text};
 use comp_worlds::ComponentWorld;
 use core_options::{OptionSources, StateFault, memory_name};
 use nested_components::{NestedComponent, nested_component};
-use root_imports::RootScope;
+use root_imports::{RootScope, types_of};
 use std::alloc::{AllocError, Global};
-use wit_data::{Function, InterfaceId, WorldItem, WorldKey};
+use wit_data::{Function, InterfaceId, TypeId, WorldItem, WorldKey};
 
 /// The realloc of calls of exports, if main exports one: one for all of them, whatever their keys.
 fn lift_realloc(world: &ComponentWorld) -> Option<&str>
@@ -69,21 +71,23 @@ fn functions_of(world: &ComponentWorld, id: InterfaceId) -> &Keyed<Text, Functio
     functions
 }
 
-/// The nested component of an exported interface that has these functions.
+/// The nested component of an exported interface that lists these types and has these functions.
 fn interface_component(
     alloc: Global,
     world: &ComponentWorld,
+    id: InterfaceId,
+    types: &Keyed<Text, TypeId>,
     functions: &Keyed<Text, Function>,
 ) -> Result<NestedComponent, StateFault>
     ghost origin: { TypeId → Resource }
     requires origin { origin ≡ resource_of world.now }
     requires sound { IsSound world.now.resolve }
     requires present { AllByRecursion (λ e. HasFunction world.now.resolve e.1) functions.now }
-    requires unnamed { AreUnnamed world.now.resolve.types (functions_among functions.now) }
-    ensures nested { IfOk result (λ c. IsNestedOf world.now functions.now c.names c.items) }
+    requires home { IsAtHome world.now.resolve.types id types.now functions.now }
+    ensures nested { IfOk result (λ c. IsNestedOf world.now types.now functions.now c) }
     ensures cause { IfErr result (IsCauseAmong world.now [] []) }
 {
-    let nested = nested_component(alloc, &world.resolve, functions)?;
+    let nested = nested_component(alloc, &world.resolve, id, types, functions)?;
     Ok(nested)
 }
 
@@ -129,7 +133,7 @@ impl MainExports<'_> {
         ensures cause { IfErr result (IsCauseAmong root.old.world.now [] (functions_of_key root.old.world.now key.now)) }
     {
         let required = function_key(root.items.allocator(), key, &function.name)?;
-        let lifted = self.lift(root, &required, function)?;
+        let lifted = self.lift(root, None, &required, function)?;
         self.export(root, key, Sort::Func, lifted)?;
         Ok(())
     }
@@ -146,6 +150,7 @@ impl MainExports<'_> {
         requires sound { IsSound root.old.world.now.resolve }
         requires present { HasKey root.old.world.now.resolve key.now }
         requires nested { IsNestedRight definitions }
+        requires of { IsNestedFor root.old.world.now definitions }
         requires right { AreArgumentsFor root.old.items.defs definitions arguments }
         ensures same { root.new ≡ record root.old { items = root.new.items } }
         ensures extends { Extends root.old.items root.new.items }
@@ -165,8 +170,9 @@ impl MainExports<'_> {
         Ok(index)
     }
 
-    /// Lifts the functions of an interface, and exports an instance of the interface's nested component, which is given the lifts.
-    fn export_interface(
+    /// Lifts the functions of an interface, and exports an instance of the interface's nested component, which is given the lifts, and
+    /// the types of which they are made.
+    fn export_instance(
         &self,
         root: &mut RootScope<'_, ComponentWorld>,
         key: &WorldKey,
@@ -184,11 +190,39 @@ impl MainExports<'_> {
     {
         let world = root.world;
         let functions = functions_of(world, id);
-        let nested = interface_component(root.items.allocator(), world, functions)?;
-        let names = nested.names.as_slice();
-        let arguments = self.lift_arguments(root, key, functions, names)?;
+        let nested = interface_component(
+            root.items.allocator(),
+            world,
+            id,
+            types_of(&world.resolve, id),
+            functions,
+        )?;
+        let arguments = self.interface_arguments(root, key, id, functions, &nested)?;
         let instance = self.nested_instance(root, key, nested.into_items(), arguments)?;
         self.export(root, key, Sort::Instance, instance)?;
+        Ok(())
+    }
+
+    /// Exports an interface. The root forgets its types then, so that others are defined anew.
+    fn export_interface(
+        &self,
+        root: &mut RootScope<'_, ComponentWorld>,
+        key: &WorldKey,
+        id: InterfaceId,
+    ) -> Result<(), StateFault>
+        requires exports { AreExports root.old.world.now self.now root.old }
+        requires next { slice_get root.old.world.now.main_exports (exports_in root.old.items.defs) ≡ Some key.now }
+        requires item { exported_item root.old.world.now key.now ≡ Some (items.Interface id) }
+        requires required { IsRequired root.old.world.now root.old.world.now.main key.now }
+        ensures kept { RootKept root.old.world.now root.old root.new }
+        ensures forgotten { OnOk result (ForgetsTypes root.old.world.now id root.new) }
+        ensures grows { OnOk result (Grows root.old.world.now root.old.items.defs root.new.items.defs (export_marked (naming_of self.now.names) root.old.world.now key.now)) }
+        ensures has { OnOk result (AllByRecursion (HasLiftOptions root.old.world.now) (functions_of_key root.old.world.now key.now)) }
+        ensures encoded { OnOk result (AllByRecursion (IsEncodedExport root.old.world.now) (functions_of_key root.old.world.now key.now)) }
+        ensures cause { IfErr result (IsCauseAmong root.old.world.now [] (functions_of_key root.old.world.now key.now)) }
+    {
+        self.export_instance(root, key, id)?;
+        root.forget_exported_types(id);
         Ok(())
     }
 

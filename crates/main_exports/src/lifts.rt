@@ -3,14 +3,17 @@
 //! Canonical ABI: `canon lift`.
 #![tactic(auto, using(crate::proofs::Growth::growing))]
 
-ghost use Rattle.std.specs.Prelude.{◌≡◌, [], ◌∷◌, IfOk, IfErr, OnOk, IsSome, length};
+ghost use Rattle.std.specs.Prelude.{◌≡◌, [], ◌∷◌, IfOk, IfErr, OnOk, Some, IsSome, length};
 ghost use Rattle.std.specs.List.{AllByRecursion};
 ghost use Rattle.comp_items.specs.Items.{Extends};
 ghost use Rattle.comp_terms.specs.Rules.{Grows};
-ghost use Rattle.comp_worlds.specs.WorldContents.{core_name_of};
+ghost use Rattle.comp_worlds.specs.WorldContents.{core_name_of, exported_item};
+ghost use Rattle.interface_needs.specs.RootNeeds.{interface_of_item};
+ghost use Rattle.wit_data.specs.declared.worlds.WorldItem.TheVariants as world_items;
 ghost use Rattle.core_options.specs.Causes.{IsCauseAmong, IsEncodedExport};
 ghost use Rattle.core_options.specs.MainOptions.{HasLiftOptions};
-ghost use Rattle.main_exports.specs.Exports.{AreExports, RootKept, main_function, IsMainFunction, IsEntryOf, IsTypedLift, at_key, functions_at, AreMainFunctions, IsLiftArgument, AreLiftArguments};
+ghost use Rattle.root_imports.specs.Keeping.{RootKept};
+ghost use Rattle.main_exports.specs.Exports.{AreExports, main_function, IsMainFunction, IsEntryOf, IsTypedLift, at_key, functions_at, AreMainFunctions, IsLiftArgument, AreLiftArguments};
 ghost use Rattle.root_imports.specs.RootScopes.{IsRefusal};
 
 use crate::sources::MainExports;
@@ -21,7 +24,7 @@ use comp_lists::{Keyed, Seq, Text};
 use comp_worlds::{ComponentWorld, FunctionKey};
 use core_options::StateFault;
 use root_imports::RootScope;
-use wit_data::{Function, WorldKey};
+use wit_data::{Function, InterfaceId, WorldKey};
 
 impl MainExports<'_> {
     /// The alias of the core export that implements a function.
@@ -43,18 +46,20 @@ impl MainExports<'_> {
         Ok(core)
     }
 
-    /// Lifts a required function from the core export that implements it.
+    /// Lifts a required function from the core export that implements it: one of an interface, or one at the root.
     ///
     /// `E7` where its type needs a memory and main exports none, `E8` where it needs a realloc and main exports none for it, `E9`
     /// where it has no string encoding, and `E16` where a space would have more than 2^32 - 1 items.
     pub(crate) fn lift(
         &self,
         root: &mut RootScope<'_, ComponentWorld>,
+        interface: Option<InterfaceId>,
         required: &FunctionKey,
         function: &Function,
     ) -> Result<u32, StateFault>
         requires exports { AreExports root.old.world.now self.now root.old }
         requires required { IsMainFunction root.old.world.now required.now function.now }
+        requires of { interface_of_item (exported_item root.old.world.now required.now.key) ≡ interface }
         ensures kept { RootKept root.old.world.now root.old root.new }
         ensures grows { OnOk result (Grows root.old.world.now root.old.items.defs root.new.items.defs []) }
         ensures lifted { IfOk result (λ index. IsTypedLift root.old.world.now root.new.items.defs required.now function.now index) }
@@ -62,7 +67,7 @@ impl MainExports<'_> {
         ensures encoded { OnOk result (IsEncodedExport root.old.world.now (main_function required.now)) }
         ensures cause { IfErr result (IsCauseAmong root.old.world.now [] (main_function required.now ∷ [])) }
     {
-        let ty = root.function_type(function)?;
+        let ty = root.function_type(interface, function)?;
         let core = self.core_entry(root, required)?;
         let options = self.lift_options(root, required, function)?;
         let name = required.function.as_str();
@@ -75,11 +80,13 @@ impl MainExports<'_> {
         &self,
         root: &mut RootScope<'_, ComponentWorld>,
         key: &WorldKey,
+        id: InterfaceId,
         name: &Text,
         function: &Function,
         import: &Text,
     ) -> Result<Argument, StateFault>
         requires exports { AreExports root.old.world.now self.now root.old }
+        requires item { exported_item root.old.world.now key.now ≡ Some (world_items.Interface id) }
         requires required { IsMainFunction root.old.world.now (at_key key.now name.now) function.now }
         ensures kept { RootKept root.old.world.now root.old root.new }
         ensures grows { OnOk result (Grows root.old.world.now root.old.items.defs root.new.items.defs []) }
@@ -91,7 +98,7 @@ impl MainExports<'_> {
         let alloc = root.items.allocator();
         let argument = import.clone(alloc)?;
         let required = function_key(alloc, key, name)?;
-        let index = self.lift(root, &required, function)?;
+        let index = self.lift(root, Some(id), &required, function)?;
         Ok(Argument {
             name: argument,
             sort: Sort::Func,
@@ -104,10 +111,12 @@ impl MainExports<'_> {
         &self,
         root: &mut RootScope<'_, ComponentWorld>,
         key: &WorldKey,
+        id: InterfaceId,
         functions: &Keyed<Text, Function>,
         imports: &[Text],
     ) -> Result<Seq<Argument>, StateFault>
         requires exports { AreExports root.old.world.now self.now root.old }
+        requires item { exported_item root.old.world.now key.now ≡ Some (world_items.Interface id) }
         requires functions { AreMainFunctions root.old.world.now key.now functions.now }
         requires imports { length imports.now ≡ length functions.now }
         ensures kept { RootKept root.old.world.now root.old root.new }
@@ -123,7 +132,7 @@ impl MainExports<'_> {
             let Some((import, others)) = rest.split_first() else {
                 unreachable!()
             };
-            let argument = self.lift_argument(root, key, name, function, import)?;
+            let argument = self.lift_argument(root, key, id, name, function, import)?;
             arguments.push(argument)?;
             rest = others;
         }

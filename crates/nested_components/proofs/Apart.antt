@@ -1,10 +1,26 @@
 -- The names of the imports of a nested component are distinct.
-use Rattle.std.proofs.Common.{◌≡◌, ◌∙◌, ◌||◌, ℕ, Bool, true, false, true≢false, List, [], ◌∷◌, ◌++◌, refl, ap, sym}
-use Rattle.std.specs.List.{AllByRecursion, IsDistinct, list_any}
+use Rattle.std.proofs.Common.{◌≡◌, ◌∙◌, ◌||◌, ℕ, Bool, true, false, true≢false, List, [], ◌∷◌, ◌++◌, map, refl, ap, ap₂, sym, subst}
+use Rattle.std.specs.List.{AllByRecursion, IsDistinct, flat_map}
+use Rattle.std.specs.Map.{keys_of}
 use Rattle.std.specs.Str.{bytes_eq}
 use Rattle.std.proofs.lemmas.Slice.Eq.{bytes_eq-Decides}
 use Rattle.wit_data.specs.declared.functions.Function.{Function}
+use Rattle.wit_data.specs.declared.ids.TypeId.{TypeId}
+use Rattle.wit_data.specs.declared.types.TypeDef.{TypeDef}
+use Rattle.comp_bytes.specs.ScopeNames.{item_import}
+use Rattle.comp_bytes.specs.declared.types.Description.TheVariants as descriptions
+use Rattle.comp_bytes.specs.declared.def.Item.{Item}
+use Rattle.comp_bytes.specs.declared.def.Item.TheVariants as items
+use Rattle.comp_trees.specs.Trees.{Resource}
+use Rattle.comp_trees.specs.DefinedTrees.{TypeTree}
 use Rattle.nested_terms.specs.Naming.{is_taken, AreNamesAfter, AreNames}
+use Rattle.nested_terms.specs.Nested.{NestedScope, NestedFunction, empty_scope, function_import, type_import, with_item, functions_imported, types_imported, imports_after, AreItemsRight}
+use Rattle.nested_components.specs.declared.contents.Contents.{Contents}
+use Rattle.nested_components.specs.declared.type_import.TypeImport.{TypeImport}
+use Rattle.nested_components.specs.Functions.{nested_functions, PassesOn}
+use Rattle.nested_components.specs.Homes.{Home}
+use Rattle.nested_components.specs.Types.{type_given}
+use Rattle.nested_components.specs.Growing.{function_entry, type_entry, types_among, ArePassedOn}
 
 taken_first : (taken more : List (List ℕ)) (name : List ℕ) → is_taken taken name ≡ true → is_taken (taken ++ more) name ≡ true
 taken_first [] more name h = absurd (true≢false (sym h))
@@ -43,3 +59,112 @@ apart_after taken [] (n ∷ ns) h = absurd h
 
 pub names_apart : (fs : List Function) (names : List (List ℕ)) → AreNames fs names → IsDistinct bytes_eq names
 names_apart fs names h = apart_after [] fs names h
+
+-- ---- functions and types, one among the other
+
+all_but_one : (P : List ℕ → Type 0) (before : List (List ℕ)) (t : List ℕ) (after : List (List ℕ)) → AllByRecursion P (before ++ t ∷ after) → P t × AllByRecursion P (before ++ after)
+all_but_one P [] t after h = h
+all_but_one P (x ∷ xs) t after h = let rest = all_but_one P xs t after h.1 in (rest.0, (h.0, rest.1))
+
+other_way : (x y : List ℕ) → bytes_eq x y ≡ false → bytes_eq y x ≡ false
+other_way x y e = by (bytes_eq y x) refl
+  where
+    by : (b : Bool) → bytes_eq y x ≡ b → b ≡ false
+    by false h = refl
+    by true h = absurd (true≢false (sym ((bytes_eq-Decides x y).1 (sym ((bytes_eq-Decides y x).0 h))) ∙ e))
+
+distinct_but_one : (before : List (List ℕ)) (t : List ℕ) (after : List (List ℕ)) → IsDistinct bytes_eq (before ++ t ∷ after) → AllByRecursion (λ y. bytes_eq t y ≡ false) (before ++ after) × IsDistinct bytes_eq (before ++ after)
+unfolding IsDistinct
+distinct_but_one [] t after h = h
+distinct_but_one (x ∷ xs) t after h =
+    let first = all_but_one (λ y. bytes_eq x y ≡ false) xs t after h.0 in
+    let rest = distinct_but_one xs t after h.1 in
+    ((other_way x t first.0, rest.0), (first.1, rest.1))
+
+module _ (given : List ℕ → TypeTree) where
+  -- the names of imports are those of functions, and those of types
+  names_all : (P : List ℕ → Type 0) (s : NestedScope) (is : List Item) → AreItemsRight given s is → AllByRecursion P (flat_map function_import is ++ flat_map type_import is) → AllByRecursion P (flat_map item_import is)
+  names_all P s [] right h = tt
+  names_all P s (items.Import name (descriptions.Func kind) ∷ is) right h = (h.0, names_all P (with_item given s (items.Import name (descriptions.Func kind))) is right.1 h.1)
+  names_all P s (items.Import name (descriptions.TypeEqual index) ∷ is) right h =
+      let one = all_but_one P (flat_map function_import is) name.name (flat_map type_import is) h in
+      (one.0, names_all P (with_item given s (items.Import name (descriptions.TypeEqual index))) is right.1 one.1)
+  names_all P s (items.Import name descriptions.SubResource ∷ is) right h =
+      let one = all_but_one P (flat_map function_import is) name.name (flat_map type_import is) h in
+      (one.0, names_all P (with_item given s (items.Import name descriptions.SubResource)) is right.1 one.1)
+  names_all P s (items.Import name d ∷ is) right h = absurd right.0
+  names_all P s (i ∷ is) right h = names_all P (with_item given s i) is right.1 h
+
+  imports_apart : (s : NestedScope) (is : List Item) → AreItemsRight given s is → IsDistinct bytes_eq (flat_map function_import is ++ flat_map type_import is) → IsDistinct bytes_eq (flat_map item_import is)
+  unfolding IsDistinct
+  imports_apart s [] right h = tt
+  imports_apart s (items.Import name (descriptions.Func kind) ∷ is) right h =
+      let next = with_item given s (items.Import name (descriptions.Func kind)) in
+      (names_all (λ y. bytes_eq name.name y ≡ false) next is right.1 h.0, imports_apart next is right.1 h.1)
+  imports_apart s (items.Import name (descriptions.TypeEqual index) ∷ is) right h =
+      let next = with_item given s (items.Import name (descriptions.TypeEqual index)) in
+      let one = distinct_but_one (flat_map function_import is) name.name (flat_map type_import is) h in
+      (names_all (λ y. bytes_eq name.name y ≡ false) next is right.1 one.0, imports_apart next is right.1 one.1)
+  imports_apart s (items.Import name descriptions.SubResource ∷ is) right h =
+      let next = with_item given s (items.Import name descriptions.SubResource) in
+      let one = distinct_but_one (flat_map function_import is) name.name (flat_map type_import is) h in
+      (names_all (λ y. bytes_eq name.name y ≡ false) next is right.1 one.0, imports_apart next is right.1 one.1)
+  imports_apart s (items.Import name d ∷ is) right h = absurd right.0
+  imports_apart s (i ∷ is) right h = imports_apart (with_item given s i) is right.1 h
+
+  -- the names, from what is imported
+  function_names : (s : NestedScope) (is : List Item) → flat_map function_import is ≡ map (λ (f : NestedFunction). f.argument) (functions_imported (imports_after given s is))
+  function_names s [] = refl
+  function_names s (items.Import name (descriptions.Func kind) ∷ is) = ap (λ ns. name.name ∷ ns) (function_names (with_item given s (items.Import name (descriptions.Func kind))) is)
+  function_names s (items.Import name (descriptions.TypeEqual index) ∷ is) = function_names (with_item given s (items.Import name (descriptions.TypeEqual index))) is
+  function_names s (items.Import name descriptions.SubResource ∷ is) = function_names (with_item given s (items.Import name descriptions.SubResource)) is
+  function_names s (i ∷ is) = function_names (with_item given s i) is
+
+  type_names : (s : NestedScope) (is : List Item) → flat_map type_import is ≡ map (λ (t : List ℕ × TypeTree). t.0) (types_imported (imports_after given s is))
+  type_names s [] = refl
+  type_names s (items.Import name (descriptions.Func kind) ∷ is) = type_names (with_item given s (items.Import name (descriptions.Func kind))) is
+  type_names s (items.Import name (descriptions.TypeEqual index) ∷ is) = ap (λ ns. name.name ∷ ns) (type_names (with_item given s (items.Import name (descriptions.TypeEqual index))) is)
+  type_names s (items.Import name descriptions.SubResource ∷ is) = ap (λ ns. name.name ∷ ns) (type_names (with_item given s (items.Import name descriptions.SubResource)) is)
+  type_names s (i ∷ is) = type_names (with_item given s i) is
+
+-- ---- the table of names that are taken
+
+type_keys : (ts : List TypeImport) → keys_of (map type_entry ts) ≡ map (λ (t : TypeImport). t.name) ts
+type_keys [] = refl
+type_keys (t ∷ ts) = ap (λ ns. t.name ∷ ns) (type_keys ts)
+
+taken_keys : (names : List (List ℕ)) (ts : List TypeImport) → keys_of (map function_entry names ++ map type_entry ts) ≡ names ++ map (λ (t : TypeImport). t.name) ts
+taken_keys [] ts = type_keys ts
+taken_keys (n ∷ ns) ts = ap (λ ms. n ∷ ms) (taken_keys ns ts)
+
+types_only : (ts : List TypeImport) → types_among (map type_entry ts) ≡ ts
+types_only [] = refl
+types_only (t ∷ ts) = ap (λ us. t ∷ us) (types_only ts)
+
+-- the types among the names are those that were imported
+pub types_taken : (names : List (List ℕ)) (ts : List TypeImport) → types_among (map function_entry names ++ map type_entry ts) ≡ ts
+types_taken [] ts = types_only ts
+types_taken (n ∷ ns) ts = types_taken ns ts
+
+arguments_named : (origin : TypeId → Resource) (types : List TypeDef) (taken : List (List ℕ)) (fs : List Function) (names : List (List ℕ)) → AreNamesAfter taken fs names → map (λ (f : NestedFunction). f.argument) (nested_functions origin types fs names) ≡ names
+arguments_named origin types taken [] [] h = refl
+arguments_named origin types taken (f ∷ fs) (n ∷ ns) h = ap (λ ms. n ∷ ms) (arguments_named origin types (taken ++ n ∷ []) fs ns h.1)
+arguments_named origin types taken [] (n ∷ ns) h = absurd h
+arguments_named origin types taken (f ∷ fs) [] h = absurd h
+
+given_names : (origin : TypeId → Resource) (types : List TypeDef) (ts : List TypeImport) → map (λ (t : List ℕ × TypeTree). t.0) (map (type_given origin types) ts) ≡ map (λ (t : TypeImport). t.name) ts
+given_names origin types [] = refl
+given_names origin types (t ∷ ts) = ap (λ ns. t.name ∷ ns) (given_names origin types ts)
+
+module _ (given : List ℕ → TypeTree) (origin : TypeId → Resource) (home : Home) (fs : List Function) (names : List (List ℕ)) (c : Contents) (p : ArePassedOn given origin home fs names c) where
+  pub passed_imports : AreNames fs names → IsDistinct bytes_eq (keys_of c.taken) → IsDistinct bytes_eq (flat_map item_import c.items)
+  passed_imports named apart =
+      let functions = function_names given empty_scope c.items ∙ (ap (map (λ (f : NestedFunction). f.argument)) p.passes.functions ∙ arguments_named origin home.types [] fs names named) in
+      let types = type_names given empty_scope c.items ∙ (ap (map (λ (t : List ℕ × TypeTree). t.0)) p.passes.types ∙ given_names origin home.types p.imports) in
+      imports_apart given empty_scope c.items p.passes.right
+      (subst (λ ns. IsDistinct bytes_eq ns) (sym (ap₂ (λ ns ms. ns ++ ms) functions types)) (subst (λ ns. IsDistinct bytes_eq ns) (ap keys_of p.taken ∙ taken_keys names p.imports) apart))
+
+  pub passed_all : (types : List TypeImport) (out : List Item) → types ≡ types_among c.taken → out ≡ c.items → PassesOn given origin home.types home.named fs (nested_functions origin home.types fs names) types out
+  passed_all types out are is =
+      subst (λ ts. PassesOn given origin home.types home.named fs (nested_functions origin home.types fs names) ts out) (sym (are ∙ (ap types_among p.taken ∙ types_taken names p.imports)))
+      (subst (λ os. PassesOn given origin home.types home.named fs (nested_functions origin home.types fs names) p.imports os) (sym is) p.passes)

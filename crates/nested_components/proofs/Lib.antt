@@ -1,10 +1,15 @@
 pub mod Letters
 pub mod Freeing
 pub mod Naming
+pub mod Removing
 pub mod Scoping
+pub mod Importing
 pub mod OneFunction
 pub mod AllFunctions
-pub mod Unnamed
+pub mod OneType
+pub mod AllTypes
+pub mod AtHome
 pub mod Whole
 mod WorkedFunctions
+mod WorkedTypes
 pub mod Apart

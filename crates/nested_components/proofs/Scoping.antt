@@ -1,27 +1,33 @@
--- What the items of a nested component make, and what a type that is added is.
-use Rattle.std.proofs.Common.{◌≡◌, ◌∙◌, ◌+◌, arith, ℕ, List, [], ◌∷◌, ◌++◌, length, refl, ap, sym, subst, cond, get_or}
+-- What the items of a nested component make, and what a type is that an item makes.
+use Rattle.std.proofs.Common.{◌≡◌, ◌∙◌, ◌+◌, arith, ℕ, List, [], ◌∷◌, ◌++◌, length, refl, ap, sym, subst, cond, get_or, append-nil}
 use Rattle.std.specs.Prelude.{Result, Ok, Err, IfOk, OnOk, OnErr}
 use Rattle.std.proofs.lemmas.List.{length-append}
 use Rattle.std.proofs.lemmas.List.Sums.{sum_by-cons}
 use Rattle.std.proofs.Math.Seq.{get_or-append_seam}
 use Rattle.byte_encoding.specs.declared.fault.BuildFault.{BuildFault}
+use Rattle.wit_data.specs.declared.ids.TypeId.{TypeId}
 use Rattle.comp_bytes.specs.declared.space.Sort.TheVariants as sorts
 use Rattle.comp_bytes.specs.declared.types.Description.TheVariants as descriptions
 use Rattle.comp_bytes.specs.declared.types.TypeDef.{TypeDef}
 use Rattle.comp_bytes.specs.declared.def.Item.{Item}
 use Rattle.comp_bytes.specs.declared.def.Item.TheVariants as items
-use Rattle.comp_trees.specs.Trees.{DefinedAt}
+use Rattle.comp_trees.specs.Trees.{Resource, DefinedAt}
 use Rattle.comp_trees.specs.DefinedTrees.{TypeTree, OfOthers}
 use Rattle.comp_trees.specs.DefinedScopes.{Denotes, type_tree}
-use Rattle.wit_types.specs.Denoting.{Longer, Makes}
+use Rattle.wit_types.specs.Denoting.{Longer, AddsOne, Makes}
 use Rattle.wit_types.proofs.Growing.{longer_none}
 use Rattle.nested_terms.specs.Nested.{NestedScope, empty_scope, with_item, scope_after, IsItemRight}
-use Rattle.nested_components.specs.Growing.{makes_type, types_in, scope_of, ItemsGrow, scope_append, items_same}
+use Rattle.nested_components.specs.declared.contents.Contents.{Contents}
+use Rattle.nested_components.specs.declared.stage.Stage.{Stage}
+use Rattle.nested_components.specs.Homes.{Home}
+use Rattle.nested_components.specs.Counts.{makes_type, types_in}
+use Rattle.nested_components.specs.Growing.{scope_of, ItemsGrow, Grows}
+use Rattle.nested_components.specs.Following.{scope_append, staged_none, items_none}
 
 module _ (given : List ℕ → TypeTree) where
   length_with : (s : NestedScope) (i : Item) → length (with_item given s i).types ≡ length s.types + cond (makes_type i) 1 0
   length_with s (items.Type t) = length-append s.types (type_tree s.types (DefinedAt 0) t ∷ [])
-  length_with s (items.Import name (descriptions.TypeEqual index)) = length-append s.types (given name.name ∷ [])
+  length_with s (items.Import name (descriptions.TypeEqual index)) = length-append s.types (get_or s.types index OfOthers ∷ [])
   length_with s (items.Import name descriptions.SubResource) = length-append s.types (given name.name ∷ [])
   length_with s (items.Export name sorts.Type index description) = length-append s.types (get_or s.types index OfOthers ∷ [])
   length_with s i = length-append s.types []
@@ -42,29 +48,41 @@ module _ (given : List ℕ → TypeTree) where
   pub scope_more : (old new : List Item) (i : Item) → new ≡ old ++ i ∷ [] → scope_of given new ≡ with_item given (scope_of given old) i
   scope_more old new i is = ap (scope_of given) is ∙ scope_append given empty_scope old (i ∷ [])
 
-  module _ (old new : List Item) (t : TypeDef) where
-    abbrev type : TypeTree
-    type = type_tree (scope_of given old).types (DefinedAt 0) t
+  -- an item that makes this type
+  module _ (old new : List Item) (i : Item) (type : TypeTree) (makes : (with_item given (scope_of given old) i).types ≡ (scope_of given old).types ++ type ∷ []) (is : new ≡ old ++ i ∷ []) where
+    pub types_more : AddsOne (scope_of given old).types (scope_of given new).types type
+    types_more = record { added = ap (λ (s : NestedScope). s.types) (scope_more old new i is) ∙ makes }
 
-    types_more : new ≡ old ++ items.Type t ∷ [] → (scope_of given new).types ≡ (scope_of given old).types ++ type ∷ []
-    types_more is = ap (λ (s : NestedScope). s.types) (scope_more old new (items.Type t) is)
-
-    denotes_new : (index : ℕ) → index ≡ types_in old → new ≡ old ++ items.Type t ∷ [] → Denotes (scope_of given new).types index type
-    denotes_new index at is =
+    pub denotes_new : (index : ℕ) → index ≡ types_in old → Denotes (scope_of given new).types index type
+    denotes_new index at =
         let types = (scope_of given old).types in
-        subst (λ ts. Denotes ts index type) (sym (types_more is))
+        subst (λ ts. Denotes ts index type) (sym types_more.added)
         (subst (λ k. Denotes (types ++ type ∷ []) k type) (length_scope old ∙ sym at)
         (record { within = omega (arith, length-append types (type ∷ [])); tree = get_or-append_seam types type [] OfOthers }))
 
-    -- the result of a call that adds a type
-    pub type_added : (r : Result ℕ BuildFault) → IfOk r (λ i. i ≡ types_in old) → OnOk r (new ≡ old ++ items.Type t ∷ []) → OnErr r (new ≡ old) → Makes (scope_of given old).types (scope_of given new).types r type
-    type_added (Ok i) at is same = (record { added = types_more is }, denotes_new i at is)
+  module _ (old new : List Item) (t : TypeDef) where
+    abbrev defined : TypeTree
+    defined = type_tree (scope_of given old).types (DefinedAt 0) t
+
+    -- the result of a call that defines a type
+    pub type_added : (r : Result ℕ BuildFault) → IfOk r (λ i. i ≡ types_in old) → OnOk r (new ≡ old ++ items.Type t ∷ []) → OnErr r (new ≡ old) → Makes (scope_of given old).types (scope_of given new).types r defined
+    type_added (Ok i) at is same = (types_more old new (items.Type t) defined refl is, denotes_new old new (items.Type t) defined refl is i at)
     type_added (Err e) at is same = subst (λ now. Longer (scope_of given old).types (scope_of given now).types) (sym same) (longer_none (scope_of given old).types)
 
-    grown_by : IsItemRight given (scope_of given old) (items.Type t) → new ≡ old ++ items.Type t ∷ [] → ItemsGrow given old new [] [] []
-    grown_by right is =
-        record { more = items.Type t ∷ []; grown = is; right = (right, tt); imported = refl; exported = refl; made = ap (λ (s : NestedScope). s.functions) (scope_more old new (items.Type t) is) }
+    grown_by : IsItemRight given (scope_of given old) (items.Type t) → new ≡ old ++ items.Type t ∷ [] → ItemsGrow given old new [] [] [] []
+    grown_by right is = record {
+      more = items.Type t ∷ [];
+      grown = is;
+      right = (right, tt);
+      imported = refl;
+      typed = refl;
+      exported = refl;
+      made = ap (λ (s : NestedScope). s.functions) (scope_more old new (items.Type t) is);
+    }
 
-    pub type_grown : (r : Result ℕ BuildFault) → IsItemRight given (scope_of given old) (items.Type t) → OnOk r (new ≡ old ++ items.Type t ∷ []) → OnErr r (new ≡ old) → ItemsGrow given old new [] [] []
-    type_grown (Ok i) right is same = grown_by right is
-    type_grown (Err e) right is same = subst (λ now. ItemsGrow given old now [] [] []) (sym same) (items_same given old)
+  pub type_grown : (origin : TypeId → Resource) (home : Home) (stage : Stage) (old new : Contents) (t : TypeDef) (r : Result ℕ BuildFault) → new.taken ≡ old.taken → IsItemRight given (scope_of given old.items) (items.Type t) →
+      OnOk r (new.items ≡ old.items ++ items.Type t ∷ []) → OnErr r (new.items ≡ old.items) → Grows given origin home stage old new []
+  type_grown origin home stage old new t (Ok i) kept right is same =
+      record { more = []; staged = staged_none stage; taken = kept ∙ sym (append-nil old.taken); own = tt; items = grown_by old.items new.items t right is }
+  type_grown origin home stage old new t (Err e) kept right is same =
+      record { more = []; staged = staged_none stage; taken = kept ∙ sym (append-nil old.taken); own = tt; items = subst (λ now. ItemsGrow given old.items now [] [] [] []) (sym same) (items_none given old.items) }

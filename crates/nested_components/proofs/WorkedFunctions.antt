@@ -1,13 +1,13 @@
--- A worked example: two functions of one type are imported under their plain names, and exported under their own.
-use Rattle.std.proofs.Common.{◌≡◌, ℕ, false, List, [], ◌∷◌, map, refl, None}
+-- A worked example: two functions of one type are passed on under their own names.
+use Rattle.std.proofs.Common.{◌≡◌, ℕ, false, List, [], ◌∷◌, refl, None}
 use Rattle.std.specs.Prelude.{codes}
 use Rattle.wit_data.specs.declared.functions.Function.{Function}
 use Rattle.wit_data.specs.declared.functions.FunctionKind.TheVariants as kinds
 use Rattle.wit_data.specs.declared.ids.TypeId.{TypeId}
 use Rattle.comp_trees.specs.Trees.{Resource, FunctionTree}
 use Rattle.comp_trees.specs.DefinedTrees.{OfFunctions}
-use Rattle.nested_terms.specs.Nested.{ImportedFunction, ExportedFunction}
-use Rattle.nested_components.specs.Functions.{functions_of, AreUnnamed, nested_functions, imported, exported}
+use Rattle.nested_terms.specs.Nested.{ExportedFunction}
+use Rattle.nested_components.specs.Functions.{functions_of, nested_functions, exported}
 
 abbrev free : List ℕ → Function
 free name = record { name = name; kind = kinds.Freestanding; params = []; result = None }
@@ -21,11 +21,12 @@ names = codes "import-func-f" ∷ codes "import-func-g" ∷ []
 abbrev nothing : FunctionTree
 nothing = record { is_async = false; params = []; result = None }
 
-two_unnamed : AreUnnamed [] fs
-two_unnamed = (refl, (refl, tt))
-
-two_imports : (origin : TypeId → Resource) → map imported (nested_functions origin [] fs names) ≡ ImportedFunction (codes "import-func-f") (OfFunctions nothing) ∷ ImportedFunction (codes "import-func-g") (OfFunctions nothing) ∷ []
-two_imports origin = refl
+two_functions : (origin : TypeId → Resource) →
+    nested_functions origin [] fs names
+    ≡ record { argument = codes "import-func-f"; type = OfFunctions nothing }
+    ∷ record { argument = codes "import-func-g"; type = OfFunctions nothing }
+    ∷ []
+two_functions origin = refl
 
 two_exports : (origin : TypeId → Resource) →
     exported fs (nested_functions origin [] fs names)

@@ -1,6 +1,6 @@
 -- What the nested component of an interface imports and exports: its functions, each imported under a name that is free and
--- exported under its own (component model, explainer: import and export definitions).
-use Rattle.std.specs.Prelude.{ℕ, ◌≡◌, true, List, [], ◌∷◌, map}
+-- exported under its own, behind its types (component model, explainer: import and export definitions).
+use Rattle.std.specs.Prelude.{ℕ, ◌≡◌, List, [], ◌∷◌, ◌++◌, map}
 use Rattle.std.specs.List.{AllByRecursion}
 use Rattle.wit_data.specs.declared.ids.TypeId.{TypeId}
 use Rattle.wit_data.specs.declared.types.TypeDef.{TypeDef}
@@ -9,8 +9,9 @@ use Rattle.comp_bytes.specs.declared.def.Item.{Item}
 use Rattle.comp_trees.specs.Trees.{Resource}
 use Rattle.comp_trees.specs.DefinedTrees.{TypeTree, OfFunctions, OfOthers}
 use Rattle.comp_trees.specs.WitTrees.{wit_function_tree}
-use Rattle.type_scopes.specs.Needs.{function_passes, is_unnamed}
-use Rattle.nested_terms.specs.Nested.{NestedFunction, NestedImport, ImportedFunction, NestedExport, ExportedFunction, empty_scope, imports_after, exports_after, AreItemsRight}
+use Rattle.nested_terms.specs.Nested.{NestedFunction, NestedExport, ExportedFunction, empty_scope, functions_imported, types_imported, imports_after, exports_after, AreItemsRight}
+use Rattle.nested_components.specs.declared.type_import.TypeImport.{TypeImport}
+use Rattle.nested_components.specs.Types.{type_given, exported_type, IsImportOf}
 
 -- no type is given for an import
 abbrev pub no_types : List ℕ → TypeTree
@@ -19,10 +20,6 @@ no_types name = OfOthers
 -- the functions of an interface, in its order
 abbrev pub functions_of : List (List ℕ × Function) → List Function
 functions_of entries = map (λ e. e.1) entries
-
--- each is made of types alone that have no name, that no interface owns and that are no resources
-abbrev pub AreUnnamed : List TypeDef → List Function → Type 0
-AreUnnamed types fs = AllByRecursion (λ f. function_passes (is_unnamed types) types f ≡ true) fs
 
 -- the type of a function, where `origin` says what each resource is
 abbrev pub type_of : (TypeId → Resource) → List TypeDef → Function → TypeTree
@@ -33,10 +30,6 @@ abbrev pub nested_functions : (TypeId → Resource) → List TypeDef → List Fu
 nested_functions origin types (f ∷ fs) (name ∷ names) = record { argument = name; type = type_of origin types f } ∷ nested_functions origin types fs names
 nested_functions origin types fs names = []
 
--- what is imported: each function, under its name
-abbrev pub imported : NestedFunction → NestedImport
-imported g = ImportedFunction g.argument g.type
-
 -- what is exported: each function of the interface, under its own name, and it is the one that was imported for it
 abbrev pub exported : List Function → List NestedFunction → List NestedExport
 exported (f ∷ fs) (g ∷ gs) = ExportedFunction f.name g ∷ exported fs gs
@@ -46,8 +39,11 @@ exported fs gs = []
 abbrev pub IsTyped : (TypeId → Resource) → List TypeDef → NestedFunction → Function → Type 0
 IsTyped origin types g f = g.type ≡ type_of origin types f
 
--- items of a nested component that import these functions, and export them under the names of the interface
-pub record PassesOn (given : List ℕ → TypeTree) (fs : List Function) (gs : List NestedFunction) (is : List Item) : Type 0 where
+-- items of a nested component that import these functions and types, and export the types that are listed, and then the functions
+-- under the names of the interface
+pub record PassesOn (given : List ℕ → TypeTree) (origin : TypeId → Resource) (all : List TypeDef) (named : List (List ℕ × TypeId)) (fs : List Function) (gs : List NestedFunction) (imports : List TypeImport) (is : List Item) : Type 0 where
   pub right : AreItemsRight given empty_scope is
-  pub imports : imports_after given empty_scope is ≡ map imported gs
-  pub exports : exports_after given empty_scope is ≡ exported fs gs
+  pub functions : functions_imported (imports_after given empty_scope is) ≡ gs
+  pub types : types_imported (imports_after given empty_scope is) ≡ map (type_given origin all) imports
+  pub own : AllByRecursion (IsImportOf named) imports
+  pub exports : exports_after given empty_scope is ≡ map (exported_type origin all) named ++ exported fs gs

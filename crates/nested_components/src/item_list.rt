@@ -1,11 +1,11 @@
 //! The items of a nested component that is being built.
 
-ghost use Rattle.std.specs.Prelude.{◌≡◌, ◌++◌, ◌∷◌, [], IfOk, IfErr, OnOk, OnErr, Some};
+ghost use Rattle.std.specs.Prelude.{◌≡◌, ◌++◌, ◌∷◌, [], IfOk, IfErr, OnOk, OnErr, Some, None, true};
 ghost use Rattle.comp_bytes.specs.declared.space.Sort.TheVariants as sorts;
 ghost use Rattle.comp_bytes.specs.declared.types.Description.TheVariants as descriptions;
 ghost use Rattle.comp_bytes.specs.declared.def.Item.TheVariants as items;
 ghost use Rattle.wit_types.specs.Denoting.{IsCause};
-ghost use Rattle.nested_components.specs.Growing.{types_in, is_full};
+ghost use Rattle.nested_components.specs.Counts.{makes_type, types_in, is_full};
 
 use byte_encoding::{BuildFault, next_count};
 use comp_bytes::{Description, ExternName, Item, Sort, TypeDef};
@@ -31,7 +31,7 @@ impl Drop for ItemList {
 impl Model for ItemList {
     ghost use Rattle.std.specs.Prelude.{List, ◌≡◌};
     ghost use Rattle.comp_bytes.specs.declared.def.Item.{Item};
-    ghost use Rattle.nested_components.specs.Growing.{types_in};
+    ghost use Rattle.nested_components.specs.Counts.{types_in};
 
     ghost Value = { List Item };
 
@@ -51,6 +51,21 @@ impl ItemList {
         }
     }
 
+    /// Adds an item that makes a type index, and returns that index.
+    fn add(&mut self, item: Item) -> Result<u32, BuildFault>
+        requires { makes_type item ≡ true }
+        ensures index { IfOk result (λ index. index ≡ types_in self.old) }
+        ensures ok { OnOk result (self.new ≡ self.old ++ item ∷ []) }
+        ensures err { OnErr result (self.new ≡ self.old) }
+        ensures cause { IfErr result (IsCause is_full self.new) }
+    {
+        let index = self.type_count;
+        let count = next_count(index)?;
+        self.items.push(item)?;
+        self.type_count = count;
+        Ok(index)
+    }
+
     /// Defines a type, and returns its index.
     pub(crate) fn add_type(&mut self, ty: TypeDef) -> Result<u32, BuildFault>
         ensures index { IfOk result (λ index. index ≡ types_in self.old) }
@@ -58,11 +73,33 @@ impl ItemList {
         ensures err { OnErr result (self.new ≡ self.old) }
         ensures cause { IfErr result (IsCause is_full self.new) }
     {
-        let index = self.type_count;
-        let count = next_count(index)?;
-        self.items.push(Item::Type(ty))?;
-        self.type_count = count;
-        Ok(index)
+        self.add(Item::Type(ty))
+    }
+
+    /// Imports a type as equal to the one with an index, and returns the index of the import.
+    pub(crate) fn import_type(&mut self, name: ExternName, ty: u32) -> Result<u32, BuildFault>
+        ensures index { IfOk result (λ index. index ≡ types_in self.old) }
+        ensures ok { OnOk result (self.new ≡ self.old ++ items.Import name (descriptions.TypeEqual ty) ∷ []) }
+        ensures err { OnErr result (self.new ≡ self.old) }
+        ensures cause { IfErr result (IsCause is_full self.new) }
+    {
+        let description = Description::TypeEqual(ty);
+        self.add(Item::Import { name, description })
+    }
+
+    /// Exports the type with an index, and returns the index of the export.
+    pub(crate) fn export_type(&mut self, name: ExternName, ty: u32) -> Result<u32, BuildFault>
+        ensures index { IfOk result (λ index. index ≡ types_in self.old) }
+        ensures ok { OnOk result (self.new ≡ self.old ++ items.Export name sorts.Type ty None ∷ []) }
+        ensures err { OnErr result (self.new ≡ self.old) }
+        ensures cause { IfErr result (IsCause is_full self.new) }
+    {
+        self.add(Item::Export {
+            name,
+            sort: Sort::Type,
+            index: ty,
+            description: None,
+        })
     }
 
     /// Imports a function of the type with an index.

@@ -112,15 +112,16 @@ module _ (modules : List ModuleMeaning) (given : List ℕ → TypeTree) (argumen
             ∙ ap (λ space. next (with_item space g.export.address (with_now m now))) (function_found name.name arguments g.export g.found);
       }
 
-  -- and so is one of a type, whether it equals another or is a resource
-  equal_import : (name : ExternName) (index : ℕ) → GivesType m.store.types arguments name.name (given name.name) → RunsItem modules given arguments s (items.Import name (descriptions.TypeEqual index)) m
+  -- and so is one of a type that equals an earlier one, which denotes what that does
+  equal_import : (name : ExternName) (index : ℕ) → GivesType m.store.types arguments name.name (get_or s.types index OfOthers) → RunsItem modules given arguments s (items.Import name (descriptions.TypeEqual index)) m
   equal_import name index g = record {
-    growth = known_type_growth (given name.name) g.export.address g.is;
+    growth = known_type_growth (get_or s.types index OfOthers) g.export.address g.is;
     runs = λ now next.
         ap (λ o. with_some o (λ (e : Export). next (with_item e.space e.address (with_now m now)))) g.found
         ∙ ap (λ space. next (with_item space g.export.address (with_now m now))) (type_found name.name arguments g.export g.found);
   }
 
+  -- and so is one of a resource
   resource_import : (name : ExternName) → GivesType m.store.types arguments name.name (given name.name) → RunsItem modules given arguments s (items.Import name descriptions.SubResource) m
   resource_import name g = record {
     growth = known_type_growth (given name.name) g.export.address g.is;

@@ -1,4 +1,5 @@
--- Worked examples: a nested component with two functions of one type is instantiated, and one with a resource and its handle.
+-- Worked examples: a nested component with two functions of one type is instantiated, one with a resource and its handle, and one
+-- with a type that is given as equal to its definition.
 use Rattle.std.proofs.Common.{◌≡◌, ℕ, false, List, [], ◌∷◌, refl, Some, None, arith}
 use Rattle.std.specs.Prelude.{codes}
 use Rattle.comp_bytes.specs.declared.space.Space.TheVariants as spaces
@@ -10,7 +11,7 @@ use Rattle.comp_bytes.specs.declared.types.TypeDef.TheVariants as types
 use Rattle.comp_bytes.specs.declared.def.Item.{Item}
 use Rattle.comp_bytes.specs.declared.def.Item.TheVariants as items
 use Rattle.core_runs.specs.Store.{Now, Store as CodeStore}
-use Rattle.comp_trees.specs.Trees.{Tree, Origin, ImportedAt, ResourceAt, OwnOf, FunctionTree}
+use Rattle.comp_trees.specs.Trees.{Tree, Origin, ImportedAt, ResourceAt, OwnOf, StreamOf, Absent, FunctionTree}
 use Rattle.comp_trees.specs.DefinedTrees.{TypeTree, OfValues, OfFunctions, OfOthers}
 use Rattle.comp_trees.specs.Members.{IsOfFunctions}
 use Rattle.nested_terms.specs.Nested.{NestedFunction, ExportedFunction, empty_scope, function_named, exports_after, AreItemsRight}
@@ -168,3 +169,44 @@ resource_by_law : (code : CodeStore) (now : Now) → RunsNested [] given (nested
 resource_by_law code now =
     nested_runs [] given (nested with_resource) (of_r ∷ []) (with_type code now) resource_right
     (record { export = of_r; found = refl; is = record { item = ImportedResource origin; present = refl; denotes = refl } }, tt)
+
+-- ---- a type that is given, and that equals a definition
+
+abbrev stream : Tree
+stream = StreamOf Absent
+
+abbrev with_equal : List Item
+with_equal =
+    items.Type (types.Defined (defined.Stream None))
+    ∷ items.Import (named (codes "import-type-t")) (descriptions.TypeEqual 0)
+    ∷ items.Export (named (codes "t")) sorts.Type 1 None
+    ∷ []
+
+-- the type is in the store, at the address 0
+abbrev with_stream : CodeStore → Now → Machine
+with_stream code now = record (start code now) { store = record (stored code) { types = TreeOf (OfValues stream) ∷ [] } }
+
+abbrev of_t : Export
+of_t = record { space = spaces.Type; name = codes "import-type-t"; address = 0 }
+
+-- the instance exports the type that was given, and not the definition
+abbrev after_equal : CodeStore → Now → Machine
+after_equal code now = record {
+  scope = record { items = record { space = spaces.Instance; address = 0 } ∷ []; around = []; exports = []; imports = 2 };
+  store = record (stored code) {
+    types = TreeOf (OfValues stream) ∷ TreeOf (OfValues stream) ∷ [];
+    instances = (record { space = spaces.Type; name = codes "t"; address = 0 } ∷ []) ∷ [];
+  };
+  now = now;
+}
+
+equal_row : (code : CodeStore) (now : Now) → instantiate_component [] (nested with_equal) (of_t ∷ []) (with_stream code now) (λ m. Done m) ≡ Done (after_equal code now)
+equal_row code now = refl
+
+equal_right : AreItemsRight no_types empty_scope with_equal
+equal_right = (refl, (omega arith, (omega arith, tt)))
+
+equal_by_law : (code : CodeStore) (now : Now) → RunsNested [] no_types (nested with_equal) (of_t ∷ []) (with_stream code now)
+equal_by_law code now =
+    nested_runs [] no_types (nested with_equal) (of_t ∷ []) (with_stream code now) equal_right
+    (record { export = of_t; found = refl; is = record { item = TreeOf (OfValues stream); present = refl; denotes = refl } }, tt)

@@ -20,6 +20,10 @@ letter c = if c == 0x5b then [] else if c == 0x5d || c == 0x2e then 0x2d ∷ [] 
 abbrev pub plain_import_name : Function → List ℕ
 plain_import_name f = elim (is_free f.kind) [ true ↦ codes "import-func-" ++ f.name | false ↦ codes "import-" ++ flat_map letter f.name ]
 
+-- the name of the import of a type of this name
+abbrev pub type_import_name : List ℕ → List ℕ
+type_import_name name = codes "import-type-" ++ name
+
 -- a name with the first so many numbers behind it
 abbrev pub numbered : ℕ → List ℕ → List ℕ
 numbered count name = name ++ flat_map decimal (range_with_len 0 count)

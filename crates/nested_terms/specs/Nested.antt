@@ -38,6 +38,17 @@ pub data NestedExport : Type 0 where
   ExportedFunction : (name : List ℕ) (function : NestedFunction) → NestedExport
   ExportedType : (name : List ℕ) (tree : TypeTree) → NestedExport
 
+-- the functions, and the types, among what is imported
+abbrev pub functions_imported : List NestedImport → List NestedFunction
+functions_imported [] = []
+functions_imported (ImportedFunction name type ∷ xs) = record { argument = name; type = type } ∷ functions_imported xs
+functions_imported (ImportedType name tree ∷ xs) = functions_imported xs
+
+abbrev pub types_imported : List NestedImport → List (List ℕ × TypeTree)
+types_imported [] = []
+types_imported (ImportedFunction name type ∷ xs) = types_imported xs
+types_imported (ImportedType name tree ∷ xs) = (name, tree) ∷ types_imported xs
+
 -- ---- the exports by their names
 
 -- the first function, and the first type, of this name
@@ -51,6 +62,18 @@ type_named name [] = None
 type_named name (ExportedFunction n function ∷ xs) = type_named name xs
 type_named name (ExportedType n tree ∷ xs) = if bytes_eq name n then Some tree else type_named name xs
 
+-- ---- the names of imports
+
+-- the names under which functions, and types, are imported
+abbrev pub function_import : Item → List (List ℕ)
+function_import (items.Import name (descriptions.Func kind)) = name.name ∷ []
+function_import i = []
+
+abbrev pub type_import : Item → List (List ℕ)
+type_import (items.Import name (descriptions.TypeEqual index)) = name.name ∷ []
+type_import (items.Import name descriptions.SubResource) = name.name ∷ []
+type_import i = []
+
 -- ---- what items make
 
 -- a resource
@@ -58,12 +81,13 @@ pub record IsOfResource (tree : TypeTree) : Type 0 where
   pub resource : Resource
   pub same : tree ≡ OfValues (ResourceAt resource)
 
--- `given` says what the types denote that are given for the imports, by their names
+-- `given` says which resources are given for the imports of resources, by their names. The import of a type that equals an earlier
+-- one denotes what that does.
 module _ (given : List ℕ → TypeTree) where
   -- the types and the functions that an item makes
   abbrev types_made : NestedScope → Item → List TypeTree
   types_made s (items.Type t) = type_tree s.types (DefinedAt 0) t ∷ []
-  types_made s (items.Import name (descriptions.TypeEqual index)) = given name.name ∷ []
+  types_made s (items.Import name (descriptions.TypeEqual index)) = get_or s.types index OfOthers ∷ []
   types_made s (items.Import name descriptions.SubResource) = given name.name ∷ []
   types_made s (items.Export name sorts.Type index description) = get_or s.types index OfOthers ∷ []
   types_made s i = []
@@ -84,7 +108,7 @@ module _ (given : List ℕ → TypeTree) where
   -- the imports and the exports, in order
   abbrev pub import_made : NestedScope → Item → List NestedImport
   import_made s (items.Import name (descriptions.Func kind)) = ImportedFunction name.name (get_or s.types kind OfOthers) ∷ []
-  import_made s (items.Import name (descriptions.TypeEqual index)) = ImportedType name.name (given name.name) ∷ []
+  import_made s (items.Import name (descriptions.TypeEqual index)) = ImportedType name.name (get_or s.types index OfOthers) ∷ []
   import_made s (items.Import name descriptions.SubResource) = ImportedType name.name (given name.name) ∷ []
   import_made s i = []
 
@@ -102,13 +126,13 @@ module _ (given : List ℕ → TypeTree) where
   exports_after s (i ∷ is) = export_made s i ++ exports_after (with_item s i) is
 
   -- An item that may stand in a nested component: a type of values or functions whose parts are types of values; an import of a
-  -- function, of a type that equals one that is given, or of a resource; an export of a function, with its type, or of a type. No
+  -- function, of a type that equals an earlier one, or of a resource; an export of a function, with its type, or of a type. No
   -- other is written.
   abbrev pub IsItemRight : NestedScope → Item → Type 0
   IsItemRight s (items.Type (types.Func f)) = is_known_function (function_tree s.types f) ≡ true
   IsItemRight s (items.Type (types.Defined t)) = is_known (defined_tree s.types t) ≡ true
   IsItemRight s (items.Import name (descriptions.Func kind)) = IsOfFunctions s.types kind
-  IsItemRight s (items.Import name (descriptions.TypeEqual index)) = (index < length s.types) × (given name.name ≡ get_or s.types index OfOthers)
+  IsItemRight s (items.Import name (descriptions.TypeEqual index)) = index < length s.types
   IsItemRight s (items.Import name descriptions.SubResource) = IsOfResource (given name.name)
   IsItemRight s (items.Export name sorts.Func index (Some (descriptions.Func kind))) =
       (index < length s.functions) × (kind < length s.types) × (get_or s.types kind OfOthers ≡ (get_or s.functions index no_function).type)

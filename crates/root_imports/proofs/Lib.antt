@@ -10,3 +10,6 @@ pub mod ExportedTypes
 pub mod Passing
 pub mod Resources
 pub mod Defining
+pub mod Forgetting
+pub mod ListedTypes
+pub mod Keeping

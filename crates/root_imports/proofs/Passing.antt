@@ -37,12 +37,12 @@ left_of : (b c : Bool) → (b && c) ≡ true → b ≡ true
 left_of true c e = refl
 left_of false c e = cc
 
-right_of : (b c : Bool) → (b && c) ≡ true → c ≡ true
+pub right_of : (b c : Bool) → (b && c) ≡ true → c ≡ true
 right_of true c e = e
 right_of false c e = cc
 
 -- a type of the world below the next number is the one that was recorded, or was met before
-met_next : (w : ComponentWorld) (last : Option TypeId) (id j : TypeId) → IsNextId w (next_of last) id → IsTrue ((root_setting w (Some id)).met j) → (j.index == id.index) ≡ false → (root_setting w last).met j ≡ true
+met_next : (w : ComponentWorld) (last : Option TypeId) (id j : TypeId) → IsNextId w (next_of last) id → IsTrue ((root_setting w None (Some id)).met j) → (j.index == id.index) ≡ false → (root_setting w None last).met j ≡ true
 met_next w last id j order e apart =
     let l : j.index < suc id.index = ltb-true j.index (suc id.index) (left_of (nat_lt j.index (suc id.index)) (is_imported_type w j) e) in
     let listed : is_imported_type w j ≡ true = right_of (nat_lt j.index (suc id.index)) (is_imported_type w j) e in
@@ -83,7 +83,7 @@ tables_next w last id instances ds maps order recorded h = record {
   met = λ j e. by j e (j.index == id.index) refl;
 }
   where
-    by : (j : TypeId) → IsTrue ((root_setting w (Some id)).met j) → (b : Bool) → (j.index == id.index) ≡ b → HasIndex maps j
+    by : (j : TypeId) → IsTrue ((root_setting w None (Some id)).met j) → (b : Bool) → (j.index == id.index) ≡ b → HasIndex maps j
     by j e true same = subst (λ (n : ℕ). HasIndex maps (record { index = n })) (sym ((Decides-eqb j.index id.index).0 same)) recorded
     by j e false apart = h.met j (met_next w last id j order e apart)
 
@@ -93,7 +93,7 @@ pub resource_found : (w : ComponentWorld) (last : Option TypeId) (instances : Li
 resource_found w last instances ds maps id o ok r own passed h is = by o is (id_found id o h is)
   where
     s : Setting
-    s = root_setting w last
+    s = root_setting w None last
 
     tree : ResourceAt (resource_of w id) ≡ tree_in s (Some (Id id))
     tree = resource_tree s w.resolve.types id (resource_of w id) refl ok.sound.back r.present (ap is_resource r.kind) refl

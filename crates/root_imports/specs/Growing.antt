@@ -58,10 +58,10 @@ root_same w b = record { extends = extends_none b; grows = Grows-none w b.defs }
 pub root_then : {w : ComponentWorld} (a b c : Built) → RootGrows w a b → RootGrows w b c → RootGrows w a c
 root_then a b c g h = record { extends = extends_then a b c g.extends h.extends; grows = Grows-then g.grows h.grows }
 
--- of three states of a scope, each with a reference to what has the world, and two values that stay
-pub root_on : {R N I : Type 0} (world : R → ComponentWorld) (r s t : R) (k l m : N) (x y z : I) (a b c : Built) → (s ≡ r) × (l ≡ k) × (y ≡ x) × RootGrows (world r) a b → (t ≡ s) × (m ≡ l) × (z ≡ y) × RootGrows (world s) b c →
-    (t ≡ r) × (m ≡ k) × (z ≡ x) × RootGrows (world r) a c
-root_on world r s t k l m x y z a b c g h = (h.0 ∙ g.0, h.1 ∙ g.1, h.2 ∙ g.2, root_then a b c g.3 (subst (λ w. RootGrows (world w) b c) g.0 h.3))
+-- of three states of a scope, each with a reference to what has the world, and three values that stay
+pub root_on : {R N I J : Type 0} (world : R → ComponentWorld) (r s t : R) (k l m : N) (x y z : I) (o p q : J) (a b c : Built) → (s ≡ r) × (l ≡ k) × (y ≡ x) × RootGrows (world r) a b × (p ≡ o) → (t ≡ s) × (m ≡ l) × (z ≡ y) × RootGrows (world s) b c × (q ≡ p) →
+    (t ≡ r) × (m ≡ k) × (z ≡ x) × RootGrows (world r) a c × (q ≡ o)
+root_on world r s t k l m x y z o p q a b c g h = (h.0 ∙ g.0, h.1 ∙ g.1, h.2 ∙ g.2, root_then a b c g.3 (subst (λ w. RootGrows (world w) b c) g.0 h.3), h.4 ∙ g.4)
 
 -- ---- instances of interfaces
 
@@ -76,7 +76,7 @@ FindsInterfaces-kept {w} {old} {new} {instances} g h = record {
 pub known_kept : {w : ComponentWorld} {old new : List Def} {instances : List (InterfaceId × ℕ)} → Longer old new → AreInstancesKnown w old instances → AreInstancesKnown w new instances
 known_kept g h = record { finds = FindsInterfaces-kept g h.finds; needed = h.needed; imported = h.imported }
 
--- of two states of a scope, each with a reference to what has the world, a value, and the instances
-pub known_on : {R N : Type 0} (world : R → ComponentWorld) (r s : R) (k l : N) (x y : List (InterfaceId × ℕ)) (a b : Built) → (s ≡ r) × (l ≡ k) × (y ≡ x) × RootGrows (world r) a b → AreInstancesKnown (world r) a.defs x → AreInstancesKnown (world s) b.defs y
-known_on world r s k l x y a b g h =
+-- of two states of a scope, each with a reference to what has the world, two values, and the instances
+pub known_on : {R N J : Type 0} (world : R → ComponentWorld) (r s : R) (k l : N) (x y : List (InterfaceId × ℕ)) (o p : J) (a b : Built) → (s ≡ r) × (l ≡ k) × (y ≡ x) × RootGrows (world r) a b × (p ≡ o) → AreInstancesKnown (world r) a.defs x → AreInstancesKnown (world s) b.defs y
+known_on world r s k l x y o p a b g h =
     subst (λ t. AreInstancesKnown (world t) b.defs y) (sym g.0) (subst (λ es. AreInstancesKnown (world r) b.defs es) (sym g.2) (known_kept (longer_by g.3.grows) h))

@@ -1,10 +1,11 @@
 -- What is known of what was imported, and of what is the next import. (The rules are this project's own.)
-use Rattle.std.specs.Prelude.{◌≡◌, ◌+◌, ◌<◌, ℕ, suc, List, Some, IsSome, IsTrue, Contains, length, map, slice_get, ◌⊎◌}
+use Rattle.std.specs.Prelude.{◌≡◌, ◌+◌, ◌<◌, ℕ, suc, List, Option, Some, None, IsSome, IsTrue, Contains, length, map, slice_get, ◌⊎◌}
 use Rattle.comp_lists.specs.Found.{found}
 use Rattle.comp_bytes.specs.declared.def.Def.{Def}
 use Rattle.comp_trees.specs.Trees.{Origin, FunctionTree}
 use Rattle.wit_data.specs.Sound.{HasFunction}
 use Rattle.wit_data.specs.declared.functions.Function.{Function}
+use Rattle.wit_data.specs.declared.ids.InterfaceId.{InterfaceId}
 use Rattle.wit_data.specs.declared.ids.TypeId.{TypeId}
 use Rattle.wit_data.specs.declared.worlds.WorldItem.{WorldItem}
 use Rattle.wit_data.specs.declared.worlds.WorldItem.TheVariants as items
@@ -32,9 +33,10 @@ pub record IsRootImport (w : ComponentWorld) (ds : List Def) (index : ℕ) (text
   pub typed : IsTypeOf w (OfRoot text) type
   pub is : IsImportedFunction ds index origin type
 
--- a function at the root that core imports use, or that the world exports
-abbrev pub IsNeededFunction : ComponentWorld → Function → Type 0
-IsNeededFunction w f = ((name : List ℕ) × IsUsedFunction w name f) ⊎ IsExportedFunction w f
+-- a function of an exported interface; or, where no interface is given, one at the root that core imports use, or that is exported
+abbrev pub IsNeededFunction : ComponentWorld → Option InterfaceId → Function → Type 0
+IsNeededFunction w (Some id) f = IsExportedFunction w (Some id) f
+IsNeededFunction w None f = ((name : List ℕ) × IsUsedFunction w name f) ⊎ IsExportedFunction w None f
 
 -- each name is that of a root function, as it is imported
 pub record FindsImports (w : ComponentWorld) (ds : List Def) (functions : List (List ℕ × ℕ)) : Type 0 where

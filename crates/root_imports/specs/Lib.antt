@@ -2,3 +2,5 @@ pub mod RootScopes
 pub mod Growing
 pub mod Imports
 pub mod Interfaces
+pub mod Forgetting
+pub mod Keeping

@@ -9,7 +9,12 @@ use Rattle.comp_bytes.specs.declared.def.Def.{Def}
 use Rattle.comp_builder.specs.Built.{Built}
 use Rattle.comp_trees.specs.Trees.{ImportedAt}
 use Rattle.comp_trees.specs.Inventories.{scope_of}
+use Rattle.std.specs.Map.{lookup}
+use Rattle.wit_data.specs.contracts.ids.TypeIdPartialEq.TheImpl as same_id
+use Rattle.wit_data.specs.contracts.types.TypeDefKindPartialEq.TheImpl as same_kind
 use Rattle.wit_data.specs.declared.ids.TypeId.{TypeId}
+use Rattle.wit_data.specs.declared.types.TypeDef.{TypeDef}
+use Rattle.wit_data.specs.Values.{kind_at}
 use Rattle.comp_worlds.specs.WorldContents.{imported_types}
 use Rattle.comp_worlds.specs.declared.world.ComponentWorld.{ComponentWorld}
 use Rattle.comp_links.specs.Lists.{needed_types, resource_of}
@@ -33,12 +38,13 @@ next_of (Some id) = suc id.index
 
 -- What definitions of types at the root take as given, where the types that the world imports are in the tables as far as the
 -- last one that was imported. They get their names where they are imported, and not while others are defined: so nothing is
--- exported there. What is imported is a type that an instance of an interface exports.
-abbrev pub root_setting : ComponentWorld → Option TypeId → Setting
-root_setting w last =
+-- exported there. What is imported is a type that an instance of an interface exports. The types of one exported interface may be
+-- defined, where one is given.
+abbrev pub root_setting : ComponentWorld → Option InterfaceId → Option TypeId → Setting
+root_setting w interface last =
     record {
       types = w.resolve.types;
-      interface = None;
+      interface = interface;
       origin = resource_of w;
       met = λ id. nat_lt id.index (next_of last) && is_imported_type w id;
       may_import = λ other id. is_one_of (needed_types w other) id.index;
@@ -62,7 +68,7 @@ is_full ds count = (2 ^ 32 ≤ count) × (count ≡ items_in spaces.Type ds + 1)
 
 -- each index in the tables denotes what it is the index of, and the instances of the interfaces are known
 abbrev pub AreTablesRight : ComponentWorld → Option TypeId → List (InterfaceId × ℕ) → List Def → TypeEncodingMaps → Type 0
-AreTablesRight w last instances ds maps = Faithful (root_setting w last) (scope_of ds) any_index (AreInstancesKnown w ds instances) maps
+AreTablesRight w last instances ds maps = Faithful (root_setting w None last) (scope_of ds) any_index (AreInstancesKnown w ds instances) maps
 
 -- each type that the world imports was imported
 abbrev pub ArePassed : ComponentWorld → Option TypeId → Type 0
@@ -72,3 +78,8 @@ ArePassed w last = AllByRecursion (λ t. t.1.index < next_of last) (imported_typ
 abbrev pub IsRefusal : BuildFault → Type 0
 IsRefusal Memory = Unit {0}
 IsRefusal (TooMany count) = 2 ^ 32 ≤ count
+
+-- these types are in no table any more: neither by their numbers nor by their kinds
+pub record AreForgotten (types : List TypeDef) (gone : List TypeId) (maps : TypeEncodingMaps) : Type 0 where
+  pub ids : AllByRecursion (λ id. lookup (same_id.eq-value.it id) maps.id_to_index ≡ None) gone
+  pub kinds : AllByRecursion (λ id. lookup (same_kind.eq-value.it (kind_at types id.index)) maps.def_to_index ≡ None) gone

@@ -29,7 +29,7 @@ impl RootScope<'_, ComponentWorld> {
     fn import_function(&mut self, name: &Text, function: &Function) -> Result<u32, BuildFault>
         requires valid { IsEncodable self.old.world.now }
         requires present { HasFunction self.old.world.now.resolve function.now }
-        requires needed { IsNeededFunction self.old.world.now function.now }
+        requires needed { IsNeededFunction self.old.world.now None function.now }
         requires passed { ArePassed self.old.world.now self.old.last_type }
         requires tables { AreTablesRight self.old.world.now self.old.last_type self.old.instances self.old.items.defs self.old.maps }
         ensures world { self.new.world ≡ self.old.world }
@@ -45,7 +45,7 @@ impl RootScope<'_, ComponentWorld> {
             name: name.clone(self.items.allocator())?,
             version_suffix: None,
         };
-        let ty = self.function_type(function)?;
+        let ty = self.function_type(None, function)?;
         let index = self.items.import_function(name, ty)?;
         Ok(index)
     }

@@ -7,22 +7,30 @@
 //! What an imported interface exports is known by its instance: a type of it that the root names is an alias
 //! ([`RootScope::alias_type`]).
 //!
+//! While an exported interface is built, its types are defined at the root, too: with them its functions are lifted, and they
+//! are given to the component that exports them. Then the root forgets them.
+//!
 //! In reading order: `root_scope` (the scope, and types in it), `aliases` (aliases of types of interfaces), `world_types`
-//! (imports of types), `used` (the functions that core modules use), `functions` (imports of functions). In `specs/`:
-//! `RootScopes` (what the scope takes as given, and how it grows), `Growing` (lists of definitions that grow), `Interfaces`
-//! (what is known of the interfaces that were imported), `Imports` (of the functions, and of the next import).
+//! (imports of types), `used` (the functions that core modules use), `functions` (imports of functions), `exported_types` (the
+//! types of exported interfaces). In `specs/`: `RootScopes` (what the scope takes as given, and how it grows), `Growing` (lists
+//! of definitions that grow), `Interfaces` (what is known of the interfaces that were imported), `Imports` (of the functions,
+//! and of the next import), `Forgetting` (what becomes of the tables when a type is forgotten).
 //!
 //! Upward this crate promises: where the imported interfaces are known, [`RootScope::import_types`] and
 //! [`RootScope::import_functions`] import exactly the types of the world and the functions that core modules use, in its order;
 //! the type of each function, imported or asked for by [`RootScope::function_type`], denotes the tree of the function in the
-//! world; an alias of a type, and what [`RootScope::dropped_resource`] returns, denotes the tree of the type; definitions grow at
-//! their end, and each keeps the rule of its kind (`Grows` of `comp_terms`). A refusal is out of memory, or a full index space.
+//! world; an alias of a type, and what [`RootScope::dropped_resource`] and [`RootScope::exported_type`] return, denotes the tree
+//! of the type; after [`RootScope::forget_exported_types`] no table has a type of the interface, and all else is as it was;
+//! definitions grow at their end, and each keeps the rule of its kind (`Grows` of `comp_terms`). A refusal is out of memory, or
+//! a full index space.
 #![tactic(auto)]
 
 mod aliases;
+mod exported_types;
 mod functions;
 mod root_scope;
 mod used;
 mod world_types;
 
+pub use exported_types::types_of;
 pub use root_scope::{HasWorld, RootScope};

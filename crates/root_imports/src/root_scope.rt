@@ -61,6 +61,8 @@ pub struct RootScope<'a, W: HasWorld> {
     pub last_type: Option<TypeId>,
     /// The instances of the interfaces that were imported.
     pub instances: Keyed<InterfaceId, u32>,
+    /// The exported interface whose types are defined now, if any.
+    pub interface: Option<InterfaceId>,
 }
 
 impl<'a, W: HasWorld> Drop for RootScope<'a, W> {
@@ -71,6 +73,7 @@ impl<'a, W: HasWorld> Drop for RootScope<'a, W> {
             maps: _,
             last_type: _,
             instances: _,
+            interface: _,
         } = self;
     }
 }
@@ -83,6 +86,7 @@ impl<'a> RootScope<'a, ComponentWorld> {
         ensures maps { result.maps ≡ no_maps }
         ensures next { result.last_type ≡ None }
         ensures instances { result.instances ≡ [] }
+        ensures interface { result.interface ≡ None }
     {
         RootScope {
             world,
@@ -90,6 +94,7 @@ impl<'a> RootScope<'a, ComponentWorld> {
             maps: TypeEncodingMaps::new(alloc),
             last_type: None,
             instances: Keyed::new(alloc),
+            interface: None,
         }
     }
 
@@ -103,16 +108,21 @@ impl<'a> RootScope<'a, ComponentWorld> {
             maps: _,
             last_type: _,
             instances: _,
+            interface: _,
         } = self;
         items
     }
 
-    /// The index of the type of a function at the root of the world that core imports use, or that is exported. It is defined,
-    /// where it is not yet.
-    pub fn function_type(&mut self, function: &Function) -> Result<u32, BuildFault>
+    /// The index of the type of a function: of one of an exported interface; or, where no interface is given, of one at the root
+    /// of the world that core imports use, or that is exported. It is defined, where it is not yet.
+    pub fn function_type(
+        &mut self,
+        interface: Option<InterfaceId>,
+        function: &Function,
+    ) -> Result<u32, BuildFault>
         requires valid { IsEncodable self.old.world.now }
         requires present { HasFunction self.old.world.now.resolve function.now }
-        requires needed { IsNeededFunction self.old.world.now function.now }
+        requires needed { IsNeededFunction self.old.world.now interface function.now }
         requires passed { ArePassed self.old.world.now self.old.last_type }
         requires tables { AreTablesRight self.old.world.now self.old.last_type self.old.instances self.old.items.defs self.old.maps }
         ensures typed { IfOk result (λ index. IsFunctionType self.new.items.defs index (type_of_function self.old.world.now function.now)) }
@@ -125,12 +135,13 @@ impl<'a> RootScope<'a, ComponentWorld> {
     {
         let world = self.world;
         let alloc = self.items.allocator();
+        self.interface = interface;
         encode_func_type(alloc, self, &world.resolve, function)
     }
 }
 
 impl<'a, W: HasWorld> ValtypeEncoder for RootScope<'a, W> {
-    ghost setting = { λ e. root_setting (W.world e.world.now) e.last_type };
+    ghost setting = { λ e. root_setting (W.world e.world.now) e.interface e.last_type };
 
     ghost scope = { λ e. scope_of e.items.defs };
 
@@ -138,7 +149,7 @@ impl<'a, W: HasWorld> ValtypeEncoder for RootScope<'a, W> {
 
     ghost with_maps = { λ e m. record e { maps = m } };
 
-    ghost follows = { λ old new. (new.world ≡ old.world) × (new.last_type ≡ old.last_type) × (new.instances ≡ old.instances) × RootGrows (W.world old.world.now) old.items new.items };
+    ghost follows = { λ old new. (new.world ≡ old.world) × (new.last_type ≡ old.last_type) × (new.instances ≡ old.instances) × RootGrows (W.world old.world.now) old.items new.items × (new.interface ≡ old.interface) };
 
     ghost names = { λ e name index. any_index name index };
 
@@ -146,15 +157,15 @@ impl<'a, W: HasWorld> ValtypeEncoder for RootScope<'a, W> {
 
     ghost refuses = { λ e count. is_full e.items.defs count };
 
-    ghost follows_itself = { λ e. (refl, refl, refl, root_same (W.world e.world.now) e.items) };
+    ghost follows_itself = { λ e. (refl, refl, refl, root_same (W.world e.world.now) e.items, refl) };
 
-    ghost follows_on = { λ a b c g h. root_on (λ r. W.world r.now) a.world b.world c.world a.last_type b.last_type c.last_type a.instances b.instances c.instances a.items b.items c.items g h };
+    ghost follows_on = { λ a b c g h. root_on (λ r. W.world r.now) a.world b.world c.world a.last_type b.last_type c.last_type a.instances b.instances c.instances a.interface b.interface c.interface a.items b.items c.items g h };
 
     ghost names_kept = { λ a b g name index h. h };
 
-    ghost offers_kept = { λ a b g known. known_on (λ r. W.world r.now) a.world b.world a.last_type b.last_type a.instances b.instances a.items b.items g known };
+    ghost offers_kept = { λ a b g known. known_on (λ r. W.world r.now) a.world b.world a.last_type b.last_type a.instances b.instances a.interface b.interface a.items b.items g known };
 
-    ghost follows_maps = { λ e m. (refl, refl, refl, root_same (W.world e.world.now) e.items) };
+    ghost follows_maps = { λ e m. (refl, refl, refl, root_same (W.world e.world.now) e.items, refl) };
 
     ghost maps_given = { λ e m. refl };
 
@@ -166,9 +177,9 @@ impl<'a, W: HasWorld> ValtypeEncoder for RootScope<'a, W> {
         requires present { AreTypes (length (scope_of self.old.items.defs)) (defined_references ty) }
         requires known { is_known (defined_tree (scope_of self.old.items.defs) ty) ≡ true }
         ensures makes { Makes (scope_of self.old.items.defs) (scope_of self.new.items.defs) result (OfValues (defined_tree (scope_of self.old.items.defs) ty)) }
-        ensures setting { root_setting (W.world self.new.world.now) self.new.last_type ≡ root_setting (W.world self.old.world.now) self.old.last_type }
+        ensures setting { root_setting (W.world self.new.world.now) self.new.interface self.new.last_type ≡ root_setting (W.world self.old.world.now) self.old.interface self.old.last_type }
         ensures maps { self.new.maps ≡ self.old.maps }
-        ensures follows { (self.new.world ≡ self.old.world) × (self.new.last_type ≡ self.old.last_type) × (self.new.instances ≡ self.old.instances) × RootGrows (W.world self.old.world.now) self.old.items self.new.items }
+        ensures follows { (self.new.world ≡ self.old.world) × (self.new.last_type ≡ self.old.last_type) × (self.new.instances ≡ self.old.instances) × RootGrows (W.world self.old.world.now) self.old.items self.new.items × (self.new.interface ≡ self.old.interface) }
         ensures cause { IfErr result (IsCause is_full self.new.items.defs) }
     {
         self.items.defined_type(ty)
@@ -178,9 +189,9 @@ impl<'a, W: HasWorld> ValtypeEncoder for RootScope<'a, W> {
         requires present { AreTypes (length (scope_of self.old.items.defs)) (type_references (definitions.Func ty)) }
         requires known { is_known_function (function_tree (scope_of self.old.items.defs) ty) ≡ true }
         ensures makes { Makes (scope_of self.old.items.defs) (scope_of self.new.items.defs) result (OfFunctions (function_tree (scope_of self.old.items.defs) ty)) }
-        ensures setting { root_setting (W.world self.new.world.now) self.new.last_type ≡ root_setting (W.world self.old.world.now) self.old.last_type }
+        ensures setting { root_setting (W.world self.new.world.now) self.new.interface self.new.last_type ≡ root_setting (W.world self.old.world.now) self.old.interface self.old.last_type }
         ensures maps { self.new.maps ≡ self.old.maps }
-        ensures follows { (self.new.world ≡ self.old.world) × (self.new.last_type ≡ self.old.last_type) × (self.new.instances ≡ self.old.instances) × RootGrows (W.world self.old.world.now) self.old.items self.new.items }
+        ensures follows { (self.new.world ≡ self.old.world) × (self.new.last_type ≡ self.old.last_type) × (self.new.instances ≡ self.old.instances) × RootGrows (W.world self.old.world.now) self.old.items self.new.items × (self.new.interface ≡ self.old.interface) }
         ensures cause { IfErr result (IsCause is_full self.new.items.defs) }
     {
         self.items.function_type(ty)
@@ -192,9 +203,9 @@ impl<'a, W: HasWorld> ValtypeEncoder for RootScope<'a, W> {
         ensures none { IfOk result (λ exported. exported ≡ None) }
         ensures names { IfOk result (λ exported. any_index name.name (exported_or exported index)) }
         ensures makes { MayMake (scope_of self.old.items.defs) (scope_of self.new.items.defs) result (get_or (scope_of self.old.items.defs) index OfOthers) }
-        ensures setting { root_setting (W.world self.new.world.now) self.new.last_type ≡ root_setting (W.world self.old.world.now) self.old.last_type }
+        ensures setting { root_setting (W.world self.new.world.now) self.new.interface self.new.last_type ≡ root_setting (W.world self.old.world.now) self.old.interface self.old.last_type }
         ensures maps { self.new.maps ≡ self.old.maps }
-        ensures follows { (self.new.world ≡ self.old.world) × (self.new.last_type ≡ self.old.last_type) × (self.new.instances ≡ self.old.instances) × RootGrows (W.world self.old.world.now) self.old.items self.new.items }
+        ensures follows { (self.new.world ≡ self.old.world) × (self.new.last_type ≡ self.old.last_type) × (self.new.instances ≡ self.old.instances) × RootGrows (W.world self.old.world.now) self.old.items self.new.items × (self.new.interface ≡ self.old.interface) }
         ensures cause { IfErr result (IsCause is_full self.new.items.defs) }
     {
         let _ = (index, name);
@@ -205,10 +216,10 @@ impl<'a, W: HasWorld> ValtypeEncoder for RootScope<'a, W> {
     fn export_resource(&mut self, name: ExternName) -> Result<u32, BuildFault>
         ensures same { self.new ≡ self.old }
         ensures names { IfOk result (λ index. any_index name.name index) }
-        ensures makes { Makes (scope_of self.old.items.defs) (scope_of self.new.items.defs) result (OfValues (ResourceAt ((root_setting (W.world self.old.world.now) self.old.last_type).resource name.name))) }
-        ensures setting { root_setting (W.world self.new.world.now) self.new.last_type ≡ root_setting (W.world self.old.world.now) self.old.last_type }
+        ensures makes { Makes (scope_of self.old.items.defs) (scope_of self.new.items.defs) result (OfValues (ResourceAt ((root_setting (W.world self.old.world.now) self.old.interface self.old.last_type).resource name.name))) }
+        ensures setting { root_setting (W.world self.new.world.now) self.new.interface self.new.last_type ≡ root_setting (W.world self.old.world.now) self.old.interface self.old.last_type }
         ensures maps { self.new.maps ≡ self.old.maps }
-        ensures follows { (self.new.world ≡ self.old.world) × (self.new.last_type ≡ self.old.last_type) × (self.new.instances ≡ self.old.instances) × RootGrows (W.world self.old.world.now) self.old.items self.new.items }
+        ensures follows { (self.new.world ≡ self.old.world) × (self.new.last_type ≡ self.old.last_type) × (self.new.instances ≡ self.old.instances) × RootGrows (W.world self.old.world.now) self.old.items self.new.items × (self.new.interface ≡ self.old.interface) }
         ensures cause { IfErr result (IsCause is_full self.new.items.defs) }
     {
         let _ = name;
@@ -219,10 +230,10 @@ impl<'a, W: HasWorld> ValtypeEncoder for RootScope<'a, W> {
     fn import_type(&mut self, interface: InterfaceId, id: TypeId) -> Result<u32, BuildFault>
         requires may { is_one_of (needed_types (W.world self.old.world.now) interface) id.index ≡ true }
         requires offers { AreInstancesKnown (W.world self.old.world.now) self.old.items.defs self.old.instances }
-        ensures makes { Makes (scope_of self.old.items.defs) (scope_of self.new.items.defs) result (OfValues (tree_in (root_setting (W.world self.old.world.now) self.old.last_type) (Some (Id id)))) }
-        ensures setting { root_setting (W.world self.new.world.now) self.new.last_type ≡ root_setting (W.world self.old.world.now) self.old.last_type }
+        ensures makes { Makes (scope_of self.old.items.defs) (scope_of self.new.items.defs) result (OfValues (tree_in (root_setting (W.world self.old.world.now) self.old.interface self.old.last_type) (Some (Id id)))) }
+        ensures setting { root_setting (W.world self.new.world.now) self.new.interface self.new.last_type ≡ root_setting (W.world self.old.world.now) self.old.interface self.old.last_type }
         ensures maps { self.new.maps ≡ self.old.maps }
-        ensures follows { (self.new.world ≡ self.old.world) × (self.new.last_type ≡ self.old.last_type) × (self.new.instances ≡ self.old.instances) × RootGrows (W.world self.old.world.now) self.old.items self.new.items }
+        ensures follows { (self.new.world ≡ self.old.world) × (self.new.last_type ≡ self.old.last_type) × (self.new.instances ≡ self.old.instances) × RootGrows (W.world self.old.world.now) self.old.items self.new.items × (self.new.interface ≡ self.old.interface) }
         ensures cause { IfErr result (IsCause is_full self.new.items.defs) }
     {
         self.alias_type(interface, id)
@@ -233,6 +244,6 @@ impl<'a, W: HasWorld> ValtypeEncoder for RootScope<'a, W> {
     }
 
     fn interface(&self) -> Option<InterfaceId> {
-        None
+        self.interface
     }
 }

@@ -87,6 +87,7 @@ impl RootScope<'_, ComponentWorld> {
         ensures grows { Grows self.old.world.now self.old.items.defs self.new.items.defs [] }
         ensures tables { AreTablesRight self.old.world.now self.new.last_type self.new.instances self.new.items.defs self.new.maps }
     {
+        self.interface = None;
         record_type_index(self, id, index)?;
         self.last_type = Some(id);
         Ok(())
@@ -110,6 +111,7 @@ impl RootScope<'_, ComponentWorld> {
     {
         let world = self.world;
         let alloc = self.items.allocator();
+        self.interface = None;
         let index = encode_definition(alloc, self, &world.resolve, id)?;
         let index = self.items.import_type(name, index)?;
         self.record_world_type(id, index)?;

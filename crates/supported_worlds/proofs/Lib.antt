@@ -1,3 +1,4 @@
+mod AtHome
 mod Encodable
 mod ExportNames
 mod Fresh
@@ -8,7 +9,6 @@ mod Lists
 mod Order
 mod Reporting
 mod Testing
-mod Titled
 mod TypePlaces
 mod Valid
 mod Walking

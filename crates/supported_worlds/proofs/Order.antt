@@ -1,5 +1,5 @@
 -- What the tests of a world's order say of it.
-use Rattle.std.proofs.Common.{arith, ◌≡◌, ◌<◌, ◌≤◌, ◌==◌, nat_le, ℕ, zero, suc, Bool, true, false, not, ◌&&◌, List, [], ◌∷◌, length, map, get_or, Option, Some, None, is_none, is_some, refl, sym, ap, subst, ◌∙◌, true≢false}
+use Rattle.std.proofs.Common.{arith, ◌≡◌, ◌<◌, ◌≤◌, ◌==◌, nat_le, ℕ, zero, suc, Bool, true, false, ◌&&◌, List, [], ◌∷◌, length, map, get_or, Option, Some, None, is_none, is_some, refl, sym, ap, subst, true≢false}
 use Rattle.std.specs.Prelude.{IsSome, codes, slice_get}
 use Rattle.std.specs.List.{AllByRecursion, list_all}
 use Rattle.std.specs.Option.{option_and_then, option_map_or}
@@ -28,11 +28,10 @@ use Rattle.comp_roles.specs.declared.imports.Import.{Import}
 use Rattle.comp_roles.specs.declared.imports.Import.TheVariants as imports
 use Rattle.world_values.specs.Items.{functions_of}
 use Rattle.world_values.specs.Mentions.{interface_types}
-use Rattle.comp_worlds.specs.Encodable.{Entries, place_in, place, IsListedType, IsTypePlaced, IsFunctionPlaced, IsOwnType, IsInterfacePlaced, IsItemPlaced, IsExportPlaced, IsRolePlaced, reaches_title}
+use Rattle.comp_worlds.specs.Encodable.{Entries, place_in, place, IsListedType, IsTypePlaced, IsFunctionPlaced, IsOwnType, IsInterfacePlaced, IsItemPlaced, IsExportPlaced, IsRolePlaced, stays_in}
 use Rattle.comp_worlds.specs.WorldContents.{interface_of_owner, interface_at, name_at}
 use Rattle.supported_worlds.specs.LeftOut.{unless, import_left_out}
-use Rattle.supported_worlds.specs.Placed.{places_of, place_at, is_by, is_named_as, is_listed_as, is_listed_in, is_type_placed, are_types_placed, is_function_placed, is_owned, is_own_type, ascend_from, is_interface_placed, is_item_placed, are_imports_placed, is_export_placed, are_exports_placed, is_world_placed, is_resource, is_droppable}
-use Rattle.supported_worlds.specs.Titles.{titles_of, title_at, is_plain}
+use Rattle.supported_worlds.specs.Placed.{places_of, place_at, is_by, is_named_as, is_listed_as, is_listed_in, is_type_placed, are_types_placed, is_function_placed, is_owned, is_own_type, ascend_from, lists_own_types, is_interface_placed, is_item_placed, are_imports_placed, is_export_placed, are_exports_placed, is_world_placed, is_resource, is_droppable}
 use Rattle.supported_worlds.proofs.InPlace.{both, ascending}
 use Rattle.supported_worlds.proofs.Lists.{nothing}
 
@@ -128,12 +127,12 @@ module _ (r : Resolve) (es : Entries) where
   interface_placed : (id : InterfaceId) → is_interface_placed r (places_of r.types es) (place_in es id) id ≡ true → IsInterfacePlaced r es id
   interface_placed id h =
       let last = place_in es id in
-      let b = both (list_all (is_own_type r.types id) (named_types r id)) (ascend_from 0 (map (λ t. t.1.index) (named_types r id)) && list_all (λ f. is_function_placed (places_of r.types es) last f.1) (functions_of r id)) h in
-      let c = both (ascend_from 0 (map (λ t. t.1.index) (named_types r id))) (list_all (λ f. is_function_placed (places_of r.types es) last f.1) (functions_of r id)) b.1 in
+      let b = both (lists_own_types r id) (list_all (λ f. is_function_placed (places_of r.types es) last f.1) (functions_of r id)) h in
+      let c = both (list_all (is_own_type r.types id) (named_types r id)) (ascend_from 0 (map (λ t. t.1.index) (named_types r id))) b.0 in
       record {
-        own = all_pass (is_own_type r.types id) (own_type id) (named_types r id) b.0;
-        ordered = ascending 0 (map (λ t. t.1.index) (named_types r id)) c.0;
-        functions = all_pass (λ f. is_function_placed (places_of r.types es) last f.1) (λ f passed. function_placed last f.1 passed) (functions_of r id) c.1;
+        own = all_pass (is_own_type r.types id) (own_type id) (named_types r id) c.0;
+        ordered = ascending 0 (map (λ t. t.1.index) (named_types r id)) c.1;
+        functions = all_pass (λ f. is_function_placed (places_of r.types es) last f.1) (λ f passed. function_placed last f.1 passed) (functions_of r id) b.1;
       }
 
   item_placed : (item : WorldItem) → is_item_placed r (places_of r.types es) (place_in es) (length es) item ≡ true → IsItemPlaced r es item
@@ -156,20 +155,15 @@ module _ (r : Resolve) (es : Entries) where
 
   -- ---- exports
 
-  plain_part : (part : Option Ty) → title_at (titles_of r.types) part ≡ reaches_title r.types part
-  plain_part None = refl
-  plain_part (Some (Primitive p)) = refl
-  plain_part (Some (Id id)) = refl
-
-  plain : (t : Ty) → is_plain (titles_of r.types) t ≡ true → reaches_title r.types (Some t) ≡ false
-  plain t h = sym (plain_part (Some t)) ∙ denied (title_at (titles_of r.types) (Some t)) h
-    where
-      denied : (b : Bool) → not b ≡ true → b ≡ false
-      denied true h = absurd (true≢false (sym h))
-      denied false h = refl
-
-  export_placed : (item : WorldItem) → is_export_placed r (places_of r.types es) (titles_of r.types) (place_in es) (length es) item ≡ true → IsExportPlaced r es item
-  export_placed (items.Interface id) h = all_pass (is_plain (titles_of r.types)) plain (interface_types r id) h
+  export_placed : (item : WorldItem) → is_export_placed r (places_of r.types es) (place_in es) (length es) item ≡ true → IsExportPlaced r es item
+  export_placed (items.Interface id) h =
+      let b = both (lists_own_types r id) (list_all (λ t. stays_in r.types id (Some t)) (interface_types r id)) h in
+      let c = both (list_all (is_own_type r.types id) (named_types r id)) (ascend_from 0 (map (λ t. t.1.index) (named_types r id))) b.0 in
+      record {
+        own = all_pass (is_own_type r.types id) (own_type id) (named_types r id) c.0;
+        ordered = ascending 0 (map (λ t. t.1.index) (named_types r id)) c.1;
+        closed = all_pass (λ t. stays_in r.types id (Some t)) (λ t passed. passed) (interface_types r id) b.1;
+      }
   export_placed (items.Function f) h = item_placed (items.Function f) h
   export_placed (items.NamedType id) h = item_placed (items.NamedType id) h
 
@@ -198,8 +192,8 @@ ordered r w h =
     let places = places_of r.types w.imports in
     let root = length w.imports in
     let placed = λ (e : WorldKey × WorldItem). is_item_placed r places (place_in w.imports) root e.1 in
-    let exported = λ (e : WorldKey × WorldItem). is_export_placed r places (titles_of r.types) (place_in w.imports) root e.1 in
-    let b = both (are_imports_placed r places (place_in w.imports) root w) (are_exports_placed r places (titles_of r.types) (place_in w.imports) root w) h in
+    let exported = λ (e : WorldKey × WorldItem). is_export_placed r places (place_in w.imports) root e.1 in
+    let b = both (are_imports_placed r places (place_in w.imports) root w) (are_exports_placed r places (place_in w.imports) root w) h in
     let c = both (are_types_placed r places (length r.types)) (list_all placed w.imports) b.0 in
     record {
       types = λ n l. type_placed r w.imports n (one_of_first r w.imports (length r.types) n c.0 l);

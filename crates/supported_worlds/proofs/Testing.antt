@@ -20,7 +20,6 @@ use Rattle.wit_data.proofs.Values.{all_at}
 use Rattle.comp_worlds.specs.Encodable.{Entries, place_in}
 use Rattle.comp_worlds.specs.WorldContents.{interface_of_owner, interface_at, name_at}
 use Rattle.supported_worlds.specs.Placed.{places_of, is_by, is_type_placed, are_types_placed, is_interface_placed, is_item_placed, are_imports_placed, is_export_placed, are_exports_placed, is_world_placed}
-use Rattle.supported_worlds.specs.Titles.{titles_of}
 use Rattle.supported_worlds.specs.PlaceTables.{place_by, ArePlaces}
 use Rattle.supported_worlds.specs.declared.places.Places.{Places}
 
@@ -105,13 +104,13 @@ module _ (r : Resolve) (es : Entries) (t : Places) (h : ArePlaces r.types es t) 
   same_items [] = refl
   same_items (e ∷ all) = ap₂ (λ a b. a && b) (same_item e.1) (same_items all)
 
-  same_export : (item : WorldItem) → is_export_placed r t.types (titles_of r.types) (place_by t.interfaces) t.interfaces.root item ≡ is_export_placed r (places_of r.types es) (titles_of r.types) (place_in es) (length es) item
+  same_export : (item : WorldItem) → is_export_placed r t.types (place_by t.interfaces) t.interfaces.root item ≡ is_export_placed r (places_of r.types es) (place_in es) (length es) item
   same_export (items.Interface id) = refl
   same_export (items.Function f) = same_item (items.Function f)
   same_export (items.NamedType id) = refl
 
-  same_exports : (all : Entries) → list_all (λ e. is_export_placed r t.types (titles_of r.types) (place_by t.interfaces) t.interfaces.root e.1) all
-      ≡ list_all (λ e. is_export_placed r (places_of r.types es) (titles_of r.types) (place_in es) (length es) e.1) all
+  same_exports : (all : Entries) → list_all (λ e. is_export_placed r t.types (place_by t.interfaces) t.interfaces.root e.1) all
+      ≡ list_all (λ e. is_export_placed r (places_of r.types es) (place_in es) (length es) e.1) all
   same_exports [] = refl
   same_exports (e ∷ all) = ap₂ (λ a b. a && b) (same_export e.1) (same_exports all)
 
@@ -120,10 +119,10 @@ module _ (r : Resolve) (w : World) (t : Places) (imports : Bool) (h : ArePlaces 
   imports_are = is ∙ ap₂ (λ a b. a && b) (ap (λ (places : List ℕ). are_types_placed r places (length r.types)) h.types) (same_items r w.imports t h w.imports)
 
   pub imports_fail : imports ≡ false → false ≡ is_world_placed r w
-  imports_fail fails = ap (λ b. b && are_exports_placed r (places_of r.types w.imports) (titles_of r.types) (place_in w.imports) (length w.imports) w) (sym fails ∙ imports_are)
+  imports_fail fails = ap (λ b. b && are_exports_placed r (places_of r.types w.imports) (place_in w.imports) (length w.imports) w) (sym fails ∙ imports_are)
 
-  pub exports_decide : (exports : Bool) → imports ≡ true → exports ≡ are_exports_placed r t.types (titles_of r.types) (place_by t.interfaces) t.interfaces.root w → exports ≡ is_world_placed r w
+  pub exports_decide : (exports : Bool) → imports ≡ true → exports ≡ are_exports_placed r t.types (place_by t.interfaces) t.interfaces.root w → exports ≡ is_world_placed r w
   exports_decide exports passes decides =
       decides
       ∙ same_exports r w.imports t h w.exports
-      ∙ ap (λ b. b && are_exports_placed r (places_of r.types w.imports) (titles_of r.types) (place_in w.imports) (length w.imports) w) (sym passes ∙ imports_are)
+      ∙ ap (λ b. b && are_exports_placed r (places_of r.types w.imports) (place_in w.imports) (length w.imports) w) (sym passes ∙ imports_are)

@@ -293,14 +293,37 @@ list_is_exported : order_left_out (resolve_of (unnamed (kinds.«List» (Primitiv
 unfolding values_from
 list_is_exported = refl
 
--- neither of a type of its own, nor of one that is made of such a type
-exported_type_is_reported : order_left_out (resolve_of (an_interface_type ∷ []) (interface_of ((codes "t", a_type) ∷ []) plain ∷ [])) (exporting (keys.Name (codes "i")) an_interface) ≡ Some (codes "interface")
+-- of types of its own, and of types without names that are made of these
+own_type_is_exported : order_left_out (resolve_of (an_interface_type ∷ []) (interface_of ((codes "t", a_type) ∷ []) plain ∷ [])) (exporting (keys.Name (codes "i")) an_interface) ≡ None
 unfolding values_from
-exported_type_is_reported = refl
+own_type_is_exported = refl
+
+list_of_own_types_is_exported : order_left_out (resolve_of (an_interface_type ∷ unnamed (kinds.«List» (Id a_type)) ∷ []) (interface_of ((codes "t", a_type) ∷ []) (function Freestanding (Id another_type ∷ []) None) ∷ [])) (exporting (keys.Name (codes "i")) an_interface) ≡ None
+unfolding values_from
+list_of_own_types_is_exported = refl
+
+-- not of a resource of its own, of a named type of the world, or of a type that is made of one
+exported_resource_is_reported : order_left_out (resolve_of (of_first (codes "r") kinds.Resource ∷ []) (interface_of ((codes "r", a_type) ∷ []) plain ∷ [])) (exporting (keys.Name (codes "i")) an_interface) ≡ Some (codes "interface")
+unfolding values_from
+exported_resource_is_reported = refl
 
 list_of_names_is_reported : order_left_out (resolve_of (of_world (kinds.Stream None) ∷ unnamed (kinds.«List» (Id a_type)) ∷ []) (interface_of [] (function Freestanding (Id another_type ∷ []) None) ∷ [])) (exporting (keys.Name (codes "i")) an_interface) ≡ Some (codes "interface")
 unfolding values_from
 list_of_names_is_reported = refl
+
+-- nor of a type that is made of one of another interface, which the world imports
+used_type_is_reported : order_left_out
+    (resolve_of (of_second (codes "s") (kinds.Stream None) ∷ of_first (codes "t") (kinds.«List» (Id a_type)) ∷ []) (interface_of ((codes "t", another_type) ∷ []) plain ∷ record { id = None; types = (codes "s", a_type) ∷ []; functions = [] } ∷ []))
+    (record { imports = (importing_interfaces (another_interface ∷ [])).imports; exports = (exporting (keys.Name (codes "i")) an_interface).exports }) ≡ Some (codes "interface")
+unfolding values_from
+used_type_is_reported = refl
+
+-- nor are its types listed in another order
+own_types_in_another_order_are_reported : order_left_out
+    (resolve_of (of_first (codes "t") (kinds.Stream None) ∷ of_first (codes "u") (kinds.Stream None) ∷ []) (interface_of ((codes "u", another_type) ∷ (codes "t", a_type) ∷ []) plain ∷ []))
+    (exporting (keys.Name (codes "i")) an_interface) ≡ Some (codes "interface")
+unfolding values_from
+own_types_in_another_order_are_reported = refl
 
 -- an interface that is imported under two names
 twice_imported_is_reported : twice_left_out (record { imports = (keys.Interface an_interface, items.Interface an_interface) ∷ (keys.Name (codes "i"), items.Interface an_interface) ∷ []; exports = [] }) ≡ Some (codes "interface")

@@ -27,8 +27,8 @@ pub data IsLeftOut (p : WorldParts) : Refusal → Type 0 where
   imported : (entry : WorldKey × WorldItem) (what : List ℕ) → Contains (items_of p).imports entry → import_item_left_out p.resolve entry ≡ Some what → IsLeftOut p (refusals.LeftOut what)
   exported : (entry : WorldKey × WorldItem) (what : List ℕ) → Contains (items_of p).exports entry → export_item_left_out p.resolve entry ≡ Some what → IsLeftOut p (refusals.LeftOut what)
   -- the imports, where an interface is among them twice; the exported interfaces, where one has no name or that of another; the
-  -- items, where something is made of types of a later place, or an exported interface of types with names; and the imports, where
-  -- their types are out of order or lack a resource of the root
+  -- items, where something is made of types of a later place, or an exported interface of types that are not at home there; and the
+  -- imports, where their types are out of order or lack a resource of the root
   twice : (what : List ℕ) → twice_left_out (items_of p) ≡ Some what → IsLeftOut p (refusals.LeftOut what)
   names : (AreExportsNamed p.resolve (items_of p).exports → ⊥) → IsLeftOut p (refusals.LeftOut (codes "interface"))
   order : (what : List ℕ) → order_left_out p.resolve (items_of p) ≡ Some what → IsLeftOut p (refusals.LeftOut what)

@@ -1,6 +1,6 @@
 pub mod Kinds
 pub mod Distinct
-pub mod Titles
+pub mod Homes
 pub mod Placed
 pub mod Naming
 pub mod LeftOut

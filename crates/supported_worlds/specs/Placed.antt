@@ -1,5 +1,6 @@
 -- Whether a world imports interfaces and types in an order in which each type comes after those of which it is made, and
--- exports interfaces of types without names alone (component model, WIT: types, resources, interfaces, `use`).
+-- exports interfaces of their own types and of types without names alone (component model, WIT: types, resources, interfaces,
+-- `use`).
 use Rattle.std.specs.Prelude.{ℕ, zero, suc, Bool, true, false, ◌==◌, nat_le, not, ◌&&◌, ◌||◌, List, [], ◌∷◌, length, map, drop, get_or, slice_get, Option, Some, None, is_some, is_none}
 use Rattle.std.specs.List.{list_all, list_any, flat_map}
 use Rattle.std.specs.Option.{option_map_or}
@@ -22,9 +23,8 @@ use Rattle.wit_data.specs.Parts.{parts}
 use Rattle.wit_data.specs.Values.{kind_at, values}
 use Rattle.world_values.specs.Items.{functions_of}
 use Rattle.world_values.specs.Mentions.{interface_types}
-use Rattle.comp_worlds.specs.Encodable.{Entries, place_in, placing, is_resource_kind}
+use Rattle.comp_worlds.specs.Encodable.{Entries, place_in, placing, is_resource_kind, stays_in}
 use Rattle.comp_worlds.specs.WorldContents.{world_type, interface_of_owner, interface_at, name_at}
-use Rattle.supported_worlds.specs.Titles.{titles_of, is_plain}
 
 -- ---- places
 
@@ -87,11 +87,17 @@ abbrev pub ascend_from : ℕ → List ℕ → Bool
 ascend_from k [] = true
 ascend_from k (n ∷ ns) = nat_le k n && ascend_from (suc n) ns
 
--- whether an interface of this place lists types of its own, in the order of the resolve, and its functions are made of types
--- of its place or of an earlier one
+-- whether an interface lists types of its own, in the order of the resolve
+abbrev pub lists_own_types : Resolve → InterfaceId → Bool
+lists_own_types r id = list_all (is_own_type r.types id) (named_types r id) && ascend_from 0 (map (λ t. t.1.index) (named_types r id))
+
+-- whether one of this place does, and its functions are made of types of its place or of an earlier one
 abbrev pub is_interface_placed : Resolve → List ℕ → ℕ → InterfaceId → Bool
-is_interface_placed r places last id =
-    list_all (is_own_type r.types id) (named_types r id) && (ascend_from 0 (map (λ t. t.1.index) (named_types r id)) && list_all (λ f. is_function_placed places last f.1) (functions_of r id))
+is_interface_placed r places last id = lists_own_types r id && list_all (λ f. is_function_placed places last f.1) (functions_of r id)
+
+-- whether an exported one does, and what it names stays in it
+abbrev pub is_exported_placed : Resolve → InterfaceId → Bool
+is_exported_placed r id = lists_own_types r id && list_all (λ t. stays_in r.types id (Some t)) (interface_types r id)
 
 -- whether a type has a name, and belongs to no interface
 abbrev pub is_root_type : List TypeDef → ℕ → Bool
@@ -104,24 +110,23 @@ is_item_placed r places of_interface root (items.Interface id) = is_interface_pl
 is_item_placed r places of_interface root (items.Function f) = is_function_placed places root f
 is_item_placed r places of_interface root (items.NamedType id) = is_root_type r.types id.index
 
--- whether an export is an interface that names no type with a title, or made of one, or else is like an import; by the table of
--- titles, and by places
-abbrev pub is_export_placed : Resolve → List ℕ → List Bool → (InterfaceId → ℕ) → ℕ → WorldItem → Bool
-is_export_placed r places titles of_interface root (items.Interface id) = list_all (is_plain titles) (interface_types r id)
-is_export_placed r places titles of_interface root item = is_item_placed r places of_interface root item
+-- whether an export is an interface of its own types, or else is like an import; by places
+abbrev pub is_export_placed : Resolve → List ℕ → (InterfaceId → ℕ) → ℕ → WorldItem → Bool
+is_export_placed r places of_interface root (items.Interface id) = is_exported_placed r id
+is_export_placed r places of_interface root item = is_item_placed r places of_interface root item
 
 -- whether all types are placed, and all imports
 abbrev pub are_imports_placed : Resolve → List ℕ → (InterfaceId → ℕ) → ℕ → World → Bool
 are_imports_placed r places of_interface root w = are_types_placed r places (length r.types) && list_all (λ e. is_item_placed r places of_interface root e.1) w.imports
 
 -- whether all exports are placed
-abbrev pub are_exports_placed : Resolve → List ℕ → List Bool → (InterfaceId → ℕ) → ℕ → World → Bool
-are_exports_placed r places titles of_interface root w = list_all (λ e. is_export_placed r places titles of_interface root e.1) w.exports
+abbrev pub are_exports_placed : Resolve → List ℕ → (InterfaceId → ℕ) → ℕ → World → Bool
+are_exports_placed r places of_interface root w = list_all (λ e. is_export_placed r places of_interface root e.1) w.exports
 
 abbrev pub is_world_placed : Resolve → World → Bool
 is_world_placed r w =
     are_imports_placed r (places_of r.types w.imports) (place_in w.imports) (length w.imports) w
-    && are_exports_placed r (places_of r.types w.imports) (titles_of r.types) (place_in w.imports) (length w.imports) w
+    && are_exports_placed r (places_of r.types w.imports) (place_in w.imports) (length w.imports) w
 
 -- ---- resources
 

@@ -1,5 +1,5 @@
 //! Whether what a world imports is made of types that come before it, and lists types of its own; and whether the
-//! interfaces that it exports are made of types without names alone.
+//! interfaces that it exports are made of their own types and of types without names alone.
 
 ghost use Rattle.std.specs.Prelude.{◌≡◌, ◌<◌, ◌==◌, false, length, map, Some, IfSome, IfOk};
 ghost use Rattle.std.specs.List.{AllByRecursion, list_all};
@@ -9,14 +9,15 @@ ghost use Rattle.wit_data.specs.Parts.{parts, RefersBack};
 ghost use Rattle.wit_data.specs.Sound.{IsSound, HasInterface, HasItem, HasEntry, HasTypeId, HasWorld};
 ghost use Rattle.wit_data.specs.Values.{kind_at};
 ghost use Rattle.world_values.specs.Mentions.{interface_types};
+ghost use Rattle.comp_worlds.specs.Encodable.{stays_in};
 ghost use Rattle.comp_worlds.specs.WorldContents.{interface_of_owner, interface_at, name_at};
+ghost use Rattle.supported_worlds.specs.Homes.{AreHomes};
 ghost use Rattle.supported_worlds.specs.LeftOut.{order_left_out};
-ghost use Rattle.supported_worlds.specs.Placed.{is_by, is_named_as, is_listed_as, is_listed_in, is_type_placed, are_types_placed, is_function_placed, is_own_type, ascend_from, is_interface_placed, is_root_type, is_item_placed, are_imports_placed, is_export_placed, are_exports_placed, is_world_placed};
+ghost use Rattle.supported_worlds.specs.Placed.{is_by, is_named_as, is_listed_as, is_listed_in, is_type_placed, are_types_placed, is_function_placed, is_own_type, ascend_from, lists_own_types, is_interface_placed, is_exported_placed, is_root_type, is_item_placed, are_imports_placed, is_export_placed, are_exports_placed, is_world_placed};
 ghost use Rattle.supported_worlds.specs.PlaceTables.{ArePlaces, place_by};
-ghost use Rattle.supported_worlds.specs.Titles.{titles_of, is_plain};
 
+use crate::homes::{Home, are_at_home, type_homes};
 use crate::places::{Places, place_at, place_of_interface};
-use crate::titles::{are_plain, type_titles};
 use comp_lists::{Keyed, Text};
 use std::alloc::{AllocError, Global};
 use wit_data::{
@@ -235,18 +236,25 @@ fn ascend(types: &[TypeDef], listed: &Keyed<Text, TypeId>) -> bool
     true
 }
 
-/// Whether an interface of this place lists types of its own, in the order of the resolve, and its functions are made of
-/// types of its place or of an earlier one.
+/// Whether an interface lists types of its own, in the order of the resolve.
+fn lists_own_types(resolve: &Resolve, id: InterfaceId) -> bool
+    requires sound { IsSound resolve.now }
+    requires present { HasInterface resolve.now id }
+    ensures { result ≡ lists_own_types resolve.now id }
+{
+    let listed = &interface_of(resolve, id).types;
+    let types = resolve.types.as_slice();
+    are_own_types(types, id, listed) && ascend(types, listed)
+}
+
+/// Whether one of this place does, and its functions are made of types of its place or of an earlier one.
 fn is_interface_placed(resolve: &Resolve, places: &[usize], last: usize, id: InterfaceId) -> bool
     requires sound { IsSound resolve.now }
     requires present { HasInterface resolve.now id }
     ensures { result ≡ is_interface_placed resolve.now places.now last id }
 {
-    let interface = interface_of(resolve, id);
-    let types = resolve.types.as_slice();
-    are_own_types(types, id, &interface.types)
-        && ascend(types, &interface.types)
-        && are_functions_placed(places, last, &interface.functions)
+    lists_own_types(resolve, id)
+        && are_functions_placed(places, last, &interface_of(resolve, id).functions)
 }
 
 /// Whether a type has a name, and belongs to no interface.
@@ -302,54 +310,76 @@ fn are_imports_placed(resolve: &Resolve, places: &Places, world: &World) -> bool
 
 // ---- exports
 
-/// Whether no type that an interface names has a title, or is made of one that has.
-fn is_plain_interface(
+/// Whether all types that an interface names stay in it.
+fn is_closed(
     alloc: Global,
     resolve: &Resolve,
-    titles: &[bool],
+    homes: &[Home],
     id: InterfaceId,
 ) -> Result<bool, AllocError>
     requires sound { IsSound resolve.now }
     requires present { HasInterface resolve.now id }
-    ensures { IfOk result (λ plain. plain ≡ list_all (is_plain titles.now) (interface_types resolve.now id)) }
+    requires homes { AreHomes resolve.now.types homes.now }
+    ensures { IfOk result (λ closed. closed ≡ list_all (λ t. stays_in resolve.now.types id (Some t)) (interface_types resolve.now id)) }
 {
     let named = interface_types(alloc, resolve, id)?;
-    let plain = are_plain(titles, named.as_slice());
-    Ok(plain)
+    let closed = are_at_home(homes, id, named.as_slice());
+    Ok(closed)
+}
+
+/// Whether an exported interface lists types of its own, in the order of the resolve, and what it names stays in it.
+fn is_exported_placed(
+    alloc: Global,
+    resolve: &Resolve,
+    homes: &[Home],
+    id: InterfaceId,
+) -> Result<bool, AllocError>
+    requires sound { IsSound resolve.now }
+    requires present { HasInterface resolve.now id }
+    requires homes { AreHomes resolve.now.types homes.now }
+    ensures { IfOk result (λ passes. passes ≡ is_exported_placed resolve.now id) }
+{
+    if !lists_own_types(resolve, id) {
+        return Ok(false);
+    }
+    let closed = is_closed(alloc, resolve, homes, id)?;
+    Ok(closed)
 }
 
 fn is_export_placed(
     alloc: Global,
     resolve: &Resolve,
     places: &Places,
-    titles: &[bool],
+    homes: &[Home],
     item: &WorldItem,
 ) -> Result<bool, AllocError>
     requires sound { IsSound resolve.now }
     requires present { HasItem resolve.now item.now }
-    ensures { IfOk result (λ passes. passes ≡ is_export_placed resolve.now places.now.types titles.now (place_by places.now.interfaces) places.now.interfaces.root item.now) }
+    requires homes { AreHomes resolve.now.types homes.now }
+    ensures { IfOk result (λ passes. passes ≡ is_export_placed resolve.now places.now.types (place_by places.now.interfaces) places.now.interfaces.root item.now) }
 {
     match item {
-        WorldItem::Interface(id) => is_plain_interface(alloc, resolve, titles, *id),
+        WorldItem::Interface(id) => is_exported_placed(alloc, resolve, homes, *id),
         WorldItem::Function(_) => Ok(is_item_placed(resolve, places, item)),
         WorldItem::NamedType(_) => Ok(is_item_placed(resolve, places, item)),
     }
 }
 
-/// Whether all exports are placed, by the table of titles.
+/// Whether all exports are placed, by the homes of types.
 fn all_exports_placed(
     alloc: Global,
     resolve: &Resolve,
     places: &Places,
-    titles: &[bool],
+    homes: &[Home],
     items: &Keyed<WorldKey, WorldItem>,
 ) -> Result<bool, AllocError>
     requires sound { IsSound resolve.now }
     requires all_present { AllByRecursion (HasEntry resolve.now) items.now }
-    ensures { IfOk result (λ passes. passes ≡ list_all (λ e. is_export_placed resolve.now places.now.types titles.now (place_by places.now.interfaces) places.now.interfaces.root e.1) items.now) }
+    requires homes { AreHomes resolve.now.types homes.now }
+    ensures { IfOk result (λ passes. passes ≡ list_all (λ e. is_export_placed resolve.now places.now.types (place_by places.now.interfaces) places.now.interfaces.root e.1) items.now) }
 {
     for (_, item) in items.iter() {
-        if !is_export_placed(alloc, resolve, places, titles, item)? {
+        if !is_export_placed(alloc, resolve, places, homes, item)? {
             return Ok(false);
         }
     }
@@ -365,17 +395,17 @@ fn are_exports_placed(
 ) -> Result<bool, AllocError>
     requires sound { IsSound resolve.now }
     requires present { HasWorld resolve.now world.now }
-    ensures { IfOk result (λ passes. passes ≡ are_exports_placed resolve.now places.now.types (titles_of resolve.now.types) (place_by places.now.interfaces) places.now.interfaces.root world.now) }
+    ensures { IfOk result (λ passes. passes ≡ are_exports_placed resolve.now places.now.types (place_by places.now.interfaces) places.now.interfaces.root world.now) }
 {
-    let titles = type_titles(alloc, resolve.types.as_slice())?;
-    let placed = all_exports_placed(alloc, resolve, places, titles.as_slice(), &world.exports)?;
+    let homes = type_homes(alloc, resolve.types.as_slice())?;
+    let placed = all_exports_placed(alloc, resolve, places, homes.as_slice(), &world.exports)?;
     Ok(placed)
 }
 
 // ---- the world
 
-/// Whether what a world imports and exports is made of types of no later place, and no interface that it exports of types
-/// with titles.
+/// Whether what a world imports and exports is made of types of no later place, and each interface that it exports of types
+/// that stay in it.
 #[tactic(auto, using(crate::proofs::Testing::imports_fail, crate::proofs::Testing::exports_decide))]
 fn is_world_placed(
     alloc: Global,

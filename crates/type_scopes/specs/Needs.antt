@@ -1,6 +1,6 @@
 -- What the instance type of an interface needs to be at hand: the types of which its types and functions are made (component
 -- model, WIT: interfaces, `use`, resources).
-use Rattle.std.specs.Prelude.{ℕ, ◌≡◌, ◌<◌, ◌&&◌, Bool, true, false, not, List, length, Option, Some, None, is_none}
+use Rattle.std.specs.Prelude.{ℕ, ◌≡◌, ◌<◌, ◌&&◌, ◌||◌, Bool, true, false, not, List, length, Option, Some, None, is_none, is_some}
 use Rattle.std.specs.List.{AllByRecursion, list_all}
 use Rattle.wit_data.specs.declared.ids.TypeId.{TypeId}
 use Rattle.wit_data.specs.declared.ids.InterfaceId.{InterfaceId}
@@ -59,3 +59,8 @@ function_passes test types f = list_all (λ p. value (each_passes test) types (S
 -- a type that has no name, that no interface owns and that is no resource
 abbrev pub is_unnamed : List TypeDef → ℕ → TypeDefKind → Bool
 is_unnamed types n kind = is_none (name_at types n) && (is_none (foreign None (owner_at types n)) && not (is_resource kind))
+
+-- a type that is no resource, and that this interface owns, or that has no name and no interface
+abbrev pub is_at_home : List TypeDef → InterfaceId → ℕ → TypeDefKind → Bool
+is_at_home types here n kind =
+    not (is_resource kind) && (is_none (foreign (Some here) (owner_at types n)) && (is_none (name_at types n) || is_some (foreign None (owner_at types n))))

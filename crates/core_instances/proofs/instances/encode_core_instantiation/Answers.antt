@@ -4,61 +4,109 @@ use Rattle.comp_roles.specs.Reallocs.{is_import_realloc, realloc_for}
 use Rattle.core_options.specs.MainOptions.{memory_name}
 use Rattle.std.specs.List.{AllByRecursion}
 use Rattle.comp_items.specs.Items.{Extends}
-use Rattle.comp_items.proofs.Extending.{extends_then}
+use Rattle.comp_items.proofs.Extending.{extends_none}
 use Rattle.comp_items.proofs.Kept.{instance-kept}
 use Rattle.comp_items.proofs.Remembering.{longer}
 use Rattle.comp_links.specs.Roles.{IsEncodedImport}
 use Rattle.comp_terms.specs.Rules.{Grows, InstanceOf}
 use Rattle.comp_worlds.specs.WorldContents.{core_imports}
 use Rattle.comp_worlds.specs.declared.world.ComponentWorld.{ComponentWorld}
+use Rattle.comp_worlds.specs.Encodable.{IsEncodable}
 use Rattle.main_fixup.specs.Filling.{AreFillSources, HasShimOptions}
 use Rattle.main_fixup.specs.declared.sources.FillSources.{FillSources}
-use Rattle.main_instance.specs.Sources.{AreSources}
+use Rattle.main_instance.specs.Sources.{AreSources, IsShimInstance}
 use Rattle.main_instance.specs.declared.instances.ImportSources.{ImportSources}
-use Rattle.root_imports.specs.declared.root_scope.RootScope.{RootScope}
+use Rattle.root_imports.specs.Growing.{Grows-then, longer_by}
+use Rattle.root_imports.specs.Keeping.{Root, RootKept}
+use Rattle.root_imports.specs.RootScopes.{AreTablesRight}
+use Rattle.root_imports.proofs.Keeping.{kept_none, kept_items, kept_then}
 use Rattle.world_shims.specs.WorldShims.{shims_of}
-use Rattle.core_instances.specs.Instances.{IsFirstModule, IsFixupNextIf, MayAddFixup}
-use Rattle.core_instances.proofs.Made.{sources_after, fills_after}
+use Rattle.core_instances.specs.Instances.{IsFirstModule, IsFixupNextIf, MayAddFixup, AreImportsMade}
+use Rattle.core_instances.proofs.Made.{sources_after, fills_after, made_after, shim_instance-kept, first-kept}
 use Rattle.core_instances.proofs.Needs.{all_lowered}
 use Rattle.core_instances.proofs.Ordering.{first_after, shims_after, fixup_next, all_added}
 use Rattle.core_instances.proofs.instances.encode_core_instantiation.Goals as goal
 
-abbrev Root : Type 0
-Root = RootScope ComponentWorld
+-- ---- the root after the first steps
+
+kept_shims : (old a : Root) → AreTablesRight old.world.now old.last_type old.instances old.items.defs old.maps → a ≡ record old { items = a.items } → Extends old.items a.items → RootKept old.world.now old a
+kept_shims old a tables same extends = kept_items old.world.now old old a (kept_none old.world.now old tables) same extends
+
+kept_types : (old a b : Root) → RootKept old.world.now old a → RootKept a.world.now a b → RootKept old.world.now old b
+kept_types old a b k h = kept_then old.world.now old a b k (subst (λ x. RootKept x.now a b) k.world h)
+
+-- those of the shims and of the types
+typed : (old a b : Root) → AreTablesRight old.world.now old.last_type old.instances old.items.defs old.maps → a ≡ record old { items = a.items } → Extends old.items a.items → RootKept a.world.now a b → RootKept old.world.now old b
+typed old a b tables same extends h = kept_types old a b (kept_shims old a tables same extends) h
+
+typed_grows : (old a b : Root) → a ≡ record old { items = a.items } → Grows a.world.now a.items.defs b.items.defs [] → Grows old.world.now a.items.defs b.items.defs []
+typed_grows old a b same h = subst (λ (r : Root). Grows r.world.now a.items.defs b.items.defs []) same h
+
+-- and those up to main's instance
+main_grows : (old a b d : Root) → a ≡ record old { items = a.items } → RootKept old.world.now old b → Grows a.world.now a.items.defs b.items.defs [] → Grows b.world.now b.items.defs d.items.defs (InstanceOf 0 ∷ []) →
+    Grows old.world.now a.items.defs d.items.defs (InstanceOf 0 ∷ [])
+main_grows old a b d same k types instance = Grows-then (typed_grows old a b same types) (subst (λ x. Grows x.now b.items.defs d.items.defs (InstanceOf 0 ∷ [])) k.world instance)
+
+pub returns-in_err-shim_instance-clause-kept : goal.returns-in_err-shim_instance-clause-kept
+returns-in_err-shim_instance-clause-kept c =
+    kept_shims c.args.root.now c.encode_shim_instantiation.new.root c.requires.made.tables c.in_err-shim_instance.ensures.same c.in_err-shim_instance.ensures.extends
+
+pub define_exported_types-requires : goal.define_exported_types-requires
+define_exported_types-requires c =
+    let w = c.args.root.now.world.now in
+    let a : Root = c.encode_shim_instantiation.new.root in
+    let k : RootKept w c.args.root.now a = kept_shims c.args.root.now a c.requires.made.tables c.in_ok-shim_instance.ensures.same c.in_ok-shim_instance.ensures.extends in
+    record {
+      valid = subst (λ x. IsEncodable x.now) (sym k.world) c.requires.made.valid;
+      tables = subst (λ x. AreTablesRight x.now a.last_type a.instances a.items.defs a.maps) (sym k.world) (subst (λ l. AreTablesRight w l a.instances a.items.defs a.maps) (sym k.next) k.tables);
+    }
+
+pub returns-in_err-define_exported_types-clause-kept : goal.returns-in_err-define_exported_types-clause-kept
+returns-in_err-define_exported_types-clause-kept c =
+    let w = c.args.root.now.world.now in
+    let a : Root = c.encode_shim_instantiation.new.root in
+    kept_types c.args.root.now a c.define_exported_types.new.root (kept_shims c.args.root.now a c.requires.made.tables c.in_ok-shim_instance.ensures.same c.in_ok-shim_instance.ensures.extends) c.in_err-define_exported_types.ensures.kept
 
 pub instantiate_main_module-requires-clause-sources : goal.instantiate_main_module-requires-clause-sources
 instantiate_main_module-requires-clause-sources c =
     let w = c.args.root.now.world.now in
     let old = c.args.root.now.items in
-    let new = c.encode_shim_instantiation.new.root.items in
+    let mid = c.encode_shim_instantiation.new.root.items in
+    let b : Root = c.define_exported_types.new.root in
     let e = c.in_ok-shim_instance.ensures in
-    let s : ImportSources = record { functions = c.args.functions; shims = record { ref_ptr = (c.shims-3-1.given, 0); now = c.in_ok-shims.shims }; shim_instance = c.in_ok-shim_instance.shim_instance } in
-    subst (λ (r : Root). AreSources r.world.now s r.last_type new.defs r.maps r.instances) (sym e.same)
-    (sources_after e.extends s c.requires.made c.in_ok-shims.ensures.ok (shims_after w c.args.debug_names old.defs new.defs c.in_ok-shim_instance.shim_instance e.added))
+    let k : RootKept w c.args.root.now b = typed c.args.root.now c.encode_shim_instantiation.new.root c.define_exported_types.new.root c.requires.made.tables c.in_ok-shim_instance.ensures.same c.in_ok-shim_instance.ensures.extends c.in_ok-define_exported_types.ensures.kept in
+    let o : Option ℕ = c.in_ok-shim_instance.shim_instance in
+    let there : IsShimInstance w b.items.defs o = shim_instance-kept w (longer_by (typed_grows c.args.root.now c.encode_shim_instantiation.new.root c.define_exported_types.new.root c.in_ok-shim_instance.ensures.same c.in_ok-define_exported_types.ensures.grows)) o (shims_after w c.args.debug_names old.defs mid.defs o e.added) in
+    let s : ImportSources = record { functions = c.args.functions; shims = record { ref_ptr = (c.shims-3-1.given, 0); now = c.in_ok-shims.shims }; shim_instance = o } in
+    subst (λ x. AreSources x.now s b.last_type b.items.defs b.maps b.instances) (sym k.world) (sources_after (extends_none b.items) s (made_after c.args.root.now b k c.requires.made) c.in_ok-shims.ensures.ok there)
 
 pub instantiate_main_module-requires-clause-first : goal.instantiate_main_module-requires-clause-first
 instantiate_main_module-requires-clause-first c =
     let w = c.args.root.now.world.now in
     let old = c.args.root.now.items.defs in
-    let new = c.encode_shim_instantiation.new.root.items.defs in
-    let e = c.in_ok-shim_instance.ensures in
-    subst (λ (r : Root). IsFirstModule r.world.now new) (sym e.same) (first_after w c.args.debug_names old new c.in_ok-shim_instance.shim_instance e.added c.requires.alone.first)
+    let mid = c.encode_shim_instantiation.new.root.items.defs in
+    let b : Root = c.define_exported_types.new.root in
+    let k : RootKept w c.args.root.now b = typed c.args.root.now c.encode_shim_instantiation.new.root c.define_exported_types.new.root c.requires.made.tables c.in_ok-shim_instance.ensures.same c.in_ok-shim_instance.ensures.extends c.in_ok-define_exported_types.ensures.kept in
+    subst (λ x. IsFirstModule x.now b.items.defs) (sym k.world) (first-kept (longer_by (typed_grows c.args.root.now c.encode_shim_instantiation.new.root c.define_exported_types.new.root c.in_ok-shim_instance.ensures.same c.in_ok-define_exported_types.ensures.grows)) (first_after w c.args.debug_names old mid c.in_ok-shim_instance.shim_instance c.in_ok-shim_instance.ensures.added c.requires.alone.first))
+
+pub returns-in_err-instance-clause-kept : goal.returns-in_err-instance-clause-kept
+returns-in_err-instance-clause-kept c =
+    kept_items c.args.root.now.world.now c.args.root.now c.define_exported_types.new.root c.instantiate_main_module.new.root (typed c.args.root.now c.encode_shim_instantiation.new.root c.define_exported_types.new.root c.requires.made.tables c.in_ok-shim_instance.ensures.same c.in_ok-shim_instance.ensures.extends c.in_ok-define_exported_types.ensures.kept) c.in_err-instance.ensures.same c.in_err-instance.ensures.extends
 
 pub encode_indirect_lowerings-requires-clause-sources : goal.encode_indirect_lowerings-requires-clause-sources
 encode_indirect_lowerings-requires-clause-sources c =
-    let old = c.args.root.now.items in
-    let mid = c.encode_shim_instantiation.new.root.items in
+    let w = c.args.root.now.world.now in
+    let b : Root = c.define_exported_types.new.root in
     let new = c.instantiate_main_module.new.root.items in
-    let e = c.in_ok-shim_instance.ensures in
     let f = c.in_ok-instance.ensures in
+    let k : RootKept w c.args.root.now b = typed c.args.root.now c.encode_shim_instantiation.new.root c.define_exported_types.new.root c.requires.made.tables c.in_ok-shim_instance.ensures.same c.in_ok-shim_instance.ensures.extends c.in_ok-define_exported_types.ensures.kept in
     let s : FillSources = record { functions = c.args.functions; options = record { instance = c.in_ok-instance.instance; memory = c.memory_name.result; realloc = c.import_realloc_for.result } } in
-    let all : Extends old new = extends_then old mid new e.extends f.extends in
-    let world : c.instantiate_main_module.new.root.world ≡ c.args.root.now.world = ap (λ (r : Root). r.world) f.same ∙ ap (λ (r : Root). r.world) e.same in
-    let memory : option_copied c.memory_name.result ≡ memory_name c.args.root.now.world.now = subst (λ x. option_copied c.memory_name.result ≡ memory_name x.now) world c.memory_name.ensures in
-    let realloc : option_copied c.import_realloc_for.result ≡ realloc_for is_import_realloc c.args.root.now.world.now.main.exports.exports =
+    let world : c.instantiate_main_module.new.root.world ≡ c.args.root.now.world = ap (λ (r : Root). r.world) f.same ∙ k.world in
+    let memory : option_copied c.memory_name.result ≡ memory_name w = subst (λ x. option_copied c.memory_name.result ≡ memory_name x.now) world c.memory_name.ensures in
+    let realloc : option_copied c.import_realloc_for.result ≡ realloc_for is_import_realloc w.main.exports.exports =
     subst (λ x. option_copied c.import_realloc_for.result ≡ realloc_for is_import_realloc x.now.main.exports.exports) world c.import_realloc_for.ensures in
     subst (λ (r : Root). AreFillSources r.world.now s r.last_type new.defs r.maps r.instances) (sym f.same)
-    (subst (λ (r : Root). AreFillSources r.world.now s r.last_type new.defs r.maps r.instances) (sym e.same) (fills_after all s c.requires.made f.made memory realloc))
+    (subst (λ x. AreFillSources x.now s b.last_type new.defs b.maps b.instances) (sym k.world) (fills_after f.extends s (made_after c.args.root.now b k c.requires.made) f.made memory realloc))
 
 pub encode_indirect_lowerings-requires-clause-next : goal.encode_indirect_lowerings-requires-clause-next
 encode_indirect_lowerings-requires-clause-next c =
@@ -66,12 +114,26 @@ encode_indirect_lowerings-requires-clause-next c =
     let old = c.args.root.now.items.defs in
     let mid = c.encode_shim_instantiation.new.root.items.defs in
     let new = c.instantiate_main_module.new.root.items.defs in
-    let e = c.in_ok-shim_instance.ensures in
-    let f = c.in_ok-instance.ensures in
     let o : Option ℕ = c.in_ok-shim_instance.shim_instance in
-    let grows : Grows w mid new (InstanceOf 0 ∷ []) = subst (λ (r : Root). Grows r.world.now mid new (InstanceOf 0 ∷ [])) e.same f.grows in
-    subst (λ (r : Root). IsFixupNextIf r.world.now new o) (sym f.same)
-    (subst (λ (r : Root). IsFixupNextIf r.world.now new o) (sym e.same) (fixup_next w c.requires.made.valid c.args.debug_names old mid new o c.requires.alone e.added grows))
+    let k : RootKept w c.args.root.now c.define_exported_types.new.root = typed c.args.root.now c.encode_shim_instantiation.new.root c.define_exported_types.new.root c.requires.made.tables c.in_ok-shim_instance.ensures.same c.in_ok-shim_instance.ensures.extends c.in_ok-define_exported_types.ensures.kept in
+    let world : c.instantiate_main_module.new.root.world ≡ c.args.root.now.world = ap (λ (r : Root). r.world) c.in_ok-instance.ensures.same ∙ k.world in
+    subst (λ x. IsFixupNextIf x.now new o) (sym world) (fixup_next w c.requires.made.valid c.args.debug_names old mid new o c.requires.alone c.in_ok-shim_instance.ensures.added (main_grows c.args.root.now c.encode_shim_instantiation.new.root c.define_exported_types.new.root c.instantiate_main_module.new.root c.in_ok-shim_instance.ensures.same k c.in_ok-define_exported_types.ensures.grows c.in_ok-instance.ensures.grows))
+
+pub returns-in_err-encode_indirect_lowerings-clause-kept : goal.returns-in_err-encode_indirect_lowerings-clause-kept
+returns-in_err-encode_indirect_lowerings-clause-kept c =
+    let w = c.args.root.now.world.now in
+    let b : Root = c.define_exported_types.new.root in
+    let d : Root = c.instantiate_main_module.new.root in
+    kept_items w c.args.root.now d c.encode_indirect_lowerings.new.root (kept_items w c.args.root.now b d (typed c.args.root.now c.encode_shim_instantiation.new.root c.define_exported_types.new.root c.requires.made.tables c.in_ok-shim_instance.ensures.same c.in_ok-shim_instance.ensures.extends c.in_ok-define_exported_types.ensures.kept) c.in_ok-instance.ensures.same c.in_ok-instance.ensures.extends) c.in_err-encode_indirect_lowerings.ensures.same
+    c.in_err-encode_indirect_lowerings.ensures.extends
+
+pub returns-clause-kept : goal.returns-clause-kept
+returns-clause-kept c =
+    let w = c.args.root.now.world.now in
+    let b : Root = c.define_exported_types.new.root in
+    let d : Root = c.instantiate_main_module.new.root in
+    kept_items w c.args.root.now d c.encode_indirect_lowerings.new.root (kept_items w c.args.root.now b d (typed c.args.root.now c.encode_shim_instantiation.new.root c.define_exported_types.new.root c.requires.made.tables c.in_ok-shim_instance.ensures.same c.in_ok-shim_instance.ensures.extends c.in_ok-define_exported_types.ensures.kept) c.in_ok-instance.ensures.same c.in_ok-instance.ensures.extends) c.in_ok-encode_indirect_lowerings.ensures.same
+    c.in_ok-encode_indirect_lowerings.ensures.extends
 
 pub returns-clause-added : goal.returns-clause-added
 returns-clause-added c =
@@ -80,26 +142,25 @@ returns-clause-added c =
     let mid = c.encode_shim_instantiation.new.root.items.defs in
     let late = c.instantiate_main_module.new.root.items.defs in
     let new = c.encode_indirect_lowerings.new.root.items.defs in
-    let e = c.in_ok-shim_instance.ensures in
-    let f = c.in_ok-instance.ensures in
     let o : Option ℕ = c.in_ok-shim_instance.shim_instance in
     let d = c.args.debug_names in
-    let grows : Grows w mid late (InstanceOf 0 ∷ []) = subst (λ (r : Root). Grows r.world.now mid late (InstanceOf 0 ∷ [])) e.same f.grows in
-    let filled : MayAddFixup w d late new o =
-    subst (λ (r : Root). MayAddFixup r.world.now d late new o) e.same (subst (λ (r : Root). MayAddFixup r.world.now d late new o) f.same c.in_ok-encode_indirect_lowerings.ensures.added) in
-    all_added w d old mid late new o e.added grows filled
+    let k : RootKept w c.args.root.now c.define_exported_types.new.root = typed c.args.root.now c.encode_shim_instantiation.new.root c.define_exported_types.new.root c.requires.made.tables c.in_ok-shim_instance.ensures.same c.in_ok-shim_instance.ensures.extends c.in_ok-define_exported_types.ensures.kept in
+    let world : c.instantiate_main_module.new.root.world ≡ c.args.root.now.world = ap (λ (r : Root). r.world) c.in_ok-instance.ensures.same ∙ k.world in
+    let filled : MayAddFixup w d late new o = subst (λ x. MayAddFixup x.now d late new o) world c.in_ok-encode_indirect_lowerings.ensures.added in
+    all_added w d old mid late new o c.in_ok-shim_instance.ensures.added (main_grows c.args.root.now c.encode_shim_instantiation.new.root c.define_exported_types.new.root c.instantiate_main_module.new.root c.in_ok-shim_instance.ensures.same k c.in_ok-define_exported_types.ensures.grows c.in_ok-instance.ensures.grows) filled
 
 pub returns-clause-made : goal.returns-clause-made
 returns-clause-made c = instance-kept (longer c.in_ok-encode_indirect_lowerings.ensures.extends) c.in_ok-instance.ensures.made
 
 pub returns-clause-encoded : goal.returns-clause-encoded
-returns-clause-encoded c = subst (λ (r : Root). AllByRecursion (λ i. IsEncodedImport r.world.now i.role) (core_imports r.world.now)) c.in_ok-shim_instance.ensures.same c.in_ok-instance.ensures.encoded
+returns-clause-encoded c =
+    let k : RootKept c.args.root.now.world.now c.args.root.now c.define_exported_types.new.root = typed c.args.root.now c.encode_shim_instantiation.new.root c.define_exported_types.new.root c.requires.made.tables c.in_ok-shim_instance.ensures.same c.in_ok-shim_instance.ensures.extends c.in_ok-define_exported_types.ensures.kept in
+    subst (λ x. AllByRecursion (λ i. IsEncodedImport x.now i.role) (core_imports x.now)) k.world c.in_ok-instance.ensures.encoded
 
 pub returns-clause-lowered : goal.returns-clause-lowered
 returns-clause-lowered c =
     let w = c.args.root.now.world.now in
-    let encoded = subst (λ (r : Root). AllByRecursion (λ i. IsEncodedImport r.world.now i.role) (core_imports r.world.now)) c.in_ok-shim_instance.ensures.same c.in_ok-instance.ensures.encoded in
-    let offered : AllByRecursion (HasShimOptions w) (shims_of w) =
-    subst (λ (r : Root). AllByRecursion (HasShimOptions r.world.now) (shims_of r.world.now)) c.in_ok-shim_instance.ensures.same
-    (subst (λ (r : Root). AllByRecursion (HasShimOptions r.world.now) (shims_of r.world.now)) c.in_ok-instance.ensures.same c.in_ok-encode_indirect_lowerings.ensures.offered) in
-    all_lowered w c.requires.made.valid offered encoded
+    let k : RootKept w c.args.root.now c.define_exported_types.new.root = typed c.args.root.now c.encode_shim_instantiation.new.root c.define_exported_types.new.root c.requires.made.tables c.in_ok-shim_instance.ensures.same c.in_ok-shim_instance.ensures.extends c.in_ok-define_exported_types.ensures.kept in
+    let world : c.instantiate_main_module.new.root.world ≡ c.args.root.now.world = ap (λ (r : Root). r.world) c.in_ok-instance.ensures.same ∙ k.world in
+    let offered : AllByRecursion (HasShimOptions w) (shims_of w) = subst (λ x. AllByRecursion (HasShimOptions x.now) (shims_of x.now)) world c.in_ok-encode_indirect_lowerings.ensures.offered in
+    all_lowered w c.requires.made.valid offered (subst (λ x. AllByRecursion (λ i. IsEncodedImport x.now i.role) (core_imports x.now)) k.world c.in_ok-instance.ensures.encoded)

@@ -3,18 +3,21 @@ use Rattle.std.specs.List.{AllByRecursion}
 use Rattle.wit_data.specs.Sound.{HasFunction}
 use Rattle.wit_types.specs.Allowing.{allows_function}
 use Rattle.nested_components.specs.Functions.{functions_of}
-use Rattle.nested_components.specs.Growing.{nested_setting, AreTablesRight}
+use Rattle.nested_components.specs.Growing.{AreTablesRight}
+use Rattle.nested_components.specs.Homes.{nested_setting}
 use Rattle.nested_components.proofs.AllFunctions.{AreImportedTo}
 use Rattle.nested_components.proofs.passing.import_functions.Given as goal
 
 abbrev pub invariant-loop-function : goal.invariant-loop-function
 invariant-loop-function g l =
+    let e = l.fn.encoder in
     (goal.iterator-loop-function g).can_next l.function-iterator ×
     (goal.iterator-loop-function g).is_finite l.function-iterator ×
     record {
-      so_far : AreImportedTo g.P.Placement.given g.P.Placement.origin l.resolve.types l.fn.encoder.items l.encoder.items (functions_of l.function-iterator) (functions_of l.functions) l.rest l.names;
-      present : AllByRecursion (λ e. HasFunction l.resolve e.1) l.function-iterator;
-      allowed : AllByRecursion (λ f. allows_function (nested_setting g.P.Placement.origin l.resolve.types) f ≡ true) (functions_of l.function-iterator);
-      kept : l.encoder.resolve ≡ l.fn.encoder.resolve;
-      right : AreTablesRight g.P.Placement.given g.P.Placement.origin l.resolve.types l.encoder.items l.encoder.maps;
+      so_far : AreImportedTo g.P.Placement.given g.P.Placement.origin e.home e.stage e.contents l.encoder.contents (functions_of l.function-iterator) (functions_of l.functions) l.rest l.names;
+      present : AllByRecursion (λ f. HasFunction l.resolve f.1) l.function-iterator;
+      allowed : AllByRecursion (λ f. allows_function (nested_setting g.P.Placement.origin e.home e.stage) f ≡ true) (functions_of l.function-iterator);
+      home : l.encoder.home ≡ e.home;
+      stage : l.encoder.stage ≡ e.stage;
+      right : AreTablesRight g.P.Placement.given g.P.Placement.origin e.home e.stage l.encoder.contents.items l.encoder.maps;
     }

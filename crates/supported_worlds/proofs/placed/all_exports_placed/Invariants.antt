@@ -10,4 +10,4 @@ invariant-loop-item l =
     goal.iterator-loop-item.can_next l.item-iterator ×
     goal.iterator-loop-item.is_finite l.item-iterator ×
     AllByRecursion (HasEntry l.resolve) l.item-iterator ×
-    (list_all (λ e. is_export_placed l.resolve l.places.types l.titles (place_by l.places.interfaces) l.places.interfaces.root e.1) l.item-iterator ≡ list_all (λ e. is_export_placed l.resolve l.places.types l.titles (place_by l.places.interfaces) l.places.interfaces.root e.1) l.items)
+    (list_all (λ e. is_export_placed l.resolve l.places.types (place_by l.places.interfaces) l.places.interfaces.root e.1) l.item-iterator ≡ list_all (λ e. is_export_placed l.resolve l.places.types (place_by l.places.interfaces) l.places.interfaces.root e.1) l.items)

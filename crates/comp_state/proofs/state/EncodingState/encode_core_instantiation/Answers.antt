@@ -9,7 +9,7 @@ use Rattle.root_imports.specs.declared.root_scope.RootScope.{RootScope}
 use Rattle.comp_state.specs.Encoding.{Encoding, AreImported}
 use Rattle.comp_state.specs.Tables.{IsEncoding}
 use Rattle.comp_state.specs.declared.state.Step.TheVariants.{Instantiated}
-use Rattle.comp_state.proofs.Growth.{encoding-kept, encoding-instantiated}
+use Rattle.comp_state.proofs.Growth.{encoding-typed, encoding-instantiated}
 use Rattle.comp_state.proofs.state.EncodingState.encode_core_instantiation.Goals as goal
 
 abbrev Root : Type 0
@@ -24,13 +24,20 @@ encode_core_instantiation-requires-clause-alone c = subst (λ (e : Encoding). Is
 pub invariant_of-self : goal.invariant_of-self
 invariant_of-self c =
     let in' = c.self.inside in
-    subst (λ (r : Root). IsEncoding r.world.now r.last_type c.encode_core_instantiation.new.root.items.defs r.maps r.instances in'.step in'.functions in'.main) (sym c.in_err-main.ensures.same) (encoding-kept c.in_err-main.ensures.extends c.self.invariant)
+    let r : Root = c.encode_core_instantiation.new.root in
+    let k = c.in_err-main.ensures.kept in
+    subst (λ x. IsEncoding x.now r.last_type r.items.defs r.maps r.instances in'.step in'.functions in'.main) (sym k.world)
+    (subst (λ l. IsEncoding in'.root.world.now l r.items.defs r.maps r.instances in'.step in'.functions in'.main) (sym k.next) (encoding-typed k.extends k.tables c.self.invariant))
 
 pub invariant_of-self-2 : goal.invariant_of-self-2
 invariant_of-self-2 c =
     let in' = c.self.inside in
-    subst (λ (r : Root). IsEncoding r.world.now r.last_type c.encode_core_instantiation.new.root.items.defs r.maps r.instances Instantiated in'.functions (Some c.in_ok-main.main)) (sym c.in_ok-main.ensures.same)
-    (encoding-instantiated c.in_ok-main.main c.in_ok-main.ensures.extends (subst (λ (e : Encoding). AreImported e.step) (sym c.self.view_is) c.requires.imported) c.in_ok-main.ensures.made c.self.invariant)
+    let r : Root = c.encode_core_instantiation.new.root in
+    let k = c.in_ok-main.ensures.kept in
+    let typed : IsEncoding in'.root.world.now in'.root.last_type r.items.defs r.maps r.instances in'.step in'.functions in'.main = encoding-typed k.extends k.tables c.self.invariant in
+    subst (λ x. IsEncoding x.now r.last_type r.items.defs r.maps r.instances Instantiated in'.functions (Some c.in_ok-main.main)) (sym k.world)
+    (subst (λ l. IsEncoding in'.root.world.now l r.items.defs r.maps r.instances Instantiated in'.functions (Some c.in_ok-main.main)) (sym k.next)
+    (encoding-instantiated c.in_ok-main.main (subst (λ (e : Encoding). AreImported e.step) (sym c.self.view_is) c.requires.imported) c.in_ok-main.ensures.made typed))
 
 pub returns-clause-added : goal.returns-clause-added
 returns-clause-added c = subst (λ (e : Encoding). AddsInstances e.world e.built.defs c.encode_core_instantiation.new.root.items.defs) c.self.view_is c.in_ok-main.ensures.added

@@ -1,4 +1,4 @@
-use Rattle.std.proofs.Common.{◌∙◌, [], ◌∷◌, ap, sym, subst}
+use Rattle.std.proofs.Common.{◌∙◌, [], ◌∷◌, Option, ap, sym, subst}
 use Rattle.std.specs.List.{slice_get}
 use Rattle.wit_data.specs.Sound.{HasKey}
 use Rattle.comp_bytes.specs.declared.space.Sort.TheVariants as sorts
@@ -7,10 +7,14 @@ use Rattle.comp_links.specs.Naming.{name_of}
 use Rattle.comp_terms.specs.Exports.{IsRequiredLift, ExportsFunction}
 use Rattle.comp_terms.specs.Rules.{Exported, Grows}
 use Rattle.root_imports.specs.Growing.{Grows-then}
+use Rattle.wit_data.specs.declared.worlds.WorldItem.{WorldItem}
 use Rattle.wit_data.specs.declared.worlds.WorldItem.TheVariants as items
+use Rattle.comp_roles.specs.declared.metadata.FunctionKey.{FunctionKey}
+use Rattle.comp_worlds.specs.WorldContents.{exported_item}
+use Rattle.interface_needs.specs.RootNeeds.{interface_of_item}
 use Rattle.main_exports.specs.Exports.{main_function, IsMainFunction}
 use Rattle.main_exports.proofs.Exporting.{exports_same, function_required, key_sound, marked_as}
-use Rattle.main_exports.proofs.Growth.{kept_items}
+use Rattle.root_imports.proofs.Keeping.{kept_items}
 use Rattle.main_exports.proofs.sources.MainExports.export_function.Goals as goal
 
 pub lift-requires-clause-required : goal.lift-requires-clause-required
@@ -18,6 +22,10 @@ lift-requires-clause-required c =
     let w = c.args.root.now.world.now in
     let f = c.args.function.now in
     subst (λ k. IsMainFunction w k f) (sym c.in_ok-required.ensures) (function_required w c.requires.exports.valid c.args.key.now f c.requires.item c.requires.required)
+
+pub lift-requires-clause-of : goal.lift-requires-clause-of
+lift-requires-clause-of c =
+    ap (λ (k : FunctionKey). interface_of_item (exported_item c.args.root.now.world.now k.key)) c.in_ok-required.ensures ∙ ap (λ (o : Option WorldItem). interface_of_item o) c.requires.item
 
 pub export-requires-clause-present : goal.export-requires-clause-present
 export-requires-clause-present c =

@@ -1,155 +1,30 @@
-use Rattle.std.proofs.Common.{◌≡◌, ◌∙◌, ℕ, List, [], ◌∷◌, ◌++◌, refl, ap, subst, sym}
-use Rattle.std.specs.Prelude.{length}
-use Rattle.std.specs.List.{AllByRecursion, IsDistinct, slice_get}
-use Rattle.std.specs.Map.{keys_of}
-use Rattle.std.specs.Str.{bytes_eq}
-use Rattle.comp_bytes.specs.declared.def.Item.{Item}
-use Rattle.comp_bytes.specs.declared.space.Sort.TheVariants as sorts
-use Rattle.wit_data.specs.Sound.{HasFunction, HasKey}
-use Rattle.wit_data.specs.declared.functions.Function.{Function}
-use Rattle.wit_data.specs.declared.worlds.WorldItem.TheVariants as world_items
-use Rattle.comp_imports.specs.Names.{naming_of}
-use Rattle.comp_items.proofs.Remembering.{longer}
-use Rattle.comp_links.specs.Lists.{RequiredFunction}
-use Rattle.comp_links.specs.Naming.{name_of}
-use Rattle.comp_terms.specs.Exports.{ExportsInterface, exports_in}
-use Rattle.comp_terms.specs.Rules.{Exported, Grows, Landmark, export_marked}
-use Rattle.core_options.specs.Causes.{IsCauseAmong, IsEncodedExport}
-use Rattle.core_options.specs.MainOptions.{HasLiftOptions}
-use Rattle.core_options.proofs.OptionTerms.{refused_with}
-use Rattle.nested_components.specs.Functions.{functions_of as functions_among, AreUnnamed}
-use Rattle.root_imports.specs.Growing.{Grows-then}
-use Rattle.world_values.specs.Items.{functions_of}
-use Rattle.main_exports.specs.Exports.{Root, RootKept, AreMainFunctions, AreLiftArguments, AreArgumentsFor, IsInstantiated, functions_of_key, nested_mark}
-use Rattle.main_exports.proofs.Exporting.{exports_same, exports_nested, interface_there, entries_sound, entries_unnamed, entries_required, key_sound, marked_as}
-use Rattle.main_exports.proofs.Growth.{kept_items}
-use Rattle.main_exports.proofs.Instances.{arguments_for, functions_as, instance_exported, mark_expected}
-use Rattle.main_exports.proofs.Nested.{names_counted}
+use Rattle.std.proofs.Common.{sym, subst}
+use Rattle.comp_worlds.specs.Encodable.{IsEncodable}
+use Rattle.interface_needs.specs.RootNeeds.{IsExportedInterface}
+use Rattle.root_imports.specs.Keeping.{Root}
+use Rattle.root_imports.specs.RootScopes.{AreTablesRight}
+use Rattle.root_imports.proofs.Keeping.{kept_tables}
+use Rattle.main_exports.specs.Exports.{ForgetsTypes}
 use Rattle.main_exports.proofs.sources.MainExports.export_interface.Goals as goal
 
-abbrev Entries : Type 0
-Entries = List (List ℕ × Function)
-
-pub functions_of-functions-requires : goal.functions_of-functions-requires
-functions_of-functions-requires c = record { present = interface_there c.args.root.now.world.now c.requires.exports.valid c.args.key.now c.args.id c.requires.item }
-
-pub interface_component-requires : goal.interface_component-requires
-interface_component-requires c =
-    let w = c.args.root.now.world.now in
-    let ok = c.requires.exports.valid in
-    let key = c.args.key.now in
-    let id = c.args.id in
-    let same = c.functions_of-functions.ensures.functions in
-    let apart : IsDistinct bytes_eq (keys_of (functions_of w.resolve id)) = subst (λ (l : Entries). IsDistinct bytes_eq (keys_of l)) same c.functions_of-functions.ensures.apart in (
-      refl,
-      (
-        ok.sound,
-        (
-          subst (λ (l : Entries). AllByRecursion (λ (e : List ℕ × Function). HasFunction w.resolve e.1) l) (sym same) (entries_sound w ok key id c.requires.item apart),
-          subst (λ (l : Entries). AreUnnamed w.resolve.types (functions_among l)) (sym same) (entries_unnamed w ok key id c.requires.item),
-        ),
-      ),
-    )
-
-pub lift_arguments-requires-clause-functions : goal.lift_arguments-requires-clause-functions
-lift_arguments-requires-clause-functions c =
-    let w = c.args.root.now.world.now in
-    let same = c.functions_of-functions.ensures.functions in
-    let apart : IsDistinct bytes_eq (keys_of (functions_of w.resolve c.args.id)) = subst (λ (l : Entries). IsDistinct bytes_eq (keys_of l)) same c.functions_of-functions.ensures.apart in
-    subst (AreMainFunctions w c.args.key.now) (sym same) (entries_required w c.requires.exports.valid c.args.key.now c.args.id c.requires.item c.requires.required apart)
-
-pub lift_arguments-requires-clause-imports : goal.lift_arguments-requires-clause-imports
-lift_arguments-requires-clause-imports c =
-    ap (λ (l : List (List ℕ)). length l) c.as_slice-names.ensures ∙ names_counted [] c.functions_of-functions.result.now c.in_ok-nested.nested.names c.in_ok-nested.ensures.nested.named
-
-pub returns-in_err-arguments-clause-cause : goal.returns-in_err-arguments-clause-cause
-returns-in_err-arguments-clause-cause c =
-    let w = c.args.root.now.world.now in
-    let key = c.args.key.now in
-    let e = c.in_err-arguments.field-0.0 in
-    let functions = functions_as w c.requires.exports.valid key c.args.id c.requires.item c.functions_of-functions.result.now c.functions_of-functions.ensures.functions in
-    refused_with c.from_residual-in_err-arguments.result e (IsCauseAmong w [] (functions_of_key w key)) c.from_residual-in_err-arguments.ensures.1
-    (subst (λ (fs : List RequiredFunction). IsCauseAmong w [] fs e) (sym functions) c.in_err-arguments.ensures.cause)
-
-pub nested_instance-requires-clause-present : goal.nested_instance-requires-clause-present
-nested_instance-requires-clause-present c =
-    subst (λ x. HasKey x.now.resolve c.args.key.now) (sym c.in_ok-arguments.ensures.kept.world) (key_sound c.args.root.now.world.now c.requires.exports.valid c.args.key.now c.requires.required)
-
-pub nested_instance-requires-clause-right : goal.nested_instance-requires-clause-right
-nested_instance-requires-clause-right c =
-    let w = c.args.root.now.world.now in
-    let ds = c.lift_arguments.new.root.items.defs in
-    subst (λ (is : List Item). AreArgumentsFor ds is c.in_ok-arguments.arguments) (sym c.into_items.ensures)
-    (arguments_for w c.args.key.now c.functions_of-functions.result.now c.in_ok-nested.nested.names c.in_ok-nested.nested.items c.in_ok-nested.ensures.nested c.in_ok-arguments.arguments ds
-    (subst (λ (ns : List (List ℕ)). AreLiftArguments w ds c.args.key.now c.functions_of-functions.result.now ns c.in_ok-arguments.arguments) c.as_slice-names.ensures c.in_ok-arguments.ensures.lifted))
-
-pub returns-in_err-instance-clause-kept : goal.returns-in_err-instance-clause-kept
-returns-in_err-instance-clause-kept c =
-    kept_items c.args.root.now.world.now c.args.root.now c.lift_arguments.new.root c.nested_instance.new.root c.in_ok-arguments.ensures.kept c.in_err-instance.ensures.same c.in_err-instance.ensures.extends
-
-pub export-requires-clause-present : goal.export-requires-clause-present
-export-requires-clause-present c =
-    let world = ap (λ (r : Root). r.world) c.in_ok-instance.ensures.same ∙ c.in_ok-arguments.ensures.kept.world in
-    subst (λ x. HasKey x.now.resolve c.args.key.now) (sym world) (key_sound c.args.root.now.world.now c.requires.exports.valid c.args.key.now c.requires.required)
-
-pub export-requires-clause-right : goal.export-requires-clause-right
-export-requires-clause-right c =
-    let w = c.args.root.now.world.now in
-    let mid : Root = c.lift_arguments.new.root in
-    let new : Root = c.nested_instance.new.root in
-    let world : new.world ≡ c.args.root.now.world = ap (λ (r : Root). r.world) c.in_ok-instance.ensures.same ∙ c.in_ok-arguments.ensures.kept.world in
-    let grows : Grows w mid.items.defs new.items.defs (nested_mark c.into_items.result ∷ []) =
-    subst (λ x. Grows x.now mid.items.defs new.items.defs (nested_mark c.into_items.result ∷ [])) c.in_ok-arguments.ensures.kept.world c.in_ok-instance.ensures.grows in
-    let many : exports_in new.items.defs ≡ exports_in c.args.root.now.items.defs = exports_nested grows ∙ exports_same c.in_ok-arguments.ensures.grows in
-    let arguments : AreLiftArguments w mid.items.defs c.args.key.now c.functions_of-functions.result.now c.in_ok-nested.nested.names c.in_ok-arguments.arguments =
-    subst (λ (ns : List (List ℕ)). AreLiftArguments w mid.items.defs c.args.key.now c.functions_of-functions.result.now ns c.in_ok-arguments.arguments) c.as_slice-names.ensures c.in_ok-arguments.ensures.lifted in
-    subst (λ x. ExportsInterface x.now new.items.defs c.in_ok-instance.instance) (sym world)
-    (instance_exported w c.requires.exports.valid c.args.key.now c.args.id c.requires.item c.functions_of-functions.result.now c.functions_of-functions.ensures.functions c.functions_of-functions.ensures.apart c.in_ok-nested.nested.names
-    c.in_ok-nested.nested.items c.in_ok-nested.ensures.nested c.in_ok-arguments.arguments mid.items.defs new.items.defs (longer c.in_ok-instance.ensures.extends) arguments c.in_ok-instance.instance
-    (ap (slice_get w.main_exports) many ∙ c.requires.next) (subst (λ (is : List Item). IsInstantiated new.items.defs is c.in_ok-arguments.arguments c.in_ok-instance.instance) c.into_items.ensures c.in_ok-instance.ensures.made))
-
-pub returns-in_err-export-clause-kept : goal.returns-in_err-export-clause-kept
-returns-in_err-export-clause-kept c =
-    let w = c.args.root.now.world.now in
-    let old : Root = c.args.root.now in
-    let made : RootKept w old c.nested_instance.new.root = kept_items w old c.lift_arguments.new.root c.nested_instance.new.root c.in_ok-arguments.ensures.kept c.in_ok-instance.ensures.same c.in_ok-instance.ensures.extends in
-    kept_items w old c.nested_instance.new.root c.export.new.root made c.in_err-export.ensures.same c.in_err-export.ensures.extends
+pub forget_exported_types-requires : goal.forget_exported_types-requires
+forget_exported_types-requires c =
+    let kept = c.in_ok-export_instance.ensures.kept in
+    let mid : Root = c.export_instance.new.root in
+    record {
+      valid = subst (λ x. IsEncodable x.now) (sym kept.world) c.requires.exports.valid;
+      exported = subst (λ x. IsExportedInterface x.now c.args.id) (sym kept.world) (record { key = c.args.key.now; of = c.requires.item });
+      tables = subst (λ x. AreTablesRight x.now mid.last_type mid.instances mid.items.defs mid.maps) (sym kept.world) (subst (λ l. AreTablesRight c.args.root.now.world.now l mid.instances mid.items.defs mid.maps) (sym kept.next) kept.tables);
+    }
 
 pub returns-clause-kept : goal.returns-clause-kept
 returns-clause-kept c =
     let w = c.args.root.now.world.now in
-    let old : Root = c.args.root.now in
-    let made : RootKept w old c.nested_instance.new.root = kept_items w old c.lift_arguments.new.root c.nested_instance.new.root c.in_ok-arguments.ensures.kept c.in_ok-instance.ensures.same c.in_ok-instance.ensures.extends in
-    kept_items w old c.nested_instance.new.root c.export.new.root made c.in_ok-export.ensures.same c.in_ok-export.ensures.extends
+    let kept = c.in_ok-export_instance.ensures.kept in
+    let mid : Root = c.export_instance.new.root in
+    let new : Root = c.forget_exported_types.new.self in
+    kept_tables w c.args.root.now mid new kept c.forget_exported_types.ensures.same
+    (subst (λ l. AreTablesRight w l mid.instances mid.items.defs new.maps) kept.next (subst (λ x. AreTablesRight x.now mid.last_type mid.instances mid.items.defs new.maps) kept.world c.forget_exported_types.ensures.tables))
 
-pub returns-clause-grows : goal.returns-clause-grows
-returns-clause-grows c =
-    let w = c.args.root.now.world.now in
-    let n = naming_of c.args.self.now.names in
-    let key = c.args.key.now in
-    let first = c.args.root.now.items.defs in
-    let mid = c.lift_arguments.new.root.items.defs in
-    let new : Root = c.nested_instance.new.root in
-    let end = c.export.new.root.items.defs in
-    let definitions = c.into_items.result in
-    let world : new.world ≡ c.args.root.now.world = ap (λ (r : Root). r.world) c.in_ok-instance.ensures.same ∙ c.in_ok-arguments.ensures.kept.world in
-    let second : Grows w mid new.items.defs (nested_mark definitions ∷ []) = subst (λ x. Grows x.now mid new.items.defs (nested_mark definitions ∷ [])) c.in_ok-arguments.ensures.kept.world c.in_ok-instance.ensures.grows in
-    let last : Grows w new.items.defs end (Exported (record { name = name_of n w.resolve key; sort = sorts.Instance }) ∷ []) =
-    subst (λ x. Grows x.now new.items.defs end (Exported (record { name = name_of n x.now.resolve key; sort = sorts.Instance }) ∷ [])) world c.in_ok-export.ensures.grows in
-    let mark : nested_mark definitions ∷ [] ≡ nested_mark c.in_ok-nested.nested.items ∷ [] = ap (λ (is : List Item). nested_mark is ∷ []) c.into_items.ensures in
-    let expected = mark_expected w c.args.id c.functions_of-functions.result.now c.functions_of-functions.ensures.functions c.in_ok-nested.nested.names c.in_ok-nested.nested.items c.in_ok-nested.ensures.nested in
-    let marks : (nested_mark definitions ∷ []) ++ Exported (record { name = name_of n w.resolve key; sort = sorts.Instance }) ∷ [] ≡ export_marked n w key =
-    ap (λ (l : List Landmark). l ++ Exported (record { name = name_of n w.resolve key; sort = sorts.Instance }) ∷ []) (mark ∙ expected) ∙ marked_as n w key (world_items.Interface c.args.id) c.requires.item in
-    subst (λ m. Grows w first end m) marks (Grows-then c.in_ok-arguments.ensures.grows (Grows-then second last))
-
-pub returns-clause-has : goal.returns-clause-has
-returns-clause-has c =
-    let w = c.args.root.now.world.now in
-    let functions = functions_as w c.requires.exports.valid c.args.key.now c.args.id c.requires.item c.functions_of-functions.result.now c.functions_of-functions.ensures.functions in
-    subst (AllByRecursion (HasLiftOptions w)) (sym functions) c.in_ok-arguments.ensures.has
-
-pub returns-clause-encoded : goal.returns-clause-encoded
-returns-clause-encoded c =
-    let w = c.args.root.now.world.now in
-    let functions = functions_as w c.requires.exports.valid c.args.key.now c.args.id c.requires.item c.functions_of-functions.result.now c.functions_of-functions.ensures.functions in
-    subst (AllByRecursion (IsEncodedExport w)) (sym functions) c.in_ok-arguments.ensures.encoded
+pub returns-clause-forgotten : goal.returns-clause-forgotten
+returns-clause-forgotten c = subst (λ x. ForgetsTypes x.now c.args.id c.forget_exported_types.new.self) c.in_ok-export_instance.ensures.kept.world c.forget_exported_types.ensures.forgotten

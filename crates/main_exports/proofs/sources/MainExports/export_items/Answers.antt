@@ -8,9 +8,11 @@ use Rattle.comp_terms.specs.Rules.{Grows, export_marked}
 use Rattle.core_options.specs.Causes.{IsCause, IsCauseAmong, IsEncodedExport}
 use Rattle.core_options.specs.MainOptions.{HasLiftOptions}
 use Rattle.core_options.proofs.OptionTerms.{refused_with}
-use Rattle.main_exports.specs.Exports.{AreExports, RootKept, functions_of_key}
+use Rattle.root_imports.specs.Keeping.{RootKept}
+use Rattle.main_exports.specs.Exports.{AreExports, functions_of_key}
 use Rattle.main_exports.proofs.Exporting.{ExportsSoFar, exports_start, exports_step, exports_done, next_exported, export_refused}
-use Rattle.main_exports.proofs.Growth.{exports-kept, kept_none}
+use Rattle.root_imports.proofs.Keeping.{kept_none}
+use Rattle.main_exports.proofs.Growth.{exports-kept}
 use Rattle.main_exports.proofs.sources.MainExports.export_items.Goals as goal
 
 pub loop-key-init : goal.loop-key-init

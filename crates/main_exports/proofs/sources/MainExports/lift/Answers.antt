@@ -10,10 +10,15 @@ use Rattle.comp_items.proofs.Extending.{extends_same}
 use Rattle.comp_items.specs.Items.{Extends}
 use Rattle.root_imports.specs.Growing.{Grows-then}
 use Rattle.core_options.specs.MainOptions.{NameOptions}
-use Rattle.main_exports.specs.Exports.{Root, AreExports, RootKept, IsEntryOf, main_function}
-use Rattle.main_exports.proofs.Lifting.{AddsLift, adds_lift}
-use Rattle.main_exports.proofs.Growth.{kept_typed, kept_items, exports-kept}
+use Rattle.root_imports.specs.Keeping.{Root, RootKept}
+use Rattle.main_exports.specs.Exports.{AreExports, IsEntryOf, main_function}
+use Rattle.main_exports.proofs.Lifting.{AddsLift, adds_lift, needed_function}
+use Rattle.root_imports.proofs.Keeping.{kept_typed, kept_items}
+use Rattle.main_exports.proofs.Growth.{exports-kept}
 use Rattle.main_exports.proofs.sources.MainExports.lift.Goals as goal
+
+pub function_type-requires-clause-needed : goal.function_type-requires-clause-needed
+function_type-requires-clause-needed c = needed_function c.args.root.now.world.now c.args.interface c.args.required.now c.args.function.now c.requires.required c.requires.of
 
 pub core_entry-requires-clause-exports : goal.core_entry-requires-clause-exports
 core_entry-requires-clause-exports c =

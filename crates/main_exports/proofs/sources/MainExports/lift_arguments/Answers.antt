@@ -1,16 +1,20 @@
-use Rattle.std.proofs.Common.{◌≡◌, ◌∙◌, arith, ℕ, suc, List, [], ◌∷◌, ◌++◌, ap, subst, sym}
+use Rattle.std.proofs.Common.{◌≡◌, ◌∙◌, arith, ℕ, suc, List, [], ◌∷◌, ◌++◌, Some, ap, subst, sym}
 use Rattle.std.specs.Prelude.{length}
 use Rattle.comp_bytes.specs.declared.def.Argument.{Argument}
 use Rattle.wit_data.specs.declared.functions.Function.{Function}
+use Rattle.wit_data.specs.declared.worlds.WorldItem.TheVariants as world_items
+use Rattle.comp_worlds.specs.WorldContents.{exported_item}
 use Rattle.comp_terms.specs.Rules.{Grows}
 use Rattle.core_options.specs.Causes.{IsCauseAmong, IsEncodedExport}
 use Rattle.core_options.specs.MainOptions.{HasLiftOptions}
 use Rattle.core_options.proofs.OptionTerms.{refused_with}
 use Rattle.core_options.proofs.Refusals.{among_more}
 use Rattle.interface_needs.proofs.Lists.{contains_none}
-use Rattle.main_exports.specs.Exports.{AreExports, RootKept, IsLiftArgument, functions_at, at_key, main_function}
-use Rattle.main_exports.proofs.Arguments.{ArgumentsSoFar, so_far_start, so_far_step, so_far_end, one_among, empty_when}
-use Rattle.main_exports.proofs.Growth.{exports-kept, kept_none}
+use Rattle.root_imports.specs.Keeping.{RootKept}
+use Rattle.main_exports.specs.Exports.{AreExports, IsLiftArgument, functions_at, at_key, main_function}
+use Rattle.main_exports.proofs.LiftArguments.{ArgumentsSoFar, so_far_start, so_far_step, so_far_end, one_among, empty_when}
+use Rattle.root_imports.proofs.Keeping.{kept_none}
+use Rattle.main_exports.proofs.Growth.{exports-kept}
 use Rattle.main_exports.proofs.sources.MainExports.lift_arguments.Goals as goal
 
 abbrev Entries : Type 0
@@ -36,6 +40,9 @@ pub lift_argument-requires-clause-exports : goal.lift_argument-requires-clause-e
 lift_argument-requires-clause-exports c =
     let h = c.loop-name.invariant.3 in
     subst (λ x. AreExports x.now c.args.self.now c.loop-name.root) (sym h.kept.world) (exports-kept c.args.root.now.world.now c.args.self.now c.args.root.now c.loop-name.root h.kept c.requires.exports)
+
+pub lift_argument-requires-clause-item : goal.lift_argument-requires-clause-item
+lift_argument-requires-clause-item c = subst (λ x. exported_item x.now c.args.key.now ≡ Some (world_items.Interface c.args.id)) (sym c.loop-name.invariant.3.kept.world) c.requires.item
 
 pub returns-in_err-argument-clause-cause : goal.returns-in_err-argument-clause-cause
 returns-in_err-argument-clause-cause c =

@@ -1,6 +1,6 @@
 use Rattle.std.proofs.Common.{◌≡◌}
 use Rattle.std.specs.Prelude.{length}
-use Rattle.main_exports.proofs.Arguments.{ArgumentsSoFar}
+use Rattle.main_exports.proofs.LiftArguments.{ArgumentsSoFar}
 use Rattle.main_exports.proofs.sources.MainExports.lift_arguments.Given as goal
 
 abbrev pub invariant-loop-name : goal.invariant-loop-name

@@ -14,7 +14,8 @@ use Rattle.root_imports.specs.Growing.{Grows-then}
 use Rattle.core_options.specs.MainOptions.{OffersFunction, IsAliasIf, NameOptions}
 use Rattle.core_options.proofs.Offered.{post_return_if_offered}
 use Rattle.core_options.proofs.OptionTerms.{fit_append, fit_kept, fit_post_return}
-use Rattle.main_exports.specs.Exports.{Root, main_function}
+use Rattle.root_imports.specs.Keeping.{Root}
+use Rattle.main_exports.specs.Exports.{main_function}
 use Rattle.main_exports.proofs.sources.MainExports.lift_options.Goals as goal
 
 pub function_of_main-requires-clause-made : goal.function_of_main-requires-clause-made

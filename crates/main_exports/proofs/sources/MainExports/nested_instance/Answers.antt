@@ -5,7 +5,7 @@ use Rattle.main_exports.proofs.sources.MainExports.nested_instance.Goals as goal
 
 pub returns-clause-grows : goal.returns-clause-grows
 returns-clause-grows c =
-    adds_instance c.args.root.now.world.now c.args.root.now.items.defs c.nested_component.new.self.defs c.nested_instance.new.self.defs c.args.definitions c.args.arguments c.in_ok-component.component c.requires.nested c.requires.right
+    adds_instance c.args.root.now.world.now c.args.root.now.items.defs c.nested_component.new.self.defs c.nested_instance.new.self.defs c.args.definitions c.args.arguments c.in_ok-component.component c.requires.nested c.requires.of c.requires.right
     (ap (λ (b : Built). b.defs) c.in_ok-component.ensures.adds.1) c.in_ok-component.ensures.at (ap (λ (b : Built). b.defs) c.in_ok-index.ensures.adds.1)
 
 pub returns-clause-made : goal.returns-clause-made

@@ -13,4 +13,4 @@ returns-clause-makes g c =
     makes_added c.args.self.now.items c.function_type.new.self c.function_type.result (defs.Item (items.Type (types.Func c.args.ty))) _ (OfFunctions (function_tree (scope_of c.args.self.now.items.defs) c.args.ty)) refl c.function_type.ensures.adds c.function_type.ensures.denotes
 
 pub returns-clause-follows : goal.returns-clause-follows
-returns-clause-follows g c = (refl, refl, refl, root_added (g.W.HasWorld.world c.args.self.now.world.now) c.args.self.now.items c.function_type.new.self c.function_type.result spaces.Type (defs.Item (items.Type (types.Func c.args.ty))) refl c.requires.known c.function_type.ensures.adds)
+returns-clause-follows g c = (refl, refl, refl, root_added (g.W.HasWorld.world c.args.self.now.world.now) c.args.self.now.items c.function_type.new.self c.function_type.result spaces.Type (defs.Item (items.Type (types.Func c.args.ty))) refl c.requires.known c.function_type.ensures.adds, refl)

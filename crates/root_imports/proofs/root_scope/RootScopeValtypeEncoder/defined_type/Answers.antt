@@ -13,4 +13,4 @@ returns-clause-makes g c =
     makes_added c.args.self.now.items c.defined_type.new.self c.defined_type.result (defs.Item (items.Type (types.Defined c.args.ty))) _ (OfValues (defined_tree (scope_of c.args.self.now.items.defs) c.args.ty)) refl c.defined_type.ensures.adds c.defined_type.ensures.denotes
 
 pub returns-clause-follows : goal.returns-clause-follows
-returns-clause-follows g c = (refl, refl, refl, root_added (g.W.HasWorld.world c.args.self.now.world.now) c.args.self.now.items c.defined_type.new.self c.defined_type.result spaces.Type (defs.Item (items.Type (types.Defined c.args.ty))) refl c.requires.known c.defined_type.ensures.adds)
+returns-clause-follows g c = (refl, refl, refl, root_added (g.W.HasWorld.world c.args.self.now.world.now) c.args.self.now.items c.defined_type.new.self c.defined_type.result spaces.Type (defs.Item (items.Type (types.Defined c.args.ty))) refl c.requires.known c.defined_type.ensures.adds, refl)

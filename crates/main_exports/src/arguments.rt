@@ -1,0 +1,101 @@
+//! What the nested component of an interface is given for its imports: the lifts of the interface's functions, and the types of the
+//! root that they are made of.
+//!
+//! Component model, explainer: instance definitions.
+#![tactic(auto, using(crate::proofs::Growth::growing))]
+
+ghost use Rattle.std.specs.Prelude.{◌≡◌, [], IfOk, IfErr, OnOk, Some};
+ghost use Rattle.std.specs.List.{AllByRecursion, AllZip};
+ghost use Rattle.comp_terms.specs.Rules.{Grows};
+ghost use Rattle.comp_worlds.specs.Encodable.{IsEncodable};
+ghost use Rattle.comp_worlds.specs.WorldContents.{exported_item};
+ghost use Rattle.core_options.specs.Causes.{IsCauseAmong, IsEncodedExport};
+ghost use Rattle.core_options.specs.MainOptions.{HasLiftOptions};
+ghost use Rattle.interface_needs.specs.RootNeeds.{IsExportedType};
+ghost use Rattle.root_imports.specs.Keeping.{RootKept};
+ghost use Rattle.main_exports.specs.Exports.{AreExports, functions_at, AreMainFunctions, IsTypeArgument, AreTypesExported, IsNestedOf, AreArgumentsOf};
+ghost use Rattle.root_imports.specs.RootScopes.{AreTablesRight};
+ghost use Rattle.wit_data.specs.Live.{named_types};
+ghost use Rattle.wit_data.specs.declared.worlds.WorldItem.TheVariants as world_items;
+
+use crate::sources::MainExports;
+use comp_bytes::{Argument, Sort};
+use comp_lists::{Keyed, Seq, Text};
+use comp_worlds::ComponentWorld;
+use core_options::StateFault;
+use nested_components::{NestedComponent, TypeImport};
+use root_imports::RootScope;
+use wit_data::{Function, InterfaceId, WorldKey};
+
+/// The argument for the import of a type of an exported interface: the type of the root that is what the import stands for.
+fn type_argument(
+    root: &mut RootScope<'_, ComponentWorld>,
+    interface: InterfaceId,
+    import: &TypeImport,
+) -> Result<Argument, StateFault>
+    requires valid { IsEncodable root.old.world.now }
+    requires exported { IsExportedType root.old.world.now interface import.now.id }
+    requires tables { AreTablesRight root.old.world.now root.old.last_type root.old.instances root.old.items.defs root.old.maps }
+    ensures kept { RootKept root.old.world.now root.old root.new }
+    ensures grows { OnOk result (Grows root.old.world.now root.old.items.defs root.new.items.defs []) }
+    ensures given { IfOk result (λ a. IsTypeArgument root.old.world.now root.new.items.defs import.now a) }
+    ensures cause { IfErr result (IsCauseAmong root.old.world.now [] []) }
+{
+    let name = import.name.clone(root.items.allocator())?;
+    let index = root.exported_type(interface, import.id)?;
+    Ok(Argument {
+        name,
+        sort: Sort::Type,
+        index,
+    })
+}
+
+/// The arguments for these imports of types, in their order.
+fn type_arguments(
+    root: &mut RootScope<'_, ComponentWorld>,
+    interface: InterfaceId,
+    imports: &[TypeImport],
+) -> Result<Seq<Argument>, StateFault>
+    requires valid { IsEncodable root.old.world.now }
+    requires exported { AreTypesExported root.old.world.now interface imports.now }
+    requires tables { AreTablesRight root.old.world.now root.old.last_type root.old.instances root.old.items.defs root.old.maps }
+    ensures kept { RootKept root.old.world.now root.old root.new }
+    ensures grows { OnOk result (Grows root.old.world.now root.old.items.defs root.new.items.defs []) }
+    ensures given { IfOk result (λ arguments. AllZip (IsTypeArgument root.old.world.now root.new.items.defs) imports.now arguments) }
+    ensures cause { IfErr result (IsCauseAmong root.old.world.now [] []) }
+{
+    let mut arguments = Seq::new(root.items.allocator());
+    for import in imports {
+        arguments.push(type_argument(root, interface, import)?)?;
+    }
+    Ok(arguments)
+}
+
+impl MainExports<'_> {
+    /// Lifts the functions of an interface: the arguments for the imports of its nested component, the lifts and then the types.
+    pub(crate) fn interface_arguments(
+        &self,
+        root: &mut RootScope<'_, ComponentWorld>,
+        key: &WorldKey,
+        id: InterfaceId,
+        functions: &Keyed<Text, Function>,
+        nested: &NestedComponent,
+    ) -> Result<Seq<Argument>, StateFault>
+        requires exports { AreExports root.old.world.now self.now root.old }
+        requires item { exported_item root.old.world.now key.now ≡ Some (world_items.Interface id) }
+        requires functions { AreMainFunctions root.old.world.now key.now functions.now }
+        requires nested { IsNestedOf root.old.world.now (named_types root.old.world.now.resolve id) functions.now nested.now }
+        ensures kept { RootKept root.old.world.now root.old root.new }
+        ensures grows { OnOk result (Grows root.old.world.now root.old.items.defs root.new.items.defs []) }
+        ensures given { IfOk result (λ arguments. AreArgumentsOf root.old.world.now root.new.items.defs key.now functions.now nested.now arguments) }
+        ensures has { OnOk result (AllByRecursion (HasLiftOptions root.old.world.now) (functions_at key.now functions.now)) }
+        ensures encoded { OnOk result (AllByRecursion (IsEncodedExport root.old.world.now) (functions_at key.now functions.now)) }
+        ensures cause { IfErr result (IsCauseAmong root.old.world.now [] (functions_at key.now functions.now)) }
+    {
+        let names = nested.names.as_slice();
+        let mut arguments = self.lift_arguments(root, key, id, functions, names)?;
+        let types = type_arguments(root, id, nested.types.as_slice())?;
+        arguments.append(types)?;
+        Ok(arguments)
+    }
+}

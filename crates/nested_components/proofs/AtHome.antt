@@ -1,0 +1,202 @@
+-- What is made of types of an interface, and of types without names, may be encoded in its nested component.
+use Rattle.std.proofs.Common.{◌≡◌, ◌∙◌, ◌<◌, ◌≤◌, ◌==◌, ◌&&◌, ◌||◌, not, arith, ℕ, zero, suc, Bool, true, false, true≢false, List, [], ◌∷◌, length, map, get_or, refl, ap, sym, subst, Option, Some, None, is_none, is_some, if◌then◌else◌, lt-ltb, rules}
+use Rattle.std.specs.List.{AllByRecursion, IsDistinct, list_all}
+use Rattle.std.specs.Map.{keys_of}
+use Rattle.std.specs.Str.{bytes_eq}
+use Rattle.std.specs.Cmp.{IsEquivalence}
+use Rattle.std.specs.Cmp.Rules.{comparing}
+use Rattle.std.proofs.lemmas.Bool.Decides.{Decides-eqb}
+use Rattle.std.proofs.lemmas.List.Folds.{list_all-map}
+use Rattle.std.proofs.lemmas.Map.Views.{lookup-from_Contains}
+use Rattle.wit_data.specs.declared.functions.Function.{Function}
+use Rattle.wit_data.specs.declared.functions.Param.{Param}
+use Rattle.wit_data.specs.declared.ids.InterfaceId.{InterfaceId}
+use Rattle.wit_data.specs.declared.ids.TypeId.{TypeId}
+use Rattle.wit_data.specs.declared.resolve.Resolve.{Resolve}
+use Rattle.wit_data.specs.declared.types.Type.{«Type» as Ty}
+use Rattle.wit_data.specs.declared.types.Type.TheVariants.{Primitive, Id}
+use Rattle.wit_data.specs.declared.types.TypeDef.{TypeDef}
+use Rattle.wit_data.specs.declared.types.TypeDefKind.{TypeDefKind}
+use Rattle.wit_data.specs.declared.types.TypeDefKind.TheVariants as kinds
+use Rattle.wit_data.specs.declared.types.TypeOwner.{TypeOwner}
+use Rattle.wit_data.specs.declared.types.TypeOwner.TheVariants as owners
+use Rattle.wit_data.specs.Parts.{parts, IsBelow, RefersBack}
+use Rattle.wit_data.specs.Sound.{HasFunction}
+use Rattle.wit_data.specs.Values.{Making, kind_at, value, values, part_value, part_values}
+use Rattle.wit_data.proofs.Values.{made_whole, parts_below}
+use Rattle.comp_trees.specs.Trees.{Resource}
+use Rattle.wit_types.specs.Settings.{Setting, owner_at, name_at}
+use Rattle.wit_types.specs.Allowing.{foreign, is_resource, may_define, may_make, may_have, is_allowed, allows_function, IsDefinedHere}
+use Rattle.wit_types.proofs.Permitting.{allowed_of_id}
+use Rattle.type_scopes.specs.Needs.{each_passes, function_passes, is_at_home}
+use Rattle.type_scopes.specs.Titles.{is_one_of}
+use Rattle.nested_components.specs.declared.stage.Stage.{Stage}
+use Rattle.nested_components.specs.declared.stage.Stage.TheVariants as stages
+use Rattle.nested_components.specs.Functions.{functions_of}
+use Rattle.nested_components.specs.Homes.{Home, IsHome, next_of, last_of, is_met, may_own_named, nested_setting, IsExporting}
+use Rattle.nested_components.specs.Types.{listed_ids}
+
+bytes_laws : IsEquivalence bytes_eq
+bytes_laws = search (comparing, rules)
+
+both : (a b : Bool) → (a && b) ≡ true → (a ≡ true) × (b ≡ true)
+both true b e = (refl, e)
+both false b e = absurd (true≢false (sym e))
+
+none_of : {X : Type 0} (o : Option X) → is_none o ≡ true → o ≡ None
+none_of None e = refl
+none_of (Some x) e = absurd (true≢false (sym e))
+
+not_true : (b : Bool) → not b ≡ true → b ≡ false
+not_true true e = absurd (true≢false (sym e))
+not_true false e = refl
+
+of_parts : (s : Setting) (n : ℕ) (k : TypeDefKind) (bs : List Bool) → not (is_resource k) ≡ true → list_all (λ b. b) bs ≡ true → may_define s n k bs ≡ true
+of_parts s n kinds.Resource bs values h = absurd (true≢false (sym values))
+of_parts s n k bs values h = h
+
+-- the owner is this interface
+is_owner : (here : InterfaceId) (owner : TypeOwner) → foreign (Some here) owner ≡ None → is_some (foreign None owner) ≡ true → owner ≡ owners.Interface here
+is_owner here (owners.World w) e some = absurd (true≢false (sym some))
+is_owner here owners.«None» e some = absurd (true≢false (sym some))
+is_owner here (owners.Interface i) e some = by (here.index == i.index) refl e
+  where
+    by : (b : Bool) → (here.index == i.index) ≡ b → (if b then None else Some i) ≡ None → owners.Interface i ≡ owners.Interface here
+    by true same e = ap (λ (n : ℕ). owners.Interface (record { index = n })) (sym ((Decides-eqb here.index i.index).0 same))
+    by false same e = cc
+
+module _ (origin : TypeId → Resource) (home : Home) (stage : Stage) where
+  abbrev s : Setting
+  s = nested_setting origin home stage
+
+  abbrev types : List TypeDef
+  types = home.types
+
+  abbrev test : Making Bool
+  test = each_passes (is_at_home types home.here)
+
+  -- a type of the interface is in the tables, or it may be defined
+  abbrev IsKnown : ℕ → Type 0
+  IsKnown n = owner_at types n ≡ owners.Interface home.here → (name : List ℕ) → name_at types n ≡ Some name → (is_met stage home (record { index = n }) || may_own_named (Some name) stage home n) ≡ true
+
+  -- so are all below this number
+  abbrev pub AreKnown : ℕ → Type 0
+  AreKnown k = (n : ℕ) → n < k → IsKnown n
+
+  owned : (n : ℕ) → IsKnown n → is_met stage home (record { index = n }) ≡ false → foreign (Some home.here) (owner_at types n) ≡ None → (o : Option (List ℕ)) → name_at types n ≡ o → (is_none o || is_some (foreign None (owner_at types n))) ≡ true →
+      may_own_named o stage home n ≡ true
+  owned n known unmet own None e h = refl
+  owned n known unmet own (Some name) e h =
+      subst (λ b. (b || may_own_named (Some name) stage home n) ≡ true) unmet (known (is_owner home.here (owner_at types n) own h) name e)
+
+  -- a type at home may be made of its parts
+  made : (n : ℕ) (k : TypeDefKind) (bs : List Bool) → IsKnown n → is_at_home types home.here n k ≡ true → list_all (λ b. b) bs ≡ true → may_have s n k bs ≡ true
+  made n k bs known e all = by (is_met stage home (record { index = n })) refl
+    where
+      by : (b : Bool) → is_met stage home (record { index = n }) ≡ b → (if b then true else may_make s n k bs (foreign (Some home.here) (owner_at types n))) ≡ true
+      by true met = refl
+      by false unmet =
+          let a = both (not (is_resource k)) (is_none (foreign (Some home.here) (owner_at types n)) && (is_none (name_at types n) || is_some (foreign None (owner_at types n)))) e in
+          let b = both (is_none (foreign (Some home.here) (owner_at types n))) (is_none (name_at types n) || is_some (foreign None (owner_at types n))) a.1 in
+          let own = none_of (foreign (Some home.here) (owner_at types n)) b.0 in
+          ap (may_make s n k bs) own
+          ∙ (ap (λ (may : Bool). may && may_define s n k bs) (owned n known unmet own (name_at types n) refl b.1) ∙ of_parts s n k bs a.0 all)
+
+  module _ (back : RefersBack types) where
+    abbrev passes : Option Ty → Bool
+    passes p = value test types p
+
+    -- the types below this number that pass may be encoded
+    abbrev AreAllowed : ℕ → Type 0
+    AreAllowed k = (j : TypeId) → j.index < k → passes (Some (Id j)) ≡ true → is_allowed s (Some (Id j)) ≡ true
+
+    -- a type that passes, and its parts
+    whole : (id : TypeId) → id.index < length types → passes (Some (Id id)) ≡ true →
+        (is_at_home types home.here id.index (kind_at types id.index) ≡ true) × (list_all (λ b. b) (part_values test types id.index) ≡ true)
+    whole id l e = both (is_at_home types home.here id.index (kind_at types id.index)) (list_all (λ b. b) (part_values test types id.index)) (sym (made_whole test types id.index back l) ∙ e)
+
+    each_part : (n : ℕ) → AreAllowed n → (p : Option Ty) → IsBelow n p → passes p ≡ true → is_allowed s p ≡ true
+    unfolding is_allowed
+    each_part n go None l e = refl
+    each_part n go (Some (Primitive p)) l e = refl
+    each_part n go (Some (Id j)) l e = go j l e
+
+    each_parts : (n : ℕ) → AreAllowed n → (ps : List (Option Ty)) → AllByRecursion (IsBelow n) ps → list_all (λ b. b) (map (part_value test (values test types)) ps) ≡ true → list_all (is_allowed s) ps ≡ true
+    each_parts n go [] l e = refl
+    each_parts n go (p ∷ ps) l e =
+        let b = both (passes p) (list_all (λ b. b) (map (part_value test (values test types)) ps)) e in
+        rw (each_part n go p l.0 b.0, each_parts n go ps l.1 b.1) refl
+
+    below : (k bound : ℕ) → k ≤ length types → AreKnown k → (id : TypeId) → id.index < bound → id.index < k → passes (Some (Id id)) ≡ true → is_allowed s (Some (Id id)) ≡ true
+    below k zero most known id l m e = absurd (omega (arith, l))
+    below k (suc bound) most known id l m e =
+        let within : id.index < length types = omega (arith, most, m) in
+        let kind = kind_at types id.index in
+        let w = whole id within e in
+        let inside = each_parts id.index (λ j n q. below k bound most known j (omega (arith, l, n)) (omega (arith, n, m)) q) (parts kind) (parts_below types id.index back within) w.1 in
+        allowed_of_id s id back within ∙ made id.index kind (map (is_allowed s) (parts kind)) (known id.index m) w.0 (list_all-map (λ b. b) (is_allowed s) (parts kind) ∙ inside)
+
+    -- a type at home may be made, once those of the interface below it are known
+    pub type_defined : (id : TypeId) → id.index < length types → AreKnown id.index → passes (Some (Id id)) ≡ true → IsDefinedHere s (kind_at types id.index)
+    type_defined id within known e =
+        let w = whole id within e in
+        record {
+          values = not_true (is_resource (kind_at types id.index)) (both (not (is_resource (kind_at types id.index))) (is_none (foreign (Some home.here) (owner_at types id.index)) && (is_none (name_at types id.index) || is_some (foreign None (owner_at types id.index)))) w.0).0;
+          allowed = each_parts id.index (λ j n q. below id.index id.index (omega (arith, within)) known j n n q) (parts (kind_at types id.index)) (parts_below types id.index back within) w.1;
+        }
+
+    part_allowed : AreKnown (length types) → (p : Option Ty) → IsBelow (length types) p → passes p ≡ true → is_allowed s p ≡ true
+    part_allowed known p l e = each_part (length types) (λ j n q. below (length types) (length types) (omega arith) known j n n q) p l e
+
+    params_allowed : AreKnown (length types) → (ps : List Param) → AllByRecursion (λ p. IsBelow (length types) (Some p.ty)) ps → list_all (λ (p : Param). passes (Some p.ty)) ps ≡ true → list_all (λ (p : Param). is_allowed s (Some p.ty)) ps ≡ true
+    params_allowed known [] l e = refl
+    params_allowed known (p ∷ ps) l e =
+        let b = both (passes (Some p.ty)) (list_all (λ (q : Param). passes (Some q.ty)) ps) e in
+        rw (part_allowed known (Some p.ty) l.0 b.0, params_allowed known ps l.1 b.1) refl
+
+    function_allowed : AreKnown (length types) → (r : Resolve) → r.types ≡ types → (f : Function) → HasFunction r f → function_passes (is_at_home types home.here) types f ≡ true → allows_function s f ≡ true
+    function_allowed known r same f has e =
+        let params = subst (λ ts. AllByRecursion (λ (p : Param). IsBelow (length ts) (Some p.ty)) f.params) same has.params in
+        let result = subst (λ ts. IsBelow (length ts) f.result) same has.result in
+        let b = both (list_all (λ (p : Param). passes (Some p.ty)) f.params) (passes f.result) e in
+        rw (params_allowed known f.params params b.0, part_allowed known f.result result b.1) refl
+
+    pub functions_allowed : AreKnown (length types) → (r : Resolve) → r.types ≡ types → (es : List (List ℕ × Function)) → AllByRecursion (λ e. HasFunction r e.1) es → AllByRecursion (λ e. function_passes (is_at_home types home.here) types e.1 ≡ true) es →
+        AllByRecursion (λ f. allows_function s f ≡ true) (functions_of es)
+    functions_allowed known r same [] has h = tt
+    functions_allowed known r same (e ∷ es) has h = (function_allowed known r same e.1 has.0 h.0, functions_allowed known r same es has.1 h.1)
+
+-- ---- which types are known
+
+within_owned : (here : InterfaceId) (types : List TypeDef) (n : ℕ) → owner_at types n ≡ owners.Interface here → n < length types
+within_owned here [] n e = cc
+within_owned here (t ∷ ts) zero e = omega arith
+within_owned here (t ∷ ts) (suc n) e = let l = within_owned here ts n e in omega (arith, l)
+
+one_of_listed : (named : List (List ℕ × TypeId)) (d t : List ℕ × TypeId) (k : ℕ) → k < length named → get_or named k d ≡ t → is_one_of (listed_ids named) t.1.index ≡ true
+one_of_listed [] d t k l e = absurd (omega (arith, l))
+one_of_listed (x ∷ xs) d t zero l e = ap (λ (n : ℕ). (t.1.index == n) || is_one_of (listed_ids xs) t.1.index) (ap (λ (y : List ℕ × TypeId). y.1.index) e) ∙ ap (λ b. b || is_one_of (listed_ids xs) t.1.index) ((Decides-eqb t.1.index t.1.index).1 refl)
+one_of_listed (x ∷ xs) d t (suc k) l e = either (t.1.index == x.1.index) (is_one_of (listed_ids xs) t.1.index) (one_of_listed xs d t k (omega (arith, l)) e)
+  where
+    either : (a b : Bool) → b ≡ true → (a || b) ≡ true
+    either true b h = refl
+    either false b h = h
+
+module _ (origin : TypeId → Resource) (home : Home) (known : IsHome home) where
+  -- while types are imported, each that is listed may be defined
+  pub known_importing : (stage : Stage) → stage ≡ stages.Importing → IsDistinct bytes_eq (keys_of home.named) → (k : ℕ) → AreKnown origin home stage k
+  known_importing stage importing apart k n l owner name title =
+      let id : TypeId = record { index = n } in
+      let found = lookup-from_Contains bytes_laws name id home.named apart (known.every.each n (within_owned home.here home.types n owner) owner name title) in
+      subst (λ (q : Stage). (is_met q home id || may_own_named (Some name) q home n) ≡ true) (sym importing)
+      (ap (λ (o : Option TypeId). elim o [ None ↦ false | Some i ↦ i.index == n ]) found ∙ (Decides-eqb n n).1 refl)
+
+  -- while there are exports, each is in the tables that was passed
+  pub known_exporting : (stage : Stage) → IsExporting stage → (k : ℕ) → ((n : ℕ) → n < k → is_one_of (listed_ids home.named) n ≡ true → n < next_of (last_of stage)) → AreKnown origin home stage k
+  known_exporting stage exporting k passed n l owner name title =
+      let id : TypeId = record { index = n } in
+      let c = known.every.each n (within_owned home.here home.types n owner) owner name title in
+      let there = one_of_listed home.named (name, id) (name, id) c.0 c.1 c.2 in
+      let before = subst (λ (q : Stage). n < next_of (last_of q)) exporting.same (passed n l there) in
+      subst (λ (q : Stage). (is_met q home id || may_own_named (Some name) q home n) ≡ true) (sym exporting.same)
+      (rw (lt-ltb n (next_of exporting.last) before, there) refl)

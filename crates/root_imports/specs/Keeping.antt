@@ -1,0 +1,17 @@
+-- The root while its steps add to it. (The rules are this project's own.)
+use Rattle.std.specs.Prelude.{◌≡◌}
+use Rattle.comp_items.specs.Items.{Extends}
+use Rattle.comp_worlds.specs.declared.world.ComponentWorld.{ComponentWorld}
+use Rattle.root_imports.specs.RootScopes.{AreTablesRight}
+use Rattle.root_imports.specs.declared.root_scope.RootScope.{RootScope}
+
+abbrev pub Root : Type 0
+Root = RootScope ComponentWorld
+
+-- the root after a step: the tables are right, and the component has only grown at its end
+pub record RootKept (w : ComponentWorld) (old new : Root) : Type 0 where
+  pub world : new.world ≡ old.world
+  pub next : new.last_type ≡ old.last_type
+  pub instances : new.instances ≡ old.instances
+  pub extends : Extends old.items new.items
+  pub tables : AreTablesRight w old.last_type new.instances new.items.defs new.maps

@@ -1,0 +1,48 @@
+-- Where types are at home: which interfaces may be made of them. (This project's own.)
+use Rattle.std.specs.Prelude.{ℕ, ◌≡◌, ◌==◌, ◌&&◌, Bool, true, false, not, List, get_or, Option, Some, None, is_none}
+use Rattle.std.specs.List.{list_all}
+use Rattle.wit_data.specs.declared.ids.InterfaceId.{InterfaceId}
+use Rattle.wit_data.specs.declared.types.Type.{«Type» as Ty}
+use Rattle.wit_data.specs.declared.types.Type.TheVariants.{Primitive, Id}
+use Rattle.wit_data.specs.declared.types.TypeDef.{TypeDef}
+use Rattle.wit_data.specs.Parts.{parts}
+use Rattle.wit_data.specs.Values.{kind_at}
+use Rattle.comp_worlds.specs.Encodable.{is_resource_kind, is_of_interface, stays_in}
+use Rattle.comp_worlds.specs.WorldContents.{interface_of_owner}
+use Rattle.supported_worlds.specs.declared.homes.Home.{Home}
+use Rattle.supported_worlds.specs.declared.homes.Home.TheVariants as homes
+
+-- whether an interface may be made of types of a home
+abbrev pub fits : InterfaceId → Home → Bool
+fits here homes.Anywhere = true
+fits here (homes.Interface id) = here.index == id.index
+fits here homes.Nowhere = false
+
+-- what a table of homes has for a part of a type
+abbrev pub home_at : List Home → Option Ty → Home
+home_at all None = homes.Anywhere
+home_at all (Some (Primitive p)) = homes.Anywhere
+home_at all (Some (Id id)) = get_or all id.index homes.Anywhere
+
+-- the home of two types together: an interface may be made of both
+pub record AreJoined (one other home : Home) : Type 0 where
+  pub each : (here : InterfaceId) → fits here home ≡ (fits here one && fits here other)
+
+-- the home of a type, whatever its parts are
+abbrev pub is_own : InterfaceId → TypeDef → Bool
+is_own here t = not (is_resource_kind t.kind) && elim (interface_of_owner t.owner) [ Some id ↦ here.index == id.index | None ↦ is_none t.name ]
+
+pub record IsOwnHome (t : TypeDef) (home : Home) : Type 0 where
+  pub each : (here : InterfaceId) → fits here home ≡ is_own here t
+
+-- the home of all these parts
+pub record IsHomeOfParts (all : List Home) (ps : List (Option Ty)) (home : Home) : Type 0 where
+  pub each : (here : InterfaceId) → fits here home ≡ list_all (λ p. fits here (home_at all p)) ps
+
+-- the home of the type of this number, by those of the types before it
+pub record IsNextHome (types : List TypeDef) (all : List Home) (n : ℕ) (home : Home) : Type 0 where
+  pub each : (here : InterfaceId) → fits here home ≡ (is_of_interface types here n (kind_at types n) && list_all (λ p. fits here (home_at all p)) (parts (kind_at types n)))
+
+-- the table has the homes of these types: an interface may be made of those that stay in it
+pub record AreHomes (types : List TypeDef) (all : List Home) : Type 0 where
+  pub each : (here : InterfaceId) (p : Option Ty) → fits here (home_at all p) ≡ stays_in types here p

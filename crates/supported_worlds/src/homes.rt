@@ -1,0 +1,140 @@
+//! Where the types of a resolve are at home: in one interface, in any, or in none.
+//!
+//! The table is made once for a world, from the first type on, since types name earlier types alone. Whether an exported interface
+//! is made of types that are at home in it is then one look-up a type that it names.
+
+ghost use Rattle.std.specs.Prelude.{◌≡◌, ◌<◌, Some, length, IfOk};
+ghost use Rattle.std.specs.List.{list_all};
+ghost use Rattle.wit_data.specs.Parts.{parts, RefersBack};
+ghost use Rattle.wit_data.specs.Values.{kind_at};
+ghost use Rattle.supported_worlds.specs.Homes.{fits, home_at, AreJoined, IsOwnHome, IsHomeOfParts, IsNextHome, AreHomes};
+
+use crate::resources::is_resource;
+use std::alloc::{AllocError, Global};
+use wit_data::{InterfaceId, Type, TypeDef, TypeOwner, part_count_of, part_of};
+
+/// Which interfaces may be made of a type.
+#[derive(Clone, Copy)]
+pub(crate) enum Home {
+    /// Any: the type has no name, and belongs to no interface.
+    Anywhere,
+    /// This one, to which the type belongs, or a part of it.
+    Interface(InterfaceId),
+    /// None: a resource, a type of the world, or one with parts of two interfaces.
+    Nowhere,
+}
+
+/// Whether an interface may be made of types of this home.
+pub(crate) fn fits(here: InterfaceId, home: Home) -> bool
+    ensures { result ≡ fits here home }
+{
+    match home {
+        Home::Anywhere => true,
+        Home::Interface(id) => here.index == id.index,
+        Home::Nowhere => false,
+    }
+}
+
+/// The home of two types together.
+#[tactic(auto, using(crate::proofs::AtHome::with_anywhere, crate::proofs::AtHome::with_nowhere, crate::proofs::AtHome::both_nowhere, crate::proofs::AtHome::both_anywhere, crate::proofs::AtHome::one_interface, crate::proofs::AtHome::two_interfaces))]
+fn joined(one: Home, other: Home) -> Home
+    ensures { AreJoined one other result }
+{
+    match (one, other) {
+        (Home::Anywhere, _) => other,
+        (Home::Nowhere, _) => Home::Nowhere,
+        (Home::Interface(_), Home::Anywhere) => one,
+        (Home::Interface(_), Home::Nowhere) => Home::Nowhere,
+        (Home::Interface(a), Home::Interface(b)) => {
+            if a.index == b.index {
+                one
+            } else {
+                Home::Nowhere
+            }
+        }
+    }
+}
+
+/// The home of a part of a type, by those of all earlier types.
+#[tactic(auto, using(crate::proofs::AtHome::some_home, crate::proofs::AtHome::no_home))]
+fn home_at(homes: &[Home], part: Option<Type>) -> Home
+    ensures { result ≡ home_at homes.now part }
+{
+    match part {
+        None => Home::Anywhere,
+        Some(Type::Primitive(_)) => Home::Anywhere,
+        Some(Type::Id(id)) => match homes.get(id.index) {
+            Some(home) => *home,
+            None => Home::Anywhere,
+        },
+    }
+}
+
+/// Whether these types are at home in an interface.
+pub(crate) fn are_at_home(homes: &[Home], here: InterfaceId, types: &[Type]) -> bool
+    ensures { result ≡ list_all (λ t. fits here (home_at homes.now (Some t))) types.now }
+{
+    for ty in types {
+        if !fits(here, home_at(homes, Some(*ty))) {
+            return false;
+        }
+    }
+    true
+}
+
+/// The home of all parts of the type with an index.
+#[tactic(auto, using(crate::proofs::AtHome::parts_start, crate::proofs::AtHome::parts_step, crate::proofs::AtHome::parts_end))]
+fn home_of_parts(types: &[TypeDef], homes: &[Home], id: usize) -> Home
+    requires back { RefersBack types.now }
+    requires present { id < length types.now }
+    ensures { IsHomeOfParts homes.now (parts (kind_at types.now id)) result }
+{
+    let mut all = Home::Anywhere;
+    for n in 0..part_count_of(types, id) {
+        let home = home_at(homes, part_of(types, id, n));
+        all = joined(all, home);
+    }
+    all
+}
+
+/// The home of a type, whatever its parts are.
+#[tactic(auto, using(crate::proofs::AtHome::of_resource, crate::proofs::AtHome::of_interface, crate::proofs::AtHome::of_world, crate::proofs::AtHome::unnamed))]
+fn own_home(def: &TypeDef) -> Home
+    ensures { IsOwnHome def.now result }
+{
+    if is_resource(def) {
+        return Home::Nowhere;
+    }
+    match (def.owner, &def.name) {
+        (TypeOwner::Interface(id), _) => Home::Interface(id),
+        (_, Some(_)) => Home::Nowhere,
+        (_, None) => Home::Anywhere,
+    }
+}
+
+/// The home of the type with an index, by those of all earlier types.
+#[tactic(auto, using(crate::proofs::AtHome::next_home_is))]
+fn next_home(types: &[TypeDef], homes: &[Home], id: usize) -> Home
+    requires back { RefersBack types.now }
+    requires present { id < length types.now }
+    ensures { IsNextHome types.now homes.now id result }
+{
+    let own = own_home(&types[id]);
+    let parts = home_of_parts(types, homes, id);
+    let home = joined(own, parts);
+    home
+}
+
+/// The homes of all types. The time is linear in the number of the types and of their parts.
+#[tactic(auto, using(crate::proofs::AtHome::homes_start, crate::proofs::AtHome::homes_step, crate::proofs::AtHome::homes_end))]
+pub(crate) fn type_homes(alloc: Global, types: &[TypeDef]) -> Result<Vec<Home>, AllocError>
+    requires { RefersBack types.now }
+    ensures { IfOk result (λ homes. AreHomes types.now homes.items) }
+{
+    let mut homes = Vec::new(alloc);
+    for n in 0..types.len() {
+        let home = next_home(types, homes.as_slice(), n);
+        homes.push(home)?;
+    }
+    Ok(homes)
+}
