@@ -56,4 +56,19 @@ def interfaces_with_a_function(count):
     return exporting([f"a:b/{name}#f" for name in names]), record, world, interfaces
 
 
-table(*sys.argv[1:], [exported_functions, functions_of_an_interface, interfaces_with_a_function])
+def types_of_an_interface(count):
+    """Each function of the interface takes a record of its own."""
+    names = [f"g{n}" for n in range(count)]
+    types = [{"name": f"t{n}", "type": {"record": [["s", "string"]]}} for n in range(count)]
+    functions = [{"name": name, "params": [["a", {"ref": [0, f"t{n}"]}]]} for n, name in enumerate(names)]
+    record = {
+        **IMPORTED,
+        "interfaces": [{"id": "a:b/i", "types": types, "functions": functions}],
+        "exports": [{"interface": 0}],
+        "core-exports": MEMORY + [{"field": f"a:b/i#{name}", "role": ["interface-func", 0, name, "sync"]} for name in names],
+    }
+    texts = "".join(f"record t{n} {{ s: string }}\n{name}: func(a: t{n});\n" for n, name in enumerate(names))
+    return exporting([f"a:b/i#{name}" for name in names]), record, IMPORT + "export i;", f"interface i {{\n{texts}}}\n"
+
+
+table(*sys.argv[1:], [exported_functions, functions_of_an_interface, interfaces_with_a_function, types_of_an_interface])
