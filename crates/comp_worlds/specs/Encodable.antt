@@ -1,7 +1,7 @@
 -- What the encoder takes of a validated world, beside what holds of every one: that its numbers refer to something, and
 -- where it finds the types of which its functions are made (component model, WIT: types, resources, interfaces, `use`).
-use Rattle.std.specs.Prelude.{◌≡◌, ◌≤◌, ◌<◌, ◌==◌, ◌&&◌, ℕ, suc, Bool, true, false, not, List, [], ◌∷◌, length, map, Option, Some, None, IsSome, is_none, Contains, if◌then◌else◌}
-use Rattle.std.specs.List.{AllByRecursion, IsDistinct, list_all}
+use Rattle.std.specs.Prelude.{◌≡◌, ◌≤◌, ◌<◌, ◌==◌, ◌&&◌, ◌||◌, ℕ, suc, Bool, true, false, not, List, [], ◌∷◌, length, map, Option, Some, None, IsSome, is_none, is_some, Contains, if◌then◌else◌}
+use Rattle.std.specs.List.{AllByRecursion, IsDistinct, list_all, list_any}
 use Rattle.comp_lists.specs.Found.{found}
 use Rattle.wit_data.specs.declared.functions.Function.{Function}
 use Rattle.wit_data.specs.declared.ids.InterfaceId.{InterfaceId}
@@ -12,6 +12,7 @@ use Rattle.wit_data.specs.declared.types.Type.TheVariants.{Id}
 use Rattle.wit_data.specs.declared.types.TypeDef.{TypeDef}
 use Rattle.wit_data.specs.declared.types.TypeDefKind.{TypeDefKind}
 use Rattle.wit_data.specs.declared.types.TypeDefKind.TheVariants as kinds
+use Rattle.wit_data.specs.declared.worlds.World.{World}
 use Rattle.wit_data.specs.declared.worlds.WorldItem.{WorldItem}
 use Rattle.wit_data.specs.declared.worlds.WorldItem.TheVariants as items
 use Rattle.wit_data.specs.declared.worlds.WorldKey.{WorldKey}
@@ -116,28 +117,36 @@ abbrev pub is_resource_kind : TypeDefKind → Bool
 is_resource_kind kinds.Resource = true
 is_resource_kind kind = false
 
--- whether a type is no resource, and belongs to this interface, or to none and has no name
-abbrev pub is_of_interface : List TypeDef → InterfaceId → ℕ → TypeDefKind → Bool
-is_of_interface types here n kind = not (is_resource_kind kind) && elim (interface_at types n) [ Some id ↦ here.index == id.index | None ↦ is_none (name_at types n) ]
+-- whether exported interfaces may use the types of an interface: it is imported, and not exported too
+abbrev pub is_lent : World → InterfaceId → Bool
+is_lent world id = list_any (same_interface id) (interfaces_of world.imports) && not (list_any (same_interface id) (interfaces_of world.exports))
+
+-- Whether a type is no resource, and belongs to this interface, or under a name to another one whose types exported interfaces may
+-- use, or to none and has no name.
+abbrev pub is_of_interface : List TypeDef → (InterfaceId → Bool) → InterfaceId → ℕ → TypeDefKind → Bool
+is_of_interface types lent here n kind = not (is_resource_kind kind) && elim (interface_at types n) [
+  | Some id ↦ here.index == id.index || (lent id && is_some (name_at types n))
+  | None ↦ is_none (name_at types n)
+]
 
 -- and so is all that it is made of
-abbrev pub staying_in : List TypeDef → InterfaceId → Making Bool
-staying_in types here = record { absent = true; simple = λ p. true; made = λ n kind parts. is_of_interface types here n kind && list_all (λ b. b) parts }
+abbrev pub staying_in : List TypeDef → (InterfaceId → Bool) → InterfaceId → Making Bool
+staying_in types lent here = record { absent = true; simple = λ p. true; made = λ n kind parts. is_of_interface types lent here n kind && list_all (λ b. b) parts }
 
-abbrev pub stays_in : List TypeDef → InterfaceId → Option Ty → Bool
-stays_in types here part = value (staying_in types here) types part
+abbrev pub stays_in : List TypeDef → (InterfaceId → Bool) → InterfaceId → Option Ty → Bool
+stays_in types lent here part = value (staying_in types lent here) types part
 
--- an exported interface lists types of its own, in the order of the resolve; they and its functions are made of these and of
--- types without names alone, and none is a resource
-pub record IsExportedPlaced (r : Resolve) (id : InterfaceId) : Type 0 where
+-- an exported interface lists types of its own, in the order of the resolve; they and its functions are made of these, of named types
+-- of interfaces that are only imported, and of types without names, and none is a resource
+pub record IsExportedPlaced (r : Resolve) (world : World) (id : InterfaceId) : Type 0 where
   pub own : AllByRecursion (IsOwnType r.types id) (named_types r id)
   pub ordered : AscendFrom 0 (map (λ t. t.1.index) (named_types r id))
-  pub closed : AllByRecursion (λ t. stays_in r.types id (Some t) ≡ true) (interface_types r id)
+  pub closed : AllByRecursion (λ t. stays_in r.types (is_lent world) id (Some t) ≡ true) (interface_types r id)
 
 -- another export is like an import
-abbrev pub IsExportPlaced : Resolve → Entries → WorldItem → Type 0
-IsExportPlaced r es (items.Interface id) = IsExportedPlaced r id
-IsExportPlaced r es item = IsItemPlaced r es item
+abbrev pub IsExportPlaced : Resolve → World → WorldItem → Type 0
+IsExportPlaced r world (items.Interface id) = IsExportedPlaced r world id
+IsExportPlaced r world item = IsItemPlaced r world.imports item
 
 -- a resource whose handles are dropped belongs to an imported interface, or to the root
 abbrev pub IsRolePlaced : Resolve → Entries → Import → Type 0
@@ -155,5 +164,5 @@ pub record IsEncodable (w : ComponentWorld) : Type 0 where
   pub apart : IsDistinct same_interface (interfaces_of (items_of w).imports)
   pub types : (n : ℕ) → n < length w.resolve.types → IsTypePlaced w.resolve (items_of w).imports n
   pub imports : AllByRecursion (λ e. IsItemPlaced w.resolve (items_of w).imports e.1) (items_of w).imports
-  pub exports : AllByRecursion (λ e. IsExportPlaced w.resolve (items_of w).imports e.1) (items_of w).exports
+  pub exports : AllByRecursion (λ e. IsExportPlaced w.resolve (items_of w) e.1) (items_of w).exports
   pub roles : AllByRecursion (λ i. IsRolePlaced w.resolve (items_of w).imports i.role) (core_imports w)

@@ -47,20 +47,31 @@ pub record IsExportedFunction (w : ComponentWorld) (interface : Option Interface
   pub exported : function_exported w key name ≡ Some f
   pub of : interface_of_item (exported_item w key) ≡ interface
 
--- an interface that is exported, and a type that it lists
+-- an interface that is exported
 pub record IsExportedInterface (w : ComponentWorld) (interface : InterfaceId) : Type 0 where
   pub key : WorldKey
   pub of : exported_item w key ≡ Some (items.Interface interface)
 
-pub record IsExportedType (w : ComponentWorld) (interface : InterfaceId) (t : TypeId) : Type 0 where
-  pub exported : IsExportedInterface w interface
-  pub listed : Contains (map (λ e. e.1) (named_types w.resolve interface)) t
+-- a type that exported interfaces may use, of an interface that is only imported: a component needs it
+abbrev pub is_lent_type : ComponentWorld → ℕ → Bool
+is_lent_type w n = elim (interface_at w.resolve.types n) [
+  | Some other ↦ is_lent (items_of w) other && is_one_of (needed_types w other) n
+  | None ↦ false
+]
 
--- the scope of an exported interface, in which every type may be defined
+-- a type of an interface that has a name, of which this exported interface may be made
+pub record IsUsableType (w : ComponentWorld) (interface : InterfaceId) (t : TypeId) : Type 0 where
+  pub exported : IsExportedInterface w interface
+  pub within : t.index < length w.resolve.types
+  pub named : IsSome (name_at w.resolve.types t.index)
+  pub passes : value (each_passes (is_at_home w.resolve.types (is_lent_type w) interface)) w.resolve.types (Some (Id t)) ≡ true
+
+-- the scope of an exported interface, in which every type may be defined, and each type imported that an imported interface needs
 pub record IsInterfaceScope (w : ComponentWorld) (id : InterfaceId) (s : Setting) : Type 0 where
   pub types : s.types ≡ w.resolve.types
   pub interface : s.interface ≡ Some id
   pub own : (n : ℕ) → s.may_own n ≡ true
+  pub imports : (other : InterfaceId) (t : TypeId) → IsNeeded w other t → s.may_import other t ≡ true
 
 -- a type that the world imports, made of types of imported interfaces and of the root
 pub record IsWorldType (w : ComponentWorld) (id : TypeId) : Type 0 where
