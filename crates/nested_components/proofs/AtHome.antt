@@ -1,4 +1,5 @@
--- What is made of types of an interface, and of types without names, may be encoded in its nested component.
+-- What is made of types of an interface, of types without names, and of types of other interfaces that were imported may be encoded in
+-- its nested component.
 use Rattle.std.proofs.Common.{◌≡◌, ◌∙◌, ◌<◌, ◌≤◌, ◌==◌, ◌&&◌, ◌||◌, not, arith, ℕ, zero, suc, Bool, true, false, true≢false, List, [], ◌∷◌, length, map, get_or, refl, ap, sym, subst, Option, Some, None, is_none, is_some, if◌then◌else◌, lt-ltb, rules}
 use Rattle.std.specs.List.{AllByRecursion, IsDistinct, list_all}
 use Rattle.std.specs.Map.{keys_of}
@@ -30,10 +31,12 @@ use Rattle.wit_types.specs.Allowing.{foreign, is_resource, may_define, may_make,
 use Rattle.wit_types.proofs.Permitting.{allowed_of_id}
 use Rattle.type_scopes.specs.Needs.{each_passes, function_passes, is_at_home}
 use Rattle.type_scopes.specs.Titles.{is_one_of}
+use Rattle.foreign_types.specs.Foreign.{is_covered, is_parts_covered, is_function_covered}
+use Rattle.foreign_types.proofs.Covering.{listed_other, parts_of_own}
 use Rattle.nested_components.specs.declared.stage.Stage.{Stage}
 use Rattle.nested_components.specs.declared.stage.Stage.TheVariants as stages
 use Rattle.nested_components.specs.Functions.{functions_of}
-use Rattle.nested_components.specs.Homes.{Home, IsHome, next_of, last_of, is_met, may_own_named, nested_setting, IsExporting}
+use Rattle.nested_components.specs.Homes.{Home, IsHome, next_of, last_of, is_passed, is_met, is_listed, may_own_named, nested_setting, IsExporting}
 use Rattle.nested_components.specs.Types.{listed_ids}
 
 bytes_laws : IsEquivalence bytes_eq
@@ -65,7 +68,7 @@ is_owner here (owners.Interface i) e some = by (here.index == i.index) refl e
     by true same e = ap (λ (n : ℕ). owners.Interface (record { index = n })) (sym ((Decides-eqb here.index i.index).0 same))
     by false same e = cc
 
-module _ (origin : TypeId → Resource) (home : Home) (stage : Stage) where
+module _ (origin : TypeId → Resource) (lent : ℕ → Bool) (home : Home) (stage : Stage) where
   abbrev s : Setting
   s = nested_setting origin home stage
 
@@ -73,10 +76,21 @@ module _ (origin : TypeId → Resource) (home : Home) (stage : Stage) where
   types = home.types
 
   abbrev test : Making Bool
-  test = each_passes (is_at_home types home.here)
+  test = each_passes (is_at_home types lent home.here)
+
+  abbrev covers : Option Ty → Bool
+  covers p = is_covered types home.here home.foreign p
+
+  -- a type of another interface that was imported is in the tables
+  met_foreign : (id : TypeId) → is_one_of home.foreign id.index ≡ true → is_met stage home id ≡ true
+  met_foreign id e = of stage
+    where
+      of : (q : Stage) → is_met q home id ≡ true
+      of stages.Importing = e
+      of (stages.Exporting last) = ap (λ b. b || is_passed home last id) e
 
   -- a type of the interface is in the tables, or it may be defined
-  abbrev IsKnown : ℕ → Type 0
+  IsKnown : ℕ → Type 0
   IsKnown n = owner_at types n ≡ owners.Interface home.here → (name : List ℕ) → name_at types n ≡ Some name → (is_met stage home (record { index = n }) || may_own_named (Some name) stage home n) ≡ true
 
   -- so are all below this number
@@ -89,82 +103,116 @@ module _ (origin : TypeId → Resource) (home : Home) (stage : Stage) where
   owned n known unmet own (Some name) e h =
       subst (λ b. (b || may_own_named (Some name) stage home n) ≡ true) unmet (known (is_owner home.here (owner_at types n) own h) name e)
 
-  -- a type at home may be made of its parts
-  made : (n : ℕ) (k : TypeDefKind) (bs : List Bool) → IsKnown n → is_at_home types home.here n k ≡ true → list_all (λ b. b) bs ≡ true → may_have s n k bs ≡ true
-  made n k bs known e all = by (is_met stage home (record { index = n })) refl
+  -- what is known of a type at home that no other interface owns
+  titled_own : (n : ℕ) (k : TypeDefKind) → is_at_home types lent home.here n k ≡ true → foreign (Some home.here) (owner_at types n) ≡ None → (not (is_resource k) ≡ true) × ((is_none (name_at types n) || is_some (foreign None (owner_at types n))) ≡ true)
+  titled_own n k e own =
+      let other : Option InterfaceId → Bool = λ o. elim o [ Some other ↦ lent n && is_some (name_at types n) | None ↦ is_none (name_at types n) || is_some (foreign None (owner_at types n)) ] in
+      let a = both (not (is_resource k)) (other (foreign (Some home.here) (owner_at types n))) e in
+      (a.0, ap other (sym own) ∙ a.1)
+
+  -- a type at home that no other interface owns may be made of its parts
+  made : (n : ℕ) (k : TypeDefKind) (bs : List Bool) → IsKnown n → is_at_home types lent home.here n k ≡ true → foreign (Some home.here) (owner_at types n) ≡ None → list_all (λ b. b) bs ≡ true → may_have s n k bs ≡ true
+  made n k bs known e own all = by (is_met stage home (record { index = n })) refl
     where
       by : (b : Bool) → is_met stage home (record { index = n }) ≡ b → (if b then true else may_make s n k bs (foreign (Some home.here) (owner_at types n))) ≡ true
       by true met = refl
       by false unmet =
-          let a = both (not (is_resource k)) (is_none (foreign (Some home.here) (owner_at types n)) && (is_none (name_at types n) || is_some (foreign None (owner_at types n)))) e in
-          let b = both (is_none (foreign (Some home.here) (owner_at types n))) (is_none (name_at types n) || is_some (foreign None (owner_at types n))) a.1 in
-          let own = none_of (foreign (Some home.here) (owner_at types n)) b.0 in
+          let a = titled_own n k e own in
           ap (may_make s n k bs) own
-          ∙ (ap (λ (may : Bool). may && may_define s n k bs) (owned n known unmet own (name_at types n) refl b.1) ∙ of_parts s n k bs a.0 all)
+          ∙ (ap (λ (may : Bool). may && may_define s n k bs) (owned n known unmet own (name_at types n) refl a.1) ∙ of_parts s n k bs a.0 all)
 
   module _ (back : RefersBack types) where
     abbrev passes : Option Ty → Bool
     passes p = value test types p
 
-    -- the types below this number that pass may be encoded
+    -- the types below this number that pass and are covered may be encoded
     abbrev AreAllowed : ℕ → Type 0
-    AreAllowed k = (j : TypeId) → j.index < k → passes (Some (Id j)) ≡ true → is_allowed s (Some (Id j)) ≡ true
+    AreAllowed k = (j : TypeId) → j.index < k → passes (Some (Id j)) ≡ true → covers (Some (Id j)) ≡ true → is_allowed s (Some (Id j)) ≡ true
 
     -- a type that passes, and its parts
     whole : (id : TypeId) → id.index < length types → passes (Some (Id id)) ≡ true →
-        (is_at_home types home.here id.index (kind_at types id.index) ≡ true) × (list_all (λ b. b) (part_values test types id.index) ≡ true)
-    whole id l e = both (is_at_home types home.here id.index (kind_at types id.index)) (list_all (λ b. b) (part_values test types id.index)) (sym (made_whole test types id.index back l) ∙ e)
+        (is_at_home types lent home.here id.index (kind_at types id.index) ≡ true) × (list_all (λ b. b) (part_values test types id.index) ≡ true)
+    whole id l e = both (is_at_home types lent home.here id.index (kind_at types id.index)) (list_all (λ b. b) (part_values test types id.index)) (sym (made_whole test types id.index back l) ∙ e)
 
-    each_part : (n : ℕ) → AreAllowed n → (p : Option Ty) → IsBelow n p → passes p ≡ true → is_allowed s p ≡ true
+    each_part : (n : ℕ) → AreAllowed n → (p : Option Ty) → IsBelow n p → passes p ≡ true → covers p ≡ true → is_allowed s p ≡ true
     unfolding is_allowed
-    each_part n go None l e = refl
-    each_part n go (Some (Primitive p)) l e = refl
-    each_part n go (Some (Id j)) l e = go j l e
+    each_part n go None l e c = refl
+    each_part n go (Some (Primitive p)) l e c = refl
+    each_part n go (Some (Id j)) l e c = go j l e c
 
-    each_parts : (n : ℕ) → AreAllowed n → (ps : List (Option Ty)) → AllByRecursion (IsBelow n) ps → list_all (λ b. b) (map (part_value test (values test types)) ps) ≡ true → list_all (is_allowed s) ps ≡ true
-    each_parts n go [] l e = refl
-    each_parts n go (p ∷ ps) l e =
+    each_parts : (n : ℕ) → AreAllowed n → (ps : List (Option Ty)) → AllByRecursion (IsBelow n) ps → list_all (λ b. b) (map (part_value test (values test types)) ps) ≡ true → list_all covers ps ≡ true → list_all (is_allowed s) ps ≡ true
+    each_parts n go [] l e c = refl
+    each_parts n go (p ∷ ps) l e c =
         let b = both (passes p) (list_all (λ b. b) (map (part_value test (values test types)) ps)) e in
-        rw (each_part n go p l.0 b.0, each_parts n go ps l.1 b.1) refl
+        let d = both (covers p) (list_all covers ps) c in
+        rw (each_part n go p l.0 b.0 d.0, each_parts n go ps l.1 b.1 d.1) refl
 
-    below : (k bound : ℕ) → k ≤ length types → AreKnown k → (id : TypeId) → id.index < bound → id.index < k → passes (Some (Id id)) ≡ true → is_allowed s (Some (Id id)) ≡ true
-    below k zero most known id l m e = absurd (omega (arith, l))
-    below k (suc bound) most known id l m e =
-        let within : id.index < length types = omega (arith, most, m) in
-        let kind = kind_at types id.index in
-        let w = whole id within e in
-        let inside = each_parts id.index (λ j n q. below k bound most known j (omega (arith, l, n)) (omega (arith, n, m)) q) (parts kind) (parts_below types id.index back within) w.1 in
-        allowed_of_id s id back within ∙ made id.index kind (map (is_allowed s) (parts kind)) (known id.index m) w.0 (list_all-map (λ b. b) (is_allowed s) (parts kind) ∙ inside)
+    -- a type of another interface that was imported needs no permission
+    allowed_foreign : (id : TypeId) → id.index < length types → is_one_of home.foreign id.index ≡ true → is_allowed s (Some (Id id)) ≡ true
+    allowed_foreign id within one =
+        allowed_of_id s id back within ∙ ap (λ b. if b then true else may_make s id.index (kind_at types id.index) (map (is_allowed s) (parts (kind_at types id.index))) (foreign (Some home.here) (owner_at types id.index))) (met_foreign id one)
 
-    -- a type at home may be made, once those of the interface below it are known
-    pub type_defined : (id : TypeId) → id.index < length types → AreKnown id.index → passes (Some (Id id)) ≡ true → IsDefinedHere s (kind_at types id.index)
-    type_defined id within known e =
+    below : (k bound : ℕ) → k ≤ length types → AreKnown k → (id : TypeId) → id.index < bound → id.index < k → passes (Some (Id id)) ≡ true → covers (Some (Id id)) ≡ true → is_allowed s (Some (Id id)) ≡ true
+    below k zero most known id l m e c = absurd (omega (arith, l))
+    below k (suc bound) most known id l m e c = by (foreign (Some home.here) (owner_at types id.index)) refl
+      where
+        within : id.index < length types
+        within = omega (arith, most, m)
+
+        kind : TypeDefKind
+        kind = kind_at types id.index
+
+        by : (o : Option InterfaceId) → foreign (Some home.here) (owner_at types id.index) ≡ o → is_allowed s (Some (Id id)) ≡ true
+        by (Some other) owner = allowed_foreign id within (listed_other types home.here back home.foreign id other within owner c)
+        by None owner =
+            let w = whole id within e in
+            let inside = each_parts id.index (λ j n q d. below k bound most known j (omega (arith, l, n)) (omega (arith, n, m)) q d) (parts kind) (parts_below types id.index back within) w.1 (parts_of_own types home.here back home.foreign id within owner c) in
+            allowed_of_id s id back within ∙ made id.index kind (map (is_allowed s) (parts kind)) (known id.index m) w.0 owner (list_all-map (λ b. b) (is_allowed s) (parts kind) ∙ inside)
+
+    -- a type at home may be made, once those of the interface below it are known, and those of others that are met in it were imported
+    pub type_defined : (id : TypeId) → id.index < length types → AreKnown id.index → passes (Some (Id id)) ≡ true → is_parts_covered types home.here home.foreign id.index ≡ true → IsDefinedHere s (kind_at types id.index)
+    type_defined id within known e c =
         let w = whole id within e in
+        let other : Bool = elim (foreign (Some home.here) (owner_at types id.index)) [
+          | Some other ↦ lent id.index && is_some (name_at types id.index)
+          | None ↦ is_none (name_at types id.index) || is_some (foreign None (owner_at types id.index))
+        ] in
         record {
-          values = not_true (is_resource (kind_at types id.index)) (both (not (is_resource (kind_at types id.index))) (is_none (foreign (Some home.here) (owner_at types id.index)) && (is_none (name_at types id.index) || is_some (foreign None (owner_at types id.index)))) w.0).0;
-          allowed = each_parts id.index (λ j n q. below id.index id.index (omega (arith, within)) known j n n q) (parts (kind_at types id.index)) (parts_below types id.index back within) w.1;
+          values = not_true (is_resource (kind_at types id.index)) (both (not (is_resource (kind_at types id.index))) other w.0).0;
+          allowed = each_parts id.index (λ j n q d. below id.index id.index (omega (arith, within)) known j n n q d) (parts (kind_at types id.index)) (parts_below types id.index back within) w.1 c;
         }
 
-    part_allowed : AreKnown (length types) → (p : Option Ty) → IsBelow (length types) p → passes p ≡ true → is_allowed s p ≡ true
-    part_allowed known p l e = each_part (length types) (λ j n q. below (length types) (length types) (omega arith) known j n n q) p l e
+    -- a type of another interface that is at home has a name
+    pub foreign_named : (id : TypeId) (other : InterfaceId) → id.index < length types → passes (Some (Id id)) ≡ true → foreign (Some home.here) (owner_at types id.index) ≡ Some other → is_some (name_at types id.index) ≡ true
+    foreign_named id other within e owner =
+        let by : Option InterfaceId → Bool = λ o. elim o [ Some other ↦ lent id.index && is_some (name_at types id.index) | None ↦ is_none (name_at types id.index) || is_some (foreign None (owner_at types id.index)) ] in
+        let a = both (not (is_resource (kind_at types id.index))) (by (foreign (Some home.here) (owner_at types id.index))) (whole id within e).0 in
+        (both (lent id.index) (is_some (name_at types id.index)) (ap by (sym owner) ∙ a.1)).1
 
-    params_allowed : AreKnown (length types) → (ps : List Param) → AllByRecursion (λ p. IsBelow (length types) (Some p.ty)) ps → list_all (λ (p : Param). passes (Some p.ty)) ps ≡ true → list_all (λ (p : Param). is_allowed s (Some p.ty)) ps ≡ true
-    params_allowed known [] l e = refl
-    params_allowed known (p ∷ ps) l e =
+    part_allowed : AreKnown (length types) → (p : Option Ty) → IsBelow (length types) p → passes p ≡ true → covers p ≡ true → is_allowed s p ≡ true
+    part_allowed known p l e c = each_part (length types) (λ j n q d. below (length types) (length types) (omega arith) known j n n q d) p l e c
+
+    params_allowed : AreKnown (length types) → (ps : List Param) → AllByRecursion (λ p. IsBelow (length types) (Some p.ty)) ps → list_all (λ (p : Param). passes (Some p.ty)) ps ≡ true → list_all (λ (p : Param). covers (Some p.ty)) ps ≡ true →
+        list_all (λ (p : Param). is_allowed s (Some p.ty)) ps ≡ true
+    params_allowed known [] l e c = refl
+    params_allowed known (p ∷ ps) l e c =
         let b = both (passes (Some p.ty)) (list_all (λ (q : Param). passes (Some q.ty)) ps) e in
-        rw (part_allowed known (Some p.ty) l.0 b.0, params_allowed known ps l.1 b.1) refl
+        let d = both (covers (Some p.ty)) (list_all (λ (q : Param). covers (Some q.ty)) ps) c in
+        rw (part_allowed known (Some p.ty) l.0 b.0 d.0, params_allowed known ps l.1 b.1 d.1) refl
 
-    function_allowed : AreKnown (length types) → (r : Resolve) → r.types ≡ types → (f : Function) → HasFunction r f → function_passes (is_at_home types home.here) types f ≡ true → allows_function s f ≡ true
-    function_allowed known r same f has e =
+    function_allowed : AreKnown (length types) → (r : Resolve) → r.types ≡ types → (f : Function) → HasFunction r f → function_passes (is_at_home types lent home.here) types f ≡ true → is_function_covered types home.here home.foreign f ≡ true →
+        allows_function s f ≡ true
+    function_allowed known r same f has e c =
         let params = subst (λ ts. AllByRecursion (λ (p : Param). IsBelow (length ts) (Some p.ty)) f.params) same has.params in
         let result = subst (λ ts. IsBelow (length ts) f.result) same has.result in
         let b = both (list_all (λ (p : Param). passes (Some p.ty)) f.params) (passes f.result) e in
-        rw (params_allowed known f.params params b.0, part_allowed known f.result result b.1) refl
+        let d = both (list_all (λ (p : Param). covers (Some p.ty)) f.params) (covers f.result) c in
+        rw (params_allowed known f.params params b.0 d.0, part_allowed known f.result result b.1 d.1) refl
 
-    pub functions_allowed : AreKnown (length types) → (r : Resolve) → r.types ≡ types → (es : List (List ℕ × Function)) → AllByRecursion (λ e. HasFunction r e.1) es → AllByRecursion (λ e. function_passes (is_at_home types home.here) types e.1 ≡ true) es →
-        AllByRecursion (λ f. allows_function s f ≡ true) (functions_of es)
-    functions_allowed known r same [] has h = tt
-    functions_allowed known r same (e ∷ es) has h = (function_allowed known r same e.1 has.0 h.0, functions_allowed known r same es has.1 h.1)
+    pub functions_allowed : AreKnown (length types) → (r : Resolve) → r.types ≡ types → (es : List (List ℕ × Function)) → AllByRecursion (λ e. HasFunction r e.1) es → AllByRecursion (λ e. function_passes (is_at_home types lent home.here) types e.1 ≡ true) es →
+        AllByRecursion (λ e. is_function_covered types home.here home.foreign e.1 ≡ true) es → AllByRecursion (λ f. allows_function s f ≡ true) (functions_of es)
+    functions_allowed known r same [] has h c = tt
+    functions_allowed known r same (e ∷ es) has h c = (function_allowed known r same e.1 has.0 h.0 c.0, functions_allowed known r same es has.1 h.1 c.1)
 
 -- ---- which types are known
 
@@ -182,21 +230,29 @@ one_of_listed (x ∷ xs) d t (suc k) l e = either (t.1.index == x.1.index) (is_o
     either true b h = refl
     either false b h = h
 
-module _ (origin : TypeId → Resource) (home : Home) (known : IsHome home) where
+or_second : (a b : Bool) → b ≡ true → (a || b) ≡ true
+or_second true b h = refl
+or_second false b h = h
+
+or_first : (a b : Bool) → a ≡ true → (a || b) ≡ true
+or_first true b h = refl
+or_first false b h = absurd (true≢false (sym h))
+
+module _ (origin : TypeId → Resource) (lent : ℕ → Bool) (home : Home) (known : IsHome lent home) where
   -- while types are imported, each that is listed may be defined
-  pub known_importing : (stage : Stage) → stage ≡ stages.Importing → IsDistinct bytes_eq (keys_of home.named) → (k : ℕ) → AreKnown origin home stage k
+  pub known_importing : (stage : Stage) → stage ≡ stages.Importing → IsDistinct bytes_eq (keys_of home.named) → (k : ℕ) → AreKnown origin lent home stage k
   known_importing stage importing apart k n l owner name title =
       let id : TypeId = record { index = n } in
       let found = lookup-from_Contains bytes_laws name id home.named apart (known.every.each n (within_owned home.here home.types n owner) owner name title) in
       subst (λ (q : Stage). (is_met q home id || may_own_named (Some name) q home n) ≡ true) (sym importing)
-      (ap (λ (o : Option TypeId). elim o [ None ↦ false | Some i ↦ i.index == n ]) found ∙ (Decides-eqb n n).1 refl)
+      (or_second (is_one_of home.foreign n) (is_listed home.named name n) (ap (λ (o : Option TypeId). elim o [ None ↦ false | Some i ↦ i.index == n ]) found ∙ (Decides-eqb n n).1 refl))
 
   -- while there are exports, each is in the tables that was passed
-  pub known_exporting : (stage : Stage) → IsExporting stage → (k : ℕ) → ((n : ℕ) → n < k → is_one_of (listed_ids home.named) n ≡ true → n < next_of (last_of stage)) → AreKnown origin home stage k
+  pub known_exporting : (stage : Stage) → IsExporting stage → (k : ℕ) → ((n : ℕ) → n < k → is_one_of (listed_ids home.named) n ≡ true → n < next_of (last_of stage)) → AreKnown origin lent home stage k
   known_exporting stage exporting k passed n l owner name title =
       let id : TypeId = record { index = n } in
       let c = known.every.each n (within_owned home.here home.types n owner) owner name title in
       let there = one_of_listed home.named (name, id) (name, id) c.0 c.1 c.2 in
       let before = subst (λ (q : Stage). n < next_of (last_of q)) exporting.same (passed n l there) in
       subst (λ (q : Stage). (is_met q home id || may_own_named (Some name) q home n) ≡ true) (sym exporting.same)
-      (rw (lt-ltb n (next_of exporting.last) before, there) refl)
+      (or_first (is_one_of home.foreign n || is_passed home exporting.last id) false (or_second (is_one_of home.foreign n) (is_passed home exporting.last id) (rw (lt-ltb n (next_of exporting.last) before, there) refl)))

@@ -41,9 +41,9 @@ IsTyped origin types g f = g.type ≡ type_of origin types f
 
 -- items of a nested component that import these functions and types, and export the types that are listed, and then the functions
 -- under the names of the interface
-pub record PassesOn (given : List ℕ → TypeTree) (origin : TypeId → Resource) (all : List TypeDef) (named : List (List ℕ × TypeId)) (fs : List Function) (gs : List NestedFunction) (imports : List TypeImport) (is : List Item) : Type 0 where
+pub record PassesOn (given : List ℕ → TypeTree) (origin : TypeId → Resource) (all : List TypeDef) (named : List (List ℕ × TypeId)) (entries : List (List ℕ × Function)) (gs : List NestedFunction) (imports : List TypeImport) (is : List Item) : Type 0 where
   pub right : AreItemsRight given empty_scope is
   pub functions : functions_imported (imports_after given empty_scope is) ≡ gs
   pub types : types_imported (imports_after given empty_scope is) ≡ map (type_given origin all) imports
-  pub own : AllByRecursion (IsImportOf named) imports
-  pub exports : exports_after given empty_scope is ≡ map (exported_type origin all) named ++ exported fs gs
+  pub own : AllByRecursion (IsImportOf all named entries) imports
+  pub exports : exports_after given empty_scope is ≡ map (exported_type origin all) named ++ exported (functions_of entries) gs

@@ -1,6 +1,6 @@
 -- How the items of a nested component grow, with the names that its imports take (component model, explainer: index spaces; binary:
 -- type indices).
-use Rattle.std.specs.Prelude.{ℕ, ◌≡◌, ◌<◌, length, map, get_or, List, [], ◌∷◌, ◌++◌, Option, Some, None}
+use Rattle.std.specs.Prelude.{ℕ, ◌≡◌, ◌<◌, ◌⊎◌, length, map, get_or, List, [], ◌∷◌, ◌++◌, Option, Some, None, Contains}
 use Rattle.std.specs.List.{AllByRecursion}
 use Rattle.std.specs.Map.{keys_of, lookup}
 use Rattle.std.specs.Str.{bytes_eq}
@@ -15,15 +15,17 @@ use Rattle.comp_trees.specs.Trees.{Resource}
 use Rattle.comp_trees.specs.DefinedTrees.{TypeTree}
 use Rattle.wit_types.specs.declared.maps.TypeEncodingMaps.{TypeEncodingMaps}
 use Rattle.wit_types.specs.Maps.{Faithful}
+use Rattle.wit_types.specs.Settings.{name_at}
 use Rattle.type_scopes.specs.Exports.{any_index}
-use Rattle.nested_terms.specs.Naming.{type_import_name, IsFirstFree}
+use Rattle.nested_terms.specs.Naming.{type_import_name, numbered, IsFirstFree}
 use Rattle.nested_terms.specs.Nested.{NestedScope, NestedFunction, NestedExport, ExportedFunction, empty_scope, no_function, scope_after, functions_imported, types_imported, imports_after, exports_after, AreItemsRight}
 use Rattle.nested_components.specs.declared.contents.Contents.{Contents}
 use Rattle.nested_components.specs.declared.stage.Stage.{Stage}
+use Rattle.nested_components.specs.declared.stage.Stage.TheVariants as stages
 use Rattle.nested_components.specs.declared.type_import.TypeImport.{TypeImport}
-use Rattle.nested_components.specs.Functions.{nested_functions, exported, IsTyped, PassesOn}
+use Rattle.nested_components.specs.Functions.{functions_of, nested_functions, exported, IsTyped, PassesOn}
 use Rattle.nested_components.specs.Homes.{Home, nested_setting, MayImport}
-use Rattle.nested_components.specs.Types.{type_given, exported_type, IsImportOf}
+use Rattle.nested_components.specs.Types.{type_given, exported_type}
 
 -- the scope of a nested component, where `given` says what the resources are that are given for its imports
 abbrev pub scope_of : (List ℕ → TypeTree) → List Item → NestedScope
@@ -63,12 +65,20 @@ types_among ((name, Some id) ∷ es) = record { name = name; id = id } ∷ types
 
 -- ---- imports
 
--- functions are imported, and for them types of the interface, each under a name that was free
+-- the import is one of a type that is listed under a name, or of a type of another interface that has the name; its own name is made
+-- of that
+pub record IsImportIn (home : Home) (t : TypeImport) : Type 0 where
+  pub text : List ℕ
+  pub from : Contains home.named (text, t.id) ⊎ Contains home.foreign t.id × (name_at home.types t.id.index ≡ Some text)
+  pub count : ℕ
+  pub same : t.name ≡ numbered count (type_import_name text)
+
+-- functions are imported, and types of the interface or of others, each under a name that was free
 pub record Grows (given : List ℕ → TypeTree) (origin : TypeId → Resource) (home : Home) (stage : Stage) (old new : Contents) (functions : List NestedFunction) : Type 0 where
   pub more : List TypeImport
   pub staged : MayImport stage more
   pub taken : new.taken ≡ old.taken ++ map type_entry more
-  pub own : AllByRecursion (IsImportOf home.named) more
+  pub own : AllByRecursion (IsImportIn home) more
   pub items : ItemsGrow given old.items new.items functions (map (type_given origin home.types) more) [] functions
 
 -- a type is imported as equal to the one with an index
@@ -83,6 +93,10 @@ pub record ImportsNamed (home : Home) (old new : Contents) (text : List ℕ) (in
   pub id : TypeId
   pub found : lookup (bytes_eq text) home.named ≡ Some id
   pub imports : ImportsType old new text id index
+
+-- the tables as they were when all types of other interfaces had been imported, for what is exported
+abbrev pub AreTablesKept : (List ℕ → TypeTree) → (TypeId → Resource) → Home → List Item → TypeEncodingMaps → Type 0
+AreTablesKept given origin home is maps = AreTablesRight given origin home (stages.Exporting None) is maps
 
 -- ---- exports
 
@@ -114,7 +128,7 @@ pub record IsTypedAt (origin : TypeId → Resource) (types : List TypeDef) (s : 
 -- ---- all of it
 
 -- the items that pass these functions and the listed types on, with the names that their imports take
-pub record ArePassedOn (given : List ℕ → TypeTree) (origin : TypeId → Resource) (home : Home) (fs : List Function) (names : List (List ℕ)) (c : Contents) : Type 0 where
+pub record ArePassedOn (given : List ℕ → TypeTree) (origin : TypeId → Resource) (types : List TypeDef) (named : List (List ℕ × TypeId)) (entries : List (List ℕ × Function)) (names : List (List ℕ)) (c : Contents) : Type 0 where
   pub imports : List TypeImport
-  pub passes : PassesOn given origin home.types home.named fs (nested_functions origin home.types fs names) imports c.items
+  pub passes : PassesOn given origin types named entries (nested_functions origin types (functions_of entries) names) imports c.items
   pub taken : c.taken ≡ map function_entry names ++ map type_entry imports

@@ -2,6 +2,8 @@ pub mod Types
 pub mod Functions
 pub mod Names
 pub mod Homes
+pub mod Foreign
 pub mod Counts
+pub mod Tables
 pub mod Growing
 pub mod Following

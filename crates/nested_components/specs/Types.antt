@@ -1,6 +1,6 @@
 -- The types that the nested component of an interface imports, and those that it exports (component model, explainer: import and
 -- export definitions, type bounds).
-use Rattle.std.specs.Prelude.{ℕ, ◌≡◌, ◌<◌, true, List, map, Some, Contains, length}
+use Rattle.std.specs.Prelude.{ℕ, ◌≡◌, ◌<◌, Bool, true, List, map, Some, Contains, length}
 use Rattle.std.specs.List.{AllByRecursion}
 use Rattle.wit_data.specs.declared.ids.InterfaceId.{InterfaceId}
 use Rattle.wit_data.specs.declared.ids.TypeId.{TypeId}
@@ -15,6 +15,7 @@ use Rattle.comp_trees.specs.DefinedTrees.{TypeTree, OfValues}
 use Rattle.comp_trees.specs.WitTrees.{wit_tree}
 use Rattle.type_scopes.specs.Needs.{each_passes, function_passes, is_at_home}
 use Rattle.type_scopes.specs.Titles.{IsTitled, AscendFrom}
+use Rattle.foreign_types.specs.Foreign.{IsReached}
 use Rattle.nested_terms.specs.Naming.{type_import_name, numbered}
 use Rattle.nested_terms.specs.Nested.{NestedExport, ExportedType}
 use Rattle.nested_components.specs.declared.type_import.TypeImport.{TypeImport}
@@ -28,12 +29,14 @@ pub record IsEachListed (types : List TypeDef) (here : InterfaceId) (named : Lis
   pub each : (n : ℕ) → n < length types → owner_at types n ≡ owners.Interface here → (name : List ℕ) → name_at types n ≡ Some name → Contains named (name, record { index = n })
 
 -- An interface whose nested component can be made: it lists types of its own, each under its name, in the order of the resolve;
--- they and its functions are made of these and of types without names alone, and none is a resource.
+-- they and its functions are made of these, of types without names, and of types that other interfaces lend under names, and none
+-- is a resource.
 pub record IsAtHome (all : List TypeDef) (here : InterfaceId) (named : List (List ℕ × TypeId)) (entries : List (List ℕ × Function)) : Type 0 where
+  pub lent : ℕ → Bool
   pub titled : AllByRecursion (λ t. IsTitled all here t.1 t.0) named
   pub ascend : AscendFrom 0 (listed_ids named)
-  pub types : AllByRecursion (λ t. value (each_passes (is_at_home all here)) all (Some (Id t.1)) ≡ true) named
-  pub functions : AllByRecursion (λ e. function_passes (is_at_home all here) all e.1 ≡ true) entries
+  pub types : AllByRecursion (λ t. value (each_passes (is_at_home all lent here)) all (Some (Id t.1)) ≡ true) named
+  pub functions : AllByRecursion (λ e. function_passes (is_at_home all lent here) all e.1 ≡ true) entries
   pub every : IsEachListed all here named
 
 -- what is imported for a type: its name, and what the type is, where `origin` says what each resource is
@@ -44,9 +47,11 @@ type_given origin types t = (t.name, OfValues (wit_tree origin types (Some (Id t
 abbrev pub exported_type : (TypeId → Resource) → List TypeDef → List ℕ × TypeId → NestedExport
 exported_type origin types t = ExportedType t.0 (OfValues (wit_tree origin types (Some (Id t.1))))
 
--- the import is one of a type that is listed, and its name is made of the name of that type
-pub record IsImportOf (named : List (List ℕ × TypeId)) (t : TypeImport) : Type 0 where
+-- the import is one of a type that has a name, of which the interface is made; its name is made of the name of that type
+pub record IsImportOf (all : List TypeDef) (named : List (List ℕ × TypeId)) (entries : List (List ℕ × Function)) (t : TypeImport) : Type 0 where
+  pub within : t.id.index < length all
   pub text : List ℕ
-  pub listed : Contains named (text, t.id)
+  pub titled : name_at all t.id.index ≡ Some text
+  pub reached : IsReached all named entries t.id
   pub count : ℕ
   pub same : t.name ≡ numbered count (type_import_name text)

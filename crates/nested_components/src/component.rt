@@ -1,6 +1,6 @@
 //! The nested component of an interface.
 
-ghost use Rattle.std.specs.Prelude.{◌≡◌, ◌++◌, ◌∷◌, [], map, true, IfOk, IfErr, OnOk};
+ghost use Rattle.std.specs.Prelude.{◌≡◌, ◌++◌, ◌∷◌, [], map, None, IfOk, IfErr, OnOk};
 ghost use Rattle.std.specs.List.{AllByRecursion, AllZip, IsDistinct, flat_map};
 ghost use Rattle.std.specs.Map.{keys_of};
 ghost use Rattle.std.specs.Str.{bytes_eq};
@@ -9,15 +9,16 @@ ghost use Rattle.wit_data.specs.Sound.{IsSound, HasFunction};
 ghost use Rattle.comp_bytes.specs.ScopeNames.{item_import};
 ghost use Rattle.comp_trees.specs.Trees.{Resource};
 ghost use Rattle.type_scopes.specs.Members.{IsExcess};
-ghost use Rattle.type_scopes.specs.Needs.{function_passes, is_at_home};
 ghost use Rattle.nested_terms.specs.Naming.{AreNames};
 ghost use Rattle.nested_terms.specs.Nested.{empty_scope, functions_imported, types_imported, imports_after, exports_after, AreItemsRight};
 ghost use Rattle.nested_components.specs.Functions.{no_types, functions_of, nested_functions, exported, IsTyped, PassesOn};
 ghost use Rattle.nested_components.specs.Types.{IsAtHome, type_given, exported_type, IsImportOf};
-ghost use Rattle.nested_components.specs.Homes.{IsHome};
-ghost use Rattle.nested_components.specs.Growing.{scope_of, function_entry, types_among, Exports, ArePassedOn};
+ghost use Rattle.nested_components.specs.Homes.{CanExport};
+ghost use Rattle.nested_components.specs.declared.stage.Stage.TheVariants as stages;
+ghost use Rattle.nested_components.specs.Growing.{scope_of, AreTablesRight, function_entry, types_among, Exports, ArePassedOn};
 
 use crate::contents::Contents;
+use crate::foreign_imports::import_foreign_types;
 use crate::home::OwnTypes;
 use crate::named_types::export_types;
 use crate::names::choose_names;
@@ -28,6 +29,7 @@ use crate::type_import::TypeImport;
 use byte_encoding::BuildFault;
 use comp_bytes::Item;
 use comp_lists::{Keyed, Seq, Text};
+use foreign_types::all_foreign_types;
 use std::alloc::{AllocError, Global};
 use std::marker::Brand;
 use wit_data::{Function, InterfaceId, Resolve, TypeId};
@@ -67,10 +69,11 @@ impl NestedComponent {
 /// The nested component of an interface that lists these types, and has these functions. It imports each function, and
 /// exports the types and then the functions under the names that they have in the interface.
 ///
-/// The type of a function stands right before the import, unless an equal one was written before, and behind what it is made of;
-/// a type of the interface is imported as equal to its definition as soon as that is written, and stands for it from then on. The
-/// exports use no type that was written for the imports. (No clause says which types are imported: those of which the functions
-/// are made.)
+/// The types of other interfaces of which the interface is made are imported first, each as equal to its definition and behind those
+/// of which it is made. The type of a function stands right before the import, unless an equal one was written before, and behind
+/// what it is made of; a type of the interface is imported as equal to its definition as soon as that is written, and stands for it
+/// from then on. The exports use no type that was written for the imports of functions. (No clause says which types are imported:
+/// those of other interfaces, and those of which the functions are made.)
 pub fn nested_component(
     alloc: Global,
     resolve: &Resolve,
@@ -86,7 +89,7 @@ pub fn nested_component(
     ensures right { IfOk result (λ c. AreItemsRight no_types empty_scope c.items) }
     ensures functions { IfOk result (λ c. functions_imported (imports_after no_types empty_scope c.items) ≡ nested_functions origin resolve.now.types (functions_of functions.now) c.names) }
     ensures types { IfOk result (λ c. types_imported (imports_after no_types empty_scope c.items) ≡ map (type_given origin resolve.now.types) c.types) }
-    ensures own { IfOk result (λ c. AllByRecursion (IsImportOf types.now) c.types) }
+    ensures own { IfOk result (λ c. AllByRecursion (IsImportOf resolve.now.types types.now functions.now) c.types) }
     ensures apart { IfOk result (λ c. IsDistinct bytes_eq (flat_map item_import c.items)) }
     ensures exports { IfOk result (λ c. exports_after no_types empty_scope c.items ≡ map (exported_type origin resolve.now.types) types.now ++ exported (functions_of functions.now) (nested_functions origin resolve.now.types (functions_of functions.now) c.names)) }
     ensures cause { IfErr result IsExcess }
@@ -106,7 +109,7 @@ fn placed_component<P: Placement>(
     requires present { AllByRecursion (λ e. HasFunction resolve.now e.1) functions.now }
     requires home { IsAtHome resolve.now.types interface types.now functions.now }
     ensures names { IfOk result (λ c. AreNames (functions_of functions.now) c.names) }
-    ensures passes { IfOk result (λ c. PassesOn P.given P.origin resolve.now.types types.now (functions_of functions.now) (nested_functions P.origin resolve.now.types (functions_of functions.now) c.names) c.types c.items) }
+    ensures passes { IfOk result (λ c. PassesOn P.given P.origin resolve.now.types types.now functions.now (nested_functions P.origin resolve.now.types (functions_of functions.now) c.names) c.types c.items) }
     ensures apart { IfOk result (λ c. IsDistinct bytes_eq (flat_map item_import c.items)) }
     ensures cause { IfErr result IsExcess }
 {
@@ -194,13 +197,17 @@ fn contents_of<P: Placement>(
     requires home { IsAtHome resolve.now.types interface types.now functions.now }
     requires names { AreNames (functions_of functions.now) names.now }
     requires taken { taken ≡ map function_entry names.now }
-    ensures passed { IfOk result (ArePassedOn P.given P.origin (record { types = resolve.now.types; here = interface; named = types.now }) (functions_of functions.now) names.now) }
+    ensures passed { IfOk result (ArePassedOn P.given P.origin resolve.now.types types.now functions.now names.now) }
     ensures cause { IfErr result IsExcess }
 {
     names_apart(types);
-    let home = OwnTypes::new(resolve, interface, types);
+    let foreign = all_foreign_types(alloc, resolve, interface, types, functions)?;
+    let home = OwnTypes::new(alloc, resolve, interface, types);
     let mut encoder: NestedEncoder<'_, P> = NestedEncoder::new(alloc, home, taken);
+    import_foreign_types(alloc, &mut encoder, resolve, foreign.as_slice())?;
+    let tables = encoder.type_tables()?;
     import_functions(alloc, &mut encoder, resolve, names.as_slice(), functions)?;
+    encoder.begin_exports(tables);
     export_all(alloc, &mut encoder, resolve, types, functions)?;
     Ok(encoder.into_contents())
 }
@@ -215,15 +222,15 @@ fn export_all<P: Placement>(
 ) -> Result<(), BuildFault>
     requires sound { IsSound resolve.now }
     requires same { encoder.old.home.types ≡ resolve.now.types }
-    requires home { IsHome encoder.old.home }
+    requires stage { encoder.old.stage ≡ stages.Exporting None }
+    requires home { CanExport encoder.old.home functions.now }
     requires named { types.now ≡ encoder.old.home.named }
     requires present { AllByRecursion (λ e. HasFunction resolve.now e.1) functions.now }
-    requires passing { AllByRecursion (λ e. function_passes (is_at_home encoder.old.home.types encoder.old.home.here) encoder.old.home.types e.1 ≡ true) functions.now }
+    requires right { AreTablesRight P.given P.origin encoder.old.home encoder.old.stage encoder.old.contents.items encoder.old.maps }
     requires typed { AllZip (IsTyped P.origin encoder.old.home.types) (scope_of P.given encoder.old.contents.items).functions (functions_of functions.now) }
     ensures exports { OnOk result (Exports P.given encoder.old.contents encoder.new.contents (map (exported_type P.origin encoder.old.home.types) encoder.old.home.named ++ exported (functions_of functions.now) (scope_of P.given encoder.old.contents.items).functions) (scope_of P.given encoder.old.contents.items).functions) }
     ensures cause { IfErr result IsExcess }
 {
-    encoder.begin_exports(alloc);
     export_types(alloc, encoder, resolve, types)?;
     export_functions(alloc, encoder, resolve, functions)?;
     Ok(())

@@ -1,18 +1,21 @@
 //! The interface that a nested component is made for.
 
-ghost use Rattle.std.specs.Prelude.{◌≡◌};
+ghost use Rattle.std.specs.Prelude.{◌≡◌, ◌∷◌, [], OnOk};
 ghost use Rattle.std.specs.Map.{lookup};
 ghost use Rattle.std.specs.Str.{bytes_eq};
+ghost use Rattle.nested_components.specs.Homes.{new_home, with_foreign};
 
-use comp_lists::{Keyed, Text};
+use comp_lists::{Keyed, Seq, Text};
+use std::alloc::{AllocError, Global};
 use std::marker::Model;
 use wit_data::{InterfaceId, Resolve, TypeId};
 
-/// An interface, and the types that it lists.
+/// An interface, the types that it lists, and those of other interfaces that were imported for it.
 pub struct OwnTypes<'a> {
     resolve: &'a Resolve,
     interface: InterfaceId,
     types: &'a Keyed<Text, TypeId>,
+    foreign: Seq<TypeId>,
 }
 
 impl<'a> Drop for OwnTypes<'a> {
@@ -21,6 +24,7 @@ impl<'a> Drop for OwnTypes<'a> {
             resolve: _,
             interface: _,
             types: _,
+            foreign: _,
         } = self;
     }
 }
@@ -30,23 +34,33 @@ impl<'a> Model for OwnTypes<'a> {
 
     ghost Value = { Home };
 
-    ghost view = { λ o. record { types = o.resolve.now.types; here = o.interface; named = o.types.now } };
+    ghost view = { λ o. record { types = o.resolve.now.types; here = o.interface; named = o.types.now; foreign = o.foreign } };
 }
 
 impl<'a> OwnTypes<'a> {
-    /// The types that an interface of the resolve lists.
+    /// The types that an interface of the resolve lists. None of others was imported.
     pub fn new(
+        alloc: Global,
         resolve: &'a Resolve,
         interface: InterfaceId,
         types: &'a Keyed<Text, TypeId>,
     ) -> OwnTypes<'a>
-        ensures { result ≡ record { types = resolve.entry.now.types; here = interface; named = types.entry.now } }
+        ensures { result ≡ new_home resolve.entry.now.types interface types.entry.now }
     {
         OwnTypes {
             resolve,
             interface,
             types,
+            foreign: Seq::new(alloc),
         }
+    }
+
+    /// A type of another interface was imported.
+    pub fn add_foreign(&mut self, id: TypeId) -> Result<(), AllocError>
+        ensures { OnOk result (self.new ≡ with_foreign self.old (id ∷ [])) }
+    {
+        self.foreign.push(id)?;
+        Ok(())
     }
 
     /// The interface.

@@ -9,7 +9,7 @@ ghost use Rattle.wit_types.specs.Maps.{HasIndex};
 ghost use Rattle.type_scopes.specs.Titles.{IsTitled};
 ghost use Rattle.nested_components.specs.declared.stage.Stage.TheVariants as stages;
 ghost use Rattle.nested_components.specs.Types.{exported_type};
-ghost use Rattle.nested_components.specs.Homes.{IsHome, nested_setting, IsExporting, IsNextOf, AreAllPassed};
+ghost use Rattle.nested_components.specs.Homes.{CanExportTypes, nested_setting, IsExporting, IsNextOf, AreAllPassed};
 ghost use Rattle.nested_components.specs.Counts.{is_full};
 ghost use Rattle.nested_components.specs.Growing.{AreTablesRight, Exports, ExportsTypes};
 
@@ -30,7 +30,7 @@ pub(crate) fn export_types<P: Placement>(
 ) -> Result<(), BuildFault>
     requires sound { IsSound resolve.now }
     requires same { encoder.old.home.types ≡ resolve.now.types }
-    requires home { IsHome encoder.old.home }
+    requires home { CanExportTypes encoder.old.home }
     requires named { types.now ≡ encoder.old.home.named }
     requires stage { encoder.old.stage ≡ stages.Exporting None }
     requires right { AreTablesRight P.given P.origin encoder.old.home encoder.old.stage encoder.old.contents.items encoder.old.maps }

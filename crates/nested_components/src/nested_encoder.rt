@@ -15,9 +15,10 @@ ghost use Rattle.wit_types.specs.Denoting.{Makes, MayMake, IsCause, exported_or}
 ghost use Rattle.wit_types.specs.Maps.{no_maps};
 ghost use Rattle.type_scopes.specs.Exports.{any_index};
 ghost use Rattle.nested_components.specs.declared.stage.Stage.TheVariants as stages;
-ghost use Rattle.nested_components.specs.Homes.{nested_setting};
+ghost use Rattle.nested_components.specs.Homes.{nested_setting, with_foreign};
+ghost use Rattle.nested_components.specs.Tables.{types_alone};
 ghost use Rattle.nested_components.specs.Counts.{types_in, is_full};
-ghost use Rattle.nested_components.specs.Growing.{scope_of, plain, Grows, ImportsNamed};
+ghost use Rattle.nested_components.specs.Growing.{scope_of, plain, Grows, ImportsType, ImportsNamed};
 ghost use Rattle.nested_components.specs.Following.{grows_none, grows_follow};
 
 use crate::contents::Contents;
@@ -25,6 +26,7 @@ use crate::home::OwnTypes;
 use crate::item_list::ItemList;
 use crate::placement::Placement;
 use crate::stage::Stage;
+use crate::tables::copy_type_tables;
 use byte_encoding::BuildFault;
 use comp_bytes::{DefinedType, ExternName, FuncTypeDef, TypeDef};
 use comp_lists::{Keyed, Text};
@@ -82,12 +84,44 @@ impl<'a, P: Placement> NestedEncoder<'a, P> {
         }
     }
 
-    /// All was imported. No type counts as met any more: what is exported is made of types that are defined anew.
-    pub(crate) fn begin_exports(&mut self, alloc: Global)
-        ensures { self.new ≡ record self.old { stage = stages.Exporting None; maps = no_maps } }
+    /// A copy of the tables of types.
+    pub(crate) fn type_tables(&self) -> Result<TypeEncodingMaps, AllocError>
+        ensures { IfOk result (λ copy. copy ≡ types_alone self.now.maps) }
+    {
+        copy_type_tables(self.alloc, &self.maps)
+    }
+
+    /// Imports a type of another interface, of this name, as equal to the one with an index, and returns the index of the import.
+    pub(crate) fn add_type_import(
+        &mut self,
+        text: &Text,
+        id: TypeId,
+        ty: u32,
+    ) -> Result<u32, BuildFault>
+        ensures home { self.new.home ≡ self.old.home }
+        ensures stage { self.new.stage ≡ self.old.stage }
+        ensures maps { self.new.maps ≡ self.old.maps }
+        ensures imported { OnOk result (ImportsType self.old.contents self.new.contents text.now id ty) }
+        ensures index { IfOk result (λ index. index ≡ types_in self.old.contents.items) }
+        ensures cause { IfErr result (IsCause is_full self.new.contents.items) }
+    {
+        self.contents.import_type(self.alloc, text, id, ty)
+    }
+
+    /// A type of another interface was imported, and recorded.
+    pub(crate) fn pass_foreign(&mut self, id: TypeId) -> Result<(), AllocError>
+        ensures { OnOk result (self.new ≡ record self.old { home = with_foreign self.old.home (id ∷ []) }) }
+    {
+        self.home.add_foreign(id)
+    }
+
+    /// All was imported. The tables are those that there were when types of other interfaces had been imported: what is exported is
+    /// made of these, and of types that are defined anew.
+    pub(crate) fn begin_exports(&mut self, tables: TypeEncodingMaps)
+        ensures { self.new ≡ record self.old { stage = stages.Exporting None; maps = tables } }
     {
         self.stage = Stage::Exporting(None);
-        self.maps = TypeEncodingMaps::new(alloc);
+        self.maps = tables;
     }
 
     /// A type was exported, and those that are listed before it.
