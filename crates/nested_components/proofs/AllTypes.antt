@@ -1,21 +1,27 @@
 -- Types of the interface that are exported, one after the other, in ascending order.
-use Rattle.std.proofs.Common.{◌≡◌, ◌∙◌, ◌<◌, ◌≤◌, ◌==◌, ◌||◌, arith, ℕ, suc, Bool, true, false, true≢false, List, [], ◌∷◌, map, refl, ap, sym, subst, Some, None}
+use Rattle.std.proofs.Common.{◌≡◌, ◌∙◌, ◌<◌, ◌≤◌, ◌==◌, ◌||◌, arith, ℕ, suc, Bool, true, false, true≢false, List, [], ◌∷◌, map, refl, ap, sym, subst, Option, Some, None, if◌then◌else◌}
 use Rattle.std.specs.List.{AllByRecursion}
 use Rattle.std.proofs.lemmas.Bool.Decides.{Decides-eqb}
+use Rattle.wit_data.specs.declared.ids.InterfaceId.{InterfaceId}
 use Rattle.wit_data.specs.declared.ids.TypeId.{TypeId}
+use Rattle.wit_data.specs.declared.types.TypeOwner.{TypeOwner}
+use Rattle.wit_data.specs.declared.types.TypeOwner.TheVariants as owners
 use Rattle.wit_data.specs.declared.types.Type.TheVariants.{Id}
 use Rattle.wit_data.specs.declared.types.TypeDef.{TypeDef}
 use Rattle.wit_data.specs.Parts.{RefersBack}
 use Rattle.wit_data.specs.Values.{value, kind_at}
 use Rattle.comp_trees.specs.Trees.{Resource}
 use Rattle.comp_trees.specs.DefinedTrees.{TypeTree}
-use Rattle.wit_types.specs.Allowing.{IsDefinedHere}
+use Rattle.wit_types.specs.Allowing.{foreign, IsDefinedHere}
+use Rattle.wit_types.specs.Settings.{owner_at}
 use Rattle.type_scopes.specs.Needs.{each_passes, is_at_home}
 use Rattle.type_scopes.specs.Titles.{IsTitled, AscendFrom, is_one_of}
+use Rattle.foreign_types.specs.Foreign.{is_covered}
+use Rattle.foreign_types.proofs.Covering.{parts_of_own}
 use Rattle.nested_components.specs.declared.contents.Contents.{Contents}
 use Rattle.nested_components.specs.declared.stage.Stage.{Stage}
 use Rattle.nested_components.specs.declared.stage.Stage.TheVariants as stages
-use Rattle.nested_components.specs.Homes.{Home, IsHome, IsExporting, IsNextOf, AreAllPassed, next_of, last_of, nested_setting}
+use Rattle.nested_components.specs.Homes.{Home, IsHome, CanExportTypes, IsExporting, IsNextOf, AreAllPassed, next_of, last_of, nested_setting}
 use Rattle.nested_components.specs.Types.{listed_ids, exported_type}
 use Rattle.nested_components.specs.Growing.{Exports, ExportsTypes}
 use Rattle.nested_components.specs.Following.{exports_none, exports_on}
@@ -23,12 +29,15 @@ use Rattle.nested_components.proofs.AtHome.{type_defined, known_exporting}
 
 -- once some types were exported, what exports the rest exports all
 pub record AreTypesTo (given : List ℕ → TypeTree) (origin : TypeId → Resource) (home : Home) (first now : Contents) (stage : Stage) (rest : List (List ℕ × TypeId)) : Type 0 where
+  pub lent : ℕ → Bool
+  pub known : IsHome lent home
   pub whole : (new : Contents) → ExportsTypes given origin home.types now new rest → ExportsTypes given origin home.types first new home.named
   pub exporting : IsExporting stage
   pub ascend : AscendFrom (next_of (last_of stage)) (listed_ids rest)
   pub passed : (n : ℕ) → is_one_of (listed_ids home.named) n ≡ true → is_one_of (listed_ids rest) n ≡ false → n < next_of (last_of stage)
   pub titled : AllByRecursion (λ t. IsTitled home.types home.here t.1 t.0) rest
-  pub types : AllByRecursion (λ t. value (each_passes (is_at_home home.types home.here)) home.types (Some (Id t.1)) ≡ true) rest
+  pub types : AllByRecursion (λ t. value (each_passes (is_at_home home.types lent home.here)) home.types (Some (Id t.1)) ≡ true) rest
+  pub covered : AllByRecursion (λ t. is_covered home.types home.here home.foreign (Some (Id t.1)) ≡ true) rest
 
 at_least : (k : ℕ) (ids : List TypeId) (n : ℕ) → AscendFrom k ids → is_one_of ids n ≡ true → k ≤ n
 at_least k [] n a e = absurd (true≢false (sym e))
@@ -38,15 +47,22 @@ at_least k (x ∷ xs) n a e = by (n == x.index) refl (at_least (suc x.index) xs 
     by true same later e = let first = a.0 in let is = (Decides-eqb n x.index).0 same in omega (arith, first, is)
     by false same later e = let first = a.0 in let l = later e in omega (arith, first, l)
 
+-- no other interface owns a type of this one
+own_owner : (here : InterfaceId) (owner : TypeOwner) → owner ≡ owners.Interface here → foreign (Some here) owner ≡ None
+own_owner here owner e = ap (foreign (Some here)) e ∙ ap (λ b. if b then None else Some here) ((Decides-eqb here.index here.index).1 refl)
+
 module _ (given : List ℕ → TypeTree) (origin : TypeId → Resource) (home : Home) (first : Contents) where
-  pub types_none : (stage : Stage) → stage ≡ stages.Exporting None → IsHome home → AreTypesTo given origin home first first stage home.named
-  types_none stage is known = record {
+  pub types_none : (stage : Stage) → stage ≡ stages.Exporting None → CanExportTypes home → AreTypesTo given origin home first first stage home.named
+  types_none stage is can = record {
+    lent = can.lent;
+    known = can.known;
     whole = λ new h. h;
     exporting = record { last = None; same = is };
-    ascend = subst (λ (q : Stage). AscendFrom (next_of (last_of q)) (listed_ids home.named)) (sym is) known.ascend;
+    ascend = subst (λ (q : Stage). AscendFrom (next_of (last_of q)) (listed_ids home.named)) (sym is) can.known.ascend;
     passed = λ n e f. absurd (true≢false (sym e ∙ f));
-    titled = known.titled;
-    types = known.types;
+    titled = can.known.titled;
+    types = can.known.types;
+    covered = can.covered;
   }
 
   module _ (old : Contents) (stage : Stage) (t : List ℕ × TypeId) (rest : List (List ℕ × TypeId)) (s : AreTypesTo given origin home first old stage (t ∷ rest)) where
@@ -62,19 +78,24 @@ module _ (given : List ℕ → TypeTree) (origin : TypeId → Resource) (home : 
             by true f = let low = at_least t.1.index (listed_ids (t ∷ rest)) n (omega arith, s.ascend.1) f in absurd (omega (arith, l, low))
 
     -- it may be defined
-    pub next_defined : (types : List TypeDef) → home.types ≡ types → RefersBack types → IsHome home → IsDefinedHere (nested_setting origin home stage) (kind_at types t.1.index)
-    next_defined types same back known =
+    pub next_defined : (types : List TypeDef) → home.types ≡ types → RefersBack types → IsDefinedHere (nested_setting origin home stage) (kind_at types t.1.index)
+    next_defined types same back =
         subst (λ (ts : List TypeDef). IsDefinedHere (nested_setting origin home stage) (kind_at ts t.1.index)) same
-        (type_defined origin home stage (subst RefersBack (sym same) back) t.1 s.titled.0.present (known_exporting origin home known stage s.exporting t.1.index comes_next.none_left) s.types.0)
+        (let refers = subst RefersBack (sym same) back in
+        type_defined origin s.lent home stage refers t.1 s.titled.0.present (known_exporting origin s.lent home s.known stage s.exporting t.1.index comes_next.none_left) s.types.0
+        (parts_of_own home.types home.here refers home.foreign t.1 s.titled.0.present (own_owner home.here (owner_at home.types t.1.index) s.titled.0.owner) s.covered.0))
 
     pub types_more : (now : Contents) (after : Stage) → after ≡ stages.Exporting (Some t.1) → Exports given old now (exported_type origin home.types t ∷ []) [] → AreTypesTo given origin home first now after rest
     types_more now after is one = record {
+      lent = s.lent;
+      known = s.known;
       whole = λ new h. s.whole new (exports_on given old now new (exported_type origin home.types t ∷ []) (map (exported_type origin home.types) rest) [] [] one h);
       exporting = record { last = Some t.1; same = is };
       ascend = subst (λ (q : Stage). AscendFrom (next_of (last_of q)) (listed_ids rest)) (sym is) s.ascend.1;
       passed = λ n e f. subst (λ (q : Stage). n < next_of (last_of q)) (sym is) (below n e f (n == t.1.index) refl);
       titled = s.titled.1;
       types = s.types.1;
+      covered = s.covered.1;
     }
       where
         below : (n : ℕ) → is_one_of (listed_ids home.named) n ≡ true → is_one_of (listed_ids rest) n ≡ false → (b : Bool) → (n == t.1.index) ≡ b → n < suc t.1.index

@@ -17,8 +17,7 @@ use Rattle.nested_terms.specs.Naming.{is_taken, AreNamesAfter, AreNames}
 use Rattle.nested_terms.specs.Nested.{NestedScope, NestedFunction, empty_scope, function_import, type_import, with_item, functions_imported, types_imported, imports_after, AreItemsRight}
 use Rattle.nested_components.specs.declared.contents.Contents.{Contents}
 use Rattle.nested_components.specs.declared.type_import.TypeImport.{TypeImport}
-use Rattle.nested_components.specs.Functions.{nested_functions, PassesOn}
-use Rattle.nested_components.specs.Homes.{Home}
+use Rattle.nested_components.specs.Functions.{functions_of, nested_functions, PassesOn}
 use Rattle.nested_components.specs.Types.{type_given}
 use Rattle.nested_components.specs.Growing.{function_entry, type_entry, types_among, ArePassedOn}
 
@@ -156,15 +155,18 @@ given_names : (origin : TypeId → Resource) (types : List TypeDef) (ts : List T
 given_names origin types [] = refl
 given_names origin types (t ∷ ts) = ap (λ ns. t.name ∷ ns) (given_names origin types ts)
 
-module _ (given : List ℕ → TypeTree) (origin : TypeId → Resource) (home : Home) (fs : List Function) (names : List (List ℕ)) (c : Contents) (p : ArePassedOn given origin home fs names c) where
-  pub passed_imports : AreNames fs names → IsDistinct bytes_eq (keys_of c.taken) → IsDistinct bytes_eq (flat_map item_import c.items)
-  passed_imports named apart =
-      let functions = function_names given empty_scope c.items ∙ (ap (map (λ (f : NestedFunction). f.argument)) p.passes.functions ∙ arguments_named origin home.types [] fs names named) in
-      let types = type_names given empty_scope c.items ∙ (ap (map (λ (t : List ℕ × TypeTree). t.0)) p.passes.types ∙ given_names origin home.types p.imports) in
+module _ (given : List ℕ → TypeTree) (origin : TypeId → Resource) (all : List TypeDef) (named : List (List ℕ × TypeId)) (entries : List (List ℕ × Function)) (names : List (List ℕ)) (c : Contents) (p : ArePassedOn given origin all named entries names c) where
+  abbrev gs : List NestedFunction
+  gs = nested_functions origin all (functions_of entries) names
+
+  pub passed_imports : AreNames (functions_of entries) names → IsDistinct bytes_eq (keys_of c.taken) → IsDistinct bytes_eq (flat_map item_import c.items)
+  passed_imports chosen apart =
+      let functions = function_names given empty_scope c.items ∙ (ap (map (λ (f : NestedFunction). f.argument)) p.passes.functions ∙ arguments_named origin all [] (functions_of entries) names chosen) in
+      let types = type_names given empty_scope c.items ∙ (ap (map (λ (t : List ℕ × TypeTree). t.0)) p.passes.types ∙ given_names origin all p.imports) in
       imports_apart given empty_scope c.items p.passes.right
       (subst (λ ns. IsDistinct bytes_eq ns) (sym (ap₂ (λ ns ms. ns ++ ms) functions types)) (subst (λ ns. IsDistinct bytes_eq ns) (ap keys_of p.taken ∙ taken_keys names p.imports) apart))
 
-  pub passed_all : (types : List TypeImport) (out : List Item) → types ≡ types_among c.taken → out ≡ c.items → PassesOn given origin home.types home.named fs (nested_functions origin home.types fs names) types out
+  pub passed_all : (types : List TypeImport) (out : List Item) → types ≡ types_among c.taken → out ≡ c.items → PassesOn given origin all named entries gs types out
   passed_all types out are is =
-      subst (λ ts. PassesOn given origin home.types home.named fs (nested_functions origin home.types fs names) ts out) (sym (are ∙ (ap types_among p.taken ∙ types_taken names p.imports)))
-      (subst (λ os. PassesOn given origin home.types home.named fs (nested_functions origin home.types fs names) p.imports os) (sym is) p.passes)
+      subst (λ ts. PassesOn given origin all named entries gs ts out) (sym (are ∙ (ap types_among p.taken ∙ types_taken names p.imports)))
+      (subst (λ os. PassesOn given origin all named entries gs p.imports os) (sym is) p.passes)

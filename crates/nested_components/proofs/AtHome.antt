@@ -38,6 +38,7 @@ use Rattle.nested_components.specs.declared.stage.Stage.TheVariants as stages
 use Rattle.nested_components.specs.Functions.{functions_of}
 use Rattle.nested_components.specs.Homes.{Home, IsHome, next_of, last_of, is_passed, is_met, is_listed, may_own_named, nested_setting, IsExporting}
 use Rattle.nested_components.specs.Types.{listed_ids}
+use Rattle.nested_components.proofs.OneType.{met_foreign}
 
 bytes_laws : IsEquivalence bytes_eq
 bytes_laws = search (comparing, rules)
@@ -81,16 +82,8 @@ module _ (origin : TypeId → Resource) (lent : ℕ → Bool) (home : Home) (sta
   abbrev covers : Option Ty → Bool
   covers p = is_covered types home.here home.foreign p
 
-  -- a type of another interface that was imported is in the tables
-  met_foreign : (id : TypeId) → is_one_of home.foreign id.index ≡ true → is_met stage home id ≡ true
-  met_foreign id e = of stage
-    where
-      of : (q : Stage) → is_met q home id ≡ true
-      of stages.Importing = e
-      of (stages.Exporting last) = ap (λ b. b || is_passed home last id) e
-
   -- a type of the interface is in the tables, or it may be defined
-  IsKnown : ℕ → Type 0
+  abbrev pub IsKnown : ℕ → Type 0
   IsKnown n = owner_at types n ≡ owners.Interface home.here → (name : List ℕ) → name_at types n ≡ Some name → (is_met stage home (record { index = n }) || may_own_named (Some name) stage home n) ≡ true
 
   -- so are all below this number
@@ -150,15 +143,11 @@ module _ (origin : TypeId → Resource) (lent : ℕ → Bool) (home : Home) (sta
     -- a type of another interface that was imported needs no permission
     allowed_foreign : (id : TypeId) → id.index < length types → is_one_of home.foreign id.index ≡ true → is_allowed s (Some (Id id)) ≡ true
     allowed_foreign id within one =
-        allowed_of_id s id back within ∙ ap (λ b. if b then true else may_make s id.index (kind_at types id.index) (map (is_allowed s) (parts (kind_at types id.index))) (foreign (Some home.here) (owner_at types id.index))) (met_foreign id one)
+        allowed_of_id s id back within ∙ ap (λ b. if b then true else may_make s id.index (kind_at types id.index) (map (is_allowed s) (parts (kind_at types id.index))) (foreign (Some home.here) (owner_at types id.index))) (met_foreign home stage id one)
 
-    below : (k bound : ℕ) → k ≤ length types → AreKnown k → (id : TypeId) → id.index < bound → id.index < k → passes (Some (Id id)) ≡ true → covers (Some (Id id)) ≡ true → is_allowed s (Some (Id id)) ≡ true
-    below k zero most known id l m e c = absurd (omega (arith, l))
-    below k (suc bound) most known id l m e c = by (foreign (Some home.here) (owner_at types id.index)) refl
+    step : (id : TypeId) → id.index < length types → IsKnown id.index → AreAllowed id.index → passes (Some (Id id)) ≡ true → covers (Some (Id id)) ≡ true → is_allowed s (Some (Id id)) ≡ true
+    step id within known go e c = by (foreign (Some home.here) (owner_at types id.index)) refl
       where
-        within : id.index < length types
-        within = omega (arith, most, m)
-
         kind : TypeDefKind
         kind = kind_at types id.index
 
@@ -166,8 +155,12 @@ module _ (origin : TypeId → Resource) (lent : ℕ → Bool) (home : Home) (sta
         by (Some other) owner = allowed_foreign id within (listed_other types home.here back home.foreign id other within owner c)
         by None owner =
             let w = whole id within e in
-            let inside = each_parts id.index (λ j n q d. below k bound most known j (omega (arith, l, n)) (omega (arith, n, m)) q d) (parts kind) (parts_below types id.index back within) w.1 (parts_of_own types home.here back home.foreign id within owner c) in
-            allowed_of_id s id back within ∙ made id.index kind (map (is_allowed s) (parts kind)) (known id.index m) w.0 owner (list_all-map (λ b. b) (is_allowed s) (parts kind) ∙ inside)
+            let inside = each_parts id.index go (parts kind) (parts_below types id.index back within) w.1 (parts_of_own types home.here back home.foreign id within owner c) in
+            allowed_of_id s id back within ∙ made id.index kind (map (is_allowed s) (parts kind)) known w.0 owner (list_all-map (λ b. b) (is_allowed s) (parts kind) ∙ inside)
+
+    below : (k bound : ℕ) → k ≤ length types → AreKnown k → (id : TypeId) → id.index < bound → id.index < k → passes (Some (Id id)) ≡ true → covers (Some (Id id)) ≡ true → is_allowed s (Some (Id id)) ≡ true
+    below k zero most known id l m e c = absurd (omega (arith, l))
+    below k (suc bound) most known id l m e c = step id (omega (arith, most, m)) (known id.index m) (λ j n q d. below k bound most known j (omega (arith, l, n)) (omega (arith, n, m)) q d) e c
 
     -- a type at home may be made, once those of the interface below it are known, and those of others that are met in it were imported
     pub type_defined : (id : TypeId) → id.index < length types → AreKnown id.index → passes (Some (Id id)) ≡ true → is_parts_covered types home.here home.foreign id.index ≡ true → IsDefinedHere s (kind_at types id.index)

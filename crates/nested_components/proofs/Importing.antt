@@ -1,5 +1,5 @@
 -- A type of the interface that is imported as equal to its definition.
-use Rattle.std.proofs.Common.{◌≡◌, ◌∙◌, ◌<◌, ◌==◌, ℕ, true, false, true≢false, List, [], ◌∷◌, length, refl, ap, sym, subst, get_or, Option, Some, None, is_some}
+use Rattle.std.proofs.Common.{◌≡◌, ◌∙◌, ◌<◌, ◌==◌, inl, ℕ, true, false, true≢false, List, [], ◌∷◌, length, refl, ap, sym, subst, get_or, Option, Some, None, is_some}
 use Rattle.std.specs.Prelude.{Result, Ok, Err, IfOk, OnOk, OnErr}
 use Rattle.std.specs.Map.{lookup}
 use Rattle.std.specs.Str.{bytes_eq}
@@ -64,7 +64,7 @@ module _ (given : List ℕ → TypeTree) (origin : TypeId → Resource) (home : 
         own = (
           record {
             text = name.name;
-            listed = Contains-from_lookup (λ x y. (bytes_eq-Decides x y).0) name.name h.id home.named h.found;
+            from = inl (Contains-from_lookup (λ x y. (bytes_eq-Decides x y).0) name.name h.id home.named h.found);
             count = h.imports.is_free.count;
             same = h.imports.is_free.same;
           },

@@ -9,6 +9,9 @@ pub mod AllFunctions
 pub mod OneType
 pub mod AllTypes
 pub mod AtHome
+pub mod Copying
+pub mod ForeignTypes
+pub mod Keeping
 pub mod Whole
 mod WorkedFunctions
 mod WorkedTypes

@@ -1,5 +1,6 @@
 -- A type of the interface that is exported behind its definition.
-use Rattle.std.proofs.Common.{◌≡◌, ◌∙◌, ◌<◌, ◌==◌, ◌&&◌, arith, ℕ, suc, Bool, true, false, true≢false, List, [], ◌∷◌, ◌++◌, refl, ap, ap₂, sym, subst, get_or, nat_lt, lt-ltb, ltb-true, Some, None}
+use Rattle.std.proofs.Common.{◌≡◌, ◌∙◌, ◌<◌, ◌==◌, ◌&&◌, ◌||◌, inl, inr, arith, ℕ, suc, Bool, true, false, true≢false, List, [], ◌∷◌, ◌++◌, refl, ap, ap₂, sym, subst, get_or, nat_lt, lt-ltb, ltb-true, Some, None}
+use Rattle.std.proofs.lemmas.Bool.{or_left, or_right, or_cases}
 use Rattle.std.proofs.lemmas.Bool.Decides.{Decides-eqb}
 use Rattle.comp_lists.proofs.Lists.{AllByRecursion-weaker}
 use Rattle.wit_data.specs.declared.ids.TypeId.{TypeId}
@@ -21,7 +22,7 @@ use Rattle.nested_components.specs.declared.contents.Contents.{Contents}
 use Rattle.nested_components.specs.declared.stage.Stage.{Stage}
 use Rattle.nested_components.specs.declared.stage.Stage.TheVariants as stages
 use Rattle.nested_components.specs.Counts.{types_in}
-use Rattle.nested_components.specs.Homes.{Home, IsExporting, IsNextOf, is_met, next_of, last_of}
+use Rattle.nested_components.specs.Homes.{Home, IsExporting, IsNextOf, is_passed, is_met, next_of, last_of}
 use Rattle.nested_components.specs.Types.{listed_ids, exported_type}
 use Rattle.nested_components.specs.Growing.{scope_of, plain, AreTablesRight, Exports}
 use Rattle.nested_components.specs.Following.{exports_on}
@@ -81,7 +82,12 @@ both false b e = absurd (true≢false (sym e))
 met_before : (home : Home) (stage : Stage) (j : TypeId) → IsExporting stage → is_one_of (listed_ids home.named) j.index ≡ true → j.index < next_of (last_of stage) → is_met stage home j ≡ true
 met_before home stage j exporting listed before =
     subst (λ (q : Stage). is_met q home j ≡ true) (sym exporting.same)
-    (rw (lt-ltb j.index (next_of exporting.last) (subst (λ (q : Stage). j.index < next_of (last_of q)) exporting.same before), listed) refl)
+    (or_right (is_one_of home.foreign j.index) (is_passed home exporting.last j) (rw (lt-ltb j.index (next_of exporting.last) (subst (λ (q : Stage). j.index < next_of (last_of q)) exporting.same before), listed) refl))
+
+-- a type of another interface that was imported is in the tables
+pub met_foreign : (home : Home) (stage : Stage) (j : TypeId) → is_one_of home.foreign j.index ≡ true → is_met stage home j ≡ true
+met_foreign home stages.Importing j e = e
+met_foreign home (stages.Exporting last) j e = or_left (is_one_of home.foreign j.index) (is_passed home last j) e
 
 pub right_passed : (given : List ℕ → TypeTree) (origin : TypeId → Resource) (home : Home) (stage : Stage) (id : TypeId) (is : List Item) (maps : TypeEncodingMaps) → IsExporting stage → IsNextOf home stage id → HasIndex maps id →
     AreTablesRight given origin home stage is maps → AreTablesRight given origin home (stages.Exporting (Some id)) is maps
@@ -91,7 +97,10 @@ right_passed given origin home stage id is maps exporting next recorded h = reco
   named = AllByRecursion-weaker (λ e n. record { as_own = n.as_own }) maps.id_to_index h.named;
   kinds = h.kinds;
   functions = h.functions;
-  met = λ j e. by j (j.index == id.index) refl (both (nat_lt j.index (suc id.index)) (is_one_of (listed_ids home.named) j.index) e);
+  met = λ j e. elim (or_cases (is_one_of home.foreign j.index) (is_passed home (Some id) j) e) [
+    | inl imported ↦ h.met j (met_foreign home stage j imported)
+    | inr passed ↦ by j (j.index == id.index) refl (both (nat_lt j.index (suc id.index)) (is_one_of (listed_ids home.named) j.index) passed)
+  ];
   offers = h.offers;
 }
   where

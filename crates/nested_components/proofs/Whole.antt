@@ -1,5 +1,7 @@
 -- All together: the items import the functions, and export the types and the functions.
-use Rattle.std.proofs.Common.{◌≡◌, ◌∙◌, ℕ, true, List, [], ◌∷◌, ◌++◌, length, map, refl, ap, sym, subst, append-nil}
+use Rattle.std.proofs.Common.{◌≡◌, ◌∙◌, ◌<◌, arith, inl, inr, ℕ, zero, suc, true, List, [], ◌∷◌, ◌++◌, length, map, refl, ap, sym, subst, append-nil, Some}
+use Rattle.std.proofs.lemmas.Option.{none-some}
+use Rattle.comp_lists.proofs.Lists.{AllByRecursion-weaker, AllByRecursion-contains}
 use Rattle.std.specs.List.{AllByRecursion, AllZip, IsDistinct}
 use Rattle.std.specs.Map.{keys_of}
 use Rattle.std.specs.Str.{bytes_eq}
@@ -8,7 +10,8 @@ use Rattle.wit_data.specs.declared.resolve.Resolve.{Resolve}
 use Rattle.wit_data.specs.Parts.{RefersBack}
 use Rattle.wit_data.specs.Sound.{HasFunction}
 use Rattle.wit_types.specs.Allowing.{allows_function}
-use Rattle.type_scopes.specs.Needs.{function_passes, is_at_home}
+use Rattle.type_scopes.specs.Titles.{IsTitled}
+use Rattle.wit_types.specs.Settings.{name_at}
 use Rattle.wit_data.specs.declared.ids.TypeId.{TypeId}
 use Rattle.wit_data.specs.declared.types.TypeDef.{TypeDef}
 use Rattle.wit_data.specs.declared.functions.Function.{Function}
@@ -18,13 +21,15 @@ use Rattle.nested_terms.specs.Naming.{AreNamesAfter}
 use Rattle.nested_terms.specs.Nested.{NestedFunction, NestedExport, empty_scope, functions_imported, types_imported, imports_after, exports_after, AreItemsRight}
 use Rattle.nested_components.specs.declared.contents.Contents.{Contents}
 use Rattle.nested_components.specs.declared.stage.Stage.{Stage}
+use Rattle.nested_components.specs.declared.type_import.TypeImport.{TypeImport}
 use Rattle.nested_components.specs.declared.stage.Stage.TheVariants as stages
 use Rattle.nested_components.specs.Functions.{functions_of, nested_functions, exported, IsTyped, PassesOn}
-use Rattle.nested_components.specs.Homes.{Home, IsHome, AreAllPassed, nested_setting}
-use Rattle.nested_components.specs.Types.{IsAtHome, type_given, exported_type}
-use Rattle.nested_components.specs.Growing.{scope_of, ItemsGrow, function_entry, type_entry, Grows, Exports, ArePassedOn}
-use Rattle.nested_components.specs.Following.{items_on, exports_on}
-use Rattle.nested_components.proofs.AtHome.{functions_allowed, known_importing, known_exporting}
+use Rattle.foreign_types.specs.Foreign.{type_passes, IsReached, AreForeignTypes}
+use Rattle.nested_components.specs.Homes.{Home, new_home, with_foreign, IsHome, CanExport, AreAllPassed, nested_setting}
+use Rattle.nested_components.specs.Types.{IsAtHome, type_given, exported_type, IsImportOf}
+use Rattle.nested_components.specs.Growing.{scope_of, ItemsGrow, function_entry, type_entry, IsImportIn, Grows, Exports, ArePassedOn}
+use Rattle.nested_components.specs.Following.{items_on, exports_on, grows_on}
+use Rattle.nested_components.proofs.AtHome.{AreKnown, functions_allowed, known_importing, known_exporting}
 
 -- each function has a name, so that each is one of the nested component
 pub typed_all : (origin : TypeId → Resource) (types : List TypeDef) (taken : List (List ℕ)) (fs : List Function) (names : List (List ℕ)) → AreNamesAfter taken fs names →
@@ -34,19 +39,28 @@ typed_all origin types taken (f ∷ fs) (name ∷ names) h = (refl, typed_all or
 typed_all origin types taken [] (name ∷ names) h = absurd h
 typed_all origin types taken (f ∷ fs) [] h = absurd h
 
-pub home_of : (types : List TypeDef) (here : InterfaceId) (named : List (List ℕ × TypeId)) (functions : List (List ℕ × Function)) → IsAtHome types here named functions → IsHome (record { types = types; here = here; named = named })
-home_of types here named functions h = record { titled = h.titled; ascend = h.ascend; types = h.types; every = h.every }
+pub home_of : (types : List TypeDef) (here : InterfaceId) (named : List (List ℕ × TypeId)) (entries : List (List ℕ × Function)) (h : IsAtHome types here named entries) (ids : List TypeId) → IsHome h.lent (with_foreign (new_home types here named) ids)
+home_of types here named entries h ids = record { titled = h.titled; ascend = h.ascend; types = h.types; every = h.every }
+
+-- once all types of other interfaces were imported, types and functions may be exported
+pub can_export : (types : List TypeDef) (here : InterfaceId) (named : List (List ℕ × TypeId)) (entries : List (List ℕ × Function)) → IsAtHome types here named entries → (ids : List TypeId) → AreForeignTypes types here named entries ids →
+    CanExport (with_foreign (new_home types here named) ids) entries
+can_export types here named entries h ids f = record {
+  types = record { lent = h.lent; known = home_of types here named entries h ids; covered = f.types_covered };
+  functions = h.functions;
+  covered = f.functions_covered;
+}
 
 -- functions may be imported, and exported once each type was
-pub may_import_all : (origin : TypeId → Resource) (home : Home) (stage : Stage) (r : Resolve) (es : List (List ℕ × Function)) → stage ≡ stages.Importing → r.types ≡ home.types → RefersBack r.types → IsHome home → IsDistinct bytes_eq (keys_of home.named) →
-    AllByRecursion (λ e. HasFunction r e.1) es → AllByRecursion (λ e. function_passes (is_at_home home.types home.here) home.types e.1 ≡ true) es → AllByRecursion (λ f. allows_function (nested_setting origin home stage) f ≡ true) (functions_of es)
-may_import_all origin home stage r es importing same back known apart has passing =
-    functions_allowed origin home stage (subst RefersBack same back) (known_importing origin home known stage importing apart (length home.types)) r same es has passing
+module _ (origin : TypeId → Resource) (home : Home) (stage : Stage) (r : Resolve) (es : List (List ℕ × Function)) (same : r.types ≡ home.types) (back : RefersBack r.types) (can : CanExport home es) (has : AllByRecursion (λ e. HasFunction r e.1) es) where
+  may_all : AreKnown origin can.types.lent home stage (length home.types) → AllByRecursion (λ f. allows_function (nested_setting origin home stage) f ≡ true) (functions_of es)
+  may_all known = functions_allowed origin can.types.lent home stage (subst RefersBack same back) known r same es has can.functions can.covered
 
-pub may_export_all : (origin : TypeId → Resource) (home : Home) (stage : Stage) (r : Resolve) (es : List (List ℕ × Function)) → AreAllPassed home stage → r.types ≡ home.types → RefersBack r.types → IsHome home →
-    AllByRecursion (λ e. HasFunction r e.1) es → AllByRecursion (λ e. function_passes (is_at_home home.types home.here) home.types e.1 ≡ true) es → AllByRecursion (λ f. allows_function (nested_setting origin home stage) f ≡ true) (functions_of es)
-may_export_all origin home stage r es passed same back known has passing =
-    functions_allowed origin home stage (subst RefersBack same back) (known_exporting origin home known stage passed.exporting (length home.types) (λ n l e. passed.each n e)) r same es has passing
+  pub may_import_all : stage ≡ stages.Importing → IsDistinct bytes_eq (keys_of home.named) → AllByRecursion (λ f. allows_function (nested_setting origin home stage) f ≡ true) (functions_of es)
+  may_import_all importing apart = may_all (known_importing origin can.types.lent home can.types.known stage importing apart (length home.types))
+
+  pub may_export_all : AreAllPassed home stage → AllByRecursion (λ f. allows_function (nested_setting origin home stage) f ≡ true) (functions_of es)
+  may_export_all passed = may_all (known_exporting origin can.types.lent home can.types.known stage passed.exporting (length home.types) (λ n l e. passed.each n e))
 
 -- the types are exported, and then the functions
 pub exports_both : (given : List ℕ → TypeTree) (old mid last : Contents) (types : List NestedExport) (fs : List Function) → Exports given old mid types [] → Exports given mid last (exported fs (scope_of given mid.items).functions) (scope_of given mid.items).functions →
@@ -61,8 +75,45 @@ pub exports_home : (given : List ℕ → TypeTree) (origin : TypeId → Resource
 exports_home given origin home here fs mid last same h =
     subst (λ (x : Home). Exports given mid last (map (exported_type origin x.types) x.named ++ exported fs (scope_of given mid.items).functions) (scope_of given mid.items).functions) same h
 
-module _ (given : List ℕ → TypeTree) (origin : TypeId → Resource) (home : Home) (stage : Stage) (fs : List Function) (names : List (List ℕ)) (first mid : Contents) (none : first.items ≡ [])
-    (imports : Grows given origin home stage first mid (nested_functions origin home.types fs names)) where
+-- ---- what is imported
+
+-- an import of a type that is listed, or of a type of another interface of which this one is made
+import_of : (types : List TypeDef) (here : InterfaceId) (named : List (List ℕ × TypeId)) (entries : List (List ℕ × Function)) → AllByRecursion (λ t. IsTitled types here t.1 t.0) named → (ids : List TypeId) → AreForeignTypes types here named entries ids →
+    (t : TypeImport) → IsImportIn (with_foreign (new_home types here named) ids) t → IsImportOf types named entries t
+import_of types here named entries titled ids f t h = elim h.from [
+  | inl listed ↦
+      let is : IsTitled types here t.id h.text = AllByRecursion-contains (λ (x : List ℕ × TypeId). IsTitled types here x.1 x.0) named (h.text, t.id) titled listed in
+      record {
+        within = is.present;
+        text = h.text;
+        titled = is.named;
+        reached = record { each = λ test all functions. AllByRecursion-contains (λ (x : List ℕ × TypeId). type_passes test types x.1) named (h.text, t.id) all listed };
+        count = h.count;
+        same = h.same;
+      }
+  | inr there ↦
+      record {
+        within = named_within types t.id.index h.text there.1;
+        text = h.text;
+        titled = there.1;
+        reached = AllByRecursion-contains (IsReached types named entries) ids t.id f.reached there.0;
+        count = h.count;
+        same = h.same;
+      }
+]
+  where
+    named_within : (ts : List TypeDef) (n : ℕ) (text : List ℕ) → name_at ts n ≡ Some text → n < length ts
+    named_within [] n text e = absurd (none-some text e)
+    named_within (x ∷ xs) zero text e = omega arith
+    named_within (x ∷ xs) (suc n) text e = let l = named_within xs n text e in omega (arith, l)
+
+-- ---- the whole
+
+module _ (given : List ℕ → TypeTree) (origin : TypeId → Resource) (home : Home) (stage : Stage) (entries : List (List ℕ × Function)) (names : List (List ℕ)) (first mid : Contents) (none : first.items ≡ [])
+    (imports : Grows given origin home stage first mid (nested_functions origin home.types (functions_of entries) names)) where
+  abbrev fs : List Function
+  fs = functions_of entries
+
   abbrev gs : List NestedFunction
   gs = nested_functions origin home.types fs names
 
@@ -73,21 +124,21 @@ module _ (given : List ℕ → TypeTree) (origin : TypeId → Resource) (home : 
   abbrev all_exports : List NestedExport
   all_exports = map (exported_type origin home.types) home.named ++ exported fs gs
 
-  from_none : (last : Contents) → ItemsGrow given first.items last.items gs (map (type_given origin home.types) imports.more) all_exports (gs ++ gs) → PassesOn given origin home.types home.named fs gs imports.more last.items
-  from_none last g =
+  from_none : AllByRecursion (IsImportOf home.types home.named entries) imports.more → (last : Contents) → ItemsGrow given first.items last.items gs (map (type_given origin home.types) imports.more) all_exports (gs ++ gs) → PassesOn given origin home.types home.named entries gs imports.more last.items
+  from_none own last g =
       let h : ItemsGrow given [] last.items gs (map (type_given origin home.types) imports.more) all_exports (gs ++ gs) =
       subst (λ is. ItemsGrow given is last.items gs (map (type_given origin home.types) imports.more) all_exports (gs ++ gs)) none g in
       record {
         right = subst (λ more. AreItemsRight given empty_scope more) (sym h.grown) h.right;
         functions = ap (λ is. functions_imported (imports_after given empty_scope is)) h.grown ∙ h.imported;
         types = ap (λ is. types_imported (imports_after given empty_scope is)) h.grown ∙ h.typed;
-        own = imports.own;
+        own = own;
         exports = ap (exports_after given empty_scope) h.grown ∙ h.exported;
       }
 
-  pub whole : (last : Contents) → first.taken ≡ map function_entry names → Exports given mid last (map (exported_type origin home.types) home.named ++ exported fs (scope_of given mid.items).functions) (scope_of given mid.items).functions →
-      ArePassedOn given origin home fs names last
-  whole last taken exports =
+  pub whole : AllByRecursion (IsImportOf home.types home.named entries) imports.more → (last : Contents) → first.taken ≡ map function_entry names →
+      Exports given mid last (map (exported_type origin home.types) home.named ++ exported fs (scope_of given mid.items).functions) (scope_of given mid.items).functions → ArePassedOn given origin home.types home.named entries names last
+  whole own last taken exports =
       let tree = type_given origin home.types in
       let later : Exports given mid last all_exports gs =
       subst (λ hs. Exports given mid last (map (exported_type origin home.types) home.named ++ exported fs hs) hs) functions_made exports in
@@ -95,8 +146,21 @@ module _ (given : List ℕ → TypeTree) (origin : TypeId → Resource) (home : 
       items_on given first.items mid.items last.items gs [] (map tree imports.more) [] [] all_exports gs gs imports.items later.items in
       record {
         imports = imports.more;
-        passes = from_none last
+        passes = from_none own last
             (subst (λ xs. ItemsGrow given first.items last.items xs (map tree imports.more) all_exports (gs ++ gs)) (append-nil gs)
             (subst (λ ts. ItemsGrow given first.items last.items (gs ++ []) ts all_exports (gs ++ gs)) (append-nil (map tree imports.more)) joined));
         taken = exports.taken ∙ (imports.taken ∙ ap (λ ts. ts ++ map type_entry imports.more) taken);
       }
+
+-- functions are imported behind what was imported before
+pub imports_all : (given : List ℕ → TypeTree) (origin : TypeId → Resource) (home : Home) (stage : Stage) (entries : List (List ℕ × Function)) (names : List (List ℕ)) (first mid last : Contents) → Grows given origin home stage first mid [] →
+    Grows given origin home stage mid last (nested_functions origin home.types (functions_of entries) names) → Grows given origin home stage first last (nested_functions origin home.types (functions_of entries) names)
+imports_all given origin home stage entries names first mid last x y = grows_on given origin home stage first mid last [] (nested_functions origin home.types (functions_of entries) names) x y
+
+-- the same of an interface for which types of others were imported
+pub whole_of : (given : List ℕ → TypeTree) (origin : TypeId → Resource) (types : List TypeDef) (here : InterfaceId) (named : List (List ℕ × TypeId)) (entries : List (List ℕ × Function)) (at : IsAtHome types here named entries) (ids : List TypeId) → AreForeignTypes types here named entries ids →
+    (stage : Stage) (names : List (List ℕ)) (first mid last : Contents) → first.items ≡ [] → first.taken ≡ map function_entry names → Grows given origin (with_foreign (new_home types here named) ids) stage first mid (nested_functions origin types (functions_of entries) names) →
+    Exports given mid last (map (exported_type origin types) named ++ exported (functions_of entries) (scope_of given mid.items).functions) (scope_of given mid.items).functions → ArePassedOn given origin types named entries names last
+whole_of given origin types here named entries at ids f stage names first mid last none taken grows exports =
+    whole given origin (with_foreign (new_home types here named) ids) stage entries names first mid none grows
+    (AllByRecursion-weaker (import_of types here named entries at.titled ids f) grows.more grows.own) last taken exports

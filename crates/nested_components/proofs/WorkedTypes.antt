@@ -1,6 +1,6 @@
 -- A worked example: an interface that lists one type, a stream, which its function takes; and one whose function takes a type of
 -- another interface.
-use Rattle.std.proofs.Common.{◌≡◌, ◌<◌, arith, ℕ, zero, suc, false, List, [], ◌∷◌, refl, ap, Some, None}
+use Rattle.std.proofs.Common.{◌≡◌, ◌<◌, ◌==◌, ◌&&◌, arith, ℕ, zero, suc, Bool, true, false, List, [], ◌∷◌, refl, ap, Some, None}
 use Rattle.std.specs.Prelude.{codes, Contains}
 use Rattle.std.proofs.lemmas.Option.{same_Some}
 use Rattle.wit_data.specs.declared.functions.Function.{Function}
@@ -11,11 +11,12 @@ use Rattle.wit_data.specs.declared.types.Type.TheVariants.{Id}
 use Rattle.wit_data.specs.declared.types.TypeDef.{TypeDef}
 use Rattle.wit_data.specs.declared.types.TypeDefKind.TheVariants as kinds
 use Rattle.wit_data.specs.declared.types.TypeOwner.TheVariants as owners
-use Rattle.wit_data.specs.Values.{values_from}
+use Rattle.wit_data.specs.Values.{value, values_from}
 use Rattle.comp_trees.specs.Trees.{Resource, StreamOf, Absent}
 use Rattle.comp_trees.specs.DefinedTrees.{OfValues}
 use Rattle.wit_types.specs.Settings.{owner_at, name_at}
-use Rattle.type_scopes.specs.Needs.{function_passes, is_at_home}
+use Rattle.type_scopes.specs.Needs.{each_passes, function_passes, is_at_home}
+use Rattle.foreign_types.specs.Foreign.{AreForeignTypes}
 use Rattle.nested_terms.specs.Nested.{ExportedType}
 use Rattle.nested_components.specs.Types.{IsAtHome, type_given, exported_type}
 
@@ -41,6 +42,7 @@ each_listed (suc n) l o name e = absurd (omega (arith, l))
 stream_at_home : IsAtHome types here named ((codes "f", f) ∷ [])
 unfolding values_from
 stream_at_home = record {
+  lent = λ n. false;
   titled = (record { present = omega arith; owner = refl; named = refl }, tt);
   ascend = (omega arith, tt);
   types = (refl, tt);
@@ -56,7 +58,25 @@ stream_exported : (origin : TypeId → Resource) → exported_type origin types 
 unfolding values_from
 stream_exported origin = refl
 
--- in another interface, the type is not at home
-away : function_passes (is_at_home types (record { index = 1 })) types f ≡ false
+-- in another interface, the type is at home where it is lent
+away : function_passes (is_at_home types (λ n. false) (record { index = 1 })) types f ≡ false
 unfolding values_from
 away = refl
+
+lent : function_passes (is_at_home types (λ n. n == 0) (record { index = 1 })) types f ≡ true
+unfolding values_from
+lent = refl
+
+-- it is imported before the function, and behind nothing
+foreign_type : AreForeignTypes types (record { index = 1 }) [] ((codes "f", f) ∷ []) (t ∷ [])
+unfolding values_from
+foreign_type = record {
+  ready = (record { within = omega arith; other = here; owner = refl; parts = refl }, tt);
+  types_covered = tt;
+  functions_covered = (refl, tt);
+  reached = (record { each = λ test types_pass functions_pass. and_first (value (each_passes test) types (Some (Id t))) functions_pass.0 }, tt);
+}
+  where
+    and_first : (a : Bool) → ((a && true) && true) ≡ true → a ≡ true
+    and_first true e = refl
+    and_first false e = e

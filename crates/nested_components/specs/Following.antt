@@ -1,8 +1,9 @@
 -- What was built, and what was built behind it: growth adds up.
 use Rattle.std.specs.Prelude.{ℕ, ◌≡◌, List, [], ◌∷◌, ◌++◌, map}
 use Rattle.std.specs.List.{AllByRecursion}
-use Rattle.std.proofs.Common.{refl, sym, ap, ap₂, subst, ◌∙◌, append_assoc, append-nil}
+use Rattle.std.proofs.Common.{inl, inr, refl, sym, ap, ap₂, subst, ◌∙◌, append_assoc, append-nil}
 use Rattle.std.proofs.lemmas.List.{map-append}
+use Rattle.std.proofs.lemmas.List.Elements.{Contains-append_left}
 use Rattle.wit_data.specs.declared.ids.TypeId.{TypeId}
 use Rattle.comp_bytes.specs.declared.def.Item.{Item}
 use Rattle.comp_trees.specs.Trees.{Resource}
@@ -12,9 +13,9 @@ use Rattle.nested_components.specs.declared.contents.Contents.{Contents}
 use Rattle.nested_components.specs.declared.stage.Stage.{Stage}
 use Rattle.nested_components.specs.declared.stage.Stage.TheVariants as stages
 use Rattle.nested_components.specs.declared.type_import.TypeImport.{TypeImport}
-use Rattle.nested_components.specs.Homes.{Home, MayImport}
+use Rattle.nested_components.specs.Homes.{Home, with_foreign, MayImport}
 use Rattle.nested_components.specs.Types.{type_given}
-use Rattle.nested_components.specs.Growing.{scope_of, ItemsGrow, type_entry, Grows, Exports}
+use Rattle.nested_components.specs.Growing.{scope_of, ItemsGrow, type_entry, IsImportIn, Grows, Exports}
 
 functions_append : (xs ys : List NestedImport) → functions_imported (xs ++ ys) ≡ functions_imported xs ++ functions_imported ys
 functions_append [] ys = refl
@@ -115,6 +116,25 @@ module _ (given : List ℕ → TypeTree) where
           items = subst (λ ts. ItemsGrow given a.items c.items (f ++ g) ts [] (f ++ g)) (sym (map-append tree x.more y.more))
               (items_on a.items b.items c.items f g (map tree x.more) (map tree y.more) [] [] f g x.items y.items);
         }
+
+    -- of an interface for which more types of others were imported
+    pub grows_later : (home : Home) (ids : List TypeId) (stage : Stage) (a b : Contents) (f : List NestedFunction) → Grows given origin home stage a b f → Grows given origin (with_foreign home ids) stage a b f
+    grows_later home ids stage a b f g = record { more = g.more; staged = g.staged; taken = g.taken; own = each g.more g.own; items = g.items }
+      where
+        one : (t : TypeImport) → IsImportIn home t → IsImportIn (with_foreign home ids) t
+        one t h = record {
+          text = h.text;
+          from = elim h.from [
+            | inl listed ↦ inl listed
+            | inr there ↦ inr (Contains-append_left home.foreign ids t.id there.0, there.1)
+          ];
+          count = h.count;
+          same = h.same;
+        }
+
+        each : (ts : List TypeImport) → AllByRecursion (IsImportIn home) ts → AllByRecursion (IsImportIn (with_foreign home ids)) ts
+        each [] h = tt
+        each (t ∷ ts) h = (one t h.0, each ts h.1)
 
     -- of three states of a nested component
     pub grows_follow : (h i j : Home) (s t u : Stage) (a b c : Contents) → (i ≡ h) × (t ≡ s) × Grows given origin h s a b [] → (j ≡ i) × (u ≡ t) × Grows given origin i t b c [] → (j ≡ h) × (u ≡ s) × Grows given origin h s a c []

@@ -6,4 +6,5 @@ pub mod Foreign
 pub mod Counts
 pub mod Tables
 pub mod Growing
+pub mod Beginning
 pub mod Following

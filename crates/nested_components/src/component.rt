@@ -13,7 +13,8 @@ ghost use Rattle.nested_terms.specs.Naming.{AreNames};
 ghost use Rattle.nested_terms.specs.Nested.{empty_scope, functions_imported, types_imported, imports_after, exports_after, AreItemsRight};
 ghost use Rattle.nested_components.specs.Functions.{no_types, functions_of, nested_functions, exported, IsTyped, PassesOn};
 ghost use Rattle.nested_components.specs.Types.{IsAtHome, type_given, exported_type, IsImportOf};
-ghost use Rattle.nested_components.specs.Homes.{CanExport};
+ghost use Rattle.nested_components.specs.Beginning.{IsBegun};
+ghost use Rattle.nested_components.specs.Homes.{new_home, CanExport};
 ghost use Rattle.nested_components.specs.declared.stage.Stage.TheVariants as stages;
 ghost use Rattle.nested_components.specs.Growing.{scope_of, AreTablesRight, function_entry, types_among, Exports, ArePassedOn};
 
@@ -182,6 +183,29 @@ fn names_apart(types: &Keyed<Text, TypeId>)
     let _ = types.iter();
 }
 
+/// A nested component that imports the types of other interfaces of which the interface is made, where these names are taken.
+fn begin_component<'a, P: Placement>(
+    alloc: Global,
+    resolve: &'a Resolve,
+    interface: InterfaceId,
+    types: &'a Keyed<Text, TypeId>,
+    functions: &Keyed<Text, Function>,
+    taken: Keyed<Text, Option<TypeId>>,
+) -> Result<NestedEncoder<'a, P>, BuildFault>
+    requires sound { IsSound resolve.now }
+    requires present { AllByRecursion (λ e. HasFunction resolve.now e.1) functions.now }
+    requires home { IsAtHome resolve.now.types interface types.now functions.now }
+    ensures begun { IfOk result (λ e. IsBegun P.given P.origin (new_home resolve.now.types interface types.now) functions.now taken e.home e.stage e.contents e.maps) }
+    ensures cause { IfErr result IsExcess }
+{
+    names_apart(types);
+    let foreign = all_foreign_types(alloc, resolve, interface, types, functions)?;
+    let home = OwnTypes::new(alloc, resolve, interface, types);
+    let mut encoder: NestedEncoder<'_, P> = NestedEncoder::new(alloc, home, taken);
+    import_foreign_types(alloc, &mut encoder, resolve, foreign.as_slice())?;
+    Ok(encoder)
+}
+
 /// The items of the nested component, where the functions are imported under these names, which are those that are taken.
 fn contents_of<P: Placement>(
     alloc: Global,
@@ -200,11 +224,8 @@ fn contents_of<P: Placement>(
     ensures passed { IfOk result (ArePassedOn P.given P.origin resolve.now.types types.now functions.now names.now) }
     ensures cause { IfErr result IsExcess }
 {
-    names_apart(types);
-    let foreign = all_foreign_types(alloc, resolve, interface, types, functions)?;
-    let home = OwnTypes::new(alloc, resolve, interface, types);
-    let mut encoder: NestedEncoder<'_, P> = NestedEncoder::new(alloc, home, taken);
-    import_foreign_types(alloc, &mut encoder, resolve, foreign.as_slice())?;
+    let mut encoder: NestedEncoder<'_, P> =
+        begin_component(alloc, resolve, interface, types, functions, taken)?;
     let tables = encoder.type_tables()?;
     import_functions(alloc, &mut encoder, resolve, names.as_slice(), functions)?;
     encoder.begin_exports(tables);

@@ -1,63 +1,93 @@
-use Rattle.std.proofs.Common.{◌≡◌, ◌∙◌, ℕ, true, List, [], ap, sym, subst}
+use Rattle.std.proofs.Common.{◌≡◌, ◌∙◌, ◌++◌, ℕ, true, List, [], map, refl, ap, sym, subst, None}
 use Rattle.std.specs.List.{AllByRecursion, AllZip}
 use Rattle.wit_data.specs.declared.functions.Function.{Function}
+use Rattle.wit_data.specs.declared.ids.TypeId.{TypeId}
 use Rattle.wit_types.specs.Allowing.{allows_function}
-use Rattle.type_scopes.specs.Needs.{function_passes, is_at_home}
-use Rattle.nested_components.specs.Functions.{functions_of, nested_functions, IsTyped}
-use Rattle.nested_components.specs.Growing.{scope_of, Grows, ArePassedOn}
-use Rattle.nested_components.specs.Homes.{Home, IsHome, nested_setting}
-use Rattle.nested_components.proofs.Whole.{home_of, may_import_all, typed_all, functions_made, whole, exports_home}
+use Rattle.wit_types.specs.declared.maps.TypeEncodingMaps.{TypeEncodingMaps}
+use Rattle.nested_components.specs.declared.contents.Contents.{Contents}
+use Rattle.nested_components.specs.declared.stage.Stage.{Stage}
+use Rattle.nested_components.specs.declared.stage.Stage.TheVariants as stages
+use Rattle.nested_components.specs.Functions.{functions_of, nested_functions, exported, IsTyped}
+use Rattle.nested_components.specs.Growing.{scope_of, function_entry, AreTablesRight, Grows, Exports, ArePassedOn}
+use Rattle.nested_components.specs.Homes.{Home, new_home, with_foreign, CanExport, nested_setting}
+use Rattle.nested_components.specs.Types.{exported_type}
+use Rattle.nested_components.proofs.Whole.{can_export, may_import_all, typed_all, functions_made, imports_all, whole_of}
+use Rattle.nested_components.proofs.Keeping.{tables_kept, grown_longer}
 use Rattle.nested_components.proofs.component.contents_of.Goals as goal
 
 pub import_functions-requires-clause-allowed : goal.import_functions-requires-clause-allowed
 import_functions-requires-clause-allowed g c =
-    let n = c.new-encoder.result in
+    let n = c.in_ok-encoder.encoder in
+    let b = c.in_ok-encoder.ensures.begun in
+    let types = c.args.resolve.now.types in
+    let named : List (List ℕ × TypeId) = c.args.types.now in
     let es : List (List ℕ × Function) = c.args.functions.now in
-    let h : Home = record { types = c.args.resolve.now.types; here = c.args.interface; named = c.args.types.now } in
-    let same : n.home ≡ h = c.new-encoder.ensures.home ∙ c.new-home.ensures in
-    subst (λ (x : Home). AllByRecursion (λ f. allows_function (nested_setting g.P.Placement.origin x n.stage) f ≡ true) (functions_of es)) (sym same)
-    (may_import_all g.P.Placement.origin h n.stage c.args.resolve.now es c.new-encoder.ensures.stage (λ i. h.types) c.requires.sound.back (home_of h.types h.here h.named es c.requires.home) c.names_apart.ensures c.requires.present c.requires.home.functions)
+    let h : Home = with_foreign (new_home types c.args.interface named) b.ids in
+    subst (λ (x : Home). AllByRecursion (λ f. allows_function (nested_setting g.P.Placement.origin x n.stage) f ≡ true) (functions_of es)) (sym b.same)
+    (may_import_all g.P.Placement.origin h n.stage c.args.resolve.now es refl c.requires.sound.back (can_export types c.args.interface named es c.requires.home b.ids b.foreign) c.requires.present b.stage b.apart)
 
 pub export_all-requires-clause-home : goal.export_all-requires-clause-home
 export_all-requires-clause-home g c =
+    let b = c.in_ok-encoder.ensures.begun in
     let m = c.import_functions.new.encoder in
-    let h : Home = record { types = c.args.resolve.now.types; here = c.args.interface; named = c.args.types.now } in
-    let same : m.home ≡ h = c.in_ok-import_functions.ensures.home ∙ (c.new-encoder.ensures.home ∙ c.new-home.ensures) in
-    subst IsHome (sym same) (home_of h.types h.here h.named c.args.functions.now c.requires.home)
-
-pub export_all-requires-clause-passing : goal.export_all-requires-clause-passing
-export_all-requires-clause-passing g c =
-    let m = c.import_functions.new.encoder in
+    let types = c.args.resolve.now.types in
+    let named : List (List ℕ × TypeId) = c.args.types.now in
     let es : List (List ℕ × Function) = c.args.functions.now in
-    let h : Home = record { types = c.args.resolve.now.types; here = c.args.interface; named = c.args.types.now } in
-    let same : m.home ≡ h = c.in_ok-import_functions.ensures.home ∙ (c.new-encoder.ensures.home ∙ c.new-home.ensures) in
-    subst (λ (x : Home). AllByRecursion (λ e. function_passes (is_at_home x.types x.here) x.types e.1 ≡ true) es) (sym same) c.requires.home.functions
+    subst (λ (x : Home). CanExport x es) (sym (ap (λ x. x.home) c.begin_exports.ensures ∙ (c.in_ok-import_functions.ensures.home ∙ b.same))) (can_export types c.args.interface named es c.requires.home b.ids b.foreign)
+
+pub export_all-requires-clause-right : goal.export_all-requires-clause-right
+export_all-requires-clause-right g c =
+    let given = g.P.Placement.given in
+    let origin = g.P.Placement.origin in
+    let n = c.in_ok-encoder.encoder in
+    let b = c.in_ok-encoder.ensures.begun in
+    let m = c.import_functions.new.encoder in
+    let of = c.in_ok-import_functions.ensures in
+    let kept : AreTablesRight given origin n.home (stages.Exporting None) m.contents.items c.in_ok-tables.tables =
+    subst (λ x. AreTablesRight given origin n.home (stages.Exporting None) m.contents.items x) (sym c.in_ok-tables.ensures)
+    (tables_kept given origin n.home n.stage n.contents.items m.contents.items n.maps b.stage (grown_longer given origin n.home n.stage n.contents m.contents _ of.grows) b.right) in
+    subst (λ x. AreTablesRight given origin x.home x.stage x.contents.items x.maps) (sym c.begin_exports.ensures)
+    (subst (λ (x : Home). AreTablesRight given origin x (stages.Exporting None) m.contents.items c.in_ok-tables.tables) (sym of.home) kept)
 
 pub export_all-requires-clause-typed : goal.export_all-requires-clause-typed
 export_all-requires-clause-typed g c =
     let given = g.P.Placement.given in
     let origin = g.P.Placement.origin in
-    let n = c.new-encoder.result in
+    let n = c.in_ok-encoder.encoder in
+    let b = c.in_ok-encoder.ensures.begun in
     let m = c.import_functions.new.encoder in
-    let fs = functions_of c.args.functions.now in
+    let e = c.begin_exports.new.self in
+    let es : List (List ℕ × Function) = c.args.functions.now in
     let names = c.args.names.now in
-    let grows = subst (λ (ns : List (List ℕ)). Grows given origin n.home n.stage n.contents m.contents (nested_functions origin n.home.types fs ns)) c.as_slice.ensures c.in_ok-import_functions.ensures.grows in
-    subst (λ (x : Home). AllZip (IsTyped origin x.types) (scope_of given m.contents.items).functions fs) (sym c.in_ok-import_functions.ensures.home)
-    (subst (λ gs. AllZip (IsTyped origin n.home.types) gs fs) (sym (functions_made given origin n.home n.stage fs names n.contents m.contents (ap (λ x. x.items) c.new-encoder.ensures.contents) grows))
-    (typed_all origin n.home.types [] fs names c.requires.names))
+    let types = c.args.resolve.now.types in
+    let all = imports_all given origin n.home n.stage es names (record { items = []; taken = c.args.taken }) n.contents m.contents b.grows
+        (subst (λ (ns : List (List ℕ)). Grows given origin n.home n.stage n.contents m.contents (nested_functions origin n.home.types (functions_of es) ns)) c.as_slice.ensures c.in_ok-import_functions.ensures.grows) in
+    subst (λ x. AllZip (IsTyped origin x.home.types) (scope_of given x.contents.items).functions (functions_of es)) (sym c.begin_exports.ensures)
+    (subst (λ (x : Home). AllZip (IsTyped origin x.types) (scope_of given m.contents.items).functions (functions_of es)) (sym c.in_ok-import_functions.ensures.home)
+    (subst (λ gs. AllZip (IsTyped origin n.home.types) gs (functions_of es)) (sym (functions_made given origin n.home n.stage es names (record { items = []; taken = c.args.taken }) m.contents refl all))
+    (typed_all origin n.home.types [] (functions_of es) names c.requires.names)))
 
 pub returns-clause-passed : goal.returns-clause-passed
 returns-clause-passed g c =
     let given = g.P.Placement.given in
     let origin = g.P.Placement.origin in
-    let n = c.new-encoder.result in
+    let n = c.in_ok-encoder.encoder in
+    let b = c.in_ok-encoder.ensures.begun in
     let m = c.import_functions.new.encoder in
     let last = c.export_all.new.encoder.contents in
-    let fs = functions_of c.args.functions.now in
+    let types = c.args.resolve.now.types in
+    let named : List (List ℕ × TypeId) = c.args.types.now in
+    let es : List (List ℕ × Function) = c.args.functions.now in
     let names = c.args.names.now in
-    let h : Home = record { types = c.args.resolve.now.types; here = c.args.interface; named = c.args.types.now } in
-    let grows = subst (λ (ns : List (List ℕ)). Grows given origin n.home n.stage n.contents m.contents (nested_functions origin n.home.types fs ns)) c.as_slice.ensures c.in_ok-import_functions.ensures.grows in
-    let exports = exports_home given origin n.home m.home fs m.contents last c.in_ok-import_functions.ensures.home c.in_ok-export_all.ensures.exports in
-    subst (λ x. ArePassedOn given origin h fs names x) (sym c.into_contents.ensures)
-    (subst (λ (x : Home). ArePassedOn given origin x fs names last) (c.new-encoder.ensures.home ∙ c.new-home.ensures)
-    (whole given origin n.home n.stage fs names n.contents m.contents (ap (λ x. x.items) c.new-encoder.ensures.contents) grows last (ap (λ x. x.taken) c.new-encoder.ensures.contents ∙ c.requires.taken) exports))
+    let first : Contents = record { items = []; taken = c.args.taken } in
+    let h : Home = with_foreign (new_home types c.args.interface named) b.ids in
+    let all = imports_all given origin n.home n.stage es names first n.contents m.contents b.grows
+        (subst (λ (ns : List (List ℕ)). Grows given origin n.home n.stage n.contents m.contents (nested_functions origin n.home.types (functions_of es) ns)) c.as_slice.ensures c.in_ok-import_functions.ensures.grows) in
+    let grows : Grows given origin h n.stage first m.contents (nested_functions origin types (functions_of es) names) =
+    subst (λ (x : Home). Grows given origin x n.stage first m.contents (nested_functions origin x.types (functions_of es) names)) b.same all in
+    let home : m.home ≡ h = c.in_ok-import_functions.ensures.home ∙ b.same in
+    let exports : Exports given m.contents last (map (exported_type origin types) named ++ exported (functions_of es) (scope_of given m.contents.items).functions) (scope_of given m.contents.items).functions =
+    subst (λ (x : Home). Exports given m.contents last (map (exported_type origin x.types) x.named ++ exported (functions_of es) (scope_of given m.contents.items).functions) (scope_of given m.contents.items).functions) home
+    (subst (λ x. Exports given x.contents last (map (exported_type origin x.home.types) x.home.named ++ exported (functions_of es) (scope_of given x.contents.items).functions) (scope_of given x.contents.items).functions) c.begin_exports.ensures c.in_ok-export_all.ensures.exports) in
+    subst (λ x. ArePassedOn given origin types named es names x) (sym c.into_contents.ensures)
+    (whole_of given origin types c.args.interface named es c.requires.home b.ids b.foreign n.stage names first m.contents last refl c.requires.taken grows exports)

@@ -3,9 +3,10 @@ use Rattle.std.specs.List.{IsDistinct, flat_map}
 use Rattle.std.specs.Str.{bytes_eq}
 use Rattle.comp_bytes.specs.ScopeNames.{item_import}
 use Rattle.comp_bytes.specs.declared.def.Item.{Item}
+use Rattle.wit_data.specs.declared.functions.Function.{Function}
+use Rattle.wit_data.specs.declared.ids.TypeId.{TypeId}
 use Rattle.nested_terms.specs.Naming.{AreNames}
 use Rattle.nested_components.specs.Functions.{functions_of, nested_functions, PassesOn}
-use Rattle.nested_components.specs.Homes.{Home}
 use Rattle.nested_components.proofs.Apart.{passed_imports, passed_all}
 use Rattle.nested_components.proofs.component.placed_component.Goals as goal
 
@@ -13,18 +14,18 @@ pub returns-clause-passes : goal.returns-clause-passes
 returns-clause-passes g c =
     let given = g.P.Placement.given in
     let origin = g.P.Placement.origin in
-    let h : Home = record { types = c.args.resolve.now.types; here = c.args.interface; named = c.args.types.now } in
-    let fs = functions_of c.args.functions.now in
+    let all = c.args.resolve.now.types in
+    let named : List (List ℕ × TypeId) = c.args.types.now in
+    let entries : List (List ℕ × Function) = c.args.functions.now in
     let whole = c.in_ok-component.component in
     let of = c.in_ok-component.ensures in
-    subst (λ (ns : List (List ℕ)). PassesOn given origin h.types h.named fs (nested_functions origin h.types fs ns) whole.types whole.items) (sym of.names)
-    (passed_all given origin h fs c.into_parts-names.result.0 c.in_ok-contents.contents c.in_ok-contents.ensures.passed whole.types whole.items of.types of.items)
+    subst (λ (ns : List (List ℕ)). PassesOn given origin all named entries (nested_functions origin all (functions_of entries) ns) whole.types whole.items) (sym of.names)
+    (passed_all given origin all named entries c.into_parts-names.result.0 c.in_ok-contents.contents c.in_ok-contents.ensures.passed whole.types whole.items of.types of.items)
 
 pub returns-clause-apart : goal.returns-clause-apart
 returns-clause-apart g c =
-    let h : Home = record { types = c.args.resolve.now.types; here = c.args.interface; named = c.args.types.now } in
-    let fs = functions_of c.args.functions.now in
+    let entries : List (List ℕ × Function) = c.args.functions.now in
     let of = c.in_ok-component.ensures in
-    let named = subst (λ (ns : List (List ℕ)). AreNames fs ns) (sym c.into_parts-names.ensures.names) c.in_ok-chosen.ensures.names in
+    let named = subst (λ (ns : List (List ℕ)). AreNames (functions_of entries) ns) (sym c.into_parts-names.ensures.names) c.in_ok-chosen.ensures.names in
     subst (λ (is : List Item). IsDistinct bytes_eq (flat_map item_import is)) (sym of.items)
-    (passed_imports g.P.Placement.given g.P.Placement.origin h fs c.into_parts-names.result.0 c.in_ok-contents.contents c.in_ok-contents.ensures.passed named of.apart)
+    (passed_imports g.P.Placement.given g.P.Placement.origin c.args.resolve.now.types c.args.types.now entries c.into_parts-names.result.0 c.in_ok-contents.contents c.in_ok-contents.ensures.passed named of.apart)

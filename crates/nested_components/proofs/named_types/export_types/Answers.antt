@@ -16,7 +16,7 @@ export_next-requires-clause-defined g c =
     let i = c.loop-name.invariant.2 in
     subst (λ (h : Home). IsDefinedHere (nested_setting origin h now.stage) (kind_at c.args.resolve.now.types t.1.index)) (sym i.home)
     (next_defined given origin e.home e.contents now.contents now.stage t c.next.new.self
-    (subst (λ (es : List (List ℕ × TypeId)). AreTypesTo given origin e.home e.contents now.contents now.stage es) c.in-Some.ensures.steps i.so_far) c.args.resolve.now.types c.requires.same c.requires.sound.back c.requires.home)
+    (subst (λ (es : List (List ℕ × TypeId)). AreTypesTo given origin e.home e.contents now.contents now.stage es) c.in-Some.ensures.steps i.so_far) c.args.resolve.now.types c.requires.same c.requires.sound.back)
 
 pub export_next-requires-clause-next : goal.export_next-requires-clause-next
 export_next-requires-clause-next g c =

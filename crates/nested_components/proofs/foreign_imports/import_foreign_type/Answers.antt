@@ -1,0 +1,13 @@
+use Rattle.std.proofs.Common.{◌∙◌, sym, subst}
+use Rattle.nested_components.specs.Growing.{AreTablesRight}
+use Rattle.nested_components.proofs.ForeignTypes.{right_imported}
+use Rattle.nested_components.proofs.foreign_imports.import_foreign_type.Goals as goal
+
+pub returns-clause-right : goal.returns-clause-right
+returns-clause-right g c =
+    let given = g.P.Placement.given in
+    let origin = g.P.Placement.origin in
+    let m = c.record_foreign_type.new.encoder in
+    let of = c.in_ok-record_foreign_type.ensures in
+    subst (λ x. AreTablesRight given origin x.home x.stage x.contents.items x.maps) (sym c.in_ok-pass_foreign.ensures)
+    (right_imported given origin m.home m.stage c.args.id m.contents.items m.maps (of.stage ∙ c.requires.stage) of.recorded of.right)
