@@ -28,6 +28,7 @@ mod encoding;
 mod homes;
 mod items;
 mod kinds;
+mod lent;
 mod naming;
 mod placed;
 mod places;
