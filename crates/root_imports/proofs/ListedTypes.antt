@@ -72,5 +72,5 @@ module _ (w : ComponentWorld) (ok : IsEncodable w) (id : InterfaceId) where
 pub type_named : (w : ComponentWorld) (id : InterfaceId) (last : Option TypeId) (t : TypeId) → IsUsableType w id t → IsUnnamed (root_setting w (Some id) last) t → ⊥
 type_named w id last t h unnamed =
     let none : name_at w.resolve.types t.index ≡ None = sym (same_name w.resolve.types t.index) ∙ unnamed.no_name in
-    let found : IsSome None = subst (λ (o : Option (List ℕ)). IsSome o) none h.named in
+    let found : IsSome {T = List ℕ} None = subst (λ (o : Option (List ℕ)). IsSome o) none h.named in
     true≢false (sym found)
