@@ -1,38 +1,49 @@
 -- The types and the functions of an exported interface: where they are in the resolve, and that all of which they are made is of
--- the interface, or has no name.
-use Rattle.std.proofs.Common.{◌≡◌, ◌∙◌, ◌<◌, ℕ, suc, true, List, [], ◌∷◌, length, map, Contains, sym, ap, subst, Option, Some}
-use Rattle.std.specs.List.{AllByRecursion}
+-- the interface, of ones that are imported alone, or has no name.
+use Rattle.std.proofs.Common.{◌≡◌, ◌∙◌, ◌<◌, ◌&&◌, ℕ, suc, Bool, true, false, List, [], ◌∷◌, ◌++◌, length, map, not, inl, inr, Contains, sym, ap, refl, subst, Option, Some, None, IsSome}
+use Rattle.std.specs.List.{AllByRecursion, flat_map, list_all, list_any}
 use Rattle.std.specs.Str.{bytes_eq}
+use Rattle.std.proofs.lemmas.Bool.{and_from, and_parts}
+use Rattle.std.proofs.lemmas.List.Elements.{Contains-append_left, Contains-append_right}
 use Rattle.std.proofs.lemmas.Option.{none-some, same_Some}
 use Rattle.comp_lists.specs.Found.{found}
-use Rattle.comp_lists.proofs.Lists.{AllByRecursion-contains, AllByRecursion-weaker}
+use Rattle.comp_lists.proofs.Lists.{AllByRecursion-contains, AllByRecursion-weaker, Contains-map}
 use Rattle.wit_data.specs.declared.functions.Function.{Function}
 use Rattle.wit_data.specs.declared.ids.InterfaceId.{InterfaceId}
 use Rattle.wit_data.specs.declared.ids.TypeId.{TypeId}
 use Rattle.wit_data.specs.declared.types.Type.{«Type» as Ty}
-use Rattle.wit_data.specs.declared.types.Type.TheVariants.{Id}
+use Rattle.wit_data.specs.declared.types.Type.TheVariants.{Primitive, Id}
+use Rattle.wit_data.specs.declared.types.TypeDef.{TypeDef}
 use Rattle.wit_data.specs.declared.types.TypeOwner.TheVariants as owners
 use Rattle.wit_data.specs.declared.worlds.WorldItem.{WorldItem}
 use Rattle.wit_data.specs.declared.worlds.WorldItem.TheVariants as items
 use Rattle.wit_data.specs.declared.worlds.WorldKey.{WorldKey}
 use Rattle.wit_data.specs.declared.worlds.WorldKey.TheVariants as keys
 use Rattle.wit_data.specs.Keys.{is_same_key}
-use Rattle.wit_data.specs.Live.{named_types}
-use Rattle.wit_data.specs.Values.{value}
-use Rattle.wit_types.specs.Allowing.{is_allowed, allows_function}
+use Rattle.wit_data.specs.Live.{named_types, is_live}
+use Rattle.wit_data.specs.Parts.{IsBelow, RefersBack}
+use Rattle.wit_data.specs.Values.{kind_at, value}
+use Rattle.wit_types.specs.Allowing.{foreign, is_allowed, allows_function}
 use Rattle.wit_types.specs.Settings.{Setting, owner_at}
 use Rattle.wit_types.specs.Settings as settings
-use Rattle.type_scopes.specs.Needs.{each_passes, function_passes, is_at_home}
-use Rattle.type_scopes.specs.Titles.{IsTitled, AscendFrom}
+use Rattle.type_scopes.specs.Needs.{IsLive, each_passes, function_passes, is_at_home}
+use Rattle.type_scopes.specs.Titles.{IsTitled, AscendFrom, is_one_of}
 use Rattle.world_values.specs.Items.{functions_of, function_of_item}
-use Rattle.comp_worlds.specs.Encodable.{IsEncodable, IsExportPlaced, IsExportedPlaced, IsItemPlaced, IsListedType, IsOwnType, IsRootType, stays_in}
+use Rattle.world_values.specs.Mentions.{same_interface, interfaces_of, function_types, interface_types, role_types, import_types, export_types}
+use Rattle.comp_worlds.specs.Encodable.{Entries, IsEncodable, IsExportPlaced, IsExportedPlaced, IsItemPlaced, IsListedType, IsOwnType, IsRootType, is_lent, is_of_interface, stays_in}
 use Rattle.comp_worlds.specs.Encodable as encodable
+use Rattle.comp_worlds.specs.Uses.{all_imports}
 use Rattle.comp_worlds.specs.WorldContents.{items_of, exported_item, imported_types, world_type, interface_at}
 use Rattle.comp_worlds.specs.declared.world.ComponentWorld.{ComponentWorld}
-use Rattle.interface_needs.specs.RootNeeds.{interface_of_item, IsExportedFunction, IsExportedInterface, IsExportedType, IsInterfaceScope}
-use Rattle.interface_needs.proofs.Lists.{IsImage, IsInOne, all_of_each, contains_none, contains_one, flat_contains, map_contains}
-use Rattle.interface_needs.proofs.Owners.{owner_of, owned_within, interface_of, same_name}
-use Rattle.interface_needs.proofs.Staying.{type_home, type_allowed, all_pass, listed_stays, function_stays}
+use Rattle.comp_links.specs.Lists.{needed_types}
+use Rattle.interface_needs.specs.Needs.{IsImported, IsNeeded}
+use Rattle.interface_needs.specs.RootNeeds.{interface_of_item, IsExportedFunction, IsExportedInterface, is_lent_type, IsUsableType, IsInterfaceScope}
+use Rattle.interface_needs.proofs.Lists.{IsImage, IsInOne, Passes, all_of_each, any_passes, contains_cons, contains_first, contains_later, contains_none, contains_one, contains_flat, flat_contains, is_there, map_contains}
+use Rattle.interface_needs.proofs.Live.{live_given, live_part}
+use Rattle.interface_needs.proofs.Needed.{used_in, is_needed}
+use Rattle.interface_needs.proofs.Owners.{owner_of, owned_within, interface_of, of_other, same_id, same_name}
+use Rattle.interface_needs.proofs.RootTypes.{all_tests}
+use Rattle.interface_needs.proofs.Staying.{passing_holds, home_of, home_allowed, each_type}
 use Rattle.interface_needs.proofs.Tables.{lookup_contains}
 
 item_is : (o : Option WorldItem) (id : InterfaceId) → interface_of_item o ≡ Some id → o ≡ Some (items.Interface id)
@@ -49,13 +60,57 @@ of_world_type : (e : WorldKey × WorldItem) (t : List ℕ × TypeId) → Contain
 of_world_type (keys.Name text, items.NamedType id) t c = ap (λ (t : List ℕ × TypeId). items.NamedType t.1) (contains_one (text, id) t c)
 of_world_type e t c = contains_none t c
 
+-- ---- interfaces that are lent
+
+-- an interface among imports or exports is the item of one
+interface_there : (es : Entries) (id : InterfaceId) → Contains (interfaces_of es) id → (key : WorldKey) × Contains es (key, items.Interface id)
+interface_there [] id c = contains_none id c
+interface_there ((key, items.Interface other) ∷ es) id c = elim (contains_cons other (interfaces_of es) id c) [
+  | inl same ↦ (key, subst (λ (i : InterfaceId). Contains ((key, items.Interface other) ∷ es) (key, items.Interface i)) same (contains_first (key, items.Interface other) es))
+  | inr later ↦ let r = interface_there es id later in (r.0, contains_later (key, items.Interface other) es (r.0, items.Interface id) r.1)
+]
+interface_there ((key, items.Function f) ∷ es) id c = let r = interface_there es id c in (r.0, contains_later (key, items.Function f) es (r.0, items.Interface id) r.1)
+interface_there ((key, items.NamedType t) ∷ es) id c = let r = interface_there es id c in (r.0, contains_later (key, items.NamedType t) es (r.0, items.Interface id) r.1)
+
+-- the world imports it
+lent_imported : (w : ComponentWorld) (other : InterfaceId) → is_lent (items_of w) other ≡ true → IsImported w other
+lent_imported w other h =
+    let world = items_of w in
+    let b = and_parts (list_any (same_interface other) (interfaces_of world.imports)) (not (list_any (same_interface other) (interfaces_of world.exports))) h in
+    let i : Passes (same_interface other) (interfaces_of world.imports) = any_passes (same_interface other) (interfaces_of world.imports) b.0 in
+    let there = interface_there world.imports i.x i.there in
+    record { key = there.0; there = subst (λ (x : InterfaceId). Contains world.imports (there.0, items.Interface x)) (sym (same_id other i.x i.passes)) there.1 }
+
+-- a type that it lends is one that a component needs of it
+lent_needed : (w : ComponentWorld) (n : ℕ) (other : InterfaceId) → interface_at w.resolve.types n ≡ Some other → is_lent_type w n ≡ true → IsNeeded w other (record { index = n })
+lent_needed w n other is h =
+    let by : (is_lent (items_of w) other && is_one_of (needed_types w other) n) ≡ true =
+    subst (λ (o : Option InterfaceId). elim o [ Some i ↦ is_lent (items_of w) i && is_one_of (needed_types w i) n | None ↦ false ] ≡ true) is h in
+    let b = and_parts (is_lent (items_of w) other) (is_one_of (needed_types w other) n) by in
+    record { imported = lent_imported w other b.0; needed = b.1; listed = is_there (needed_types w other) n b.1 }
+
+-- and a live type of it is one
+live_lent : (w : ComponentWorld) → IsEncodable w → (n : ℕ) → is_live w.resolve.types (used_in w) n ≡ true → (other : InterfaceId) → interface_at w.resolve.types n ≡ Some other → is_lent (items_of w) other ≡ true → is_lent_type w n ≡ true
+live_lent w ok n live other is lent =
+    let needed = is_needed w ok other n (lent_imported w other lent) is live in
+    subst (λ (o : Option InterfaceId). elim o [ Some i ↦ is_lent (items_of w) i && is_one_of (needed_types w i) n | None ↦ false ] ≡ true) (sym is)
+    (and_from (is_lent (items_of w) other) (is_one_of (needed_types w other) n) lent needed.needed)
+
 module _ (w : ComponentWorld) (ok : IsEncodable w) (id : InterfaceId) where
+  -- whether a type is at home in the interface, and all of which it is made
+  abbrev home : Option Ty → Bool
+  home p = value (each_passes (is_at_home w.resolve.types (is_lent_type w) id)) w.resolve.types p
+
   -- ---- exported interfaces
 
-  exported_placed : IsExportedInterface w id → IsExportedPlaced w.resolve id
+  -- the export of an interface
+  exported_there : IsExportedInterface w id → (key : WorldKey) × Contains (items_of w).exports (key, items.Interface id)
+  exported_there h = lookup_contains (is_same_key h.key) (items_of w).exports (items.Interface id) h.of
+
+  exported_placed : IsExportedInterface w id → IsExportedPlaced w.resolve (items_of w) id
   exported_placed h =
-      let there = lookup_contains (is_same_key h.key) (items_of w).exports (items.Interface id) h.of in
-      AllByRecursion-contains (λ (e : WorldKey × WorldItem). IsExportPlaced w.resolve (items_of w).imports e.1) (items_of w).exports (there.0, items.Interface id) ok.exports there.1
+      let there = exported_there h in
+      AllByRecursion-contains (λ (e : WorldKey × WorldItem). IsExportPlaced w.resolve (items_of w) e.1) (items_of w).exports (there.0, items.Interface id) ok.exports there.1
 
   -- its types belong to it, under the names by which it lists them
   pub exported_titled : IsExportedInterface w id → AllByRecursion (λ t. IsTitled w.resolve.types id t.1 t.0) (named_types w.resolve id)
@@ -72,16 +127,54 @@ module _ (w : ComponentWorld) (ok : IsEncodable w) (id : InterfaceId) where
   pub exported_ascend : IsExportedInterface w id → AscendFrom 0 (map (λ t. t.1) (named_types w.resolve id))
   exported_ascend h = ascending 0 (named_types w.resolve id) (exported_placed h).ordered
 
-  -- all that they and its functions are made of is of the interface, or has no name
-  pub exported_types_home : IsExportedInterface w id → AllByRecursion (λ t. value (each_passes (is_at_home w.resolve.types id)) w.resolve.types (Some (Id t.1)) ≡ true) (named_types w.resolve id)
-  exported_types_home h =
-      all_of_each (λ (t : List ℕ × TypeId). value (each_passes (is_at_home w.resolve.types id)) w.resolve.types (Some (Id t.1)) ≡ true) (named_types w.resolve id)
-      (λ t c. type_home w.resolve.types id (Some (Id t.1)) (listed_stays w.resolve id (exported_placed h) t c))
+  -- what it names is among what a component needs
+  exported_used : IsExportedInterface w id → (t : Ty) → Contains (interface_types w.resolve id) t → Contains (used_in w) t
+  exported_used h t c =
+      let world = items_of w in
+      let there = exported_there h in
+      let roles : List Ty = flat_map (λ i. role_types w.resolve world.imports i.role) (all_imports w.main w.adapters) in
+      let imported : List Ty = flat_map (λ e. import_types e.1) world.imports in
+      let exported : WorldKey × WorldItem → List Ty = λ e. export_types w.resolve e.1 in
+      Contains-append_right roles (imported ++ flat_map exported world.exports) t (Contains-append_right imported (flat_map exported world.exports) t (contains_flat exported world.exports (there.0, items.Interface id) t there.1 c))
 
-  pub exported_functions_home : IsExportedInterface w id → AllByRecursion (λ e. function_passes (is_at_home w.resolve.types id) w.resolve.types e.1 ≡ true) (functions_of w.resolve id)
+  exported_live : IsExportedInterface w id → (t : Ty) → Contains (interface_types w.resolve id) t → IsBelow (length w.resolve.types) (Some t) → IsLive (is_live w.resolve.types (used_in w)) (Some t)
+  exported_live h (Primitive p) c l = tt
+  exported_live h (Id t) c l = live_given w.resolve.types ok.sound.back (used_in w) t l (exported_used h (Id t) c)
+
+  -- what stays in the interface is at home there, where it is live
+  made_home : (n : ℕ) (bs : List Bool) → is_live w.resolve.types (used_in w) n ≡ true → is_of_interface w.resolve.types (is_lent (items_of w)) id n (kind_at w.resolve.types n) ≡ true → AllByRecursion (λ b. b ≡ true) bs →
+      (is_at_home w.resolve.types (is_lent_type w) id n (kind_at w.resolve.types n) && list_all (λ b. b) bs) ≡ true
+  made_home n bs live h each =
+      and_from (is_at_home w.resolve.types (is_lent_type w) id n (kind_at w.resolve.types n)) (list_all (λ b. b) bs)
+      (home_of w.resolve.types (is_lent_type w) (is_lent (items_of w)) id n (live_lent w ok n live) (kind_at w.resolve.types n) h) (all_tests (λ (b : Bool). b) bs each)
+
+  type_home : IsExportedInterface w id → (t : Ty) → Contains (interface_types w.resolve id) t → home (Some t) ≡ true
+  type_home h t c =
+      let live = is_live w.resolve.types (used_in w) in
+      let stays = AllByRecursion-contains (λ (t : Ty). stays_in w.resolve.types (is_lent (items_of w)) id (Some t) ≡ true) (interface_types w.resolve id) t (exported_placed h).closed c in
+      passing_holds w.resolve.types ok.sound.back (is_of_interface w.resolve.types (is_lent (items_of w)) id) live (λ n m l d i. live_part w.resolve.types ok.sound.back (used_in w) n m l d i)
+      (each_passes (is_at_home w.resolve.types (is_lent_type w) id)) (λ b. b ≡ true) refl (λ q. refl) made_home (Some t) (exported_live h t c) stays
+
+  abbrev own : List Ty
+  own = map (λ (t : List ℕ × TypeId). Id t.1) (named_types w.resolve id)
+
+  abbrev of : List ℕ × Function → List Ty
+  of f = function_types f.1
+
+  -- all that its types and its functions are made of is of the interface, of ones that are imported alone, or has no name
+  listed_home : IsExportedInterface w id → (t : List ℕ × TypeId) → Contains (named_types w.resolve id) t → home (Some (Id t.1)) ≡ true
+  listed_home h t c = type_home h (Id t.1) (Contains-append_left own (flat_map of (functions_of w.resolve id)) (Id t.1) (Contains-map (λ (t : List ℕ × TypeId). Id t.1) (named_types w.resolve id) t c))
+
+  function_home : IsExportedInterface w id → (e : List ℕ × Function) → Contains (functions_of w.resolve id) e → (t : Ty) → Contains (function_types e.1) t → home (Some t) ≡ true
+  function_home h e c t k = type_home h t (Contains-append_right own (flat_map of (functions_of w.resolve id)) t (contains_flat of (functions_of w.resolve id) e t c k))
+
+  pub exported_types_home : IsExportedInterface w id → AllByRecursion (λ t. value (each_passes (is_at_home w.resolve.types (is_lent_type w) id)) w.resolve.types (Some (Id t.1)) ≡ true) (named_types w.resolve id)
+  exported_types_home h = all_of_each (λ (t : List ℕ × TypeId). home (Some (Id t.1)) ≡ true) (named_types w.resolve id) (listed_home h)
+
+  pub exported_functions_home : IsExportedInterface w id → AllByRecursion (λ e. function_passes (is_at_home w.resolve.types (is_lent_type w) id) w.resolve.types e.1 ≡ true) (functions_of w.resolve id)
   exported_functions_home h =
-      all_of_each (λ (e : List ℕ × Function). function_passes (is_at_home w.resolve.types id) w.resolve.types e.1 ≡ true) (functions_of w.resolve id)
-      (λ e c. all_pass w.resolve.types id (λ p. value (each_passes (is_at_home w.resolve.types id)) w.resolve.types p) (type_home w.resolve.types id) e.1 (function_stays w.resolve id (exported_placed h) e c))
+      all_of_each (λ (e : List ℕ × Function). function_passes (is_at_home w.resolve.types (is_lent_type w) id) w.resolve.types e.1 ≡ true) (functions_of w.resolve id)
+      (λ e c. each_type home refl e.1 (function_home h e c))
 
   -- each type of the interface that has a name is listed under it
   pub exported_every : IsExportedInterface w id → (n : ℕ) → n < length w.resolve.types → owner_at w.resolve.types n ≡ owners.Interface id → (name : List ℕ) → settings.name_at w.resolve.types n ≡ Some name → Contains (named_types w.resolve id) (name, record { index = n })
@@ -95,41 +188,61 @@ module _ (w : ComponentWorld) (ok : IsEncodable w) (id : InterfaceId) where
 
   -- ---- the types that it lists
 
-  listed_own : (t : TypeId) → IsExportedType w id t → interface_at w.resolve.types t.index ≡ Some id
-  listed_own t h =
-      let e : IsImage (λ (e : List ℕ × TypeId). e.1) (named_types w.resolve id) t = map_contains (λ (e : List ℕ × TypeId). e.1) (named_types w.resolve id) t h.listed in
-      let own : IsOwnType w.resolve.types id e.x = AllByRecursion-contains (IsOwnType w.resolve.types id) (named_types w.resolve id) e.x (exported_placed h.exported).own e.there in
-      subst (λ (i : TypeId). interface_at w.resolve.types i.index ≡ Some id) e.same own.own
+  -- the name under which a type is listed
+  listed_name : (t : TypeId) → Contains (map (λ e. e.1) (named_types w.resolve id)) t → (name : List ℕ) × Contains (named_types w.resolve id) (name, t)
+  listed_name t c =
+      let e : IsImage (λ (e : List ℕ × TypeId). e.1) (named_types w.resolve id) t = map_contains (λ (e : List ℕ × TypeId). e.1) (named_types w.resolve id) t c in
+      (e.x.0, subst (λ (i : TypeId). Contains (named_types w.resolve id) (e.x.0, i)) e.same e.there)
 
-  pub exported_type_owned : (t : TypeId) → IsExportedType w id t → interface_at w.resolve.types t.index ≡ Some id
-  exported_type_owned t h = listed_own t h
+  listed_own : IsExportedInterface w id → (e : List ℕ × TypeId) → Contains (named_types w.resolve id) e → IsOwnType w.resolve.types id e
+  listed_own h e c = AllByRecursion-contains (IsOwnType w.resolve.types id) (named_types w.resolve id) e (exported_placed h).own c
 
-  pub exported_type_sound : (t : TypeId) → IsExportedType w id t → t.index < length w.resolve.types
-  exported_type_sound t h = owned_within w.resolve.types t.index id (listed_own t h)
+  -- the interface may be made of them
+  pub usable_listed : IsExportedInterface w id → (t : TypeId) → Contains (map (λ e. e.1) (named_types w.resolve id)) t → IsUsableType w id t
+  usable_listed h t c =
+      let e = listed_name t c in
+      let own : IsOwnType w.resolve.types id (e.0, t) = listed_own h (e.0, t) e.1 in
+      record {
+        exported = h;
+        within = owned_within w.resolve.types t.index id own.own;
+        named = subst (λ (o : Option (List ℕ)). IsSome o) (sym own.named) refl;
+        passes = listed_home h (e.0, t) e.1;
+      }
 
   -- none of them is a type that the world imports
-  pub exported_type_not_imported : (t : TypeId) → IsExportedType w id t → Contains (map (λ t. t.1.index) (imported_types w)) t.index → ⊥
-  exported_type_not_imported t h c =
+  pub listed_not_imported : IsExportedInterface w id → (t : TypeId) → Contains (map (λ e. e.1) (named_types w.resolve id)) t → Contains (map (λ t. t.1.index) (imported_types w)) t.index → ⊥
+  listed_not_imported h t listed c =
+      let e = listed_name t listed in
       let i : IsImage (λ (t : List ℕ × TypeId). t.1.index) (imported_types w) t.index = map_contains (λ (t : List ℕ × TypeId). t.1.index) (imported_types w) t.index c in
       let one : IsInOne world_type (items_of w).imports i.x = flat_contains world_type (items_of w).imports i.x i.there in
       let placed : IsItemPlaced w.resolve (items_of w).imports one.x.1 = AllByRecursion-contains (λ (e : WorldKey × WorldItem). IsItemPlaced w.resolve (items_of w).imports e.1) (items_of w).imports one.x ok.imports one.one in
       let root : IsRootType w.resolve.types i.x.1 = subst (IsItemPlaced w.resolve (items_of w).imports) (of_world_type one.x i.x one.there) placed in
-      none-some id (sym root.own ∙ (ap (interface_at w.resolve.types) i.same ∙ listed_own t h))
+      none-some id (sym root.own ∙ (ap (interface_at w.resolve.types) i.same ∙ (listed_own h (e.0, t) e.1).own))
 
   -- ---- what may be encoded in a scope of the interface
 
   module _ (s : Setting) (scope : IsInterfaceScope w id s) where
-    stays_allowed : (p : Option Ty) → stays_in w.resolve.types id p ≡ true → is_allowed s p ≡ true
-    stays_allowed p h = type_allowed s id scope.interface scope.own p (subst (λ types. stays_in types id p ≡ true) (sym scope.types) h)
+    may_import : (n : ℕ) (other : InterfaceId) → foreign (Some id) (owner_at s.types n) ≡ Some other → is_lent_type w n ≡ true → s.may_import other (record { index = n }) ≡ true
+    may_import n other is lent =
+        let owner = of_other w.resolve.types n id other (ap (λ (ts : List TypeDef). foreign (Some id) (owner_at ts n)) (sym scope.types) ∙ is) in
+        scope.imports other (record { index = n }) (lent_needed w n other owner.0 lent)
 
-    pub interface_type_allowed : (t : TypeId) → IsExportedType w id t → is_allowed s (Some (Id t)) ≡ true
-    interface_type_allowed t h =
-        let e : IsImage (λ (e : List ℕ × TypeId). e.1) (named_types w.resolve id) t = map_contains (λ (e : List ℕ × TypeId). e.1) (named_types w.resolve id) t h.listed in
-        subst (λ (i : TypeId). is_allowed s (Some (Id i)) ≡ true) e.same (stays_allowed (Some (Id e.x.1)) (listed_stays w.resolve id (exported_placed h.exported) e.x e.there))
+    -- what is at home in the interface
+    home_is_allowed : (p : Option Ty) → home p ≡ true → is_allowed s p ≡ true
+    home_is_allowed p h =
+        home_allowed s id (subst RefersBack (sym scope.types) ok.sound.back) scope.interface scope.own (is_lent_type w) may_import p
+        (subst (λ (ts : List TypeDef). value (each_passes (is_at_home ts (is_lent_type w) id)) ts p ≡ true) (sym scope.types) h)
+
+    pub interface_type_allowed : (t : TypeId) → IsUsableType w id t → is_allowed s (Some (Id t)) ≡ true
+    interface_type_allowed t h = home_is_allowed (Some (Id t)) h.passes
+
+    none_allowed : is_allowed s None ≡ true
+    unfolding is_allowed
+    none_allowed = refl
 
     pub interface_function_allowed : (f : Function) → IsExportedFunction w (Some id) f → allows_function s f ≡ true
     interface_function_allowed f h =
         let is : exported_item w h.key ≡ Some (items.Interface id) = item_is (exported_item w h.key) id h.of in
         let at : found h.name (functions_of w.resolve id) ≡ Some f = subst (λ o. function_of_item w.resolve h.name o ≡ Some f) is h.exported in
         let there = lookup_contains (bytes_eq h.name) (functions_of w.resolve id) f at in
-        all_pass w.resolve.types id (is_allowed s) stays_allowed f (function_stays w.resolve id (exported_placed (record { key = h.key; of = is })) (there.0, f) there.1)
+        each_type (is_allowed s) none_allowed f (λ t c. home_is_allowed (Some t) (function_home (record { key = h.key; of = is }) (there.0, f) there.1 t c))

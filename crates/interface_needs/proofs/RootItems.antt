@@ -118,12 +118,12 @@ module _ (w : ComponentWorld) (ok : IsEncodable w) (f : Function) where
 
   -- those of one at the root are in place
   exported_placed : IsOfExport w None f → IsFunctionPlaced w.resolve (items_of w).imports (length (items_of w).imports) f
-  exported_placed e = by e.item (AllByRecursion-contains (λ e. IsExportPlaced w.resolve (items_of w).imports e.1) (items_of w).exports (e.key, e.item) ok.exports e.there) e.of e.in_interface
+  exported_placed e = by e.item (AllByRecursion-contains (λ e. IsExportPlaced w.resolve (items_of w) e.1) (items_of w).exports (e.key, e.item) ok.exports e.there) e.of e.in_interface
     where
       es : List (WorldKey × WorldItem)
       es = (items_of w).imports
 
-      by : (item : WorldItem) → IsExportPlaced w.resolve es item → function_of_item w.resolve e.name (Some item) ≡ Some f → interface_of_item (Some item) ≡ None → IsFunctionPlaced w.resolve es (length es) f
+      by : (item : WorldItem) → IsExportPlaced w.resolve (items_of w) item → function_of_item w.resolve e.name (Some item) ≡ Some f → interface_of_item (Some item) ≡ None → IsFunctionPlaced w.resolve es (length es) f
       by (items.Function g) h k i = subst (IsFunctionPlaced w.resolve es (length es)) (same_Some g f k) h
       by (items.Interface id) h k i = absurd (none-some id (sym i))
       by (items.NamedType t) h k i = absurd (none-some f k)

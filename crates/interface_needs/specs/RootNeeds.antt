@@ -1,6 +1,6 @@
 -- What the types and functions at the root of a world need, and have at hand, in a world that can be encoded (component
 -- model, WIT: worlds, `use`, resources).
-use Rattle.std.specs.Prelude.{◌≡◌, ◌<◌, ◌≤◌, ℕ, true, List, length, map, Option, Some, None, IsSome, Contains}
+use Rattle.std.specs.Prelude.{◌≡◌, ◌<◌, ◌≤◌, ◌&&◌, ℕ, Bool, true, false, List, length, map, Option, Some, None, IsSome, Contains}
 use Rattle.wit_data.specs.declared.functions.Function.{Function}
 use Rattle.wit_data.specs.declared.ids.InterfaceId.{InterfaceId}
 use Rattle.wit_data.specs.declared.ids.TypeId.{TypeId}
@@ -9,13 +9,16 @@ use Rattle.wit_data.specs.declared.worlds.WorldItem.{WorldItem}
 use Rattle.wit_data.specs.declared.worlds.WorldItem.TheVariants as items
 use Rattle.wit_data.specs.declared.worlds.WorldKey.{WorldKey}
 use Rattle.wit_data.specs.declared.worlds.WorldKey.TheVariants as keys
+use Rattle.wit_data.specs.Values.{value}
 use Rattle.wit_types.specs.Settings.{Setting}
-use Rattle.wit_data.specs.Live.{named_types}
+use Rattle.type_scopes.specs.Needs.{each_passes, is_at_home}
+use Rattle.type_scopes.specs.Titles.{is_one_of}
 use Rattle.world_values.specs.Items.{root_function_at}
-use Rattle.comp_worlds.specs.Encodable.{place}
+use Rattle.comp_worlds.specs.Encodable.{place, is_lent}
 use Rattle.comp_worlds.specs.WorldContents.{items_of, exported_item, function_exported, imported_types, interface_at, name_at}
 use Rattle.comp_worlds.specs.Worlds.{IsResource}
 use Rattle.comp_worlds.specs.declared.world.ComponentWorld.{ComponentWorld}
+use Rattle.comp_links.specs.Lists.{needed_types}
 use Rattle.comp_links.specs.Roles.{is_used}
 use Rattle.interface_needs.specs.Needs.{IsNeeded}
 

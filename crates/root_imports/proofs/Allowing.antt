@@ -17,7 +17,7 @@ use Rattle.comp_worlds.specs.Worlds.{IsResource}
 use Rattle.comp_worlds.specs.declared.world.ComponentWorld.{ComponentWorld}
 use Rattle.wit_types.specs.Settings.{Setting}
 use Rattle.wit_types.specs.Allowing.{is_allowed, is_resource, IsDefinedHere, allows_function}
-use Rattle.interface_needs.specs.RootNeeds.{HasWorldTypes, IsExportedType, IsInterfaceScope, IsRootScope, IsWorldType}
+use Rattle.interface_needs.specs.RootNeeds.{HasWorldTypes, IsInterfaceScope, IsRootScope, IsUsableType, IsWorldType}
 use Rattle.interface_needs.proofs.ExportedInterfaces.{interface_function_allowed, interface_type_allowed}
 use Rattle.interface_needs.proofs.RootItems.{exported_allowed, used_allowed, world_type_defined}
 use Rattle.interface_needs.proofs.Lists.{contains_none, contains_cons}
@@ -51,7 +51,7 @@ module _ (w : ComponentWorld) (ok : IsEncodable w) (last : Option TypeId) where
   root = record { types = refl; interface = refl; own = λ n. refl; imports = λ other t h. h.needed }
 
   of_interface : (id : InterfaceId) → IsInterfaceScope w id (root_setting w (Some id) last)
-  of_interface id = record { types = refl; interface = refl; own = λ n. refl }
+  of_interface id = record { types = refl; interface = refl; own = λ n. refl; imports = λ other t h. h.needed }
 
   all_world_types : ArePassed w last → HasWorldTypes w s (length types)
   all_world_types passed = record { each = λ n l c. met_below n (below_next (imported_types w) (next_of last) n passed c) c }
@@ -65,9 +65,9 @@ module _ (w : ComponentWorld) (ok : IsEncodable w) (last : Option TypeId) where
   root_allows passed None f (inr exported) = exported_allowed w ok s root (all_world_types passed) f exported
   root_allows passed (Some id) f exported = interface_function_allowed w ok id (root_setting w (Some id) last) (of_interface id) f exported
 
-  -- each type may be that an exported interface lists
-  pub interface_allows : (id : InterfaceId) (t : TypeId) → IsExportedType w id t → is_allowed (root_setting w (Some id) last) (Some (Id t)) ≡ true
-  interface_allows id t listed = interface_type_allowed w ok id (root_setting w (Some id) last) (of_interface id) t listed
+  -- each type may be of which an exported interface may be made
+  pub interface_allows : (id : InterfaceId) (t : TypeId) → IsUsableType w id t → is_allowed (root_setting w (Some id) last) (Some (Id t)) ≡ true
+  interface_allows id t usable = interface_type_allowed w ok id (root_setting w (Some id) last) (of_interface id) t usable
 
   -- the next type of values is made of what is there
   pub root_defines : (id : TypeId) → is_resource (kind_at types id.index) ≡ false → IsNextId w (next_of last) id → IsWorldType w id → IsDefinedHere s (kind_at types id.index)

@@ -44,7 +44,7 @@ each_one P (x ∷ xs) t h e = by (t.index == x.index) refl e (each_one P xs t h.
     by false apart e later = later e
 
 -- the two look-ups of a type's name
-same_name : (types : List TypeDef) (n : ℕ) → settings.name_at types n ≡ name_at types n
+pub same_name : (types : List TypeDef) (n : ℕ) → settings.name_at types n ≡ name_at types n
 same_name [] n = refl
 same_name (t ∷ ts) zero = refl
 same_name (t ∷ ts) (suc n) = same_name ts n

@@ -1,5 +1,6 @@
--- The types that an exported interface lists: where they are, that the root may forget them, and that none is a primitive type.
-use Rattle.std.proofs.Common.{◌≡◌, ◌∙◌, ℕ, Bool, true, false, cond, List, [], ◌∷◌, map, Option, Some, None, Contains, refl, ap, subst, if◌then◌else◌}
+-- The types that an exported interface lists: where they are, and that the root may forget them; and that no type of which one may be
+-- made is a primitive type.
+use Rattle.std.proofs.Common.{◌≡◌, ◌∙◌, ℕ, Bool, true, false, true≢false, cond, List, [], ◌∷◌, map, Option, Some, None, IsSome, Contains, refl, sym, subst}
 use Rattle.std.specs.List.{AllByRecursion}
 use Rattle.std.specs.Map.{lookup}
 use Rattle.std.proofs.lemmas.Bool.Decides.{Decides-eqb}
@@ -15,19 +16,17 @@ use Rattle.wit_data.specs.declared.worlds.WorldItem.{WorldItem}
 use Rattle.wit_data.specs.declared.worlds.WorldItem.TheVariants as items
 use Rattle.wit_data.specs.declared.worlds.WorldKey.{WorldKey}
 use Rattle.wit_data.proofs.Values.{all_at}
-use Rattle.wit_types.specs.Allowing.{foreign}
-use Rattle.wit_types.specs.Maps.{HasNoName, IsUnnamed}
-use Rattle.wit_types.specs.Settings.{name_at, owner_at}
-use Rattle.type_scopes.specs.Titles.{IsTitled}
+use Rattle.wit_types.specs.Maps.{IsUnnamed}
 use Rattle.world_values.specs.Items.{no_items}
 use Rattle.comp_worlds.specs.Encodable.{IsEncodable}
-use Rattle.comp_worlds.specs.WorldContents.{imported_types, items_of}
+use Rattle.comp_worlds.specs.WorldContents.{imported_types, items_of, name_at}
 use Rattle.comp_worlds.specs.declared.world.ComponentWorld.{ComponentWorld}
-use Rattle.interface_needs.specs.RootNeeds.{IsExportedInterface, IsExportedType}
-use Rattle.interface_needs.proofs.ExportedInterfaces.{exported_titled, exported_type_not_imported, exported_type_sound}
-use Rattle.interface_needs.proofs.Lists.{IsImage, all_of_each, contains_first, contains_later, map_contains}
+use Rattle.interface_needs.specs.RootNeeds.{IsExportedInterface, IsUsableType}
+use Rattle.interface_needs.proofs.ExportedInterfaces.{listed_not_imported, usable_listed}
+use Rattle.interface_needs.proofs.Lists.{all_of_each, contains_first, contains_later}
 use Rattle.root_imports.specs.Forgetting.{IsForgettable}
 use Rattle.root_imports.specs.RootScopes.{is_imported_type, root_setting}
+use Rattle.root_imports.proofs.ExportedTypes.{same_name}
 
 abbrev Entries : Type 0
 Entries = List (WorldKey × WorldItem)
@@ -48,27 +47,30 @@ module _ (w : ComponentWorld) (ok : IsEncodable w) (id : InterfaceId) where
       let world : HasWorld w.resolve (items_of w) = all_at (HasWorld w.resolve) w.resolve.worlds w.world.index no_items ok.sound.worlds ok.valid.present in
       (AllByRecursion-contains (HasEntry w.resolve) (items_of w).exports (c.0, items.Interface id) world.exports c.1).1
 
-  -- the world imports none of its types
-  not_imported : (t : TypeId) → IsExportedType w id t → is_imported_type w t ≡ false
-  not_imported t h = by (is_imported_type w t) refl
+  -- a type that it lists
+  abbrev IsListed : TypeId → Type 0
+  IsListed t = Contains (map (λ (e : List ℕ × TypeId). e.1) (named_types w.resolve id)) t
+
+  -- the world imports none of them
+  not_imported : IsExportedInterface w id → (t : TypeId) → IsListed t → is_imported_type w t ≡ false
+  not_imported h t listed = by (is_imported_type w t) refl
     where
       by : (b : Bool) → is_imported_type w t ≡ b → b ≡ false
       by false e = refl
-      by true e = absurd (exported_type_not_imported w ok id t h (Contains-from_any (λ x y h. (Decides-eqb x y).0 h) t.index (map (λ t. t.1.index) (imported_types w)) e))
+      by true e = absurd (listed_not_imported w ok id h t listed (Contains-from_any (λ x y h. (Decides-eqb x y).0 h) t.index (map (λ t. t.1.index) (imported_types w)) e))
 
   pub export_forgettable : IsExportedInterface w id → AllByRecursion (λ e. IsForgettable w e.1) (named_types w.resolve id)
   export_forgettable h = all_of_each (λ e. IsForgettable w e.1) (named_types w.resolve id) each
     where
       each : (e : List ℕ × TypeId) → Contains (named_types w.resolve id) e → IsForgettable w e.1
       each e c =
-          let t : IsExportedType w id e.1 = record { exported = h; listed = Contains-map (λ e. e.1) (named_types w.resolve id) e c } in
-          record { present = exported_type_sound w ok id e.1 t; other = not_imported e.1 t }
+          let listed : IsListed e.1 = Contains-map (λ e. e.1) (named_types w.resolve id) e c in
+          let usable : IsUsableType w id e.1 = usable_listed w ok id h e.1 listed in
+          record { present = usable.within; other = not_imported h e.1 listed }
 
-  -- a type of the interface has a name, so that its value is no primitive type
-  pub type_named : (last : Option TypeId) (t : TypeId) → IsExportedType w id t → IsUnnamed (root_setting w (Some id) last) t → ⊥
-  type_named last t h unnamed =
-      let i : IsImage (λ (e : List ℕ × TypeId). e.1) (named_types w.resolve id) t = map_contains (λ e. e.1) (named_types w.resolve id) t h.listed in
-      let titled : IsTitled w.resolve.types id i.x.1 i.x.0 = AllByRecursion-contains (λ e. IsTitled w.resolve.types id e.1 e.0) (named_types w.resolve id) i.x (exported_titled w ok id h.exported) i.there in
-      let at : IsTitled w.resolve.types id t i.x.0 = subst (λ x. IsTitled w.resolve.types id x i.x.0) i.same titled in
-      let here : foreign (Some id) (owner_at w.resolve.types t.index) ≡ None = ap (foreign (Some id)) at.owner ∙ ap (λ b. if b then None else Some id) ((Decides-eqb id.index id.index).1 refl) in
-      subst (λ n. HasNoName None n) at.named (subst (λ o. HasNoName o (name_at w.resolve.types t.index)) here unnamed.no_name)
+-- a type of which an exported interface may be made has a name, so that its value is no primitive type
+pub type_named : (w : ComponentWorld) (id : InterfaceId) (last : Option TypeId) (t : TypeId) → IsUsableType w id t → IsUnnamed (root_setting w (Some id) last) t → ⊥
+type_named w id last t h unnamed =
+    let none : name_at w.resolve.types t.index ≡ None = sym (same_name w.resolve.types t.index) ∙ unnamed.no_name in
+    let found : IsSome {T = List ℕ} None = subst (λ (o : Option (List ℕ)). IsSome o) none h.named in
+    true≢false (sym found)

@@ -7,7 +7,7 @@ ghost use Rattle.comp_links.specs.Lists.{type_of_world};
 ghost use Rattle.comp_trees.specs.DefinedScopes.{Denotes};
 ghost use Rattle.comp_trees.specs.Inventories.{scope_of};
 ghost use Rattle.comp_worlds.specs.Encodable.{IsEncodable};
-ghost use Rattle.interface_needs.specs.RootNeeds.{IsExportedInterface, IsExportedType};
+ghost use Rattle.interface_needs.specs.RootNeeds.{IsExportedInterface, IsUsableType};
 ghost use Rattle.wit_data.specs.Live.{named_types};
 ghost use Rattle.wit_data.specs.Sound.{HasInterface};
 ghost use Rattle.wit_data.specs.Values.{kind_at};
@@ -72,12 +72,13 @@ fn forget_in(maps: &mut TypeEncodingMaps, resolve: &Resolve, id: TypeId)
 }
 
 impl RootScope<'_, ComponentWorld> {
-    /// The index of a type of an exported interface. It is defined, where it is not yet, with all that it is made of.
+    /// The index of a type with a name of which an exported interface may be made. It is defined, where it is not yet, with all
+    /// that it is made of; a type of another interface is an alias of what the instance of that interface exports.
     ///
     /// Refused when out of memory, and where a space would have more than 2^32 - 1 items. What was defined until then stays.
     pub fn exported_type(&mut self, interface: InterfaceId, id: TypeId) -> Result<u32, BuildFault>
         requires valid { IsEncodable self.old.world.now }
-        requires exported { IsExportedType self.old.world.now interface id }
+        requires usable { IsUsableType self.old.world.now interface id }
         requires tables { AreTablesRight self.old.world.now self.old.last_type self.old.instances self.old.items.defs self.old.maps }
         ensures denotes { IfOk result (λ index. Denotes (scope_of self.new.items.defs) index (type_of_world self.old.world.now id)) }
         ensures recorded { IfOk result (λ index. HasIndex self.new.maps id) }

@@ -1,6 +1,6 @@
 -- The table of the homes of types: an interface may be made of a type just where the type stays in it.
-use Rattle.std.proofs.Common.{arith, ◌≡◌, ◌<◌, ◌+◌, ◌==◌, ℕ, zero, suc, Bool, true, false, not, ◌&&◌, List, [], ◌∷◌, ◌++◌, length, get_or, map, drop, take, take_all, Option, Some, None, refl, sym, ap, ap₂, subst, ◌∙◌}
-use Rattle.std.specs.Prelude.{slice_get, is_none}
+use Rattle.std.proofs.Common.{arith, ◌≡◌, ◌<◌, ◌+◌, ◌==◌, ℕ, zero, suc, Bool, true, false, not, ◌&&◌, ◌||◌, List, [], ◌∷◌, ◌++◌, length, get_or, map, drop, take, take_all, Option, Some, None, refl, sym, ap, ap₂, subst, ◌∙◌}
+use Rattle.std.specs.Prelude.{slice_get, is_none, is_some, if◌then◌else◌}
 use Rattle.std.specs.List.{list_all}
 use Rattle.std.specs.Option.{option_and_then}
 use Rattle.std.proofs.lemmas.Bool.{eqb-true}
@@ -11,18 +11,22 @@ use Rattle.wit_data.specs.declared.ids.InterfaceId.{InterfaceId}
 use Rattle.wit_data.specs.declared.types.Type.{«Type» as Ty}
 use Rattle.wit_data.specs.declared.types.Type.TheVariants.{Primitive, Id}
 use Rattle.wit_data.specs.declared.types.TypeDef.{TypeDef}
+use Rattle.wit_data.specs.declared.types.TypeDefKind.{TypeDefKind}
 use Rattle.wit_data.specs.declared.types.TypeDefKind.TheVariants as kinds
 use Rattle.wit_data.specs.declared.types.TypeOwner.TheVariants as owners
+use Rattle.wit_data.specs.declared.worlds.World.{World}
 use Rattle.wit_data.specs.Parts.{parts}
 use Rattle.wit_data.specs.Values.{part_value, next_value, values_from, values, kind_at}
 use Rattle.wit_data.proofs.Values.{kind_there}
 use Rattle.wit_data.proofs.Meeting.{drop_next, drop_all}
-use Rattle.comp_worlds.specs.Encodable.{is_resource_kind, is_of_interface, staying_in, stays_in}
-use Rattle.comp_worlds.specs.WorldContents.{interface_of_owner}
+use Rattle.comp_worlds.specs.Encodable.{is_resource_kind, is_lent, is_of_interface, staying_in, stays_in}
+use Rattle.comp_worlds.specs.WorldContents.{interface_of_owner, interface_at, name_at}
 use Rattle.supported_worlds.specs.Homes.{fits, home_at, is_own, AreJoined, IsOwnHome, IsHomeOfParts, IsNextHome, AreHomes}
+use Rattle.supported_worlds.specs.Lent.{lends, AreLent}
 use Rattle.supported_worlds.specs.Placed.{is_resource}
 use Rattle.supported_worlds.specs.declared.homes.Home.{Home}
 use Rattle.supported_worlds.specs.declared.homes.Home.TheVariants as homes
+use Rattle.supported_worlds.specs.declared.lent.Lent.{Lent}
 
 -- ---- two homes
 
@@ -33,6 +37,14 @@ and_true false = refl
 and_false : (b : Bool) → false ≡ (b && false)
 and_false true = refl
 and_false false = refl
+
+or_true : (b : Bool) → (b || true) ≡ true
+or_true true = refl
+or_true false = refl
+
+or_false : (b : Bool) → b ≡ (b || false)
+or_false true = refl
+or_false false = refl
 
 twice : (b : Bool) → b ≡ (b && b)
 twice true = refl
@@ -93,47 +105,62 @@ parts_end all n ps home h e = subst (λ (xs : List (Option Ty)). IsHomeOfParts a
 
 -- ---- the home of a type, whatever its parts are
 
-pub of_resource : (t : TypeDef) (resource : Bool) → resource ≡ is_resource t → resource ≡ true → IsOwnHome t homes.Nowhere
-of_resource t resource is holds = record { each = λ here. ap (λ b. not b && elim (interface_of_owner t.owner) [ Some id ↦ here.index == id.index | None ↦ is_none t.name ]) (sym holds ∙ is) }
+module _ (lent : InterfaceId → Bool) where
+  -- whether a type of this owner and this name may be used in an interface
+  abbrev of_owner : InterfaceId → Option InterfaceId → Option (List ℕ) → Bool
+  of_owner here owner name = elim owner [ Some id ↦ here.index == id.index || (lent id && is_some name) | None ↦ is_none name ]
 
--- a type of values
-module _ (t : TypeDef) (resource : Bool) (is : resource ≡ is_resource t) (lacks : resource ≡ false) where
-  by_owner : (here : InterfaceId) → is_own here t ≡ elim (interface_of_owner t.owner) [ Some id ↦ here.index == id.index | None ↦ is_none t.name ]
-  by_owner here = ap (λ b. not b && elim (interface_of_owner t.owner) [ Some id ↦ here.index == id.index | None ↦ is_none t.name ]) (sym is ∙ lacks)
+  pub of_resource : (t : TypeDef) (resource : Bool) → resource ≡ is_resource t → resource ≡ true → IsOwnHome lent t homes.Nowhere
+  of_resource t resource is holds = record { each = λ here. ap (λ b. not b && of_owner here (interface_of_owner t.owner) t.name) (sym holds ∙ is) }
 
-  pub of_interface : (id : InterfaceId) → t.owner ≡ owners.Interface id → IsOwnHome t (homes.Interface id)
-  of_interface id owner = record { each = λ here. sym (by_owner here ∙ ap (λ o. elim (interface_of_owner o) [ Some id ↦ here.index == id.index | None ↦ is_none t.name ]) owner) }
+  -- a type of values
+  module _ (t : TypeDef) (resource : Bool) (is : resource ≡ is_resource t) (lacks : resource ≡ false) where
+    by_owner : (here : InterfaceId) → is_own lent here t ≡ of_owner here (interface_of_owner t.owner) t.name
+    by_owner here = ap (λ b. not b && of_owner here (interface_of_owner t.owner) t.name) (sym is ∙ lacks)
 
-  pub of_world : (name : List ℕ) → interface_of_owner t.owner ≡ None → t.name ≡ Some name → IsOwnHome t homes.Nowhere
-  of_world name owner named = record {
-    each = λ here.
-        sym (by_owner here
-        ∙ ap (λ (o : Option InterfaceId). elim o [ Some id ↦ here.index == id.index | None ↦ is_none t.name ]) owner
-        ∙ ap (λ (o : Option (List ℕ)). is_none o) named);
-  }
+    by_parts : (here : InterfaceId) (owner : Option InterfaceId) (name : Option (List ℕ)) → interface_of_owner t.owner ≡ owner → t.name ≡ name → is_own lent here t ≡ of_owner here owner name
+    by_parts here owner name owned named = by_owner here ∙ ap₂ (of_owner here) owned named
 
-  pub unnamed : interface_of_owner t.owner ≡ None → t.name ≡ None → IsOwnHome t homes.Anywhere
-  unnamed owner named = record {
-    each = λ here.
-        sym (by_owner here
-        ∙ ap (λ (o : Option InterfaceId). elim o [ Some id ↦ here.index == id.index | None ↦ is_none t.name ]) owner
-        ∙ ap (λ (o : Option (List ℕ)). is_none o) named);
-  }
+    pub of_interface : (id : InterfaceId) (name : List ℕ) (home : Home) → t.owner ≡ owners.Interface id → t.name ≡ Some name → home ≡ (if lent id then homes.Anywhere else homes.Interface id) → IsOwnHome lent t home
+    of_interface id name home owner named made = record {
+      each = λ here.
+          ap (fits here) made
+          ∙ by here (lent id)
+          ∙ sym (by_parts here (Some id) (Some name) (ap interface_of_owner owner) named);
+    }
+      where
+        by : (here : InterfaceId) (b : Bool) → fits here (if b then homes.Anywhere else homes.Interface id) ≡ (here.index == id.index || (b && true))
+        by here true = sym (or_true (here.index == id.index))
+        by here false = or_false (here.index == id.index)
+
+    pub nameless : (id : InterfaceId) → t.owner ≡ owners.Interface id → t.name ≡ None → IsOwnHome lent t (homes.Interface id)
+    nameless id owner named = record {
+      each = λ here.
+          or_false (here.index == id.index)
+          ∙ ap (λ b. here.index == id.index || b) (and_false (lent id))
+          ∙ sym (by_parts here (Some id) None (ap interface_of_owner owner) named);
+    }
+
+    pub of_world : (name : List ℕ) → interface_of_owner t.owner ≡ None → t.name ≡ Some name → IsOwnHome lent t homes.Nowhere
+    of_world name owner named = record { each = λ here. sym (by_parts here None (Some name) owner named) }
+
+    pub unnamed : interface_of_owner t.owner ≡ None → t.name ≡ None → IsOwnHome lent t homes.Anywhere
+    unnamed owner named = record { each = λ here. sym (by_parts here None None owner named) }
 
 -- ---- the next type
 
-own_at : (types : List TypeDef) (n : ℕ) (d : TypeDef) (here : InterfaceId) → n < length types → is_own here (get_or types n d) ≡ is_of_interface types here n (kind_at types n)
-own_at types n d here l =
-    ap (λ (o : Option TypeDef). not (is_resource_kind (get_or types n d).kind) && elim (option_and_then (λ t. interface_of_owner t.owner) o) [ Some id ↦ here.index == id.index | None ↦ is_none (option_and_then (λ t. t.name) o) ]) (sym (slice_get-get_or types n d l))
-    ∙ ap (λ k. is_of_interface types here n k) (kind_there types n d l)
+own_at : (types : List TypeDef) (lent : InterfaceId → Bool) (n : ℕ) (d : TypeDef) (here : InterfaceId) → n < length types → is_own lent here (get_or types n d) ≡ is_of_interface types lent here n (kind_at types n)
+own_at types lent n d here l =
+    ap (λ (o : Option TypeDef). not (is_resource_kind (get_or types n d).kind) && of_owner lent here (option_and_then (λ t. interface_of_owner t.owner) o) (option_and_then (λ t. t.name) o)) (sym (slice_get-get_or types n d l))
+    ∙ ap (λ k. is_of_interface types lent here n k) (kind_there types n d l)
 
-pub next_home_is : (types : List TypeDef) (all : List Home) (n : ℕ) (d : TypeDef) (own part home : Home) → n < length types → IsOwnHome (get_or types n d) own → IsHomeOfParts all (parts (kind_at types n)) part → AreJoined own part home → IsNextHome types all n home
-next_home_is types all n d own part home l is parted joined =
-    record { each = λ here. joined.each here ∙ ap₂ (λ a b. a && b) (is.each here ∙ own_at types n d here l) (parted.each here) }
+pub next_home_is : (types : List TypeDef) (lent : InterfaceId → Bool) (all : List Home) (n : ℕ) (d : TypeDef) (own part home : Home) → n < length types → IsOwnHome lent (get_or types n d) own → IsHomeOfParts all (parts (kind_at types n)) part → AreJoined own part home → IsNextHome types lent all n home
+next_home_is types lent all n d own part home l is parted joined =
+    record { each = λ here. joined.each here ∙ ap₂ (λ a b. a && b) (is.each here ∙ own_at types lent n d here l) (parted.each here) }
 
 -- ---- the table
 
-module _ (types : List TypeDef) (here : InterfaceId) where
+module _ (types : List TypeDef) (lent : InterfaceId → Bool) (here : InterfaceId) where
   -- which of the types stay in the interface, by the table
   abbrev stay : List Home → List Bool
   stay all = map (fits here) all
@@ -143,61 +170,85 @@ module _ (types : List TypeDef) (here : InterfaceId) where
   found (a ∷ all) zero = refl
   found (a ∷ all) (suc n) = found all n
 
-  one_part : (all : List Home) (p : Option Ty) → fits here (home_at all p) ≡ part_value (staying_in types here) (stay all) p
+  one_part : (all : List Home) (p : Option Ty) → fits here (home_at all p) ≡ part_value (staying_in types lent here) (stay all) p
   one_part all None = refl
   one_part all (Some (Primitive p)) = refl
   one_part all (Some (Id id)) = found all id.index
 
-  all_parts : (all : List Home) (ps : List (Option Ty)) → list_all (λ p. fits here (home_at all p)) ps ≡ list_all (λ b. b) (map (part_value (staying_in types here) (stay all)) ps)
+  all_parts : (all : List Home) (ps : List (Option Ty)) → list_all (λ p. fits here (home_at all p)) ps ≡ list_all (λ b. b) (map (part_value (staying_in types lent here) (stay all)) ps)
   all_parts all [] = refl
   all_parts all (p ∷ ps) = ap₂ (λ a b. a && b) (one_part all p) (all_parts all ps)
 
-  same_next : (all : List Home) (n : ℕ) (home : Home) → length all ≡ n → IsNextHome types all n home → fits here home ≡ next_value (staying_in types here) (stay all) (kind_at types n)
+  same_next : (all : List Home) (n : ℕ) (home : Home) → length all ≡ n → IsNextHome types lent all n home → fits here home ≡ next_value (staying_in types lent here) (stay all) (kind_at types n)
   same_next all n home long is =
       let k = kind_at types n in
       is.each here
-      ∙ ap (λ b. is_of_interface types here n k && b) (all_parts all (parts k))
-      ∙ ap (λ (m : ℕ). is_of_interface types here m k && list_all (λ b. b) (map (part_value (staying_in types here) (stay all)) (parts k))) (sym (length-map all (fits here) ∙ long))
+      ∙ ap (λ b. is_of_interface types lent here n k && b) (all_parts all (parts k))
+      ∙ ap (λ (m : ℕ). is_of_interface types lent here m k && list_all (λ b. b) (map (part_value (staying_in types lent here) (stay all)) (parts k))) (sym (length-map all (fits here) ∙ long))
 
 -- the types before a number are in the table
-pub record HomesSoFar (types : List TypeDef) (n : ℕ) (all : List Home) : Type 0 where
+pub record HomesSoFar (types : List TypeDef) (lent : InterfaceId → Bool) (n : ℕ) (all : List Home) : Type 0 where
   pub long : length all ≡ n
-  pub are : (here : InterfaceId) → values_from (staying_in types here) (map (fits here) all) (drop n types) ≡ values (staying_in types here) types
+  pub are : (here : InterfaceId) → values_from (staying_in types lent here) (map (fits here) all) (drop n types) ≡ values (staying_in types lent here) types
 
-pub homes_start : (types : List TypeDef) → HomesSoFar types 0 []
-homes_start types = record { long = refl; are = λ here. refl }
+pub homes_start : (types : List TypeDef) (lent : InterfaceId → Bool) → HomesSoFar types lent 0 []
+homes_start types lent = record { long = refl; are = λ here. refl }
 
 -- any type
 abbrev some_type : TypeDef
 some_type = record { name = None; kind = kinds.Resource; owner = owners.«None» }
 
-pub homes_step : (types : List TypeDef) (n : ℕ) (all new : List Home) (home : Home) → HomesSoFar types n all → n < length types → IsNextHome types all n home → new ≡ all ++ home ∷ [] → HomesSoFar types (n + 1) new
+pub homes_step : (types : List TypeDef) (lent : InterfaceId → Bool) (n : ℕ) (all new : List Home) (home : Home) → HomesSoFar types lent n all → n < length types → IsNextHome types lent all n home → new ≡ all ++ home ∷ [] → HomesSoFar types lent (n + 1) new
 unfolding values_from
-homes_step types n all new home h l is made =
+homes_step types lent n all new home h l is made =
     let t = get_or types n some_type in
-    let value : (here : InterfaceId) → fits here home ≡ next_value (staying_in types here) (map (fits here) all) t.kind =
-    λ here. same_next types here all n home h.long is ∙ ap (next_value (staying_in types here) (map (fits here) all)) (sym (kind_there types n some_type l)) in
-    subst (HomesSoFar types (n + 1)) (sym made) (record {
+    let value : (here : InterfaceId) → fits here home ≡ next_value (staying_in types lent here) (map (fits here) all) t.kind =
+    λ here. same_next types lent here all n home h.long is ∙ ap (next_value (staying_in types lent here) (map (fits here) all)) (sym (kind_there types n some_type l)) in
+    subst (HomesSoFar types lent (n + 1)) (sym made) (record {
       long = length-append all (home ∷ []) ∙ (let a = h.long in omega (arith, a));
       are = λ here.
-          ap (λ bs. values_from (staying_in types here) bs (drop (n + 1) types)) (map-append (fits here) all (home ∷ []) ∙ ap (λ b. map (fits here) all ++ b ∷ []) (value here))
-          ∙ ap (values_from (staying_in types here) (map (fits here) all)) (sym (drop_next types n some_type l))
+          ap (λ bs. values_from (staying_in types lent here) bs (drop (n + 1) types)) (map-append (fits here) all (home ∷ []) ∙ ap (λ b. map (fits here) all ++ b ∷ []) (value here))
+          ∙ ap (values_from (staying_in types lent here) (map (fits here) all)) (sym (drop_next types n some_type l))
           ∙ h.are here;
     })
 
-pub homes_end : (types : List TypeDef) (n : ℕ) (all : List Home) → HomesSoFar types n all → n ≡ length types → AreHomes types all
+pub homes_end : (types : List TypeDef) (lent : InterfaceId → Bool) (n : ℕ) (all : List Home) → HomesSoFar types lent n all → n ≡ length types → AreHomes types lent all
 unfolding values_from
-homes_end types n all h e =
+homes_end types lent n all h e =
     record {
       each = λ here p.
-          one_part types here all p
-          ∙ ap (λ bs. part_value (staying_in types here) bs p) (ap (values_from (staying_in types here) (map (fits here) all)) (sym (drop_all types n e)) ∙ h.are here);
+          one_part types lent here all p
+          ∙ ap (λ bs. part_value (staying_in types lent here) bs p) (ap (values_from (staying_in types lent here) (map (fits here) all)) (sym (drop_all types n e)) ∙ h.are here);
     }
 
-all_same : (types : List TypeDef) (all : List Home) (here : InterfaceId) (ts : List Ty) → AreHomes types all → list_all (λ t. fits here (home_at all (Some t))) ts ≡ list_all (λ t. stays_in types here (Some t)) ts
-all_same types all here [] h = refl
-all_same types all here (t ∷ ts) h = ap₂ (λ a b. a && b) (h.each here (Some t)) (all_same types all here ts h)
+-- ---- the interfaces that are lent, by a world
 
--- the types that an interface names stay in it just where they are at home there by the table
-pub all_stay : (types : List TypeDef) (all : List Home) (here : InterfaceId) (ts : List Ty) (closed : Bool) → AreHomes types all → closed ≡ list_all (λ t. fits here (home_at all (Some t))) ts → closed ≡ list_all (λ t. stays_in types here (Some t)) ts
-all_stay types all here ts closed h is = is ∙ all_same types all here ts h
+module _ (types : List TypeDef) (one other : InterfaceId → Bool) (same : (id : InterfaceId) → one id ≡ other id) (here : InterfaceId) where
+  same_of : (n : ℕ) (k : TypeDefKind) → is_of_interface types one here n k ≡ is_of_interface types other here n k
+  same_of n k = ap (λ b. not (is_resource_kind k) && b) (by (interface_at types n))
+    where
+      by : (o : Option InterfaceId) → of_owner one here o (name_at types n) ≡ of_owner other here o (name_at types n)
+      by None = refl
+      by (Some id) = ap (λ b. here.index == id.index || (b && is_some (name_at types n))) (same id)
+
+  same_part : (bs : List Bool) (p : Option Ty) → part_value (staying_in types one here) bs p ≡ part_value (staying_in types other here) bs p
+  same_part bs None = refl
+  same_part bs (Some (Primitive p)) = refl
+  same_part bs (Some (Id id)) = refl
+
+  same_parts : (bs : List Bool) (ps : List (Option Ty)) → map (part_value (staying_in types one here) bs) ps ≡ map (part_value (staying_in types other here) bs) ps
+  same_parts bs [] = refl
+  same_parts bs (p ∷ ps) = ap₂ (λ b all. b ∷ all) (same_part bs p) (same_parts bs ps)
+
+  same_values : (bs : List Bool) (ts : List TypeDef) → values_from (staying_in types one here) bs ts ≡ values_from (staying_in types other here) bs ts
+  unfolding values_from
+  same_values bs [] = refl
+  same_values bs (t ∷ ts) =
+      ap (λ b. values_from (staying_in types one here) (bs ++ b ∷ []) ts) (ap₂ (λ a all. a && list_all (λ b. b) all) (same_of (length bs) t.kind) (same_parts bs (parts t.kind)))
+      ∙ same_values (bs ++ next_value (staying_in types other here) bs t.kind ∷ []) ts
+
+  same_stays : (p : Option Ty) → stays_in types one here p ≡ stays_in types other here p
+  same_stays p = ap (λ bs. part_value (staying_in types one here) bs p) (same_values [] types) ∙ same_part (values (staying_in types other here) types) p
+
+pub in_world : (types : List TypeDef) (w : World) (lent : Lent) (all : List Home) → AreLent w lent → AreHomes types (lends lent) all → AreHomes types (is_lent w) all
+in_world types w lent all sets h = record { each = λ here p. h.each here p ∙ same_stays types (lends lent) (is_lent w) sets.each here p }

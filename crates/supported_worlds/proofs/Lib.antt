@@ -5,6 +5,7 @@ mod Fresh
 mod InPlace
 mod InterfacePlaces
 mod Interfaces
+mod Lending
 mod Lists
 mod Order
 mod Reporting

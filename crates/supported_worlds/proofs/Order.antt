@@ -28,7 +28,7 @@ use Rattle.comp_roles.specs.declared.imports.Import.{Import}
 use Rattle.comp_roles.specs.declared.imports.Import.TheVariants as imports
 use Rattle.world_values.specs.Items.{functions_of}
 use Rattle.world_values.specs.Mentions.{interface_types}
-use Rattle.comp_worlds.specs.Encodable.{Entries, place_in, place, IsListedType, IsTypePlaced, IsFunctionPlaced, IsOwnType, IsInterfacePlaced, IsItemPlaced, IsExportPlaced, IsRolePlaced, stays_in}
+use Rattle.comp_worlds.specs.Encodable.{Entries, place_in, place, IsListedType, IsTypePlaced, IsFunctionPlaced, IsOwnType, IsInterfacePlaced, IsItemPlaced, IsExportPlaced, IsRolePlaced, is_lent, stays_in}
 use Rattle.comp_worlds.specs.WorldContents.{interface_of_owner, interface_at, name_at}
 use Rattle.supported_worlds.specs.LeftOut.{unless, import_left_out}
 use Rattle.supported_worlds.specs.Placed.{places_of, place_at, is_by, is_named_as, is_listed_as, is_listed_in, is_type_placed, are_types_placed, is_function_placed, is_owned, is_own_type, ascend_from, lists_own_types, is_interface_placed, is_item_placed, are_imports_placed, is_export_placed, are_exports_placed, is_world_placed, is_resource, is_droppable}
@@ -155,17 +155,17 @@ module _ (r : Resolve) (es : Entries) where
 
   -- ---- exports
 
-  export_placed : (item : WorldItem) → is_export_placed r (places_of r.types es) (place_in es) (length es) item ≡ true → IsExportPlaced r es item
-  export_placed (items.Interface id) h =
-      let b = both (lists_own_types r id) (list_all (λ t. stays_in r.types id (Some t)) (interface_types r id)) h in
+  export_placed : (w : World) → w.imports ≡ es → (item : WorldItem) → is_export_placed r (places_of r.types es) (place_in es) (length es) (stays_in r.types (is_lent w)) item ≡ true → IsExportPlaced r w item
+  export_placed w same (items.Interface id) h =
+      let b = both (lists_own_types r id) (list_all (λ t. stays_in r.types (is_lent w) id (Some t)) (interface_types r id)) h in
       let c = both (list_all (is_own_type r.types id) (named_types r id)) (ascend_from 0 (map (λ t. t.1.index) (named_types r id))) b.0 in
       record {
         own = all_pass (is_own_type r.types id) (own_type id) (named_types r id) c.0;
         ordered = ascending 0 (map (λ t. t.1.index) (named_types r id)) c.1;
-        closed = all_pass (λ t. stays_in r.types id (Some t)) (λ t passed. passed) (interface_types r id) b.1;
+        closed = all_pass (λ t. stays_in r.types (is_lent w) id (Some t)) (λ t passed. passed) (interface_types r id) b.1;
       }
-  export_placed (items.Function f) h = item_placed (items.Function f) h
-  export_placed (items.NamedType id) h = item_placed (items.NamedType id) h
+  export_placed w same (items.Function f) h = subst (λ (imports : Entries). IsItemPlaced r imports (items.Function f)) (sym same) (item_placed (items.Function f) h)
+  export_placed w same (items.NamedType id) h = item_placed (items.NamedType id) h
 
   -- ---- roles
 
@@ -185,18 +185,18 @@ module _ (r : Resolve) (es : Entries) where
 pub record IsOrdered (r : Resolve) (w : World) : Type 0 where
   pub types : (n : ℕ) → n < length r.types → IsTypePlaced r w.imports n
   pub imports : AllByRecursion (λ e. IsItemPlaced r w.imports e.1) w.imports
-  pub exports : AllByRecursion (λ e. IsExportPlaced r w.imports e.1) w.exports
+  pub exports : AllByRecursion (λ e. IsExportPlaced r w e.1) w.exports
 
 pub ordered : (r : Resolve) (w : World) → is_world_placed r w ≡ true → IsOrdered r w
 ordered r w h =
     let places = places_of r.types w.imports in
     let root = length w.imports in
     let placed = λ (e : WorldKey × WorldItem). is_item_placed r places (place_in w.imports) root e.1 in
-    let exported = λ (e : WorldKey × WorldItem). is_export_placed r places (place_in w.imports) root e.1 in
-    let b = both (are_imports_placed r places (place_in w.imports) root w) (are_exports_placed r places (place_in w.imports) root w) h in
+    let exported = λ (e : WorldKey × WorldItem). is_export_placed r places (place_in w.imports) root (stays_in r.types (is_lent w)) e.1 in
+    let b = both (are_imports_placed r places (place_in w.imports) root w) (are_exports_placed r places (place_in w.imports) root (stays_in r.types (is_lent w)) w) h in
     let c = both (are_types_placed r places (length r.types)) (list_all placed w.imports) b.0 in
     record {
       types = λ n l. type_placed r w.imports n (one_of_first r w.imports (length r.types) n c.0 l);
       imports = items_placed r w.imports w.imports c.1;
-      exports = all_pass exported (λ e passed. export_placed r w.imports e.1 passed) w.exports b.1;
+      exports = all_pass exported (λ e passed. export_placed r w.imports w refl e.1 passed) w.exports b.1;
     }

@@ -44,6 +44,14 @@ is_twice w rest met = ap (λ b. option_or (unless b (codes "interface")) rest) (
 pub is_apart : (w : World) (i : InterfacePlaces) (found rest : Option (List ℕ)) → AreInterfacePlaces w.imports i → found ≡ rest → found ≡ option_or (twice_left_out w) rest
 is_apart w i found rest h is = is ∙ ap (λ b. option_or (unless b (codes "interface")) rest) (sym h.apart)
 
+-- where no item is left out, the other parts decide
+pub rest_decides : (p : WorldParts) (w : World) (found : Option (List ℕ)) → w ≡ items_of p → None ≡ world_left_out p.resolve w → found ≡ option_or (twice_left_out w) (named_left_out p w) → found ≡ left_out p
+unfolding left_out
+rest_decides p w found same none rest =
+    rest
+    ∙ ap (λ o. option_or o (option_or (twice_left_out w) (named_left_out p w))) none
+    ∙ ap (λ (w : World). option_or (world_left_out p.resolve w) (option_or (twice_left_out w) (named_left_out p w))) same
+
 -- ---- where nothing is reported
 
 pub fields_pass : (p : WorldParts) (name : List ℕ) (fields : List (List ℕ × Import)) → AllByRecursion (λ f. role_left_out p f.1 ≡ None) fields → AllByRecursion (λ i. role_left_out p i.role ≡ None) (imports_from (name, instances.Names fields))

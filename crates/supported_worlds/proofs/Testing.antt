@@ -1,5 +1,5 @@
 -- The tests of places, in the loops that make them, and by the tables.
-use Rattle.std.proofs.Common.{arith, ◌≡◌, ◌<◌, ◌+◌, nat_le, ℕ, zero, suc, Bool, true, false, ◌&&◌, List, [], ◌∷◌, length, get_or, take, Option, None, refl, sym, ap, ap₂, subst, ◌∙◌, take_all}
+use Rattle.std.proofs.Common.{arith, ◌≡◌, ◌<◌, ◌+◌, nat_le, ℕ, zero, suc, Bool, true, false, ◌&&◌, List, [], ◌∷◌, length, get_or, take, Option, Some, None, refl, sym, ap, ap₂, subst, ◌∙◌, take_all}
 use Rattle.std.specs.Prelude.{IfSome}
 use Rattle.std.specs.List.{list_all}
 use Rattle.std.specs.Option.{option_and_then}
@@ -17,10 +17,13 @@ use Rattle.wit_data.specs.declared.worlds.WorldItem.{WorldItem}
 use Rattle.wit_data.specs.declared.worlds.WorldItem.TheVariants as items
 use Rattle.wit_data.specs.Sound.{IsSound, HasInterface, HasOwner}
 use Rattle.wit_data.proofs.Values.{all_at}
-use Rattle.comp_worlds.specs.Encodable.{Entries, place_in}
+use Rattle.world_values.specs.Mentions.{interface_types}
+use Rattle.comp_worlds.specs.Encodable.{Entries, place_in, is_lent, stays_in}
 use Rattle.comp_worlds.specs.WorldContents.{interface_of_owner, interface_at, name_at}
-use Rattle.supported_worlds.specs.Placed.{places_of, is_by, is_type_placed, are_types_placed, is_interface_placed, is_item_placed, are_imports_placed, is_export_placed, are_exports_placed, is_world_placed}
+use Rattle.supported_worlds.specs.Homes.{is_at_home, AreHomes}
+use Rattle.supported_worlds.specs.Placed.{places_of, is_by, is_type_placed, are_types_placed, lists_own_types, is_interface_placed, is_item_placed, are_imports_placed, is_export_placed, are_exports_placed, is_world_placed}
 use Rattle.supported_worlds.specs.PlaceTables.{place_by, ArePlaces}
+use Rattle.supported_worlds.specs.declared.homes.Home.{Home}
 use Rattle.supported_worlds.specs.declared.places.Places.{Places}
 
 -- ---- parts
@@ -104,25 +107,47 @@ module _ (r : Resolve) (es : Entries) (t : Places) (h : ArePlaces r.types es t) 
   same_items [] = refl
   same_items (e ∷ all) = ap₂ (λ a b. a && b) (same_item e.1) (same_items all)
 
-  same_export : (item : WorldItem) → is_export_placed r t.types (place_by t.interfaces) t.interfaces.root item ≡ is_export_placed r (places_of r.types es) (place_in es) (length es) item
-  same_export (items.Interface id) = refl
-  same_export (items.Function f) = same_item (items.Function f)
-  same_export (items.NamedType id) = refl
+  same_export : (stays : InterfaceId → Option Ty → Bool) (item : WorldItem) → is_export_placed r t.types (place_by t.interfaces) t.interfaces.root stays item ≡ is_export_placed r (places_of r.types es) (place_in es) (length es) stays item
+  same_export stays (items.Interface id) = refl
+  same_export stays (items.Function f) = same_item (items.Function f)
+  same_export stays (items.NamedType id) = refl
 
-  same_exports : (all : Entries) → list_all (λ e. is_export_placed r t.types (place_by t.interfaces) t.interfaces.root e.1) all
-      ≡ list_all (λ e. is_export_placed r (places_of r.types es) (place_in es) (length es) e.1) all
-  same_exports [] = refl
-  same_exports (e ∷ all) = ap₂ (λ a b. a && b) (same_export e.1) (same_exports all)
+  same_exports : (stays : InterfaceId → Option Ty → Bool) (all : Entries) → list_all (λ e. is_export_placed r t.types (place_by t.interfaces) t.interfaces.root stays e.1) all
+      ≡ list_all (λ e. is_export_placed r (places_of r.types es) (place_in es) (length es) stays e.1) all
+  same_exports stays [] = refl
+  same_exports stays (e ∷ all) = ap₂ (λ a b. a && b) (same_export stays e.1) (same_exports stays all)
+
+-- the types that stay in interfaces are those that are at home there by a table
+module _ (r : Resolve) (t : Places) (lent : InterfaceId → Bool) (homes : List Home) (h : AreHomes r.types lent homes) where
+  same_types : (id : InterfaceId) (ts : List Ty) → list_all (λ t. is_at_home homes id (Some t)) ts ≡ list_all (λ t. stays_in r.types lent id (Some t)) ts
+  same_types id [] = refl
+  same_types id (x ∷ xs) = ap₂ (λ a b. a && b) (h.each id (Some x)) (same_types id xs)
+
+  stays_exported : (item : WorldItem) → is_export_placed r t.types (place_by t.interfaces) t.interfaces.root (is_at_home homes) item ≡ is_export_placed r t.types (place_by t.interfaces) t.interfaces.root (stays_in r.types lent) item
+  stays_exported (items.Interface id) = ap (λ b. lists_own_types r id && b) (same_types id (interface_types r id))
+  stays_exported (items.Function f) = refl
+  stays_exported (items.NamedType id) = refl
+
+  all_stay : (es : Entries) → list_all (λ e. is_export_placed r t.types (place_by t.interfaces) t.interfaces.root (is_at_home homes) e.1) es
+      ≡ list_all (λ e. is_export_placed r t.types (place_by t.interfaces) t.interfaces.root (stays_in r.types lent) e.1) es
+  all_stay [] = refl
+  all_stay (e ∷ es) = ap₂ (λ a b. a && b) (stays_exported e.1) (all_stay es)
+
+pub exports_stay : (r : Resolve) (t : Places) (w : World) (types : List TypeDef) (homes table : List Home) (placed : Bool) → types ≡ r.types → AreHomes types (is_lent w) homes → table ≡ homes
+    → placed ≡ list_all (λ e. is_export_placed r t.types (place_by t.interfaces) t.interfaces.root (is_at_home table) e.1) w.exports
+    → placed ≡ are_exports_placed r t.types (place_by t.interfaces) t.interfaces.root (stays_in r.types (is_lent w)) w
+exports_stay r t w types homes table placed same h view is =
+    is ∙ all_stay r t (is_lent w) table (subst (AreHomes r.types (is_lent w)) (sym view) (subst (λ (ts : List TypeDef). AreHomes ts (is_lent w) homes) same h)) w.exports
 
 module _ (r : Resolve) (w : World) (t : Places) (imports : Bool) (h : ArePlaces r.types w.imports t) (is : imports ≡ are_imports_placed r t.types (place_by t.interfaces) t.interfaces.root w) where
+  abbrev exports_are : Bool
+  exports_are = are_exports_placed r (places_of r.types w.imports) (place_in w.imports) (length w.imports) (stays_in r.types (is_lent w)) w
+
   imports_are : imports ≡ are_imports_placed r (places_of r.types w.imports) (place_in w.imports) (length w.imports) w
   imports_are = is ∙ ap₂ (λ a b. a && b) (ap (λ (places : List ℕ). are_types_placed r places (length r.types)) h.types) (same_items r w.imports t h w.imports)
 
   pub imports_fail : imports ≡ false → false ≡ is_world_placed r w
-  imports_fail fails = ap (λ b. b && are_exports_placed r (places_of r.types w.imports) (place_in w.imports) (length w.imports) w) (sym fails ∙ imports_are)
+  imports_fail fails = ap (λ b. b && exports_are) (sym fails ∙ imports_are)
 
-  pub exports_decide : (exports : Bool) → imports ≡ true → exports ≡ are_exports_placed r t.types (place_by t.interfaces) t.interfaces.root w → exports ≡ is_world_placed r w
-  exports_decide exports passes decides =
-      decides
-      ∙ same_exports r w.imports t h w.exports
-      ∙ ap (λ b. b && are_exports_placed r (places_of r.types w.imports) (place_in w.imports) (length w.imports) w) (sym passes ∙ imports_are)
+  pub exports_decide : (exports : Bool) → imports ≡ true → exports ≡ are_exports_placed r t.types (place_by t.interfaces) t.interfaces.root (stays_in r.types (is_lent w)) w → exports ≡ is_world_placed r w
+  exports_decide exports passes decides = decides ∙ same_exports r w.imports t h (stays_in r.types (is_lent w)) w.exports ∙ ap (λ b. b && exports_are) (sym passes ∙ imports_are)

@@ -311,12 +311,33 @@ list_of_names_is_reported : order_left_out (resolve_of (of_world (kinds.Stream N
 unfolding values_from
 list_of_names_is_reported = refl
 
--- nor of a type that is made of one of another interface, which the world imports
-used_type_is_reported : order_left_out
-    (resolve_of (of_second (codes "s") (kinds.Stream None) ∷ of_first (codes "t") (kinds.«List» (Id a_type)) ∷ []) (interface_of ((codes "t", another_type) ∷ []) plain ∷ record { id = None; types = (codes "s", a_type) ∷ []; functions = [] } ∷ []))
-    (record { imports = (importing_interfaces (another_interface ∷ [])).imports; exports = (exporting (keys.Name (codes "i")) an_interface).exports }) ≡ Some (codes "interface")
+-- of types that are made of ones of another interface, which the world imports alone
+abbrev of_two : TypeDefKind → List TypeDef
+of_two kind = of_second (codes "s") kind ∷ of_first (codes "t") (kinds.«List» (Id a_type)) ∷ []
+
+abbrev first_and_second : List Interface
+first_and_second = interface_of ((codes "t", another_type) ∷ []) plain ∷ record { id = None; types = (codes "s", a_type) ∷ []; functions = [] } ∷ []
+
+abbrev importing_and_exporting : List InterfaceId → List InterfaceId → World
+importing_and_exporting imported exported = record { imports = (importing_interfaces imported).imports; exports = (importing_interfaces exported).imports }
+
+used_type_is_exported : order_left_out (resolve_of (of_two (kinds.Stream None)) first_and_second) (importing_and_exporting (another_interface ∷ []) (an_interface ∷ [])) ≡ None
 unfolding values_from
-used_type_is_reported = refl
+used_type_is_exported = refl
+
+-- not where that interface is exported too, whatever the order, or exported alone
+type_of_an_exported_interface_is_reported : order_left_out (resolve_of (of_two (kinds.Stream None)) first_and_second) (importing_and_exporting (another_interface ∷ []) (an_interface ∷ another_interface ∷ [])) ≡ Some (codes "interface")
+unfolding values_from
+type_of_an_exported_interface_is_reported = refl
+
+type_of_an_earlier_export_is_reported : order_left_out (resolve_of (of_two (kinds.Stream None)) first_and_second) (importing_and_exporting [] (another_interface ∷ an_interface ∷ [])) ≡ Some (codes "interface")
+unfolding values_from
+type_of_an_earlier_export_is_reported = refl
+
+-- nor where the type is a resource
+used_resource_is_reported : order_left_out (resolve_of (of_two kinds.Resource) first_and_second) (importing_and_exporting (another_interface ∷ []) (an_interface ∷ [])) ≡ Some (codes "interface")
+unfolding values_from
+used_resource_is_reported = refl
 
 -- nor are its types listed in another order
 own_types_in_another_order_are_reported : order_left_out

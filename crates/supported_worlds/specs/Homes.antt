@@ -1,5 +1,5 @@
 -- Where types are at home: which interfaces may be made of them. (This project's own.)
-use Rattle.std.specs.Prelude.{ℕ, ◌≡◌, ◌==◌, ◌&&◌, Bool, true, false, not, List, get_or, Option, Some, None, is_none}
+use Rattle.std.specs.Prelude.{ℕ, ◌≡◌, ◌==◌, ◌&&◌, ◌||◌, Bool, true, false, not, List, get_or, Option, Some, None, is_none, is_some}
 use Rattle.std.specs.List.{list_all}
 use Rattle.wit_data.specs.declared.ids.InterfaceId.{InterfaceId}
 use Rattle.wit_data.specs.declared.types.Type.{«Type» as Ty}
@@ -24,25 +24,29 @@ home_at all None = homes.Anywhere
 home_at all (Some (Primitive p)) = homes.Anywhere
 home_at all (Some (Id id)) = get_or all id.index homes.Anywhere
 
+-- whether an interface may be made of such a part
+abbrev pub is_at_home : List Home → InterfaceId → Option Ty → Bool
+is_at_home all here p = fits here (home_at all p)
+
 -- the home of two types together: an interface may be made of both
 pub record AreJoined (one other home : Home) : Type 0 where
   pub each : (here : InterfaceId) → fits here home ≡ (fits here one && fits here other)
 
--- the home of a type, whatever its parts are
-abbrev pub is_own : InterfaceId → TypeDef → Bool
-is_own here t = not (is_resource_kind t.kind) && elim (interface_of_owner t.owner) [ Some id ↦ here.index == id.index | None ↦ is_none t.name ]
+-- the home of a type, whatever its parts are; exported interfaces may use the types of those interfaces that are lent
+abbrev pub is_own : (InterfaceId → Bool) → InterfaceId → TypeDef → Bool
+is_own lent here t = not (is_resource_kind t.kind) && elim (interface_of_owner t.owner) [ Some id ↦ here.index == id.index || (lent id && is_some t.name) | None ↦ is_none t.name ]
 
-pub record IsOwnHome (t : TypeDef) (home : Home) : Type 0 where
-  pub each : (here : InterfaceId) → fits here home ≡ is_own here t
+pub record IsOwnHome (lent : InterfaceId → Bool) (t : TypeDef) (home : Home) : Type 0 where
+  pub each : (here : InterfaceId) → fits here home ≡ is_own lent here t
 
 -- the home of all these parts
 pub record IsHomeOfParts (all : List Home) (ps : List (Option Ty)) (home : Home) : Type 0 where
   pub each : (here : InterfaceId) → fits here home ≡ list_all (λ p. fits here (home_at all p)) ps
 
 -- the home of the type of this number, by those of the types before it
-pub record IsNextHome (types : List TypeDef) (all : List Home) (n : ℕ) (home : Home) : Type 0 where
-  pub each : (here : InterfaceId) → fits here home ≡ (is_of_interface types here n (kind_at types n) && list_all (λ p. fits here (home_at all p)) (parts (kind_at types n)))
+pub record IsNextHome (types : List TypeDef) (lent : InterfaceId → Bool) (all : List Home) (n : ℕ) (home : Home) : Type 0 where
+  pub each : (here : InterfaceId) → fits here home ≡ (is_of_interface types lent here n (kind_at types n) && list_all (λ p. fits here (home_at all p)) (parts (kind_at types n)))
 
 -- the table has the homes of these types: an interface may be made of those that stay in it
-pub record AreHomes (types : List TypeDef) (all : List Home) : Type 0 where
-  pub each : (here : InterfaceId) (p : Option Ty) → fits here (home_at all p) ≡ stays_in types here p
+pub record AreHomes (types : List TypeDef) (lent : InterfaceId → Bool) (all : List Home) : Type 0 where
+  pub each : (here : InterfaceId) (p : Option Ty) → fits here (home_at all p) ≡ stays_in types lent here p

@@ -1,8 +1,9 @@
 -- Which parts of a world are encoded yet: synchronous functions that it imports or exports at its root, imported interfaces of
 -- types and of synchronous functions, exported interfaces of types of their own that are no resources and of synchronous
--- functions made of these, types that it imports, in their order and with all resources of the root among them, core imports and
--- exports with the role of such a function, core imports that drop a resource, and core exports that are a post-return, a memory
--- or a realloc. All else is left out, and reported by the name of its kind. (The names are those of this project's record.)
+-- functions made of these and of named types of interfaces that are imported alone, types that it imports, in their order and
+-- with all resources of the root among them, core imports and exports with the role of such a function, core imports that drop a
+-- resource, and core exports that are a post-return, a memory or a realloc. All else is left out, and reported by the name of its
+-- kind. (The names are those of this project's record.)
 use Rattle.std.specs.Prelude.{ℕ, Bool, List, [], ◌∷◌, length, codes, Option, Some, None, Result, Ok, Err, get_or, if◌then◌else◌}
 use Rattle.std.specs.Option.{option_or}
 use Rattle.wit_data.specs.declared.functions.AbiVariant.TheVariants.{GuestImport, GuestExport, GuestImportAsync}
@@ -77,8 +78,8 @@ twice_left_out w = unless (are_apart same_interface (interfaces_of w.imports)) (
 abbrev pub names_left_out : Resolve → World → Option (List ℕ)
 names_left_out r w = unless (are_exports_named r w.exports) (codes "interface")
 
--- the world, where a type or a function is made of types of a later place, or an exported interface of types of another one, of
--- named types of the world or of resources
+-- the world, where a type or a function is made of types of a later place, or an exported interface of resources, of named types
+-- of the world, or of types of another interface that isn't imported or is exported too
 abbrev pub order_left_out : Resolve → World → Option (List ℕ)
 order_left_out r w = unless (is_world_placed r w) (codes "interface")
 

@@ -1,5 +1,6 @@
 pub mod Kinds
 pub mod Distinct
+pub mod Lent
 pub mod Homes
 pub mod Placed
 pub mod Naming

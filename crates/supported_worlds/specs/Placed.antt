@@ -1,6 +1,6 @@
 -- Whether a world imports interfaces and types in an order in which each type comes after those of which it is made, and
--- exports interfaces of their own types and of types without names alone (component model, WIT: types, resources, interfaces,
--- `use`).
+-- exports interfaces of their own types, of named ones of interfaces that it only imports, and of types without names alone
+-- (component model, WIT: types, resources, interfaces, `use`).
 use Rattle.std.specs.Prelude.{ℕ, zero, suc, Bool, true, false, ◌==◌, nat_le, not, ◌&&◌, ◌||◌, List, [], ◌∷◌, length, map, drop, get_or, slice_get, Option, Some, None, is_some, is_none}
 use Rattle.std.specs.List.{list_all, list_any, flat_map}
 use Rattle.std.specs.Option.{option_map_or}
@@ -23,7 +23,7 @@ use Rattle.wit_data.specs.Parts.{parts}
 use Rattle.wit_data.specs.Values.{kind_at, values}
 use Rattle.world_values.specs.Items.{functions_of}
 use Rattle.world_values.specs.Mentions.{interface_types}
-use Rattle.comp_worlds.specs.Encodable.{Entries, place_in, placing, is_resource_kind, stays_in}
+use Rattle.comp_worlds.specs.Encodable.{Entries, place_in, placing, is_resource_kind, is_lent, stays_in}
 use Rattle.comp_worlds.specs.WorldContents.{world_type, interface_of_owner, interface_at, name_at}
 
 -- ---- places
@@ -95,9 +95,9 @@ lists_own_types r id = list_all (is_own_type r.types id) (named_types r id) && a
 abbrev pub is_interface_placed : Resolve → List ℕ → ℕ → InterfaceId → Bool
 is_interface_placed r places last id = lists_own_types r id && list_all (λ f. is_function_placed places last f.1) (functions_of r id)
 
--- whether an exported one does, and what it names stays in it
-abbrev pub is_exported_placed : Resolve → InterfaceId → Bool
-is_exported_placed r id = lists_own_types r id && list_all (λ t. stays_in r.types id (Some t)) (interface_types r id)
+-- whether an exported one does, and what it names stays in it; by a test for that
+abbrev pub is_exported_placed : Resolve → (InterfaceId → Option Ty → Bool) → InterfaceId → Bool
+is_exported_placed r stays id = lists_own_types r id && list_all (λ t. stays id (Some t)) (interface_types r id)
 
 -- whether a type has a name, and belongs to no interface
 abbrev pub is_root_type : List TypeDef → ℕ → Bool
@@ -110,23 +110,23 @@ is_item_placed r places of_interface root (items.Interface id) = is_interface_pl
 is_item_placed r places of_interface root (items.Function f) = is_function_placed places root f
 is_item_placed r places of_interface root (items.NamedType id) = is_root_type r.types id.index
 
--- whether an export is an interface of its own types, or else is like an import; by places
-abbrev pub is_export_placed : Resolve → List ℕ → (InterfaceId → ℕ) → ℕ → WorldItem → Bool
-is_export_placed r places of_interface root (items.Interface id) = is_exported_placed r id
-is_export_placed r places of_interface root item = is_item_placed r places of_interface root item
+-- whether an export is such an interface, or else is like an import; by places, and by what stays in interfaces
+abbrev pub is_export_placed : Resolve → List ℕ → (InterfaceId → ℕ) → ℕ → (InterfaceId → Option Ty → Bool) → WorldItem → Bool
+is_export_placed r places of_interface root stays (items.Interface id) = is_exported_placed r stays id
+is_export_placed r places of_interface root stays item = is_item_placed r places of_interface root item
 
 -- whether all types are placed, and all imports
 abbrev pub are_imports_placed : Resolve → List ℕ → (InterfaceId → ℕ) → ℕ → World → Bool
 are_imports_placed r places of_interface root w = are_types_placed r places (length r.types) && list_all (λ e. is_item_placed r places of_interface root e.1) w.imports
 
 -- whether all exports are placed
-abbrev pub are_exports_placed : Resolve → List ℕ → (InterfaceId → ℕ) → ℕ → World → Bool
-are_exports_placed r places of_interface root w = list_all (λ e. is_export_placed r places of_interface root e.1) w.exports
+abbrev pub are_exports_placed : Resolve → List ℕ → (InterfaceId → ℕ) → ℕ → (InterfaceId → Option Ty → Bool) → World → Bool
+are_exports_placed r places of_interface root stays w = list_all (λ e. is_export_placed r places of_interface root stays e.1) w.exports
 
 abbrev pub is_world_placed : Resolve → World → Bool
 is_world_placed r w =
     are_imports_placed r (places_of r.types w.imports) (place_in w.imports) (length w.imports) w
-    && are_exports_placed r (places_of r.types w.imports) (place_in w.imports) (length w.imports) w
+    && are_exports_placed r (places_of r.types w.imports) (place_in w.imports) (length w.imports) (stays_in r.types (is_lent w)) w
 
 -- ---- resources
 

@@ -200,15 +200,15 @@ fn unless_left_out(alloc: Global, parts: WorldParts) -> Result<ComponentWorld, F
 /// It refuses with `LeftOut` and the kind of something of the world that is not encoded yet: `async`
 /// for an asynchronous function, imported, exported, or of an interface; `type` for an exported type;
 /// `interface` where an interface is imported twice, where an exported one has no name or that of
-/// another, or uses a type of another interface, a named type of the world or a resource, where a type
-/// or a function is made of types that come later in the order of the imports, or where an interface
-/// and its types don't name each other or are out of order; `type` where the imported types are out of
-/// order or lack a resource; the kind of a role of main's imports or exports, `library`, or `adapter`.
+/// another, or uses a resource, a named type of the world, or a type of another interface that the world
+/// doesn't import or that it exports too, where a type or a function is made of types that come later in
+/// the order of the imports, or where an interface and its types don't name each other or are out of
+/// order; `type` where the imported types are out of order or lack a resource; the kind of a role of main's imports or exports, `library`, or `adapter`.
 /// A synchronous function at the root or of an imported interface is encoded whatever its types are. The
 /// only other refusal is out of memory. On top of `world_of_parts` it takes time linear in the number of
 /// items, of interfaces' types and functions, of the parameters of functions, of types and their parts,
 /// of core imports and of core exports, and in the names of exported interfaces; and memory for a place
-/// and a home a type, for an entry an import and an exported interface, and for the types that an
+/// and a home a type, for two entries an import and two an exported interface, and for the types that an
 /// exported interface names, beside the refusal's text.
 #[tactic(auto, using(crate::proofs::Reporting::no_cause, crate::proofs::Reporting::has_cause))]
 pub fn encoded_world(alloc: Global, parts: WorldParts) -> Result<ComponentWorld, Failure>

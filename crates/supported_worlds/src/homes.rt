@@ -1,22 +1,26 @@
-//! Where the types of a resolve are at home: in one interface, in any, or in none.
+//! Where the types of a resolve are at home: in one exported interface, in any, or in none.
 //!
 //! The table is made once for a world, from the first type on, since types name earlier types alone. Whether an exported interface
 //! is made of types that are at home in it is then one look-up a type that it names.
 
-ghost use Rattle.std.specs.Prelude.{◌≡◌, ◌<◌, Some, length, IfOk};
+ghost use Rattle.std.specs.Prelude.{◌≡◌, ◌<◌, Some, length, IfOk, if◌then◌else◌};
 ghost use Rattle.std.specs.List.{list_all};
 ghost use Rattle.wit_data.specs.Parts.{parts, RefersBack};
 ghost use Rattle.wit_data.specs.Values.{kind_at};
-ghost use Rattle.supported_worlds.specs.Homes.{fits, home_at, AreJoined, IsOwnHome, IsHomeOfParts, IsNextHome, AreHomes};
+ghost use Rattle.comp_worlds.specs.Encodable.{is_lent};
+ghost use Rattle.supported_worlds.specs.Homes.{fits, home_at, is_at_home, AreJoined, IsOwnHome, IsHomeOfParts, IsNextHome, AreHomes};
+ghost use Rattle.supported_worlds.specs.Lent.{lends};
+ghost use Rattle.supported_worlds.specs.declared.homes.Home.TheVariants as homes;
 
+use crate::lent::{Lent, lends, lent_interfaces};
 use crate::resources::is_resource;
 use std::alloc::{AllocError, Global};
-use wit_data::{InterfaceId, Type, TypeDef, TypeOwner, part_count_of, part_of};
+use wit_data::{InterfaceId, Type, TypeDef, TypeOwner, World, part_count_of, part_of};
 
-/// Which interfaces may be made of a type.
+/// Which exported interfaces may be made of a type.
 #[derive(Clone, Copy)]
 pub(crate) enum Home {
-    /// Any: the type has no name, and belongs to no interface.
+    /// Any: the type has no name and belongs to no interface, or it has one and belongs to an interface that is only imported.
     Anywhere,
     /// This one, to which the type belongs, or a part of it.
     Interface(InterfaceId),
@@ -72,7 +76,7 @@ fn home_at(homes: &[Home], part: Option<Type>) -> Home
 
 /// Whether these types are at home in an interface.
 pub(crate) fn are_at_home(homes: &[Home], here: InterfaceId, types: &[Type]) -> bool
-    ensures { result ≡ list_all (λ t. fits here (home_at homes.now (Some t))) types.now }
+    ensures { result ≡ list_all (λ t. is_at_home homes.now here (Some t)) types.now }
 {
     for ty in types {
         if !fits(here, home_at(homes, Some(*ty))) {
@@ -97,16 +101,28 @@ fn home_of_parts(types: &[TypeDef], homes: &[Home], id: usize) -> Home
     all
 }
 
+/// The home of a type of values that belongs to an interface under a name.
+fn home_of_named(lent: &Lent, id: InterfaceId) -> Home
+    ensures { result ≡ (if lends lent.now id then homes.Anywhere else homes.Interface id) }
+{
+    if lends(lent, id) {
+        Home::Anywhere
+    } else {
+        Home::Interface(id)
+    }
+}
+
 /// The home of a type, whatever its parts are.
-#[tactic(auto, using(crate::proofs::AtHome::of_resource, crate::proofs::AtHome::of_interface, crate::proofs::AtHome::of_world, crate::proofs::AtHome::unnamed))]
-fn own_home(def: &TypeDef) -> Home
-    ensures { IsOwnHome def.now result }
+#[tactic(auto, using(crate::proofs::AtHome::of_resource, crate::proofs::AtHome::of_interface, crate::proofs::AtHome::nameless, crate::proofs::AtHome::of_world, crate::proofs::AtHome::unnamed))]
+fn own_home(lent: &Lent, def: &TypeDef) -> Home
+    ensures { IsOwnHome (lends lent.now) def.now result }
 {
     if is_resource(def) {
         return Home::Nowhere;
     }
     match (def.owner, &def.name) {
-        (TypeOwner::Interface(id), _) => Home::Interface(id),
+        (TypeOwner::Interface(id), Some(_)) => home_of_named(lent, id),
+        (TypeOwner::Interface(id), None) => Home::Interface(id),
         (_, Some(_)) => Home::Nowhere,
         (_, None) => Home::Anywhere,
     }
@@ -114,27 +130,43 @@ fn own_home(def: &TypeDef) -> Home
 
 /// The home of the type with an index, by those of all earlier types.
 #[tactic(auto, using(crate::proofs::AtHome::next_home_is))]
-fn next_home(types: &[TypeDef], homes: &[Home], id: usize) -> Home
+fn next_home(types: &[TypeDef], lent: &Lent, homes: &[Home], id: usize) -> Home
     requires back { RefersBack types.now }
     requires present { id < length types.now }
-    ensures { IsNextHome types.now homes.now id result }
+    ensures { IsNextHome types.now (lends lent.now) homes.now id result }
 {
-    let own = own_home(&types[id]);
+    let own = own_home(lent, &types[id]);
     let parts = home_of_parts(types, homes, id);
     let home = joined(own, parts);
     home
 }
 
-/// The homes of all types. The time is linear in the number of the types and of their parts.
+/// The homes of all types, where the types of some interfaces may be used.
 #[tactic(auto, using(crate::proofs::AtHome::homes_start, crate::proofs::AtHome::homes_step, crate::proofs::AtHome::homes_end))]
-pub(crate) fn type_homes(alloc: Global, types: &[TypeDef]) -> Result<Vec<Home>, AllocError>
+fn homes_by(alloc: Global, types: &[TypeDef], lent: &Lent) -> Result<Vec<Home>, AllocError>
     requires { RefersBack types.now }
-    ensures { IfOk result (λ homes. AreHomes types.now homes.items) }
+    ensures { IfOk result (λ homes. AreHomes types.now (lends lent.now) homes.items) }
 {
     let mut homes = Vec::new(alloc);
     for n in 0..types.len() {
-        let home = next_home(types, homes.as_slice(), n);
+        let home = next_home(types, lent, homes.as_slice(), n);
         homes.push(home)?;
     }
+    Ok(homes)
+}
+
+/// The homes of all types, for the exported interfaces of a world. The time is linear in the number of the types and of their
+/// parts, and of the world's imports and exports.
+#[tactic(auto, using(crate::proofs::AtHome::in_world))]
+pub(crate) fn type_homes(
+    alloc: Global,
+    types: &[TypeDef],
+    world: &World,
+) -> Result<Vec<Home>, AllocError>
+    requires { RefersBack types.now }
+    ensures { IfOk result (λ homes. AreHomes types.now (is_lent world.now) homes.items) }
+{
+    let lent = lent_interfaces(alloc, world)?;
+    let homes = homes_by(alloc, types, &lent)?;
     Ok(homes)
 }

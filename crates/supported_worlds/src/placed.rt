@@ -1,5 +1,6 @@
 //! Whether what a world imports is made of types that come before it, and lists types of its own; and whether the
-//! interfaces that it exports are made of their own types and of types without names alone.
+//! interfaces that it exports are made of their own types, of named types of interfaces that it only imports, and of types
+//! without names alone.
 
 ghost use Rattle.std.specs.Prelude.{◌≡◌, ◌<◌, ◌==◌, false, length, map, Some, IfSome, IfOk};
 ghost use Rattle.std.specs.List.{AllByRecursion, list_all};
@@ -9,9 +10,9 @@ ghost use Rattle.wit_data.specs.Parts.{parts, RefersBack};
 ghost use Rattle.wit_data.specs.Sound.{IsSound, HasInterface, HasItem, HasEntry, HasTypeId, HasWorld};
 ghost use Rattle.wit_data.specs.Values.{kind_at};
 ghost use Rattle.world_values.specs.Mentions.{interface_types};
-ghost use Rattle.comp_worlds.specs.Encodable.{stays_in};
+ghost use Rattle.comp_worlds.specs.Encodable.{is_lent, stays_in};
 ghost use Rattle.comp_worlds.specs.WorldContents.{interface_of_owner, interface_at, name_at};
-ghost use Rattle.supported_worlds.specs.Homes.{AreHomes};
+ghost use Rattle.supported_worlds.specs.Homes.{is_at_home};
 ghost use Rattle.supported_worlds.specs.LeftOut.{order_left_out};
 ghost use Rattle.supported_worlds.specs.Placed.{is_by, is_named_as, is_listed_as, is_listed_in, is_type_placed, are_types_placed, is_function_placed, is_own_type, ascend_from, lists_own_types, is_interface_placed, is_exported_placed, is_root_type, is_item_placed, are_imports_placed, is_export_placed, are_exports_placed, is_world_placed};
 ghost use Rattle.supported_worlds.specs.PlaceTables.{ArePlaces, place_by};
@@ -310,7 +311,7 @@ fn are_imports_placed(resolve: &Resolve, places: &Places, world: &World) -> bool
 
 // ---- exports
 
-/// Whether all types that an interface names stay in it.
+/// Whether all types that an interface names are at home in it.
 fn is_closed(
     alloc: Global,
     resolve: &Resolve,
@@ -319,15 +320,14 @@ fn is_closed(
 ) -> Result<bool, AllocError>
     requires sound { IsSound resolve.now }
     requires present { HasInterface resolve.now id }
-    requires homes { AreHomes resolve.now.types homes.now }
-    ensures { IfOk result (λ closed. closed ≡ list_all (λ t. stays_in resolve.now.types id (Some t)) (interface_types resolve.now id)) }
+    ensures { IfOk result (λ closed. closed ≡ list_all (λ t. is_at_home homes.now id (Some t)) (interface_types resolve.now id)) }
 {
     let named = interface_types(alloc, resolve, id)?;
     let closed = are_at_home(homes, id, named.as_slice());
     Ok(closed)
 }
 
-/// Whether an exported interface lists types of its own, in the order of the resolve, and what it names stays in it.
+/// Whether an exported interface lists types of its own, in the order of the resolve, and what it names is at home in it.
 fn is_exported_placed(
     alloc: Global,
     resolve: &Resolve,
@@ -336,8 +336,7 @@ fn is_exported_placed(
 ) -> Result<bool, AllocError>
     requires sound { IsSound resolve.now }
     requires present { HasInterface resolve.now id }
-    requires homes { AreHomes resolve.now.types homes.now }
-    ensures { IfOk result (λ passes. passes ≡ is_exported_placed resolve.now id) }
+    ensures { IfOk result (λ passes. passes ≡ is_exported_placed resolve.now (is_at_home homes.now) id) }
 {
     if !lists_own_types(resolve, id) {
         return Ok(false);
@@ -355,8 +354,7 @@ fn is_export_placed(
 ) -> Result<bool, AllocError>
     requires sound { IsSound resolve.now }
     requires present { HasItem resolve.now item.now }
-    requires homes { AreHomes resolve.now.types homes.now }
-    ensures { IfOk result (λ passes. passes ≡ is_export_placed resolve.now places.now.types (place_by places.now.interfaces) places.now.interfaces.root item.now) }
+    ensures { IfOk result (λ passes. passes ≡ is_export_placed resolve.now places.now.types (place_by places.now.interfaces) places.now.interfaces.root (is_at_home homes.now) item.now) }
 {
     match item {
         WorldItem::Interface(id) => is_exported_placed(alloc, resolve, homes, *id),
@@ -375,8 +373,7 @@ fn all_exports_placed(
 ) -> Result<bool, AllocError>
     requires sound { IsSound resolve.now }
     requires all_present { AllByRecursion (HasEntry resolve.now) items.now }
-    requires homes { AreHomes resolve.now.types homes.now }
-    ensures { IfOk result (λ passes. passes ≡ list_all (λ e. is_export_placed resolve.now places.now.types (place_by places.now.interfaces) places.now.interfaces.root e.1) items.now) }
+    ensures { IfOk result (λ passes. passes ≡ list_all (λ e. is_export_placed resolve.now places.now.types (place_by places.now.interfaces) places.now.interfaces.root (is_at_home homes.now) e.1) items.now) }
 {
     for (_, item) in items.iter() {
         if !is_export_placed(alloc, resolve, places, homes, item)? {
@@ -395,9 +392,9 @@ fn are_exports_placed(
 ) -> Result<bool, AllocError>
     requires sound { IsSound resolve.now }
     requires present { HasWorld resolve.now world.now }
-    ensures { IfOk result (λ passes. passes ≡ are_exports_placed resolve.now places.now.types (place_by places.now.interfaces) places.now.interfaces.root world.now) }
+    ensures { IfOk result (λ passes. passes ≡ are_exports_placed resolve.now places.now.types (place_by places.now.interfaces) places.now.interfaces.root (stays_in resolve.now.types (is_lent world.now)) world.now) }
 {
-    let homes = type_homes(alloc, resolve.types.as_slice())?;
+    let homes = type_homes(alloc, resolve.types.as_slice(), world)?;
     let placed = all_exports_placed(alloc, resolve, places, homes.as_slice(), &world.exports)?;
     Ok(placed)
 }

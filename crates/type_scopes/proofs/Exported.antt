@@ -6,6 +6,7 @@ use Rattle.std.proofs.lemmas.List.{get_or_append_left}
 use Rattle.std.proofs.lemmas.List.Folds.{list_any-append}
 use Rattle.std.proofs.lemmas.Slice.Eq.{bytes_eq-Decides}
 use Rattle.std.proofs.lemmas.Bool.Decides.{Decides-eqb}
+use Rattle.std.proofs.lemmas.Option.{none-some}
 use Rattle.comp_lists.proofs.Lists.{AllByRecursion-weaker}
 use Rattle.wit_data.specs.declared.ids.InterfaceId.{InterfaceId}
 use Rattle.wit_data.specs.declared.ids.TypeId.{TypeId}
@@ -26,7 +27,7 @@ use Rattle.comp_trees.specs.Members.{Surroundings, AreMembersRight, makes_type, 
 use Rattle.wit_types.specs.Settings.{Setting, owner_at}
 use Rattle.wit_types.specs.Allowing.{foreign}
 use Rattle.wit_types.specs.Denoting.{Longer}
-use Rattle.wit_types.specs.Maps.{HasNoName, NamedAs, IsNamedValue}
+use Rattle.wit_types.specs.Maps.{NamedAs, IsNamedValue}
 use Rattle.wit_types.proofs.Growing.{longer_none, longer_on}
 use Rattle.type_scopes.specs.Exports.{IsExport, AreOwnExports}
 use Rattle.type_scopes.specs.Offers.{Offer, placed}
@@ -105,8 +106,7 @@ module _ (s : Surroundings) (origin : TypeId → Resource) (o : Offer) (here : I
       named.tree ∙ ap (λ i. OfValues (wit_tree origin o.types (Some (Id i)))) (apart.each named.id id name named.given given (subst (λ m. IsTitled o.types here named.id m) (sym e) named.titled) titled)
 
   value_found : (id : TypeId) (name : List ℕ) (v : ComponentValType) → IsTitled o.types here id name → IsNamedValue set (IsExport ms) (Id id) v → list_any (exports_name spaces.Type name) ms ≡ true
-  value_found id name (values.Primitive p) titled h =
-      absurd (subst (λ q. HasNoName q (Some name)) (ap (foreign (Some here)) titled.owner ∙ foreign_own here) (subst (λ q. HasNoName (foreign (Some here) (owner_at o.types id.index)) q) titled.named h.no_name))
+  value_found id name (values.Primitive p) titled h = absurd (none-some name (sym h.no_name ∙ titled.named))
   value_found id name (values.Defined index) titled h =
       export_found ms name index
       (subst (λ q. NamedAs (IsExport ms) q (Some name) index) (ap (foreign (Some here)) titled.owner ∙ foreign_own here) (subst (λ q. NamedAs (IsExport ms) (foreign (Some here) (owner_at o.types id.index)) q index) titled.named h.as_own))

@@ -60,14 +60,9 @@ NamedAs names None (Some name) index = names name index
 pub record IsNamed (s : Setting) (names : List ℕ → ℕ → Type 0) (id : TypeId) (index : ℕ) : Type 0 where
   pub as_own : NamedAs names (foreign s.interface (owner_at s.types id.index)) (name_at s.types id.index) index
 
--- a type of the own interface or of none has no name
-abbrev pub HasNoName : Option InterfaceId → Option (List ℕ) → Type 0
-HasNoName (Some other) name = Unit {0}
-HasNoName None None = Unit {0}
-HasNoName None (Some name) = ⊥
-
+-- the type has no name
 pub record IsUnnamed (s : Setting) (id : TypeId) : Type 0 where
-  pub no_name : HasNoName (foreign s.interface (owner_at s.types id.index)) (name_at s.types id.index)
+  pub no_name : name_at s.types id.index ≡ None
 
 -- a type with a name is one of the scope, with its index under the name
 abbrev pub IsNamedValue : Setting → (List ℕ → ℕ → Type 0) → Ty → ComponentValType → Type 0

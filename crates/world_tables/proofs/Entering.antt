@@ -57,7 +57,7 @@ same_test p q (e ∷ es) same = ap (λ b. cond b (Some e.1) (lookup p es)) (same
 
 module _ {K X : Type 0} (eq : K → K → Bool) (laws : IsEquivalence eq) where
   -- a key is in a table with one more entry exactly if it was, or is that entry's
-  in_first : (table : List (K × X)) (k : K) (v : X) (q : K) → is_some (lookup (eq q) (with_first eq table k v)) ≡ (is_some (lookup (eq q) table) || eq q k)
+  pub in_first : (table : List (K × X)) (k : K) (v : X) (q : K) → is_some (lookup (eq q) (with_first eq table k v)) ≡ (is_some (lookup (eq q) table) || eq q k)
   in_first table k v q = by (is_some (lookup (eq k) table)) refl
     where
       there : (c : Bool) → eq q k ≡ c → is_some (lookup (eq k) table) ≡ true → is_some (lookup (eq q) table) ≡ (is_some (lookup (eq q) table) || c)

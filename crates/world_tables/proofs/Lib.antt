@@ -1,4 +1,4 @@
-mod Entering
+pub mod Entering
 mod Exists
 mod Using
 mod Reaching

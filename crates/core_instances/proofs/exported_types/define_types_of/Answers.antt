@@ -5,7 +5,8 @@ use Rattle.wit_data.specs.Live.{named_types}
 use Rattle.wit_data.specs.declared.ids.TypeId.{TypeId}
 use Rattle.comp_terms.specs.Rules.{Grows}
 use Rattle.comp_worlds.specs.Encodable.{IsEncodable}
-use Rattle.interface_needs.specs.RootNeeds.{IsExportedType}
+use Rattle.interface_needs.specs.RootNeeds.{IsUsableType}
+use Rattle.interface_needs.proofs.ExportedInterfaces.{usable_listed}
 use Rattle.root_imports.specs.Keeping.{Root, RootKept}
 use Rattle.root_imports.specs.RootScopes.{AreTablesRight}
 use Rattle.root_imports.proofs.Keeping.{kept_none, kept_typed, kept_then}
@@ -32,7 +33,7 @@ exported_type-requires c =
     let there : Contains (named_types w.resolve c.args.id) e = subst (λ (l : Listed). Contains l e) c.requires.listed (next_listed w c.args.root.now mid c.args.types.now e c.next.new.self h) in
     record {
       valid = subst (λ x. IsEncodable x.now) (sym h.kept.world) c.requires.valid;
-      exported = subst (λ x. IsExportedType x.now c.args.id e.1) (sym h.kept.world) (record { exported = c.requires.exported; listed = Contains-map (λ (t : List ℕ × TypeId). t.1) (named_types w.resolve c.args.id) e there });
+      usable = subst (λ x. IsUsableType x.now c.args.id e.1) (sym h.kept.world) (usable_listed w c.requires.valid c.args.id c.requires.exported e.1 (Contains-map (λ (t : List ℕ × TypeId). t.1) (named_types w.resolve c.args.id) e there));
       tables = subst (λ x. AreTablesRight x.now mid.last_type mid.instances mid.items.defs mid.maps) (sym h.kept.world) (subst (λ l. AreTablesRight w l mid.instances mid.items.defs mid.maps) (sym h.kept.next) h.kept.tables);
     }
 

@@ -3,7 +3,6 @@ use Rattle.comp_bytes.specs.declared.types.ComponentValType.{ComponentValType}
 use Rattle.comp_trees.specs.Inventories.{scope_of}
 use Rattle.wit_data.specs.declared.types.Type.TheVariants.{Id}
 use Rattle.wit_types.specs.Maps.{IsNamedValue}
-use Rattle.interface_needs.proofs.ExportedInterfaces.{exported_type_sound}
 use Rattle.root_imports.specs.Interfaces.{AreInstancesKnown}
 use Rattle.root_imports.specs.RootScopes.{any_index, root_setting}
 use Rattle.root_imports.proofs.Allowing.{interface_allows}
@@ -12,10 +11,10 @@ use Rattle.root_imports.proofs.ListedTypes.{type_named}
 use Rattle.root_imports.proofs.exported_types.RootScope+ComponentWorld.exported_type.Goals as goal
 
 pub encode_valtype-requires-clause-present : goal.encode_valtype-requires-clause-present
-encode_valtype-requires-clause-present c = exported_type_sound c.args.self.now.world.now c.requires.valid c.args.interface c.args.id c.requires.exported
+encode_valtype-requires-clause-present c = c.requires.usable.within
 
 pub encode_valtype-requires-clause-allowed : goal.encode_valtype-requires-clause-allowed
-encode_valtype-requires-clause-allowed c = interface_allows c.args.self.now.world.now c.requires.valid c.args.self.now.last_type c.args.interface c.args.id c.requires.exported
+encode_valtype-requires-clause-allowed c = interface_allows c.args.self.now.world.now c.requires.valid c.args.self.now.last_type c.args.interface c.args.id c.requires.usable
 
 pub encode_valtype-requires-clause-faithful : goal.encode_valtype-requires-clause-faithful
 encode_valtype-requires-clause-faithful c =
@@ -38,5 +37,5 @@ pub unreachable-requires : goal.unreachable-requires
 unreachable-requires c =
     let w = c.args.self.now.world.now in
     let s = root_setting w (Some c.args.interface) c.args.self.now.last_type in
-    type_named w c.requires.valid c.args.interface c.args.self.now.last_type c.args.id c.requires.exported
+    type_named w c.args.interface c.args.self.now.last_type c.args.id c.requires.usable
     (subst (λ (v : ComponentValType). IsNamedValue s any_index (Id c.args.id) v) c.in-Primitive.is c.in_ok-value.ensures.named)
