@@ -41,7 +41,7 @@ IsNameCause n w (checks.NameTwice name) = (list : Names) × Contains (name_lists
 IsNameCause n w (checks.NameForm name) = (list : Names) × Contains (name_lists n w) list × Contains list name × (IsFormed name → ⊥)
 IsNameCause n w _ = ⊥
 
--- a name under which the nested component of an exported interface may import a type of the interface
+-- a name under which the nested component of an exported interface may import a type, of the interface or of another one
 pub record ImportsTypeAs (w : ComponentWorld) (name : List ℕ) : Type 0 where
   pub key : WorldKey
   pub id : InterfaceId

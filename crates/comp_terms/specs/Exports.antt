@@ -34,8 +34,8 @@ pub record IsNestedRight (definitions : List Item) : Type 0 where
   pub given : List ℕ → TypeTree
   pub right : AreItemsRight given empty_scope definitions
 
--- A nested component is one of an exported interface: the types that it imports are named after types of the interface, and no
--- two of its imports have one name.
+-- A nested component is one of an exported interface: the types that it imports are named after types of the interface or of others
+-- that it may use, and no two of its imports have one name.
 pub record IsNestedFor (w : ComponentWorld) (definitions : List Item) : Type 0 where
   pub key : WorldKey
   pub id : InterfaceId

@@ -82,7 +82,7 @@ lent_imported w other h =
     record { key = there.0; there = subst (λ (x : InterfaceId). Contains world.imports (there.0, items.Interface x)) (sym (same_id other i.x i.passes)) there.1 }
 
 -- a type that it lends is one that a component needs of it
-lent_needed : (w : ComponentWorld) (n : ℕ) (other : InterfaceId) → interface_at w.resolve.types n ≡ Some other → is_lent_type w n ≡ true → IsNeeded w other (record { index = n })
+pub lent_needed : (w : ComponentWorld) (n : ℕ) (other : InterfaceId) → interface_at w.resolve.types n ≡ Some other → is_lent_type w n ≡ true → IsNeeded w other (record { index = n })
 lent_needed w n other is h =
     let by : (is_lent (items_of w) other && is_one_of (needed_types w other) n) ≡ true =
     subst (λ (o : Option InterfaceId). elim o [ Some i ↦ is_lent (items_of w) i && is_one_of (needed_types w i) n | None ↦ false ] ≡ true) is h in

@@ -13,3 +13,4 @@ mod RootTypes
 mod Staying
 pub mod ExportedInterfaces
 pub mod RootItems
+pub mod Usable

@@ -42,7 +42,7 @@ use Rattle.comp_terms.specs.Rules.{Landmark, NestedOf, Exported, landmark, landm
 use Rattle.interface_needs.proofs.Lists.{all_both, all_of_each, contains_cons, contains_first, contains_flat, contains_later, contains_none}
 use Rattle.wit_data.specs.Live.{named_types}
 use Rattle.nested_components.specs.Types.{IsAtHome}
-use Rattle.interface_needs.specs.RootNeeds.{interface_of_item, IsExportedInterface}
+use Rattle.interface_needs.specs.RootNeeds.{interface_of_item, IsExportedInterface, is_lent_type}
 use Rattle.interface_needs.proofs.RootItems.{exported_there, exported_sound}
 use Rattle.interface_needs.proofs.ExportedInterfaces.{exported_titled, exported_ascend, exported_types_home, exported_functions_home, exported_every}
 use Rattle.root_imports.specs.Growing.{Grows-none, Grows-by, Grows-then}
@@ -216,6 +216,7 @@ module _ (w : ComponentWorld) (ok : IsEncodable w) (key : WorldKey) (id : Interf
   interface_at_home =
       let exported : IsExportedInterface w id = record { key = key; of = is } in
       record {
+        lent = is_lent_type w;
         titled = exported_titled w ok id exported;
         ascend = exported_ascend w ok id exported;
         types = exported_types_home w ok id exported;

@@ -51,6 +51,9 @@ use Rattle.comp_terms.specs.Exports.{argument_named, IsNestedRight, IsNestedFor,
 use Rattle.comp_terms.specs.Rules.{Grows, NestedOf, nested_marked}
 use Rattle.comp_items.proofs.Kept.{Longer, denotes-kept}
 use Rattle.root_imports.specs.Growing.{Grows-by, Grows-then}
+use Rattle.interface_needs.proofs.Owners.{same_name}
+use Rattle.interface_needs.proofs.Usable.{usable_from}
+use Rattle.main_exports.proofs.TypeArguments.{usable_import}
 use Rattle.main_exports.specs.Exports.{IsNestedOf, nested_mark, functions_at, functions_of_key, AreLiftArguments, IsTypeArgument, AreArgumentsOf, AreArgumentsFor, IsInstantiated}
 use Rattle.main_exports.proofs.Exporting.{own_names, interface_functions}
 use Rattle.main_exports.proofs.Growth.{all_arguments-kept}
@@ -206,22 +209,22 @@ module _ (w : ComponentWorld) (key : WorldKey) (listed : List (List ℕ × TypeI
       ap₂ NestedOf (function_names ∙ names_are [] fs c.names n.named) exports
 
 -- it is one of an exported interface
-import_of : (w : ComponentWorld) (id : InterfaceId) (i : TypeImport) → IsImportOf (named_types w.resolve id) i → IsTypeImport w id i.name
-import_of w id i h = record { of = h.text; listed = Contains-map (λ (t : List ℕ × TypeId). t.0) (named_types w.resolve id) (h.text, i.id) h.listed; count = h.count; same = h.same }
+import_of : (w : ComponentWorld) → IsEncodable w → (key : WorldKey) (id : InterfaceId) → exported_item w key ≡ Some (world_items.Interface id) → (i : TypeImport) → IsImportOf w.resolve.types (named_types w.resolve id) (functions_of w.resolve id) i → IsTypeImport w id i.name
+import_of w ok key id is i h =
+    record { type = i.id; of = h.text; titled = sym (same_name w.resolve.types i.id.index) ∙ h.titled; from = usable_from w ok id i.id (usable_import w ok key id is i h); count = h.count; same = h.same }
 
-pub nested_for : (w : ComponentWorld) (key : WorldKey) (id : InterfaceId) → exported_item w key ≡ Some (world_items.Interface id) → (entries : List (List ℕ × Function)) (c : NestedComponent) → IsNestedOf w (named_types w.resolve id) entries c →
-    IsNestedFor w c.items
-nested_for w key id is entries c n = record {
+pub nested_for : (w : ComponentWorld) → IsEncodable w → (key : WorldKey) (id : InterfaceId) → exported_item w key ≡ Some (world_items.Interface id) → (c : NestedComponent) → IsNestedOf w (named_types w.resolve id) (functions_of w.resolve id) c → IsNestedFor w c.items
+nested_for w ok key id is c n = record {
   key = key;
   id = id;
   item = is;
-  types = subst (AllByRecursion (IsTypeImport w id)) (sym (type_names_are w key (named_types w.resolve id) entries c n)) (named c.types n.own);
+  types = subst (AllByRecursion (IsTypeImport w id)) (sym (type_names_are w key (named_types w.resolve id) (functions_of w.resolve id) c n)) (named c.types n.own);
   apart = n.apart;
 }
   where
-    named : (is : List TypeImport) → AllByRecursion (IsImportOf (named_types w.resolve id)) is → AllByRecursion (IsTypeImport w id) (map (λ (i : TypeImport). i.name) is)
+    named : (is : List TypeImport) → AllByRecursion (IsImportOf w.resolve.types (named_types w.resolve id) (functions_of w.resolve id)) is → AllByRecursion (IsTypeImport w id) (map (λ (i : TypeImport). i.name) is)
     named [] h = tt
-    named (i ∷ is) h = (import_of w id i h.0, named is h.1)
+    named (i ∷ more) h = (import_of w ok key id is i h.0, named more h.1)
 
 -- an instance of it is what an interface is exported as
 pub exports_interface : (w : ComponentWorld) → IsEncodable w → (key : WorldKey) (id : InterfaceId) → exported_item w key ≡ Some (world_items.Interface id) → (c : NestedComponent) → IsNestedOf w (named_types w.resolve id) (functions_of w.resolve id) c →

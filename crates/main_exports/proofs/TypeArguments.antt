@@ -1,24 +1,29 @@
 -- The arguments for the types of an interface, one after the other.
-use Rattle.std.proofs.Common.{◌≡◌, ◌<◌, ◌+◌, ℕ, List, [], ◌∷◌, ◌++◌, Some, arith, sym, subst, take, ap, ◌∙◌}
+use Rattle.std.proofs.Common.{◌≡◌, ◌<◌, ◌+◌, ℕ, List, [], ◌∷◌, ◌++◌, Some, arith, sym, subst, take, ap, ◌∙◌, is_some}
 use Rattle.std.specs.Prelude.{length, get_or}
 use Rattle.std.specs.List.{AllZip, AllByRecursion}
 use Rattle.std.proofs.lemmas.List.{take_more, take_all}
-use Rattle.comp_lists.proofs.Lists.{AllZip-weaker, AllZip-end, Contains-map}
+use Rattle.comp_lists.proofs.Lists.{AllZip-weaker, AllZip-end}
 use Rattle.comp_bytes.specs.declared.def.Argument.{Argument}
 use Rattle.wit_data.specs.Live.{named_types}
 use Rattle.wit_data.specs.declared.ids.InterfaceId.{InterfaceId}
-use Rattle.wit_data.specs.declared.ids.TypeId.{TypeId}
 use Rattle.wit_data.specs.declared.worlds.WorldItem.TheVariants as world_items
 use Rattle.wit_data.specs.declared.worlds.WorldKey.{WorldKey}
+use Rattle.type_scopes.specs.Needs.{is_at_home}
+use Rattle.world_values.specs.Items.{functions_of}
+use Rattle.comp_worlds.specs.Encodable.{IsEncodable}
 use Rattle.comp_worlds.specs.WorldContents.{exported_item}
 use Rattle.comp_worlds.specs.declared.world.ComponentWorld.{ComponentWorld}
+use Rattle.interface_needs.specs.RootNeeds.{IsExportedInterface, is_lent_type, IsUsableType}
+use Rattle.interface_needs.proofs.ExportedInterfaces.{exported_types_home, exported_functions_home}
+use Rattle.interface_needs.proofs.Owners.{same_name}
 use Rattle.comp_terms.specs.Rules.{Grows}
 use Rattle.nested_components.specs.Types.{IsImportOf}
 use Rattle.nested_components.specs.declared.type_import.TypeImport.{TypeImport}
 use Rattle.root_imports.specs.Growing.{Grows-none, Grows-then, longer_by}
 use Rattle.root_imports.specs.Keeping.{Root, RootKept}
 use Rattle.root_imports.proofs.Keeping.{kept_then}
-use Rattle.main_exports.specs.Exports.{IsTypeArgument, AreTypesExported}
+use Rattle.main_exports.specs.Exports.{IsTypeArgument, AreTypesUsable}
 use Rattle.main_exports.proofs.Growth.{type_argument-kept}
 
 -- these imports have their arguments
@@ -44,10 +49,18 @@ types_step w old mid new imports i import arguments a h l is kept grows given =
 pub types_done : (w : ComponentWorld) (old new : Root) (imports : List TypeImport) (i : ℕ) (arguments : List Argument) → length imports ≡ i → TypesSoFar w old new (take i imports) arguments → AllZip (IsTypeArgument w new.items.defs) imports arguments
 types_done w old new imports i arguments e h = subst (λ xs. AllZip (IsTypeArgument w new.items.defs) xs arguments) (take_all i imports (omega (arith, e))) h.given
 
--- these imports are of types that the interface of the key lists
-pub exported_listed : (w : ComponentWorld) (key : WorldKey) (id : InterfaceId) → exported_item w key ≡ Some (world_items.Interface id) → (imports : List TypeImport) → AllByRecursion (IsImportOf (named_types w.resolve id)) imports → AreTypesExported w id imports
-exported_listed w key id is [] h = tt
-exported_listed w key id is (i ∷ imports) h = (
-  record { exported = record { key = key; of = is }; listed = Contains-map (λ (t : List ℕ × TypeId). t.1) (named_types w.resolve id) (h.0.text, i.id) h.0.listed },
-  exported_listed w key id is imports h.1,
-)
+-- these imports are of types of which the interface of the key may be made
+module _ (w : ComponentWorld) (ok : IsEncodable w) (key : WorldKey) (id : InterfaceId) (is : exported_item w key ≡ Some (world_items.Interface id)) where
+  pub usable_import : (i : TypeImport) → IsImportOf w.resolve.types (named_types w.resolve id) (functions_of w.resolve id) i → IsUsableType w id i.id
+  usable_import i h =
+      let exported : IsExportedInterface w id = record { key = key; of = is } in
+      record {
+        exported = exported;
+        within = h.within;
+        named = ap is_some (sym (same_name w.resolve.types i.id.index) ∙ h.titled);
+        passes = h.reached.each (is_at_home w.resolve.types (is_lent_type w) id) (exported_types_home w ok id exported) (exported_functions_home w ok id exported);
+      }
+
+  pub usable_imports : (imports : List TypeImport) → AllByRecursion (IsImportOf w.resolve.types (named_types w.resolve id) (functions_of w.resolve id)) imports → AreTypesUsable w id imports
+  usable_imports [] h = tt
+  usable_imports (i ∷ imports) h = (usable_import i h.0, usable_imports imports h.1)

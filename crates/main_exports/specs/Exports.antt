@@ -40,7 +40,7 @@ use Rattle.comp_terms.specs.Rules.{Landmark, NestedOf}
 use Rattle.comp_terms.specs.Planned.{type_of_function}
 use Rattle.comp_terms.specs.Terms.{IsExported}
 use Rattle.root_imports.specs.RootScopes.{AreTablesRight, ArePassed, AreForgotten}
-use Rattle.interface_needs.specs.RootNeeds.{IsExportedType}
+use Rattle.interface_needs.specs.RootNeeds.{IsUsableType}
 use Rattle.root_imports.specs.Keeping.{Root}
 use Rattle.core_options.specs.MainOptions.{of_main, AreOptionSources}
 use Rattle.main_exports.specs.Tables.{AreTablesOf}
@@ -131,16 +131,16 @@ pub record IsNestedOf (w : ComponentWorld) (listed : List (List ℕ × TypeId)) 
   pub right : AreItemsRight no_types empty_scope c.items
   pub functions : functions_imported (imports_after no_types empty_scope c.items) ≡ nested_functions (resource_of w) w.resolve.types (functions_among entries) c.names
   pub types : types_imported (imports_after no_types empty_scope c.items) ≡ map (type_given (resource_of w) w.resolve.types) c.types
-  pub own : AllByRecursion (IsImportOf listed) c.types
+  pub own : AllByRecursion (IsImportOf w.resolve.types listed entries) c.types
   pub apart : IsDistinct bytes_eq (flat_map item_import c.items)
   pub exports : exports_after no_types empty_scope c.items ≡
       map (exported_type (resource_of w) w.resolve.types) listed ++ exported (functions_among entries) (nested_functions (resource_of w) w.resolve.types (functions_among entries) c.names)
 
 -- ---- its arguments
 
--- the imports of types are those of types that this exported interface lists
-abbrev pub AreTypesExported : ComponentWorld → InterfaceId → List TypeImport → Type 0
-AreTypesExported w id imports = AllByRecursion (λ i. IsExportedType w id i.id) imports
+-- the imports of types are those of types of which this exported interface may be made
+abbrev pub AreTypesUsable : ComponentWorld → InterfaceId → List TypeImport → Type 0
+AreTypesUsable w id imports = AllByRecursion (λ i. IsUsableType w id i.id) imports
 
 -- the argument is a type of the root that is what the import stands for
 pub record IsTypeArgument (w : ComponentWorld) (ds : List Def) (i : TypeImport) (a : Argument) : Type 0 where

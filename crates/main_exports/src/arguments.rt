@@ -11,10 +11,11 @@ ghost use Rattle.comp_worlds.specs.Encodable.{IsEncodable};
 ghost use Rattle.comp_worlds.specs.WorldContents.{exported_item};
 ghost use Rattle.core_options.specs.Causes.{IsCauseAmong, IsEncodedExport};
 ghost use Rattle.core_options.specs.MainOptions.{HasLiftOptions};
-ghost use Rattle.interface_needs.specs.RootNeeds.{IsExportedType};
+ghost use Rattle.interface_needs.specs.RootNeeds.{IsUsableType};
 ghost use Rattle.root_imports.specs.Keeping.{RootKept};
-ghost use Rattle.main_exports.specs.Exports.{AreExports, functions_at, AreMainFunctions, IsTypeArgument, AreTypesExported, IsNestedOf, AreArgumentsOf};
+ghost use Rattle.main_exports.specs.Exports.{AreExports, functions_at, AreMainFunctions, IsTypeArgument, AreTypesUsable, IsNestedOf, AreArgumentsOf};
 ghost use Rattle.root_imports.specs.RootScopes.{AreTablesRight};
+ghost use Rattle.world_values.specs.Items.{functions_of};
 ghost use Rattle.wit_data.specs.Live.{named_types};
 ghost use Rattle.wit_data.specs.declared.worlds.WorldItem.TheVariants as world_items;
 
@@ -27,14 +28,15 @@ use nested_components::{NestedComponent, TypeImport};
 use root_imports::RootScope;
 use wit_data::{Function, InterfaceId, WorldKey};
 
-/// The argument for the import of a type of an exported interface: the type of the root that is what the import stands for.
+/// The argument for the import of a type by the nested component of an exported interface: the type of the root that is what the
+/// import stands for.
 fn type_argument(
     root: &mut RootScope<'_, ComponentWorld>,
     interface: InterfaceId,
     import: &TypeImport,
 ) -> Result<Argument, StateFault>
     requires valid { IsEncodable root.old.world.now }
-    requires exported { IsExportedType root.old.world.now interface import.now.id }
+    requires usable { IsUsableType root.old.world.now interface import.now.id }
     requires tables { AreTablesRight root.old.world.now root.old.last_type root.old.instances root.old.items.defs root.old.maps }
     ensures kept { RootKept root.old.world.now root.old root.new }
     ensures grows { OnOk result (Grows root.old.world.now root.old.items.defs root.new.items.defs []) }
@@ -57,7 +59,7 @@ fn type_arguments(
     imports: &[TypeImport],
 ) -> Result<Seq<Argument>, StateFault>
     requires valid { IsEncodable root.old.world.now }
-    requires exported { AreTypesExported root.old.world.now interface imports.now }
+    requires usable { AreTypesUsable root.old.world.now interface imports.now }
     requires tables { AreTablesRight root.old.world.now root.old.last_type root.old.instances root.old.items.defs root.old.maps }
     ensures kept { RootKept root.old.world.now root.old root.new }
     ensures grows { OnOk result (Grows root.old.world.now root.old.items.defs root.new.items.defs []) }
@@ -84,6 +86,7 @@ impl MainExports<'_> {
         requires exports { AreExports root.old.world.now self.now root.old }
         requires item { exported_item root.old.world.now key.now ≡ Some (world_items.Interface id) }
         requires functions { AreMainFunctions root.old.world.now key.now functions.now }
+        requires all { functions.now ≡ functions_of root.old.world.now.resolve id }
         requires nested { IsNestedOf root.old.world.now (named_types root.old.world.now.resolve id) functions.now nested.now }
         ensures kept { RootKept root.old.world.now root.old root.new }
         ensures grows { OnOk result (Grows root.old.world.now root.old.items.defs root.new.items.defs []) }

@@ -89,10 +89,12 @@ nested_instance-requires-clause-nested c = subst IsNestedRight (sym c.into_items
 pub nested_instance-requires-clause-of : goal.nested_instance-requires-clause-of
 nested_instance-requires-clause-of c =
     let w = c.args.root.now.world.now in
-    let nested : IsNestedOf w (named_types w.resolve c.args.id) c.functions_of-functions.result.now c.in_ok-nested.nested =
+    let listed : IsNestedOf w (named_types w.resolve c.args.id) c.functions_of-functions.result.now c.in_ok-nested.nested =
     subst (λ (ts : List (List ℕ × TypeId)). IsNestedOf w ts c.functions_of-functions.result.now c.in_ok-nested.nested) c.types_of.ensures c.in_ok-nested.ensures.nested in
+    let nested : IsNestedOf w (named_types w.resolve c.args.id) (functions_of w.resolve c.args.id) c.in_ok-nested.nested =
+    subst (λ (l : Entries). IsNestedOf w (named_types w.resolve c.args.id) l c.in_ok-nested.nested) c.functions_of-functions.ensures.functions listed in
     subst (λ x. IsNestedFor x.now c.into_items.result) (sym c.in_ok-arguments.ensures.kept.world)
-    (subst (IsNestedFor w) (sym c.into_items.ensures) (nested_for w c.args.key.now c.args.id c.requires.item c.functions_of-functions.result.now c.in_ok-nested.nested nested))
+    (subst (IsNestedFor w) (sym c.into_items.ensures) (nested_for w c.requires.exports.valid c.args.key.now c.args.id c.requires.item c.in_ok-nested.nested nested))
 
 pub nested_instance-requires-clause-right : goal.nested_instance-requires-clause-right
 nested_instance-requires-clause-right c =

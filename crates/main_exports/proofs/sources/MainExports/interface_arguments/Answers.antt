@@ -1,24 +1,29 @@
 use Rattle.std.proofs.Common.{◌≡◌, ◌∙◌, ℕ, List, [], ap, sym, subst}
 use Rattle.std.specs.Prelude.{length}
-use Rattle.std.specs.List.{AllZip}
+use Rattle.std.specs.List.{AllByRecursion, AllZip}
+use Rattle.wit_data.specs.Live.{named_types}
+use Rattle.wit_data.specs.declared.functions.Function.{Function}
 use Rattle.comp_terms.specs.Rules.{Grows}
+use Rattle.nested_components.specs.Types.{IsImportOf}
 use Rattle.nested_components.specs.declared.type_import.TypeImport.{TypeImport}
 use Rattle.root_imports.specs.Growing.{Grows-then, longer_by}
 use Rattle.root_imports.specs.Keeping.{Root}
-use Rattle.main_exports.specs.Exports.{AreTypesExported, AreLiftArguments, IsTypeArgument}
+use Rattle.main_exports.specs.Exports.{AreTypesUsable, AreLiftArguments, IsTypeArgument}
 use Rattle.main_exports.proofs.Growth.{arguments-kept}
 use Rattle.main_exports.proofs.Nested.{names_counted}
-use Rattle.main_exports.proofs.TypeArguments.{exported_listed}
+use Rattle.main_exports.proofs.TypeArguments.{usable_imports}
 use Rattle.main_exports.proofs.sources.MainExports.interface_arguments.Goals as goal
 
 pub lift_arguments-requires-clause-imports : goal.lift_arguments-requires-clause-imports
 lift_arguments-requires-clause-imports c = ap (λ (l : List (List ℕ)). length l) c.as_slice-names.ensures ∙ names_counted [] c.args.functions.now c.args.nested.now.names c.requires.nested.named
 
-pub type_arguments-requires-clause-exported : goal.type_arguments-requires-clause-exported
-type_arguments-requires-clause-exported c =
+pub type_arguments-requires-clause-usable : goal.type_arguments-requires-clause-usable
+type_arguments-requires-clause-usable c =
     let w = c.args.root.now.world.now in
-    subst (λ x. AreTypesExported x.now c.args.id c.as_slice.result.now) (sym c.in_ok-arguments.ensures.kept.world)
-    (subst (λ (l : List TypeImport). AreTypesExported w c.args.id l) (sym c.as_slice.ensures) (exported_listed w c.args.key.now c.args.id c.requires.item c.args.nested.now.types c.requires.nested.own))
+    let id = c.args.id in
+    let own = subst (λ (es : List (List ℕ × Function)). AllByRecursion (IsImportOf w.resolve.types (named_types w.resolve id) es) c.args.nested.now.types) c.requires.all c.requires.nested.own in
+    subst (λ x. AreTypesUsable x.now id c.as_slice.result.now) (sym c.in_ok-arguments.ensures.kept.world)
+    (subst (λ (l : List TypeImport). AreTypesUsable w id l) (sym c.as_slice.ensures) (usable_imports w c.requires.exports.valid c.args.key.now id c.requires.item c.args.nested.now.types own))
 
 typed_grows : (c : goal.In_ok-append) → Grows c.args.root.now.world.now c.lift_arguments.new.root.items.defs c.type_arguments.new.root.items.defs []
 typed_grows c =

@@ -1,0 +1,85 @@
+-- Of which interface a type is that an exported interface may use.
+use Rattle.std.proofs.Common.{◌≡◌, ◌∙◌, ◌⊎◌, ◌&&◌, ◌||◌, not, inl, inr, ℕ, Bool, true, false, true≢false, List, map, refl, ap, sym, subst, Option, Some, None, is_some, is_none}
+use Rattle.std.specs.List.{list_all}
+use Rattle.std.proofs.lemmas.Bool.{and_parts}
+use Rattle.wit_data.specs.declared.ids.InterfaceId.{InterfaceId}
+use Rattle.wit_data.specs.declared.ids.TypeId.{TypeId}
+use Rattle.wit_data.specs.declared.types.TypeDefKind.{TypeDefKind}
+use Rattle.wit_data.specs.Parts.{parts}
+use Rattle.wit_data.specs.Values.{kind_at, value}
+use Rattle.wit_data.proofs.Values.{made_whole}
+use Rattle.wit_types.specs.Allowing.{foreign, is_resource}
+use Rattle.wit_types.specs.Settings.{owner_at}
+use Rattle.wit_types.specs.Settings as settings
+use Rattle.type_scopes.specs.Needs.{each_passes, is_at_home}
+use Rattle.type_scopes.specs.Titles.{is_one_of}
+use Rattle.comp_worlds.specs.Encodable.{IsEncodable, is_lent}
+use Rattle.comp_worlds.specs.WorldContents.{items_of, interface_at, name_at}
+use Rattle.comp_worlds.specs.declared.world.ComponentWorld.{ComponentWorld}
+use Rattle.comp_links.specs.Lists.{needed_types, IsLentType}
+use Rattle.interface_needs.specs.RootNeeds.{is_lent_type, IsUsableType}
+use Rattle.interface_needs.proofs.ExportedInterfaces.{lent_needed}
+use Rattle.interface_needs.proofs.Owners.{own_or_none, of_other, at_root, same_name}
+
+-- a type that is lent is one that a component needs of an interface that is only imported
+lent_from : (w : ComponentWorld) (t : TypeId) (other : InterfaceId) → interface_at w.resolve.types t.index ≡ Some other → is_lent_type w t.index ≡ true → IsLentType w t
+lent_from w t other is h =
+    let by : (is_lent (items_of w) other && is_one_of (needed_types w other) t.index) ≡ true =
+    subst (λ (o : Option InterfaceId). elim o [ Some i ↦ is_lent (items_of w) i && is_one_of (needed_types w i) t.index | None ↦ false ] ≡ true) is h in
+    record {
+      other = other;
+      owner = is;
+      lent = (and_parts (is_lent (items_of w) other) (is_one_of (needed_types w other) t.index) by).0;
+      needed = (lent_needed w t.index other is h).listed;
+    }
+
+unnamed : (o : Option (List ℕ)) → is_some o ≡ true → is_none o ≡ true → ⊥
+unnamed None some none = true≢false (sym some)
+unnamed (Some x) some none = true≢false (sym none)
+
+module _ (w : ComponentWorld) (ok : IsEncodable w) (id : InterfaceId) (t : TypeId) (h : IsUsableType w id t) where
+  abbrev n : ℕ
+  n = t.index
+
+  abbrev kind : TypeDefKind
+  kind = kind_at w.resolve.types n
+
+  -- whether it is at home, by the interface that owns it, where that is another one
+  abbrev by_owner : Option InterfaceId → Bool
+  by_owner o = elim o [
+    | Some other ↦ is_lent_type w n && is_some (settings.name_at w.resolve.types n)
+    | None ↦ is_none (settings.name_at w.resolve.types n) || is_some (foreign None (owner_at w.resolve.types n))
+  ]
+
+  is_home : by_owner (foreign (Some id) (owner_at w.resolve.types n)) ≡ true
+  is_home =
+      let test : ℕ → TypeDefKind → Bool = is_at_home w.resolve.types (is_lent_type w) id in
+      let whole = sym (made_whole (each_passes test) w.resolve.types n ok.sound.back h.within) ∙ h.passes in
+      let first = and_parts (test n kind) (list_all (λ b. b) (map (value (each_passes test) w.resolve.types) (parts kind))) whole in
+      (and_parts (not (is_resource kind)) (by_owner (foreign (Some id) (owner_at w.resolve.types n))) first.0).1
+
+  named : is_some (settings.name_at w.resolve.types n) ≡ true
+  named = ap is_some (same_name w.resolve.types n) ∙ h.named
+
+  -- a type of no interface has no name
+  owned : by_owner None ≡ true → interface_at w.resolve.types n ≡ None → ⊥
+  owned e none =
+      let root : is_some (foreign None (owner_at w.resolve.types n)) ≡ false = ap is_some (at_root w.resolve.types n ∙ none) in
+      by (is_none (settings.name_at w.resolve.types n)) refl (sym (ap (λ b. is_none (settings.name_at w.resolve.types n) || b) root) ∙ e)
+    where
+      by : (b : Bool) → is_none (settings.name_at w.resolve.types n) ≡ b → (b || false) ≡ true → ⊥
+      by true none e = unnamed (settings.name_at w.resolve.types n) named none
+      by false none e = true≢false (sym e)
+
+  -- the type is of the interface, or a component needs it of one that is only imported
+  pub usable_from : (interface_at w.resolve.types t.index ≡ Some id) ⊎ IsLentType w t
+  usable_from = by (foreign (Some id) (owner_at w.resolve.types n)) refl
+    where
+      by : (o : Option InterfaceId) → foreign (Some id) (owner_at w.resolve.types n) ≡ o → (interface_at w.resolve.types t.index ≡ Some id) ⊎ IsLentType w t
+      by (Some other) is =
+          let b = and_parts (is_lent_type w n) (is_some (settings.name_at w.resolve.types n)) (ap by_owner (sym is) ∙ is_home) in
+          inr (lent_from w t other (of_other w.resolve.types n id other is).0 b.0)
+      by None is = elim (own_or_none w.resolve.types n id is) [
+        | inl none ↦ absurd (owned (ap by_owner (sym is) ∙ is_home) none)
+        | inr own ↦ inl own
+      ]
