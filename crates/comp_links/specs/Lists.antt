@@ -1,6 +1,6 @@
 -- What a component imports and exports, in order, and the section of its names (component model: the imports and exports
 -- of a component; binary format: name section).
-use Rattle.std.specs.Prelude.{◌≡◌, ◌==◌, ◌++◌, ◌⊎◌, ℕ, suc, true, List, [], ◌∷◌, codes, map, Option, Some, None, Contains, slice_get, if◌then◌else◌, unwrap_or}
+use Rattle.std.specs.Prelude.{◌≡◌, ◌==◌, ◌++◌, ◌⊎◌, ℕ, suc, List, [], ◌∷◌, codes, map, Option, Some, None, Contains, slice_get, if◌then◌else◌, unwrap_or}
 use Rattle.std.specs.List.{flat_map}
 use Rattle.std.specs.Map.{lookup}
 use Rattle.comp_bytes.specs.declared.space.Sort.{Sort}
@@ -19,7 +19,6 @@ use Rattle.wit_data.specs.declared.worlds.WorldItem.TheVariants as items
 use Rattle.wit_data.specs.declared.worlds.WorldKey.{WorldKey}
 use Rattle.wit_data.specs.declared.ids.InterfaceId.{InterfaceId}
 use Rattle.wit_data.specs.declared.ids.TypeId.{TypeId}
-use Rattle.comp_worlds.specs.Encodable.{is_lent}
 use Rattle.comp_worlds.specs.WorldContents.{items_of, imported_types, interface_at, name_at, exported_item}
 use Rattle.world_values.specs.Items.{functions_of, functions_in}
 use Rattle.nested_terms.specs.Naming.{import_names, type_import_name, numbered}
@@ -195,21 +194,20 @@ type_names w id = map (λ t. t.0) (named_types w.resolve id)
 abbrev pub nested_export_names : ComponentWorld → InterfaceId → List (List ℕ)
 nested_export_names w id = type_names w id ++ map (λ f. f.name) (functions_of_interface w id)
 
--- a type that the component needs of an interface that is imported, and not exported too
-pub record IsLentType (w : ComponentWorld) (type : TypeId) : Type 0 where
+-- a type that the component needs of an imported interface
+pub record IsNeededType (w : ComponentWorld) (type : TypeId) : Type 0 where
   pub other : InterfaceId
   pub owner : interface_at w.resolve.types type.index ≡ Some other
-  pub lent : is_lent (items_of w) other ≡ true
   pub needed : Contains (needed_types w other) type
 
--- A name under which its nested component may import a type of the interface, or one that another interface lends: that of the type,
--- with as many numbers behind it as it takes. (Which types are imported, no definition here says: those of other interfaces of which
+-- A name under which its nested component may import a type of the interface, or one of an imported interface: that of the type, with
+-- as many numbers behind it as it takes. (Which types are imported, no definition here says: those of other interfaces of which
 -- the interface is made, and of its own those of which functions are made.)
 pub record IsTypeImport (w : ComponentWorld) (id : InterfaceId) (name : List ℕ) : Type 0 where
   pub type : TypeId
   pub of : List ℕ
   pub titled : name_at w.resolve.types type.index ≡ Some of
-  pub from : (interface_at w.resolve.types type.index ≡ Some id) ⊎ IsLentType w type
+  pub from : (interface_at w.resolve.types type.index ≡ Some id) ⊎ IsNeededType w type
   pub count : ℕ
   pub same : name ≡ numbered count (type_import_name of)
 

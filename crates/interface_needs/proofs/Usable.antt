@@ -12,26 +12,17 @@ use Rattle.wit_types.specs.Allowing.{foreign, is_resource}
 use Rattle.wit_types.specs.Settings.{owner_at}
 use Rattle.wit_types.specs.Settings as settings
 use Rattle.type_scopes.specs.Needs.{each_passes, is_at_home}
-use Rattle.type_scopes.specs.Titles.{is_one_of}
-use Rattle.comp_worlds.specs.Encodable.{IsEncodable, is_lent}
-use Rattle.comp_worlds.specs.WorldContents.{items_of, interface_at, name_at}
+use Rattle.comp_worlds.specs.Encodable.{IsEncodable}
+use Rattle.comp_worlds.specs.WorldContents.{interface_at}
 use Rattle.comp_worlds.specs.declared.world.ComponentWorld.{ComponentWorld}
-use Rattle.comp_links.specs.Lists.{needed_types, IsLentType}
+use Rattle.comp_links.specs.Lists.{IsNeededType}
 use Rattle.interface_needs.specs.RootNeeds.{is_lent_type, IsUsableType}
 use Rattle.interface_needs.proofs.ExportedInterfaces.{lent_needed}
 use Rattle.interface_needs.proofs.Owners.{own_or_none, of_other, at_root, same_name}
 
 -- a type that is lent is one that a component needs of an interface that is only imported
-lent_from : (w : ComponentWorld) (t : TypeId) (other : InterfaceId) → interface_at w.resolve.types t.index ≡ Some other → is_lent_type w t.index ≡ true → IsLentType w t
-lent_from w t other is h =
-    let by : (is_lent (items_of w) other && is_one_of (needed_types w other) t.index) ≡ true =
-    subst (λ (o : Option InterfaceId). elim o [ Some i ↦ is_lent (items_of w) i && is_one_of (needed_types w i) t.index | None ↦ false ] ≡ true) is h in
-    record {
-      other = other;
-      owner = is;
-      lent = (and_parts (is_lent (items_of w) other) (is_one_of (needed_types w other) t.index) by).0;
-      needed = (lent_needed w t.index other is h).listed;
-    }
+lent_from : (w : ComponentWorld) (t : TypeId) (other : InterfaceId) → interface_at w.resolve.types t.index ≡ Some other → is_lent_type w t.index ≡ true → IsNeededType w t
+lent_from w t other is h = record { other = other; owner = is; needed = (lent_needed w t.index other is h).listed }
 
 unnamed : (o : Option (List ℕ)) → is_some o ≡ true → is_none o ≡ true → ⊥
 unnamed None some none = true≢false (sym some)
@@ -72,10 +63,10 @@ module _ (w : ComponentWorld) (ok : IsEncodable w) (id : InterfaceId) (t : TypeI
       by false none e = true≢false (sym e)
 
   -- the type is of the interface, or a component needs it of one that is only imported
-  pub usable_from : (interface_at w.resolve.types t.index ≡ Some id) ⊎ IsLentType w t
+  pub usable_from : (interface_at w.resolve.types t.index ≡ Some id) ⊎ IsNeededType w t
   usable_from = by (foreign (Some id) (owner_at w.resolve.types n)) refl
     where
-      by : (o : Option InterfaceId) → foreign (Some id) (owner_at w.resolve.types n) ≡ o → (interface_at w.resolve.types t.index ≡ Some id) ⊎ IsLentType w t
+      by : (o : Option InterfaceId) → foreign (Some id) (owner_at w.resolve.types n) ≡ o → (interface_at w.resolve.types t.index ≡ Some id) ⊎ IsNeededType w t
       by (Some other) is =
           let b = and_parts (is_lent_type w n) (is_some (settings.name_at w.resolve.types n)) (ap by_owner (sym is) ∙ is_home) in
           inr (lent_from w t other (of_other w.resolve.types n id other is).0 b.0)
