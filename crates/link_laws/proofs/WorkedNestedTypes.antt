@@ -154,7 +154,7 @@ straight = list_of (exporting 0 1)
 abbrev type_exported : List ℕ → ℕ → Export
 type_exported text address = record { space = spaces.Type; name = text; address = address }
 
-pub both_exported : instances_of (outcome world no_modules straight made) ≡ Some ((type_exported p 0 ∷ type_exported q 1 ∷ []) ∷ [])
+pub both_exported : instances_of (outcome world no_modules (list_of (exporting 0 1)) made) ≡ Some ((type_exported p 0 ∷ type_exported q 1 ∷ []) ∷ [])
 both_exported = refl
 
 -- ---- it keeps the rules
