@@ -47,7 +47,7 @@ use Rattle.comp_worlds.specs.WorldContents.{exported_item}
 use Rattle.comp_worlds.specs.declared.world.ComponentWorld.{ComponentWorld}
 use Rattle.comp_links.specs.Lists.{resource_of, IsTypeImport}
 use Rattle.interface_needs.proofs.Lists.{all_both}
-use Rattle.comp_terms.specs.Exports.{argument_named, IsNestedRight, IsNestedFor, IsArgumentIn, IsArgumentRight, IsFunctionGiven, IsTypeGiven, IsImportGiven, PassesOn, ExportsInterface, exports_in}
+use Rattle.comp_terms.specs.Exports.{argument_named, IsNestedRight, IsNestedFor, IsArgumentIn, IsArgumentRight, IsFunctionGiven, IsTypeGiven, IsImportGiven, InstantiatesNested, PassesOn, ExportsInterface, exports_in}
 use Rattle.comp_terms.specs.Rules.{Grows, NestedOf, nested_marked}
 use Rattle.comp_items.proofs.Kept.{Longer, denotes-kept}
 use Rattle.root_imports.specs.Growing.{Grows-by, Grows-then}
@@ -177,16 +177,24 @@ module _ (w : ComponentWorld) (key : WorldKey) (listed : List (List ℕ × TypeI
         (subst (AllByRecursion (λ (t : List ℕ × TypeTree). IsTypeGiven ds all t.0 t.1)) (sym n.types)
         (types_given w ds key all c.types h.types h.given (AllByRecursion-back (Finds all) h.lifts h.types finds)))
 
+    pub all_scoped : AllByRecursion (IsArgumentRight ds) arguments
+    all_scoped =
+        subst (AllByRecursion (IsArgumentRight ds)) (sym h.both)
+        (all_both (IsArgumentRight ds) h.lifts h.types (lifts_scoped w ds key entries c.names h.lifts h.lifted) (types_scoped w ds c.types h.types h.given))
+
+    pub names_apart : IsDistinct bytes_eq (map (λ (a : Argument). a.name) arguments)
+    names_apart = subst (λ as'. IsDistinct bytes_eq (map (λ (a : Argument). a.name) as')) (sym h.both) distinct
+
+    pub each_given : AllByRecursion (IsImportGiven ds arguments) (imports_after no_types empty_scope c.items)
+    each_given = subst (λ as'. AllByRecursion (IsImportGiven ds as') (imports_after no_types empty_scope c.items)) (sym h.both) given
+
     -- the arguments are those of the component
-    abbrev pub arguments_for : AreArgumentsFor ds c.items arguments
-    arguments_for = record {
-      given = no_types;
-      scoped = subst (AllByRecursion (IsArgumentRight ds)) (sym h.both)
-          (all_both (IsArgumentRight ds) h.lifts h.types (lifts_scoped w ds key entries c.names h.lifts h.lifted) (types_scoped w ds c.types h.types h.given));
-      apart = subst (λ as'. IsDistinct bytes_eq (map (λ (a : Argument). a.name) as')) (sym h.both) distinct;
-      right = n.right;
-      each = subst (λ as'. AllByRecursion (IsImportGiven ds as') (imports_after no_types empty_scope c.items)) (sym h.both) given;
-    }
+    pub arguments_for : AreArgumentsFor ds c.items arguments
+    arguments_for = record { given = no_types; scoped = all_scoped; apart = names_apart; right = n.right; each = each_given }
+
+    -- an instance that is given them is one of it
+    abbrev pub instantiates : (component : ℕ) → IsAt ds spaces.Component component (defs.Component c.items) → InstantiatesNested ds component arguments
+    instantiates component made = record { definitions = c.items; given = no_types; made = made; scoped = all_scoped; apart = names_apart; right = n.right; each = each_given }
 
     -- and the lifts are passed on
     pub lifts_passed : AllByRecursion (λ (e : List ℕ × Function). e.0 ≡ e.1.name) entries → IsDistinct bytes_eq (keys_of entries) → AllByRecursion (PassesOn w ds arguments (exports_after no_types empty_scope c.items)) (functions_at key entries)
@@ -245,14 +253,11 @@ exports_interface w ok key id is c n arguments ds index next h apart types_apart
   component = made.component;
   arguments = arguments;
   instance = made.instance;
-  nested = record { definitions = c.items; given = no_types; made = made.made; scoped = given.scoped; apart = given.apart; right = given.right; each = given.each };
+  nested = instantiates w key (named_types w.resolve id) (functions_of w.resolve id) c n ds arguments h made.component made.made;
   types = types_exported w key (named_types w.resolve id) (functions_of w.resolve id) c n types_apart;
   each = subst (AllByRecursion (PassesOn w ds arguments (exports_after no_types empty_scope c.items))) (sym (interface_functions w ok key id is))
       (lifts_passed w key (named_types w.resolve id) (functions_of w.resolve id) c n ds arguments h (own_names w ok key id is) apart);
 }
-  where
-    abbrev given : AreArgumentsFor ds c.items arguments
-    given = arguments_for w key (named_types w.resolve id) (functions_of w.resolve id) c n ds arguments h
 
 -- its functions are those of the key
 pub functions_as : (w : ComponentWorld) → IsEncodable w → (key : WorldKey) (id : InterfaceId) → exported_item w key ≡ Some (world_items.Interface id) → (es : List (List ℕ × Function)) → es ≡ functions_of w.resolve id →

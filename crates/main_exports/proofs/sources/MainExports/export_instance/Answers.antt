@@ -1,5 +1,4 @@
 use Rattle.std.proofs.Common.{◌≡◌, ◌∙◌, ℕ, List, [], ◌∷◌, ◌++◌, refl, ap, subst, sym}
-use Rattle.std.specs.Prelude.{length}
 use Rattle.std.specs.List.{AllByRecursion, IsDistinct, slice_get}
 use Rattle.std.specs.Map.{keys_of}
 use Rattle.std.specs.Str.{bytes_eq}
@@ -37,7 +36,7 @@ pub functions_of-functions-requires : goal.functions_of-functions-requires
 functions_of-functions-requires c = record { present = interface_there c.args.root.now.world.now c.requires.exports.valid c.args.key.now c.args.id c.requires.item }
 
 pub listed_types-types-requires : goal.listed_types-types-requires
-listed_types-types-requires c = interface_there c.args.root.now.world.now c.requires.exports.valid c.args.key.now c.args.id c.requires.item
+listed_types-types-requires c = record { present = interface_there c.args.root.now.world.now c.requires.exports.valid c.args.key.now c.args.id c.requires.item }
 
 pub interface_component-requires : goal.interface_component-requires
 interface_component-requires c =
