@@ -180,6 +180,23 @@ functions_required w r = map (λ name. record { of = r.of; key = r.key; function
 abbrev pub required_functions : ComponentWorld → List RequiredFunction
 required_functions w = flat_map (functions_required w) (required_keys w)
 
+-- the types that an item of the world lists, each with its name
+abbrev pub types_in : ComponentWorld → Option WorldItem → List (List ℕ × TypeId)
+types_in w (Some (items.Interface id)) = named_types w.resolve id
+types_in w item = []
+
+-- a type that has to be exported under a name, at a key
+pub record RequiredType : Type 0 where
+  pub key : WorldKey
+  pub name : List ℕ
+  pub id : TypeId
+
+abbrev pub types_required : ComponentWorld → RequiredKey → List RequiredType
+types_required w r = map (λ t. record { key = r.key; name = t.0; id = t.1 }) (types_in w (exported_item w r.key))
+
+abbrev pub required_types : ComponentWorld → List RequiredType
+required_types w = flat_map (types_required w) (required_keys w)
+
 -- ---- nested components
 
 -- the functions of an exported interface, in order

@@ -14,6 +14,7 @@ use Rattle.comp_bytes.specs.declared.def.Item.{Item}
 use Rattle.comp_bytes.specs.declared.def.Item.TheVariants as items
 use Rattle.comp_bytes.specs.declared.def.Def.{Def}
 use Rattle.comp_bytes.specs.declared.def.Def.TheVariants as defs
+use Rattle.wit_data.specs.Live.{named_types}
 use Rattle.wit_data.specs.declared.functions.Function.{Function as WitFunction}
 use Rattle.wit_data.specs.declared.ids.InterfaceId.{InterfaceId}
 use Rattle.wit_data.specs.declared.worlds.WorldItem.TheVariants as world_items
@@ -21,11 +22,11 @@ use Rattle.wit_data.specs.declared.worlds.WorldKey.{WorldKey}
 use Rattle.comp_trees.specs.DefinedTrees.{TypeTree}
 use Rattle.comp_trees.specs.DefinedScopes.{Denotes}
 use Rattle.comp_trees.specs.Inventories.{inventory, scope_of, no_function}
-use Rattle.nested_terms.specs.Nested.{NestedFunction, NestedImport, ImportedFunction, ImportedType, NestedExport, type_import, empty_scope, function_named, imports_after, exports_after, AreItemsRight}
+use Rattle.nested_terms.specs.Nested.{NestedFunction, NestedImport, ImportedFunction, ImportedType, NestedExport, type_import, empty_scope, function_named, type_named, imports_after, exports_after, AreItemsRight}
 use Rattle.comp_worlds.specs.WorldContents.{exported_item, function_exported}
 use Rattle.comp_worlds.specs.declared.world.ComponentWorld.{ComponentWorld}
 use Rattle.comp_links.specs.Links.{lift_of}
-use Rattle.comp_links.specs.Lists.{RequiredFunction, functions_required, IsTypeImport}
+use Rattle.comp_links.specs.Lists.{RequiredFunction, functions_required, type_of_world, IsTypeImport}
 use Rattle.comp_links.specs.Targets.{Main, Target}
 use Rattle.comp_terms.specs.Planned.{type_of_function, IsLiftFor}
 
@@ -116,7 +117,12 @@ pub record PassesOn (w : ComponentWorld) (ds : List Def) (arguments : List Argum
   pub named : argument_named sorts.Func function.argument arguments ≡ Some argument
   pub lifted : IsRequiredLift w ds r argument.index
 
--- the next required export is an interface, and the instance of this index exports the lift of each of its functions
+-- each type that an interface lists is exported under its name, and what is exported denotes what the type does
+abbrev pub ExportsTypes : ComponentWorld → InterfaceId → List NestedExport → Type 0
+ExportsTypes w id exported = AllByRecursion (λ t. type_named t.0 exported ≡ Some (type_of_world w t.1)) (named_types w.resolve id)
+
+-- the next required export is an interface, and the instance of this index exports each of its types, and the lift of each of its
+-- functions
 pub record ExportsInterface (w : ComponentWorld) (earlier : List Def) (index : ℕ) : Type 0 where
   pub key : WorldKey
   pub id : InterfaceId
@@ -124,8 +130,7 @@ pub record ExportsInterface (w : ComponentWorld) (earlier : List Def) (index : �
   pub item : exported_item w key ≡ Some (world_items.Interface id)
   pub component : ℕ
   pub arguments : List Argument
-  pub definitions : List Item
-  pub given : List ℕ → TypeTree
   pub instance : IsAt earlier spaces.Instance index (defs.Item (items.Instantiate component arguments))
-  pub made : IsAt earlier spaces.Component component (defs.Component definitions)
-  pub each : AllByRecursion (PassesOn w earlier arguments (exports_after given empty_scope definitions)) (functions_required w (record { of = Main; key = key }))
+  pub nested : InstantiatesNested earlier component arguments
+  pub types : ExportsTypes w id (exports_after nested.given empty_scope nested.definitions)
+  pub each : AllByRecursion (PassesOn w earlier arguments (exports_after nested.given empty_scope nested.definitions)) (functions_required w (record { of = Main; key = key }))

@@ -32,7 +32,7 @@ use Rattle.comp_worlds.specs.WorldContents.{exported_item}
 use Rattle.comp_worlds.specs.declared.world.ComponentWorld.{ComponentWorld}
 use Rattle.comp_links.specs.Targets.{Main, ExportRef, TargetOption, Target, Lowered, Dropped}
 use Rattle.comp_links.specs.Targets as targets
-use Rattle.comp_links.specs.Lists.{resource_of, RequiredFunction, functions_required}
+use Rattle.comp_links.specs.Lists.{resource_of, RequiredFunction, functions_required, RequiredType, types_required, type_of_world}
 use Rattle.comp_links.specs.Links.{link_of}
 use Rattle.shim_plan.specs.declared.shims.Shim.{Shim}
 use Rattle.world_shims.specs.WorldShims.{shims_of}
@@ -44,13 +44,13 @@ use Rattle.comp_runs.specs.Machine.{address_at, is_of, with_opaque}
 use Rattle.instance_laws.proofs.Held.{KeepsEntries, keeps_same, keeps_more, IsHeldAs-kept}
 use Rattle.instance_laws.proofs.Importing.{IsInstanceType-kept, IsInstanceEntry-kept}
 use Rattle.shim_runs.proofs.Placed.{shims_kept}
-use Rattle.nested_terms.specs.Nested.{empty_scope, exports_after}
-use Rattle.nested_laws.proofs.Kept.{AreNestedExports-kept}
+use Rattle.nested_terms.specs.Nested.{empty_scope, imports_after, exports_after}
+use Rattle.nested_laws.proofs.Kept.{AreGiven-kept, AreNestedExports-kept}
 use Rattle.wit_data.specs.declared.worlds.WorldKey.{WorldKey}
 use Rattle.wit_data.specs.declared.worlds.WorldItem.{WorldItem}
 use Rattle.wit_data.specs.declared.worlds.WorldItem.TheVariants as world_items
 use Rattle.link_laws.proofs.Zips.{mapped_some}
-use Rattle.link_laws.proofs.Stores.{IsOpaqueOf, IsUserItem, IsUserExport, IsInstance, ShimsAt, AreShimExports, AreModuleExports, IsModuleInstance, IsNamedEntry, IsTypeAt, IsHeldOption, IsArgumentHeld, ItemIs, DefIs, Means, IsEntryItem, IsTypeEntry, IsFunctionEntry, IsInstanceThing, IsMainExport, IsFirstMemory, IsOptionFunction, IsOptionHeld, IsLoweringOf, IsServedAs, IsShimGiven, Serves, IsPlanned, IsPlannedUser, IsFilledWith, AreFilled, ExportsShims, AreShims, MayHaveShims, IsLiftedFrom, main_key, main_function, IsRequiredAt, IsAmong, IsItemExport, IsKeyExport, AreKeyExports}
+use Rattle.link_laws.proofs.Stores.{IsOpaqueOf, IsUserItem, IsUserExport, IsInstance, ShimsAt, AreShimExports, AreModuleExports, IsModuleInstance, IsNamedEntry, IsTypeAt, IsHeldOption, IsArgumentHeld, ItemIs, DefIs, Means, IsEntryItem, IsTypeEntry, IsFunctionEntry, IsInstanceThing, IsMainExport, IsFirstMemory, IsOptionFunction, IsOptionHeld, IsLoweringOf, IsServedAs, IsShimGiven, Serves, IsPlanned, IsPlannedUser, IsFilledWith, AreFilled, ExportsShims, AreShims, MayHaveShims, IsLiftedFrom, main_key, main_function, IsRequiredAt, IsAmong, IsTypeAmong, IsItemExport, IsKeyExport, AreKeyExports}
 
 -- every entry of the old scope and store is unchanged in the new ones
 pub record Keeps (a b : List Thing) (s t : Store) : Type 0 where
@@ -374,6 +374,7 @@ module _ (w : ComponentWorld) (old new : Option ShimsAt) (shims : ShimsKept old 
     made = defined spaces.Component component (defs.Component h.definitions) h.made;
     held = AllZip-weaker (argument-kept k) written h.arguments h.held;
     present = k.instances.at x h.exports h.present;
+    imports = AreGiven-kept k.types h.arguments (imports_after h.given empty_scope h.definitions) h.imports;
     each = AreNestedExports-kept k.types h.arguments (exports_after h.given empty_scope h.definitions) h.exports h.each;
   }
   item-kept _ x h = tt
@@ -395,6 +396,9 @@ module _ (w : ComponentWorld) {a b : List Thing} {s t : Store} (k : Keeps a b s 
   IsAmong-kept : (exports : List Export) (r : RequiredFunction) → IsAmong w s exports r → IsAmong w t exports r
   IsAmong-kept exports r h = record { address = h.address; found = h.found; is = IsRequiredAt-kept r h.address h.is }
 
+  IsTypeAmong-kept : (exports : List Export) (r : RequiredType) → IsTypeAmong w s exports r → IsTypeAmong w t exports r
+  IsTypeAmong-kept exports r h = record { address = h.address; found = h.found; is = IsHeldAs-kept k.types (type_of_world w r.id) h.address h.is }
+
   IsItemExport-kept : (key : WorldKey) (e : Export) (item : Option WorldItem) → IsItemExport w s key e item → IsItemExport w t key e item
   IsItemExport-kept key e (Some (world_items.Function f)) h = record { space = h.space; is = IsRequiredAt-kept (main_function key f.name) e.address h.is }
   IsItemExport-kept key e (Some (world_items.Interface id)) h = record {
@@ -402,6 +406,7 @@ module _ (w : ComponentWorld) {a b : List Thing} {s t : Store} (k : Keeps a b s 
     exports = h.exports;
     present = k.instances.at e.address h.exports h.present;
     each = AllByRecursion-weaker (IsAmong-kept h.exports) (functions_required w (main_key key)) h.each;
+    types = AllByRecursion-weaker (IsTypeAmong-kept h.exports) (types_required w (main_key key)) h.types;
   }
   IsItemExport-kept key e item h = absurd h
 

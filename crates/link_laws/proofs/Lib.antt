@@ -36,3 +36,4 @@ mod WorkedTextsLinked
 mod OtherTextOptions
 mod WorkedNested
 mod CrossedNested
+mod WorkedNestedTypes

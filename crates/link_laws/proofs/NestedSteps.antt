@@ -1,5 +1,5 @@
 -- A nested component, an instance of one, and an export of the component run, and the store agrees with the longer list.
-use Rattle.std.proofs.Common.{◌≡◌, ◌∙◌, ◌&&◌, ℕ, Bool, true, false, List, [], ◌∷◌, ◌++◌, length, map, filter, get_or, refl, sym, ap, subst, append-nil, Some, None, if◌then◌else◌}
+use Rattle.std.proofs.Common.{◌≡◌, ◌∙◌, ◌&&◌, ℕ, Bool, true, false, List, [], ◌∷◌, ◌++◌, length, map, filter, get_or, refl, sym, ap, subst, append-nil, Option, Some, None, if◌then◌else◌}
 use Rattle.std.proofs.lemmas.List.{map-append, length-map}
 use Rattle.std.proofs.lemmas.Option.{none-some, same_Some, get_or_from_slice_get}
 use Rattle.std.specs.List.{slice_get, AllZip, AllByRecursion}
@@ -19,34 +19,37 @@ use Rattle.comp_bytes.specs.declared.def.Item.{Item}
 use Rattle.comp_bytes.specs.declared.def.Item.TheVariants as items
 use Rattle.comp_bytes.specs.declared.def.Def.{Def}
 use Rattle.comp_bytes.specs.declared.def.Def.TheVariants as defs
+use Rattle.wit_data.specs.Live.{named_types}
 use Rattle.wit_data.specs.declared.worlds.WorldKey.{WorldKey}
+use Rattle.wit_data.specs.declared.ids.TypeId.{TypeId}
+use Rattle.wit_data.specs.declared.worlds.WorldItem.{WorldItem}
 use Rattle.comp_worlds.specs.WorldContents.{exported_item, core_name_of}
 use Rattle.comp_worlds.specs.Worlds.{IsWorld}
 use Rattle.comp_worlds.specs.declared.world.ComponentWorld.{ComponentWorld}
 use Rattle.comp_trees.specs.Trees.{FunctionTree}
 use Rattle.comp_trees.specs.DefinedTrees.{TypeTree}
 use Rattle.comp_trees.specs.Inventories.{FunctionEntry, InstanceEntry, OtherInstance, no_function, inventory}
-use Rattle.nested_terms.specs.Nested.{NestedFunction, NestedImport, ImportedFunction, ImportedType, empty_scope, function_named, imports_after, exports_after, AreItemsRight}
+use Rattle.nested_terms.specs.Nested.{NestedImport, ImportedFunction, ImportedType, NestedExport, empty_scope, type_named, imports_after, exports_after, AreItemsRight}
 use Rattle.comp_links.specs.Targets.{Main, TargetOption, Lifted}
-use Rattle.comp_links.specs.Lists.{functions_required}
+use Rattle.comp_links.specs.Lists.{functions_required, types_in, types_required, type_of_world}
 use Rattle.comp_links.specs.Links.{lift_options}
 use Rattle.world_values.specs.Items.{functions_in}
 use Rattle.comp_terms.specs.Planned.{type_of_function, IsLiftFor}
-use Rattle.comp_terms.specs.Exports.{argument_named, IsImportGiven, IsArgumentIn, IsArgumentRight, InstantiatesNested, exports_in, IsRequiredLift, ExportsFunction, PassesOn, ExportsInterface}
+use Rattle.comp_terms.specs.Exports.{argument_named, IsImportGiven, IsArgumentIn, IsArgumentRight, InstantiatesNested, exports_in, IsRequiredLift, ExportsFunction, PassesOn, ExportsTypes, ExportsInterface}
 use Rattle.comp_runs.specs.Store.{Thing, Export, ComponentItem, ModuleInstance, Store}
 use Rattle.comp_runs.specs.Machine.{Scope, Machine, address_at, is_of, export_in, export_of, all_some}
 use Rattle.comp_runs.specs.Running.{argument, run}
 use Rattle.instance_laws.specs.Instantiated.{IsHeldAs}
 use Rattle.instance_laws.proofs.Held.{keeps_same, keeps_more, keeps_grown}
-use Rattle.nested_laws.specs.NestedRuns.{AreGiven, IsGiven, IsArgument, AreNestedExports, RunsNested, FindsArgument}
-use Rattle.nested_laws.proofs.Kept.{is_function, is_type}
+use Rattle.nested_laws.specs.NestedRuns.{AreGiven, IsGiven, AreNestedExports, RunsNested, FindsArgument, FindsNestedType}
+use Rattle.nested_laws.proofs.Kept.{is_function, is_type, AreGiven-kept}
 use Rattle.nested_laws.proofs.Instance.{nested_runs}
-use Rattle.nested_laws.proofs.Exports.{front, other_space, finds_argument, address_of_argument}
-use Rattle.nested_laws.proofs.Arguments.{argument_in, same_argument}
+use Rattle.nested_laws.proofs.Exports.{front, other_space, finds_argument, finds_nested_type, address_of_argument}
+use Rattle.nested_laws.proofs.SameExports.{same_exports}
 use Rattle.link_laws.specs.Composition.{GeneratedModules}
 use Rattle.link_laws.specs.Linking.{module_meanings}
 use Rattle.link_laws.proofs.Zips.{all_some-self, AllZip-back, mapped_some}
-use Rattle.link_laws.proofs.Stores.{IsComponentHeld, IsArgumentHeld, IsNestedInstance, IsFunctionEntry, IsInstanceThing, IsLiftedFrom, main_key, main_function, IsRequiredAt, IsAmong, IsItemExport, IsKeyExport, Agrees}
+use Rattle.link_laws.proofs.Stores.{IsComponentHeld, IsArgumentHeld, IsNestedInstance, IsFunctionEntry, IsInstanceThing, IsLiftedFrom, main_key, main_function, type_at_key, IsRequiredAt, IsAmong, IsTypeAmong, IsItemExport, IsKeyExport, Agrees}
 use Rattle.link_laws.proofs.Kept.{Keeps, shims_same, address_at-append, things_kept, keeps_store, keeps_component, IsPlannedUser-kept, AreKeyExports-push}
 use Rattle.link_laws.proofs.Given.{thing_there, address_there, held_there, function_at, lift_there, found_name, by_parts}
 use Rattle.link_laws.proofs.Steps.{machine, no_answers, quiet, Steps, filter-push, Makes, agrees_with, shims_beside, quiet_step}
@@ -159,6 +162,7 @@ module _ {w : ComponentWorld} {earlier : List Def} {c : Scope} {s : Store} (a : 
           made = IsAt-append (d ∷ []) h.made;
           held = AllZip-weaker (λ y e n. record { named = n.named; space = n.space; at = address_at-append c.items (t ∷ []) (sort_space y.sort) y.index e.address n.at }) written held.0 held.2;
           present = slice_get-end s.instances r.exports;
+          imports = AreGiven-kept k.types held.0 (imports_after h.given empty_scope h.definitions) given;
           each = subst (λ (is : List Item). AreNestedExports r.types held.0 (exports_after h.given empty_scope is) r.exports) x.2.same r.each;
         };
       })
@@ -225,20 +229,19 @@ module _ {w : ComponentWorld} {earlier : List Def} {c : Scope} {s : Store} (a : 
         get_or_from_slice_get (inventory earlier).instances index e.0 OtherInstance e.1,
       )
 
-  module _ (ok : IsWorld w) (component : ℕ) (written : List Argument) (address : ℕ) (n : IsNestedInstance earlier c.items s component written address) (given : List ℕ → TypeTree) (key : WorldKey) where
+  module _ (ok : IsWorld w) (component : ℕ) (written : List Argument) (address : ℕ) (n : IsNestedInstance earlier c.items s component written address) (key : WorldKey) where
+    -- what the nested component exports
+    abbrev exported : List NestedExport
+    exported = exports_after n.given empty_scope n.definitions
+
     -- the function that an instance exports is the argument that it was given, and so the lift
-    passed_on : (name : List ℕ) → PassesOn w earlier written (exports_after given empty_scope n.definitions) (main_function key name) → IsAmong w s n.exports (main_function key name)
+    passed_on : (name : List ℕ) → PassesOn w earlier written exported (main_function key name) → IsAmong w s n.exports (main_function key name)
     passed_on name h =
         let argument_is : List ℕ = h.function.argument in
-        let own : argument_in name (exports_after n.given empty_scope n.definitions) ≡ Some argument_is =
-        same_argument n.given given name n.definitions ∙ ap (option_map (λ (f : NestedFunction). f.argument)) h.found in
-        let f : (f : NestedFunction) × (function_named name (exports_after n.given empty_scope n.definitions) ≡ Some f) × (f.argument ≡ argument_is) =
-        mapped_some (λ (f : NestedFunction). f.argument) (function_named name (exports_after n.given empty_scope n.definitions)) argument_is own in
-        let e : FindsArgument n.arguments n.exports name f.0.argument = finds_argument s.types n.arguments name (exports_after n.given empty_scope n.definitions) n.exports f.0 n.each f.1 in
+        let e : FindsArgument n.arguments n.exports name argument_is = finds_argument s.types n.arguments name exported n.exports h.function n.each h.found in
         let y : FindsHeld c.items sorts.Func argument_is n.arguments h.argument.index = finds_held c.items sorts.Func is_function argument_is written n.arguments h.argument n.held h.named in
         let l : (x : ℕ) × (address_at spaces.Func h.argument.index c.items ≡ Some x) × IsRequiredAt w s (main_function key name) x = required_there ok key name h.argument.index h.lifted in
-        let same : e.export.address ≡ y.export.address =
-        address_of_argument n.arguments argument_is e.export.address y.export (subst (λ t. IsArgument n.arguments t e.export.address) f.2 e.is) y.found in
+        let same : e.export.address ≡ y.export.address = address_of_argument n.arguments argument_is e.export.address y.export e.is y.found in
         let lifted : l.0 ≡ e.export.address = same_Some l.0 y.export.address (sym l.1 ∙ y.at) ∙ sym same in
         record {
           address = e.export.address;
@@ -246,9 +249,22 @@ module _ {w : ComponentWorld} {earlier : List Def} {c : Scope} {s : Store} (a : 
           is = subst (IsRequiredAt w s (main_function key name)) lifted l.2;
         }
 
-    all_passed_on : (names : List (List ℕ)) → AllByRecursion (PassesOn w earlier written (exports_after given empty_scope n.definitions)) (map (main_function key) names) → AllByRecursion (IsAmong w s n.exports) (map (main_function key) names)
+    all_passed_on : (names : List (List ℕ)) → AllByRecursion (PassesOn w earlier written exported) (map (main_function key) names) → AllByRecursion (IsAmong w s n.exports) (map (main_function key) names)
     all_passed_on [] h = tt
     all_passed_on (name ∷ names) h = (passed_on name h.0, all_passed_on names h.1)
+
+    -- the types that it exports
+    types_there : (ts : List (List ℕ × TypeId)) → AllByRecursion (λ t. type_named t.0 exported ≡ Some (type_of_world w t.1)) ts → AllByRecursion (IsTypeAmong w s n.exports) (map (type_at_key key) ts)
+    types_there [] h = tt
+    types_there (t ∷ ts) h =
+        let e : FindsNestedType s.types n.exports t.0 (type_of_world w t.1) = finds_nested_type s.types n.arguments t.0 exported n.exports (type_of_world w t.1) n.each h.0 in (
+          record {
+            address = e.export.address;
+            found = e.found ∙ ap (λ (x : Export). Some x) (by_parts e.export spaces.Type t.0 e.space (found_name t.0 (filter (export_in spaces.Type) n.exports) e.export e.found));
+            is = e.is;
+          },
+          types_there ts h.1,
+        )
 
   pub step_export_instance : IsWorld w → (name : ExternName) (index : ℕ) → ExportsInterface w earlier index → Steps w gen earlier c s g (defs.Item (items.Export name sorts.Instance index None))
   step_export_instance ok name index h =
@@ -256,13 +272,19 @@ module _ {w : ComponentWorld} {earlier : List Def} {c : Scope} {s : Store} (a : 
       let n : IsNestedInstance earlier c.items s h.component h.arguments x.0 = x.2 in
       let t : Thing = record { space = spaces.Instance; address = x.0 } in
       let own : (e : InstanceEntry) × IsInstanceThing s e t × (get_or (inventory earlier).instances index OtherInstance ≡ e) = instance_at index x.0 x.1 in
-      let same : h.definitions ≡ n.definitions = one_component h.made n.made in
-      let passes : AllByRecursion (PassesOn w earlier h.arguments (exports_after h.given empty_scope n.definitions)) (functions_required w (main_key h.key)) =
-      subst (λ (is : List Item). AllByRecursion (PassesOn w earlier h.arguments (exports_after h.given empty_scope is)) (functions_required w (main_key h.key))) same h.each in
+      let given : AreGiven s.types n.arguments (imports_after h.nested.given empty_scope h.nested.definitions) =
+      AllByRecursion-weaker (import_given h.arguments n.arguments n.held) (imports_after h.nested.given empty_scope h.nested.definitions) h.nested.each in
+      let same : exports_after h.nested.given empty_scope h.nested.definitions ≡ exports_after n.given empty_scope n.definitions =
+      same_exported h.nested.given n (one_component h.nested.made n.made) given in
       let each : AllByRecursion (IsAmong w s n.exports) (functions_required w (main_key h.key)) =
-      all_passed_on ok h.component h.arguments x.0 n h.given h.key (functions_in w.resolve (exported_item w h.key)) passes in
+      all_passed_on ok h.component h.arguments x.0 n h.key (functions_in w.resolve (exported_item w h.key))
+      (subst (λ xs. AllByRecursion (PassesOn w earlier h.arguments xs) (functions_required w (main_key h.key))) same h.each) in
+      let listed : AllByRecursion (IsTypeAmong w s n.exports) (map (type_at_key h.key) (named_types w.resolve h.id)) =
+      types_there ok h.component h.arguments x.0 n h.key (named_types w.resolve h.id) (subst (ExportsTypes w h.id) same h.types) in
+      let types : AllByRecursion (IsTypeAmong w s n.exports) (types_required w (main_key h.key)) =
+      subst (λ (o : Option WorldItem). AllByRecursion (IsTypeAmong w s n.exports) (map (type_at_key h.key) (types_in w o))) (sym h.item) listed in
       export_step name sorts.Instance index x.0 h.key x.1 h.next
-      (subst (IsItemExport w s h.key (record { space = spaces.Instance; name = name.name; address = x.0 })) (sym h.item) (record { space = refl; exports = n.exports; present = n.present; each = each }))
+      (subst (IsItemExport w s h.key (record { space = spaces.Instance; name = name.name; address = x.0 })) (sym h.item) (record { space = refl; exports = n.exports; present = n.present; each = each; types = types }))
       (tt, tt, (subst (λ e. IsInstanceThing s e t) (sym own.2) own.1, tt)) refl
     where
       items_in : List Item → Def → List Item
@@ -272,3 +294,9 @@ module _ {w : ComponentWorld} {earlier : List Def} {c : Scope} {s : Store} (a : 
       -- one component has one list of definitions
       one_component : {component : ℕ} {is js : List Item} → IsAt earlier spaces.Component component (defs.Component is) → IsAt earlier spaces.Component component (defs.Component js) → is ≡ js
       one_component {component} {is} {js} h k = ap (items_in js) (same_Some (defs.Component is) (defs.Component js) (sym h.made ∙ k.made))
+
+      -- and where it is given these arguments, one list of exports
+      same_exported : {component address : ℕ} {written : List Argument} {definitions : List Item} (given : List ℕ → TypeTree) (n : IsNestedInstance earlier c.items s component written address) → definitions ≡ n.definitions →
+          AreGiven s.types n.arguments (imports_after given empty_scope definitions) → exports_after given empty_scope definitions ≡ exports_after n.given empty_scope n.definitions
+      same_exported {component} {address} {written} {definitions} given n same k =
+          ap (exports_after given empty_scope) same ∙ same_exports s.types n.arguments given n.given n.definitions (subst (λ (is : List Item). AreGiven s.types n.arguments (imports_after given empty_scope is)) same k) n.imports

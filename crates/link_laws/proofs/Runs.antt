@@ -49,7 +49,7 @@ use Rattle.link_laws.proofs.InstanceSteps.{IsGenerated, generated_for, step_inst
 use Rattle.link_laws.proofs.Steps.{no_modules, machine, IsNow, IsGood, users_among, users_in, asks, events_of, seen_by, Steps, step_type, step_instance_type, step_import, step_import_type, step_import_resource, step_import_instance, step_alias_function, step_alias_type, step_lower, step_drop, step_lift, step_inline_instance, step_alias, step_module, step_custom}
 use Rattle.link_laws.proofs.Marks.{bytes_listed, numbers_listed, root_imports, root_modules, root_instances, root_exports, root_export_names, no_customs}
 use Rattle.link_laws.proofs.ImportedTypes.{types_served}
-use Rattle.link_laws.proofs.Served.{FilledAtEnd, users_served, each_provided}
+use Rattle.link_laws.proofs.Served.{FilledAtEnd, users_served, each_provided, each_type_provided}
 use Rattle.link_laws.proofs.NestedSteps.{step_component, step_nested, step_export_function, step_export_instance}
 
 -- a generated module is instantiated only where it is one of these
@@ -183,6 +183,7 @@ linked_at_end n w ds m ok apart built a events =
       instances = a.instantiated ∙ (root_instances n w ds built ∙ order_is w ok built.generated built.are_generated);
       imports = users_served w ok m a.shims (filled_at_end w m built.generated a.shims (flat_map (at_root item_instantiates) ds) (root_instances n w ds built) a.with_shims ok) a.served;
       exports = each_provided n w ok apart m (a.exports ∙ root_export_names n w ds built) a.lifted;
+      types = each_type_provided n w ok apart m (a.exports ∙ root_export_names n w ds built) a.lifted;
       events = events ∙ sym (ap (λ (us : List WorldModule). map (λ n. Instantiated n) (numbers_from 0 (length us)) ++ []) (only_main w ok));
       started = rw (no_calls w ok) tt;
     }

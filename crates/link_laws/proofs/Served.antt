@@ -45,16 +45,17 @@ use Rattle.shim_runs.proofs.Acting.{filled_shims_forward}
 use Rattle.shim_runs.proofs.Placed.{shim_at}
 use Rattle.comp_links.specs.Modules.{WorldModule, user_modules}
 use Rattle.comp_links.specs.Naming.{Naming, plain_name, name_of}
-use Rattle.comp_links.specs.Lists.{component_types, resource_of, functions_required, required_functions, AreExportsApart}
+use Rattle.comp_links.specs.Lists.{component_types, resource_of, functions_required, required_functions, types_in, types_required, required_types, type_of_world, AreExportsApart}
 use Rattle.comp_runs.specs.Signatures.{core_signature}
 use Rattle.comp_runs.specs.Store.{Thing, Export, HeldOption, HeldEncoding, HeldMemory, HeldRealloc, HeldPostReturn, HeldAsync, HeldCallback, CoreItem, Lowering, IntrinsicOf, ExportedBy, Imported, item_tree, ModuleInstance, Store}
 use Rattle.comp_runs.specs.Machine.{Machine, export_in, export_of}
 use Rattle.nested_laws.proofs.Kept.{is_function}
 use Rattle.nested_laws.proofs.Exports.{front, other_space}
 use Rattle.link_laws.specs.Meeting.{CoreMeets, CoreExportMeets, task_hook, hooks_round, MemoryMeets, IsMainMemory, MeetsOption, ItemIsExport, ItemIsLowering, ItemIsDrop, Meets, MeetsIn, entry_kind}
-use Rattle.link_laws.specs.Linking.{IsServed, AreServed, UsersServed, IsProvided, exports_at}
+use Rattle.instance_laws.proofs.Held.{tree_of_held}
+use Rattle.link_laws.specs.Linking.{IsServed, AreServed, UsersServed, IsProvided, IsTypeProvided, exports_at}
 use Rattle.link_laws.proofs.Zips.{AllByRecursion-join, each_at}
-use Rattle.link_laws.proofs.Stores.{IsOpaqueOf, ShimsAt, drop_core, IsLoweredFor, IsDropOf, IsServedAs, IsShimGivenAt, Serves, IsFilledWith, AreFilled, main_module, IsPlanned, IsPlannedUser, IsMainExport, IsFirstMemory, IsOptionFunction, IsOptionHeld, main_key, main_function, IsRequiredAt, IsFunctionExport, IsAmong, IsInterfaceExport, IsItemExport, IsKeyExport, AreKeyExports}
+use Rattle.link_laws.proofs.Stores.{IsOpaqueOf, ShimsAt, drop_core, IsLoweredFor, IsDropOf, IsServedAs, IsShimGivenAt, Serves, IsFilledWith, AreFilled, main_module, IsPlanned, IsPlannedUser, IsMainExport, IsFirstMemory, IsOptionFunction, IsOptionHeld, main_key, main_function, type_at_key, IsRequiredAt, IsFunctionExport, IsAmong, IsTypeAmong, IsInterfaceExport, IsItemExport, IsKeyExport, AreKeyExports}
 use Rattle.link_laws.proofs.Given.{by_parts, served_opaque}
 use Rattle.link_laws.proofs.Plain.{listed_main, no_hook, no_memory_imported, function_key}
 use Rattle.comp_worlds.specs.WorldContents.{exported_item}
@@ -371,16 +372,16 @@ module _ (n : Naming) (w : ComponentWorld) (ok : IsWorld w) (apart : AreExportsA
   -- ---- an instance in the place of an interface
 
   interface_space : (key : WorldKey) (id : InterfaceId) → exported_item w key ≡ Some (world_items.Interface id) → (e : Export) → IsKeyExport w m.store key e → e.space ≡ spaces.Instance
-  interface_space key id item e is = let x : IsInterfaceExport w m.store (functions_required w (main_key key)) e = subst (IsItemExport w m.store key e) item is in x.space
+  interface_space key id item e is = let x : IsInterfaceExport w m.store key e = subst (IsItemExport w m.store key e) item is in x.space
 
   -- an instance that is exported under the name of an interface is exported for it
   own_interface : (key : WorldKey) (id : InterfaceId) → exported_item w key ≡ Some (world_items.Interface id) → (other : WorldKey) (e : Export) → e.space ≡ spaces.Instance → (name_of n w.resolve other).name ≡ (name_of n w.resolve key).name →
-      IsKeyExport w m.store other e → IsInterfaceExport w m.store (functions_required w (main_key key)) e
+      IsKeyExport w m.store other e → IsInterfaceExport w m.store key e
   own_interface key id item other e space named is = by (exported_item w other) refl is
     where
-      by : (o : Option WorldItem) → exported_item w other ≡ o → IsItemExport w m.store other e o → IsInterfaceExport w m.store (functions_required w (main_key key)) e
+      by : (o : Option WorldItem) → exported_item w other ≡ o → IsItemExport w m.store other e o → IsInterfaceExport w m.store key e
       by (Some (world_items.Function g)) own h = let no : spaces.Instance ≡ spaces.Func = sym space ∙ h.space in cc
-      by (Some (world_items.Interface of)) own h = subst (λ (k : WorldKey). IsInterfaceExport w m.store (functions_required w (main_key k)) e) (apart other key (of, own) (id, item) named) h
+      by (Some (world_items.Interface of)) own h = subst (λ (k : WorldKey). IsInterfaceExport w m.store k e) (apart other key (of, own) (id, item) named) h
       by o own h = absurd h
 
   among_provided : (key : WorldKey) (exports : List Export) → exports_at w m (name_of n w.resolve key).name (exported_item w key) ≡ Some exports → (names : List (List ℕ)) →
@@ -388,15 +389,32 @@ module _ (n : Naming) (w : ComponentWorld) (ok : IsWorld w) (apart : AreExportsA
   among_provided key exports at [] h = tt
   among_provided key exports at (name ∷ names) h = (lift_met key name h.0.address h.0.is (ap (option_and_then (export_of spaces.Func name)) at ∙ h.0.found), among_provided key exports at names h.1)
 
-  interface_provided : (key : WorldKey) (i : ℕ) → slice_get w.main_exports i ≡ Some key → (id : InterfaceId) → exported_item w key ≡ Some (world_items.Interface id) →
-      AllByRecursion (IsProvided n w m (resource_of w)) (functions_required w (main_key key))
-  interface_provided key i at id item =
+  types_provided : (key : WorldKey) (exports : List Export) → exports_at w m (name_of n w.resolve key).name (exported_item w key) ≡ Some exports → (ts : List (List ℕ × TypeId)) →
+      AllByRecursion (IsTypeAmong w m.store exports) (map (type_at_key key) ts) → AllByRecursion (IsTypeProvided n w m) (map (type_at_key key) ts)
+  types_provided key exports at [] h = tt
+  types_provided key exports at (t ∷ ts) h = (
+    record { address = h.0.address; provided = ap (option_and_then (export_of spaces.Type t.0)) at ∙ h.0.found; denotes = tree_of_held m.store.types (type_of_world w t.1) h.0.address h.0.is },
+    types_provided key exports at ts h.1,
+  )
+
+  -- the exports of the instance that is found under the name of an interface
+  record FindsInterface (key : WorldKey) : Type 0 where
+    exports : List Export
+    at : exports_at w m (name_of n w.resolve key).name (exported_item w key) ≡ Some exports
+    each : AllByRecursion (IsAmong w m.store exports) (functions_required w (main_key key))
+    types : AllByRecursion (IsTypeAmong w m.store exports) (types_required w (main_key key))
+
+  interface_found : (key : WorldKey) (i : ℕ) → slice_get w.main_exports i ≡ Some key → (id : InterfaceId) → exported_item w key ≡ Some (world_items.Interface id) → FindsInterface key
+  interface_found key i at id item =
       let name : List ℕ = (name_of n w.resolve key).name in
       let x : FindsNamed n w m.store spaces.Instance name m.scope.exports = finds_named n w m.store spaces.Instance refl is_instance name w.main_exports m.scope.exports exported i key at refl (interface_space key id item) in
-      let e : IsInterfaceExport w m.store (functions_required w (main_key key)) x.export = own_interface key id item x.key x.export x.in_space (sym x.is.named ∙ x.named) x.is.is in
-      among_provided key e.exports
-      (ap (exports_at w m name) item ∙ (ap (option_and_then (λ (e : Export). slice_get m.store.instances e.address)) x.found ∙ e.present))
-      (functions_in w.resolve (exported_item w key)) e.each
+      let e : IsInterfaceExport w m.store key x.export = own_interface key id item x.key x.export x.in_space (sym x.is.named ∙ x.named) x.is.is in
+      record {
+        exports = e.exports;
+        at = ap (exports_at w m name) item ∙ (ap (option_and_then (λ (e : Export). slice_get m.store.instances e.address)) x.found ∙ e.present);
+        each = e.each;
+        types = e.types;
+      }
 
   -- ---- all of them
 
@@ -408,7 +426,19 @@ module _ (n : Naming) (w : ComponentWorld) (ok : IsWorld w) (apart : AreExportsA
 
       by : (o : Option WorldItem) → exported_item w key ≡ o → AllByRecursion (IsProvided n w m (resource_of w)) (functions_required w (main_key key))
       by (Some (world_items.Function f)) item = subst AllOf (sym item) (function_provided key i at f item, tt)
-      by (Some (world_items.Interface id)) item = interface_provided key i at id item
+      by (Some (world_items.Interface id)) item =
+          let f : FindsInterface key = interface_found key i at id item in
+          among_provided key f.exports f.at (functions_in w.resolve (exported_item w key)) f.each
+      by o item = subst AllOf (sym item) tt
+
+  key_types_provided : (key : WorldKey) (i : ℕ) → slice_get w.main_exports i ≡ Some key → AllByRecursion (IsTypeProvided n w m) (types_required w (main_key key))
+  key_types_provided key i at = by (exported_item w key) refl
+    where
+      AllOf : Option WorldItem → Type 0
+      AllOf o = AllByRecursion (IsTypeProvided n w m) (map (type_at_key key) (types_in w o))
+
+      by : (o : Option WorldItem) → exported_item w key ≡ o → AllByRecursion (IsTypeProvided n w m) (types_required w (main_key key))
+      by (Some (world_items.Interface id)) item = let f : FindsInterface key = interface_found key i at id item in types_provided key f.exports f.at (types_in w (exported_item w key)) f.types
       by o item = subst AllOf (sym item) tt
 
   abbrev IsListed : WorldKey → Type 0
@@ -419,6 +449,15 @@ module _ (n : Naming) (w : ComponentWorld) (ok : IsWorld w) (apart : AreExportsA
   keys_provided (key ∷ keys) h =
       AllByRecursion-join (IsProvided n w m (resource_of w)) (functions_required w (main_key key)) (flat_map (functions_required w) (map main_key keys)) (key_provided key h.0.0 h.0.1) (keys_provided keys h.1)
 
+  all_types_provided : (keys : List WorldKey) → AllByRecursion IsListed keys → AllByRecursion (IsTypeProvided n w m) (flat_map (types_required w) (map main_key keys))
+  all_types_provided [] h = tt
+  all_types_provided (key ∷ keys) h =
+      AllByRecursion-join (IsTypeProvided n w m) (types_required w (main_key key)) (flat_map (types_required w) (map main_key keys)) (key_types_provided key h.0.0 h.0.1) (all_types_provided keys h.1)
+
 pub each_provided : (n : Naming) (w : ComponentWorld) → IsWorld w → AreExportsApart n w → (m : Machine) → map (λ (e : Export). e.name) m.scope.exports ≡ map (λ key. (name_of n w.resolve key).name) w.main_exports →
     AreKeyExports w m.store w.main_exports m.scope.exports → AllByRecursion (IsProvided n w m (resource_of w)) (required_functions w)
 each_provided n w ok apart m names exported = keys_provided n w ok apart m (named_exports n w m.store w.main_exports m.scope.exports names exported) w.main_exports (each_at w.main_exports)
+
+pub each_type_provided : (n : Naming) (w : ComponentWorld) → IsWorld w → AreExportsApart n w → (m : Machine) → map (λ (e : Export). e.name) m.scope.exports ≡ map (λ key. (name_of n w.resolve key).name) w.main_exports →
+    AreKeyExports w m.store w.main_exports m.scope.exports → AllByRecursion (IsTypeProvided n w m) (required_types w)
+each_type_provided n w ok apart m names exported = all_types_provided n w ok apart m (named_exports n w m.store w.main_exports m.scope.exports names exported) w.main_exports (each_at w.main_exports)

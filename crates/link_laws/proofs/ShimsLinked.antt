@@ -103,6 +103,7 @@ module _ (number : ℕ) (rest : List Answer) where
     instances = refl;
     imports = record { resources = tt; each = served };
     exports = tt;
+    types = tt;
     events = refl;
     started = tt;
   }

@@ -36,7 +36,7 @@ use Rattle.comp_worlds.specs.declared.world.ComponentWorld.{ComponentWorld}
 use Rattle.comp_links.specs.Targets.{Main, ExportRef, WorldFunction, TargetOption, Target, Lowered, Dropped}
 use Rattle.comp_links.specs.Targets as targets
 use Rattle.comp_links.specs.Modules.{WorldModule}
-use Rattle.comp_links.specs.Lists.{IsOriginOf, resource_of, RequiredKey, RequiredFunction, functions_required}
+use Rattle.comp_links.specs.Lists.{IsOriginOf, resource_of, RequiredKey, RequiredFunction, functions_required, RequiredType, types_required, type_of_world}
 use Rattle.comp_links.specs.Links.{lift_options, link_of, link_at}
 use Rattle.shim_plan.specs.declared.shims.Shim.{Shim}
 use Rattle.world_shims.specs.WorldShims.{shims_of}
@@ -53,10 +53,11 @@ use Rattle.comp_runs.specs.Machine.{Scope, address_at, is_of, export_named, expo
 use Rattle.comp_runs.specs.Signatures.{core_signature}
 use Rattle.instance_laws.specs.Instantiated.{IsHeldAs}
 use Rattle.instance_laws.specs.InstanceEntries.{IsInstanceType, IsInstanceEntry}
-use Rattle.nested_terms.specs.Nested.{empty_scope, exports_after}
-use Rattle.nested_laws.specs.NestedRuns.{AreNestedExports}
+use Rattle.nested_terms.specs.Nested.{empty_scope, imports_after, exports_after}
+use Rattle.nested_laws.specs.NestedRuns.{AreGiven, AreNestedExports}
 use Rattle.link_laws.specs.Composition.{at_root, item_instantiates}
 use Rattle.wit_data.specs.declared.functions.Function.{Function as WitFunction}
+use Rattle.wit_data.specs.declared.ids.TypeId.{TypeId}
 use Rattle.wit_data.specs.declared.worlds.WorldKey.{WorldKey}
 use Rattle.wit_data.specs.declared.worlds.WorldItem.{WorldItem}
 use Rattle.wit_data.specs.declared.worlds.WorldItem.TheVariants as world_items
@@ -216,6 +217,7 @@ pub record IsNestedInstance (ds : List Def) (things : List Thing) (s : Store) (c
   pub made : IsAt ds spaces.Component component (defs.Component definitions)
   pub held : AllZip (IsArgumentHeld things) written arguments
   pub present : slice_get s.instances address ≡ Some exports
+  pub imports : AreGiven s.types arguments (imports_after given empty_scope definitions)
   pub each : AreNestedExports s.types arguments (exports_after given empty_scope definitions) exports
 
 -- What is at the address of a definition's item. What types and functions are, the inventory of the list says.
@@ -424,12 +426,15 @@ pub record IsCoreExportAt (things : List Thing) (s : Store) (index : ℕ) (e : C
 
 -- ---- what the component exports
 
--- what is required of main: the item at a key, and a function of it
+-- what is required: the item at a key, a function of it, which main has to provide, and a type of it
 abbrev pub main_key : WorldKey → RequiredKey
 main_key key = record { of = Main; key = key }
 
 abbrev pub main_function : WorldKey → List ℕ → RequiredFunction
 main_function key name = record { of = Main; key = key; function = name }
+
+abbrev pub type_at_key : WorldKey → List ℕ × TypeId → RequiredType
+type_at_key key t = record { key = key; name = t.0; id = t.1 }
 
 -- the function is the lift of what implements a required function, with the type of the world's function
 pub record IsRequiredAt (w : ComponentWorld) (s : Store) (r : RequiredFunction) (address : ℕ) : Type 0 where
@@ -439,7 +444,8 @@ pub record IsRequiredAt (w : ComponentWorld) (s : Store) (r : RequiredFunction) 
   pub exported : function_exported w r.key r.function ≡ Some wit
   pub is : IsLiftedFrom w s address name (lift_options w r) (type_of_function w wit)
 
--- the export is one; or is an instance that exports one for each of these functions, under its name
+-- the export is one; or is an instance that exports one for each function that is required at a key, under its name, and what each
+-- type denotes that is
 pub record IsFunctionExport (w : ComponentWorld) (s : Store) (r : RequiredFunction) (e : Export) : Type 0 where
   pub space : e.space ≡ spaces.Func
   pub is : IsRequiredAt w s r e.address
@@ -449,16 +455,22 @@ pub record IsAmong (w : ComponentWorld) (s : Store) (exports : List Export) (r :
   pub found : export_of spaces.Func r.function exports ≡ Some (record { space = spaces.Func; name = r.function; address = address })
   pub is : IsRequiredAt w s r address
 
-pub record IsInterfaceExport (w : ComponentWorld) (s : Store) (required : List RequiredFunction) (e : Export) : Type 0 where
+pub record IsTypeAmong (w : ComponentWorld) (s : Store) (exports : List Export) (r : RequiredType) : Type 0 where
+  pub address : ℕ
+  pub found : export_of spaces.Type r.name exports ≡ Some (record { space = spaces.Type; name = r.name; address = address })
+  pub is : IsHeldAs s.types (type_of_world w r.id) address
+
+pub record IsInterfaceExport (w : ComponentWorld) (s : Store) (key : WorldKey) (e : Export) : Type 0 where
   pub space : e.space ≡ spaces.Instance
   pub exports : List Export
   pub present : slice_get s.instances e.address ≡ Some exports
-  pub each : AllByRecursion (IsAmong w s exports) required
+  pub each : AllByRecursion (IsAmong w s exports) (functions_required w (main_key key))
+  pub types : AllByRecursion (IsTypeAmong w s exports) (types_required w (main_key key))
 
 -- the export is what the world exports at a key
 abbrev pub IsItemExport : ComponentWorld → Store → WorldKey → Export → Option WorldItem → Type 0
 IsItemExport w s key e (Some (world_items.Function f)) = IsFunctionExport w s (main_function key f.name) e
-IsItemExport w s key e (Some (world_items.Interface id)) = IsInterfaceExport w s (functions_required w (main_key key)) e
+IsItemExport w s key e (Some (world_items.Interface id)) = IsInterfaceExport w s key e
 IsItemExport w s key e item = ⊥
 
 abbrev pub IsKeyExport : ComponentWorld → Store → WorldKey → Export → Type 0

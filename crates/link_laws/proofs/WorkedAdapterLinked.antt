@@ -175,6 +175,7 @@ module _ (number number' : ℕ) (rest : List Answer) where
     instances = refl;
     imports = record { resources = tt; each = served };
     exports = (g_provided, tt);
+    types = tt;
     events = refl;
     started = tt;
   }

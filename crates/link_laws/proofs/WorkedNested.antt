@@ -293,9 +293,21 @@ imports_apart = ((refl, tt), (tt, tt))
 nested_for : IsNestedFor world (passing_on 0 1)
 nested_for = record { key = key; id = interface_id 0; item = refl; types = tt; apart = imports_apart }
 
-instantiated : InstantiatesNested (ds 8) 0 (given_as 0 1)
+instantiated_8 : InstantiatesNested (ds 8) 0 (given_as 0 1)
 unfolding inventory
-instantiated = record {
+instantiated_8 = record {
+  definitions = passing_on 0 1;
+  given = no_types;
+  made = record { made = refl };
+  scoped = (omega arith, (omega arith, tt));
+  apart = arguments_apart;
+  right = nested_right;
+  each = (record { argument = _; named = refl; typed = refl }, (record { argument = _; named = refl; typed = refl }, tt));
+}
+
+instantiated_9 : InstantiatesNested (ds 9) 0 (given_as 0 1)
+unfolding inventory
+instantiated_9 = record {
   definitions = passing_on 0 1;
   given = no_types;
   made = record { made = refl };
@@ -306,6 +318,7 @@ instantiated = record {
 }
 
 exported : ExportsInterface world (ds 9) 0
+unfolding instantiated_9
 exported = record {
   key = key;
   id = interface_id 0;
@@ -313,10 +326,9 @@ exported = record {
   item = refl;
   component = 0;
   arguments = given_as 0 1;
-  definitions = passing_on 0 1;
-  given = no_types;
   instance = record { made = refl };
-  made = record { made = refl };
+  nested = instantiated_9;
+  types = tt;
   each = (record { function = _; argument = _; found = refl; named = refl; lifted = f_required }, (record { function = _; argument = _; found = refl; named = refl; lifted = h_required }, tt));
 }
 
@@ -339,7 +351,7 @@ keeps_the_rules = record {
             type_known,
             (
               (omega arith, tt, record { type = plain_tree; is = typed_5 }),
-              ((omega arith, tt, record { type = plain_tree; is = typed_6 }), ((record { given = no_types; right = nested_right }, nested_for), (instantiated, (exported, tt)))),
+              ((omega arith, tt, record { type = plain_tree; is = typed_6 }), ((record { given = no_types; right = nested_right }, nested_for), (instantiated_8, (exported, tt)))),
             ),
           ),
         ),

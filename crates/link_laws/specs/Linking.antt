@@ -32,9 +32,9 @@ use Rattle.comp_trees.specs.WitTrees.{wit_function_tree}
 use Rattle.comp_links.specs.Targets.{Main, ExportRef, Target, Lifted}
 use Rattle.comp_links.specs.Naming.{Naming, name_of}
 use Rattle.comp_links.specs.Modules.{WorldModule, user_modules}
-use Rattle.comp_links.specs.Lists.{RequiredFunction, required_functions, component_types, resource_of, stated_types}
+use Rattle.comp_links.specs.Lists.{RequiredFunction, required_functions, RequiredType, required_types, component_types, resource_of, type_of_world, stated_types}
 use Rattle.comp_links.specs.Links.{link_at, lift_of}
-use Rattle.comp_runs.specs.Store.{Thing, Export, CoreItem, ModuleInstance}
+use Rattle.comp_runs.specs.Store.{Thing, Export, CoreItem, tree_held, ModuleInstance}
 use Rattle.comp_runs.specs.Machine.{Machine, Outcome, Done, Trapped, Open, Stuck, export_of}
 use Rattle.comp_runs.specs.Instances.{ModuleMeaning, OfUser, OfGenerated, type_scope}
 use Rattle.comp_runs.specs.Running.{run, fresh_machine}
@@ -129,6 +129,12 @@ pub record IsProvided (n : Naming) (w : ComponentWorld) (m : Machine) (origins :
   pub type_of : function_exported w r.key r.function ≡ Some wit
   pub meets : LiftMeets w m origins address wit target
 
+-- a required type is found by its sort and name, and denotes what the type of the world does
+pub record IsTypeProvided (n : Naming) (w : ComponentWorld) (m : Machine) (r : RequiredType) : Type 0 where
+  pub address : ℕ
+  pub provided : option_and_then (export_of spaces.Type r.name) (exports_at w m (name_of n w.resolve r.key).name (exported_item w r.key)) ≡ Some (record { space = spaces.Type; name = r.name; address = address })
+  pub denotes : tree_held m.store.types address ≡ type_of_world w r.id
+
 -- ---- the end of a run
 
 -- an event is this call
@@ -138,14 +144,15 @@ MakesCall w m (Called address arguments) call =
     × ItemIsExport w m call.function item × (arguments ≡ call.arguments)
 MakesCall w m event call = ⊥
 
--- At the end: each module has one instance, in order; each import is served, and each required function is provided;
--- and what was seen from outside is the instantiation of each user module, and then the start calls.
+-- At the end: each module has one instance, in order; each import is served, and each required function and type is
+-- provided; and what was seen from outside is the instantiation of each user module, and then the start calls.
 pub record IsLinked (n : Naming) (w : ComponentWorld) (g : GeneratedModules) (m : Machine) : Type 0 where
   pub origins : TypeId → Resource
   pub start_events : List Event
   pub instances : map (λ (i : ModuleInstance). i.module_number) m.store.module_instances ≡ instance_order (length (user_modules w)) g
   pub imports : UsersServed w m origins
   pub exports : AllByRecursion (IsProvided n w m origins) (required_functions w)
+  pub types : AllByRecursion (IsTypeProvided n w m) (required_types w)
   pub events : m.now.events ≡ map (λ n. Instantiated n) (numbers_from 0 (length (user_modules w))) ++ start_events
   pub started : AllZip (MakesCall w m) start_events (start_calls w)
 

@@ -47,7 +47,7 @@ use Rattle.comp_worlds.specs.WorldContents.{exported_item}
 use Rattle.comp_worlds.specs.declared.world.ComponentWorld.{ComponentWorld}
 use Rattle.comp_links.specs.Lists.{resource_of, IsTypeImport}
 use Rattle.interface_needs.proofs.Lists.{all_both}
-use Rattle.comp_terms.specs.Exports.{argument_named, IsNestedRight, IsNestedFor, IsArgumentIn, IsArgumentRight, IsFunctionGiven, IsTypeGiven, IsImportGiven, PassesOn, ExportsInterface, exports_in}
+use Rattle.comp_terms.specs.Exports.{argument_named, IsNestedRight, IsNestedFor, IsArgumentIn, IsArgumentRight, IsFunctionGiven, IsTypeGiven, IsImportGiven, InstantiatesNested, PassesOn, ExportsInterface, exports_in}
 use Rattle.comp_terms.specs.Rules.{Grows, NestedOf, nested_marked}
 use Rattle.comp_items.proofs.Kept.{Longer, denotes-kept}
 use Rattle.root_imports.specs.Growing.{Grows-by, Grows-then}
@@ -57,7 +57,7 @@ use Rattle.main_exports.proofs.TypeArguments.{usable_import}
 use Rattle.main_exports.specs.Exports.{IsNestedOf, nested_mark, functions_at, functions_of_key, AreLiftArguments, IsTypeArgument, AreArgumentsOf, AreArgumentsFor, IsInstantiated}
 use Rattle.main_exports.proofs.Exporting.{own_names, interface_functions}
 use Rattle.main_exports.proofs.Growth.{all_arguments-kept}
-use Rattle.main_exports.proofs.Nested.{AreFound, Finds, IsOfSort, all_found, all_given, types_given, imports_given, all_passed, arguments_named, types_named, lifts_sorted, types_sorted, exports_found, past_types, functions_named, import_types_named, functions_then_types, exports_named, imported_names, given_names, listed_names, exported_names, export_name}
+use Rattle.main_exports.proofs.Nested.{AreFound, Finds, IsOfSort, all_found, all_given, types_given, imports_given, all_passed, arguments_named, types_named, lifts_sorted, types_sorted, exports_found, past_types, IsTypeFound, types_found, functions_named, import_types_named, functions_then_types, exports_named, imported_names, given_names, listed_names, exported_names, export_name}
 
 -- ---- arguments
 
@@ -171,21 +171,33 @@ module _ (w : ComponentWorld) (key : WorldKey) (listed : List (List ℕ × TypeI
     finds_lifts : AllByRecursion (Finds (h.lifts ++ h.types)) h.lifts
     finds_lifts = AllByRecursion-front (Finds (h.lifts ++ h.types)) h.lifts h.types finds
 
+    -- each import is given one
+    given : AllByRecursion (IsImportGiven ds (h.lifts ++ h.types)) (imports_after no_types empty_scope c.items)
+    given =
+        let all : List Argument = h.lifts ++ h.types in
+        imports_given w ds key all (imports_after no_types empty_scope c.items)
+        (subst (AllByRecursion (λ (g : NestedFunction). IsFunctionGiven ds all g.argument g.type)) (sym n.functions) (all_given w ds key all [] entries c.names h.lifts n.named h.lifted finds_lifts))
+        (subst (AllByRecursion (λ (t : List ℕ × TypeTree). IsTypeGiven ds all t.0 t.1)) (sym n.types)
+        (types_given w ds key all c.types h.types h.given (AllByRecursion-back (Finds all) h.lifts h.types finds)))
+
+    pub all_scoped : AllByRecursion (IsArgumentRight ds) arguments
+    all_scoped =
+        subst (AllByRecursion (IsArgumentRight ds)) (sym h.both)
+        (all_both (IsArgumentRight ds) h.lifts h.types (lifts_scoped w ds key entries c.names h.lifts h.lifted) (types_scoped w ds c.types h.types h.given))
+
+    pub names_apart : IsDistinct bytes_eq (map (λ (a : Argument). a.name) arguments)
+    names_apart = subst (λ as'. IsDistinct bytes_eq (map (λ (a : Argument). a.name) as')) (sym h.both) distinct
+
+    pub each_given : AllByRecursion (IsImportGiven ds arguments) (imports_after no_types empty_scope c.items)
+    each_given = subst (λ as'. AllByRecursion (IsImportGiven ds as') (imports_after no_types empty_scope c.items)) (sym h.both) given
+
     -- the arguments are those of the component
     pub arguments_for : AreArgumentsFor ds c.items arguments
-    arguments_for =
-        let all : List Argument = h.lifts ++ h.types in
-        let whole : AreArgumentsFor ds c.items all = record {
-          given = no_types;
-          scoped = all_both (IsArgumentRight ds) h.lifts h.types (lifts_scoped w ds key entries c.names h.lifts h.lifted) (types_scoped w ds c.types h.types h.given);
-          apart = distinct;
-          right = n.right;
-          each = imports_given w ds key all (imports_after no_types empty_scope c.items)
-              (subst (AllByRecursion (λ (g : NestedFunction). IsFunctionGiven ds all g.argument g.type)) (sym n.functions) (all_given w ds key all [] entries c.names h.lifts n.named h.lifted finds_lifts))
-              (subst (AllByRecursion (λ (t : List ℕ × TypeTree). IsTypeGiven ds all t.0 t.1)) (sym n.types)
-              (types_given w ds key all c.types h.types h.given (AllByRecursion-back (Finds all) h.lifts h.types finds)));
-        } in
-        subst (AreArgumentsFor ds c.items) (sym h.both) whole
+    arguments_for = record { given = no_types; scoped = all_scoped; apart = names_apart; right = n.right; each = each_given }
+
+    -- an instance that is given them is one of it
+    abbrev pub instantiates : (component : ℕ) → IsAt ds spaces.Component component (defs.Component c.items) → InstantiatesNested ds component arguments
+    instantiates component made = record { definitions = c.items; given = no_types; made = made; scoped = all_scoped; apart = names_apart; right = n.right; each = each_given }
 
     -- and the lifts are passed on
     pub lifts_passed : AllByRecursion (λ (e : List ℕ × Function). e.0 ≡ e.1.name) entries → IsDistinct bytes_eq (keys_of entries) → AllByRecursion (PassesOn w ds arguments (exports_after no_types empty_scope c.items)) (functions_at key entries)
@@ -196,6 +208,12 @@ module _ (w : ComponentWorld) (key : WorldKey) (listed : List (List ℕ × TypeI
         subst (λ as'. AllByRecursion (PassesOn w ds as' (exports_after no_types empty_scope c.items)) (functions_at key entries)) (sym h.both)
         (subst (λ l. AllByRecursion (PassesOn w ds (h.lifts ++ h.types) l) (functions_at key entries)) (sym n.exports)
         (all_passed w ds key (h.lifts ++ h.types) (map (exported_type origin all_types) listed ++ xs) entries c.names h.lifts found h.lifted finds_lifts))
+
+  -- the types that are listed are exported
+  pub types_exported : IsDistinct bytes_eq (keys_of listed) → AllByRecursion (IsTypeFound origin all_types (exports_after no_types empty_scope c.items)) listed
+  types_exported apart =
+      let xs = exported (functions_among entries) (nested_functions origin all_types (functions_among entries) c.names) in
+      subst (λ l. AllByRecursion (IsTypeFound origin all_types l) listed) (sym n.exports) (types_found origin all_types xs listed apart)
 
   -- its landmark
   pub nested_marked_as : nested_mark c.items ≡ NestedOf (import_names (functions_among entries)) (map (λ (t : List ℕ × TypeId). t.0) listed ++ map (λ (f : Function). f.name) (functions_among entries))
@@ -229,18 +247,17 @@ nested_for w ok key id is c n = record {
 -- an instance of it is what an interface is exported as
 pub exports_interface : (w : ComponentWorld) → IsEncodable w → (key : WorldKey) (id : InterfaceId) → exported_item w key ≡ Some (world_items.Interface id) → (c : NestedComponent) → IsNestedOf w (named_types w.resolve id) (functions_of w.resolve id) c →
     (arguments : List Argument) (ds : List Def) (index : ℕ) → slice_get w.main_exports (exports_in ds) ≡ Some key → AreArgumentsOf w ds key (functions_of w.resolve id) c arguments → IsDistinct bytes_eq (keys_of (functions_of w.resolve id)) →
-    IsInstantiated ds c.items arguments index → ExportsInterface w ds index
-exports_interface w ok key id is c n arguments ds index next h apart made = record {
+    IsDistinct bytes_eq (keys_of (named_types w.resolve id)) → IsInstantiated ds c.items arguments index → ExportsInterface w ds index
+exports_interface w ok key id is c n arguments ds index next h apart types_apart made = record {
   key = key;
   id = id;
   next = next;
   item = is;
   component = made.component;
   arguments = arguments;
-  definitions = c.items;
-  given = no_types;
   instance = made.instance;
-  made = made.made;
+  nested = instantiates w key (named_types w.resolve id) (functions_of w.resolve id) c n ds arguments h made.component made.made;
+  types = types_exported w key (named_types w.resolve id) (functions_of w.resolve id) c n types_apart;
   each = subst (AllByRecursion (PassesOn w ds arguments (exports_after no_types empty_scope c.items))) (sym (interface_functions w ok key id is))
       (lifts_passed w key (named_types w.resolve id) (functions_of w.resolve id) c n ds arguments h (own_names w ok key id is) apart);
 }
@@ -252,12 +269,12 @@ functions_as w ok key id is es same = interface_functions w ok key id is ∙ ap 
 
 -- the instance that was made last is exported
 pub instance_exported : (w : ComponentWorld) → IsEncodable w → (key : WorldKey) (id : InterfaceId) → exported_item w key ≡ Some (world_items.Interface id) → (es : List (List ℕ × Function)) → es ≡ functions_of w.resolve id → IsDistinct bytes_eq (keys_of es) →
-    (c : NestedComponent) → IsNestedOf w (named_types w.resolve id) es c → (arguments : List Argument) (mid new : List Def) → Longer mid new → AreArgumentsOf w mid key es c arguments →
+    IsDistinct bytes_eq (keys_of (named_types w.resolve id)) → (c : NestedComponent) → IsNestedOf w (named_types w.resolve id) es c → (arguments : List Argument) (mid new : List Def) → Longer mid new → AreArgumentsOf w mid key es c arguments →
     (index : ℕ) → slice_get w.main_exports (exports_in new) ≡ Some key → IsInstantiated new c.items arguments index → ExportsInterface w new index
-instance_exported w ok key id is es same apart c n arguments mid new g given index next made =
+instance_exported w ok key id is es same apart types_apart c n arguments mid new g given index next made =
     let later : AreArgumentsOf w new key es c arguments = all_arguments-kept w mid new g key es c arguments given in
     exports_interface w ok key id is c (subst (λ l. IsNestedOf w (named_types w.resolve id) l c) same n) arguments new index next (subst (λ l. AreArgumentsOf w new key l c arguments) same later)
-    (subst (λ (l : List (List ℕ × Function)). IsDistinct bytes_eq (keys_of l)) same apart) made
+    (subst (λ (l : List (List ℕ × Function)). IsDistinct bytes_eq (keys_of l)) same apart) types_apart made
 
 -- the landmark of its nested component is the one that is expected
 pub mark_expected : (w : ComponentWorld) (key : WorldKey) (id : InterfaceId) (es : List (List ℕ × Function)) → es ≡ functions_of w.resolve id → (c : NestedComponent) → IsNestedOf w (named_types w.resolve id) es c →

@@ -24,7 +24,7 @@ use Rattle.comp_trees.specs.DefinedTrees.{TypeTree, OfValues, OfFunctions}
 use Rattle.comp_trees.specs.WitTrees.{wit_tree}
 use Rattle.comp_trees.specs.Inventories.{FunctionEntry, inventory, no_function as no_entry}
 use Rattle.nested_terms.specs.Naming.{AreNamesAfter}
-use Rattle.nested_terms.specs.Nested.{NestedFunction, NestedScope, NestedImport, ImportedFunction, ImportedType, NestedExport, ExportedFunction, ExportedType, function_import, type_import, functions_imported, types_imported, function_named, with_item, imports_after, exports_after, AreItemsRight}
+use Rattle.nested_terms.specs.Nested.{NestedFunction, NestedScope, NestedImport, ImportedFunction, ImportedType, NestedExport, ExportedFunction, ExportedType, function_import, type_import, functions_imported, types_imported, function_named, type_named, with_item, imports_after, exports_after, AreItemsRight}
 use Rattle.nested_components.specs.Functions.{functions_of, nested_functions, exported, type_of}
 use Rattle.nested_components.specs.Types.{type_given, exported_type}
 use Rattle.nested_components.specs.declared.type_import.TypeImport.{TypeImport}
@@ -117,6 +117,28 @@ pub past_types : (origin : TypeId → Resource) (types : List TypeDef) (listed :
 past_types origin types [] xs es names h = h
 past_types origin types (t ∷ ts) xs es names h =
     past_type origin types t.0 (OfValues (wit_tree origin types (Some (Id t.1)))) (map (exported_type origin types) ts ++ xs) es names (past_types origin types ts xs es names h)
+
+-- ---- exported types by their names
+
+module _ (origin : TypeId → Resource) (types : List TypeDef) where
+  -- a type is exported under its name, and denotes what it does
+  abbrev pub IsTypeFound : List NestedExport → List ℕ × TypeId → Type 0
+  IsTypeFound xs t = type_named t.0 xs ≡ Some (OfValues (wit_tree origin types (Some (Id t.1))))
+
+  skip_type : (name : List ℕ) (tree : TypeTree) (xs : List NestedExport) (ts : List (List ℕ × TypeId)) → AllByRecursion (IsTypeFound xs) ts → AllByRecursion (λ n. bytes_eq name n ≡ false) (map (λ t. t.0) ts) →
+      AllByRecursion (IsTypeFound (ExportedType name tree ∷ xs)) ts
+  skip_type name tree xs [] h k = tt
+  skip_type name tree xs (t ∷ ts) h k = (ap (λ b. if b then Some tree else type_named t.0 xs) (turned name t.0 k.0) ∙ h.0, skip_type name tree xs ts h.1 k.1)
+
+  -- where no two have one name, each is found, whatever is exported behind them
+  pub types_found : (xs : List NestedExport) (ts : List (List ℕ × TypeId)) → IsDistinct bytes_eq (map (λ t. t.0) ts) → AllByRecursion (IsTypeFound (map (exported_type origin types) ts ++ xs)) ts
+  unfolding IsDistinct
+  types_found xs [] k = tt
+  types_found xs (t ∷ ts) k =
+      let tree : TypeTree = OfValues (wit_tree origin types (Some (Id t.1))) in (
+        ap (λ b. if b then Some tree else type_named t.0 (map (exported_type origin types) ts ++ xs)) ((bytes_eq-Decides t.0 t.0).1 refl),
+        skip_type t.0 tree (map (exported_type origin types) ts ++ xs) ts (types_found xs ts k.1) k.0,
+      )
 
 -- ---- the arguments are the lifts and the types
 

@@ -71,6 +71,17 @@ fn functions_of(world: &ComponentWorld, id: InterfaceId) -> &Keyed<Text, Functio
     functions
 }
 
+/// The types of an interface, and that their names are distinct.
+fn listed_types(world: &ComponentWorld, id: InterfaceId) -> &Keyed<Text, TypeId>
+    requires present { HasInterface world.now.resolve id }
+    ensures types { result.now ≡ named_types world.now.resolve id }
+    ensures apart { IsDistinct bytes_eq (keys_of result.now) }
+{
+    let types = types_of(&world.resolve, id);
+    let _ = types.iter();
+    types
+}
+
 /// The nested component of an exported interface that lists these types and has these functions.
 fn interface_component(
     alloc: Global,
@@ -190,13 +201,8 @@ impl MainExports<'_> {
     {
         let world = root.world;
         let functions = functions_of(world, id);
-        let nested = interface_component(
-            root.items.allocator(),
-            world,
-            id,
-            types_of(&world.resolve, id),
-            functions,
-        )?;
+        let types = listed_types(world, id);
+        let nested = interface_component(root.items.allocator(), world, id, types, functions)?;
         let arguments = self.interface_arguments(root, key, id, functions, &nested)?;
         let instance = self.nested_instance(root, key, nested.into_items(), arguments)?;
         self.export(root, key, Sort::Instance, instance)?;

@@ -2,5 +2,5 @@ pub mod Kept
 pub mod Items
 pub mod Instance
 pub mod Exports
-pub mod Arguments
+pub mod SameExports
 mod WorkedNestedRun

@@ -1,5 +1,4 @@
 use Rattle.std.proofs.Common.{◌≡◌, ◌∙◌, ℕ, List, [], ◌∷◌, ◌++◌, refl, ap, subst, sym}
-use Rattle.std.specs.Prelude.{length}
 use Rattle.std.specs.List.{AllByRecursion, IsDistinct, slice_get}
 use Rattle.std.specs.Map.{keys_of}
 use Rattle.std.specs.Str.{bytes_eq}
@@ -36,8 +35,8 @@ Entries = List (List ℕ × Function)
 pub functions_of-functions-requires : goal.functions_of-functions-requires
 functions_of-functions-requires c = record { present = interface_there c.args.root.now.world.now c.requires.exports.valid c.args.key.now c.args.id c.requires.item }
 
-pub types_of-requires : goal.types_of-requires
-types_of-requires c = interface_there c.args.root.now.world.now c.requires.exports.valid c.args.key.now c.args.id c.requires.item
+pub listed_types-types-requires : goal.listed_types-types-requires
+listed_types-types-requires c = record { present = interface_there c.args.root.now.world.now c.requires.exports.valid c.args.key.now c.args.id c.requires.item }
 
 pub interface_component-requires : goal.interface_component-requires
 interface_component-requires c =
@@ -53,7 +52,7 @@ interface_component-requires c =
         ok.sound,
         (
           subst (λ (l : Entries). AllByRecursion (λ (e : List ℕ × Function). HasFunction w.resolve e.1) l) (sym same) (entries_sound w ok key id c.requires.item apart),
-          subst (λ (ts : List (List ℕ × TypeId)). IsAtHome w.resolve.types id ts c.functions_of-functions.result.now) (sym c.types_of.ensures)
+          subst (λ (ts : List (List ℕ × TypeId)). IsAtHome w.resolve.types id ts c.functions_of-functions.result.now) (sym c.listed_types-types.ensures.types)
               (subst (λ (l : Entries). IsAtHome w.resolve.types id (named_types w.resolve id) l) (sym same) home),
         ),
       ),
@@ -68,7 +67,7 @@ interface_arguments-requires-clause-functions c =
 
 pub interface_arguments-requires-clause-nested : goal.interface_arguments-requires-clause-nested
 interface_arguments-requires-clause-nested c =
-    subst (λ (ts : List (List ℕ × TypeId)). IsNestedOf c.args.root.now.world.now ts c.functions_of-functions.result.now c.in_ok-nested.nested) c.types_of.ensures c.in_ok-nested.ensures.nested
+    subst (λ (ts : List (List ℕ × TypeId)). IsNestedOf c.args.root.now.world.now ts c.functions_of-functions.result.now c.in_ok-nested.nested) c.listed_types-types.ensures.types c.in_ok-nested.ensures.nested
 
 pub returns-in_err-arguments-clause-cause : goal.returns-in_err-arguments-clause-cause
 returns-in_err-arguments-clause-cause c =
@@ -90,7 +89,7 @@ pub nested_instance-requires-clause-of : goal.nested_instance-requires-clause-of
 nested_instance-requires-clause-of c =
     let w = c.args.root.now.world.now in
     let listed : IsNestedOf w (named_types w.resolve c.args.id) c.functions_of-functions.result.now c.in_ok-nested.nested =
-    subst (λ (ts : List (List ℕ × TypeId)). IsNestedOf w ts c.functions_of-functions.result.now c.in_ok-nested.nested) c.types_of.ensures c.in_ok-nested.ensures.nested in
+    subst (λ (ts : List (List ℕ × TypeId)). IsNestedOf w ts c.functions_of-functions.result.now c.in_ok-nested.nested) c.listed_types-types.ensures.types c.in_ok-nested.ensures.nested in
     let nested : IsNestedOf w (named_types w.resolve c.args.id) (functions_of w.resolve c.args.id) c.in_ok-nested.nested =
     subst (λ (l : Entries). IsNestedOf w (named_types w.resolve c.args.id) l c.in_ok-nested.nested) c.functions_of-functions.ensures.functions listed in
     subst (λ x. IsNestedFor x.now c.into_items.result) (sym c.in_ok-arguments.ensures.kept.world)
@@ -101,7 +100,7 @@ nested_instance-requires-clause-right c =
     let w = c.args.root.now.world.now in
     let ds = c.interface_arguments.new.root.items.defs in
     subst (λ (is : List Item). AreArgumentsFor ds is c.in_ok-arguments.arguments) (sym c.into_items.ensures)
-    (arguments_for w c.args.key.now c.types_of.result.now c.functions_of-functions.result.now c.in_ok-nested.nested c.in_ok-nested.ensures.nested ds c.in_ok-arguments.arguments c.in_ok-arguments.ensures.given)
+    (arguments_for w c.args.key.now c.listed_types-types.result.now c.functions_of-functions.result.now c.in_ok-nested.nested c.in_ok-nested.ensures.nested ds c.in_ok-arguments.arguments c.in_ok-arguments.ensures.given)
 
 pub returns-in_err-instance-clause-kept : goal.returns-in_err-instance-clause-kept
 returns-in_err-instance-clause-kept c =
@@ -122,9 +121,11 @@ export-requires-clause-right c =
     subst (λ x. Grows x.now mid.items.defs new.items.defs (nested_mark c.into_items.result ∷ [])) c.in_ok-arguments.ensures.kept.world c.in_ok-instance.ensures.grows in
     let many : exports_in new.items.defs ≡ exports_in c.args.root.now.items.defs = exports_nested grows ∙ exports_same c.in_ok-arguments.ensures.grows in
     let nested : IsNestedOf w (named_types w.resolve c.args.id) c.functions_of-functions.result.now c.in_ok-nested.nested =
-    subst (λ (ts : List (List ℕ × TypeId)). IsNestedOf w ts c.functions_of-functions.result.now c.in_ok-nested.nested) c.types_of.ensures c.in_ok-nested.ensures.nested in
+    subst (λ (ts : List (List ℕ × TypeId)). IsNestedOf w ts c.functions_of-functions.result.now c.in_ok-nested.nested) c.listed_types-types.ensures.types c.in_ok-nested.ensures.nested in
+    let types_apart : IsDistinct bytes_eq (keys_of (named_types w.resolve c.args.id)) =
+    subst (λ (ts : List (List ℕ × TypeId)). IsDistinct bytes_eq (keys_of ts)) c.listed_types-types.ensures.types c.listed_types-types.ensures.apart in
     subst (λ x. ExportsInterface x.now new.items.defs c.in_ok-instance.instance) (sym world)
-    (instance_exported w c.requires.exports.valid c.args.key.now c.args.id c.requires.item c.functions_of-functions.result.now c.functions_of-functions.ensures.functions c.functions_of-functions.ensures.apart c.in_ok-nested.nested nested
+    (instance_exported w c.requires.exports.valid c.args.key.now c.args.id c.requires.item c.functions_of-functions.result.now c.functions_of-functions.ensures.functions c.functions_of-functions.ensures.apart types_apart c.in_ok-nested.nested nested
     c.in_ok-arguments.arguments mid.items.defs new.items.defs (longer c.in_ok-instance.ensures.extends) c.in_ok-arguments.ensures.given c.in_ok-instance.instance
     (ap (slice_get w.main_exports) many ∙ c.requires.next) (subst (λ (is : List Item). IsInstantiated new.items.defs is c.in_ok-arguments.arguments c.in_ok-instance.instance) c.into_items.ensures c.in_ok-instance.ensures.made))
 
@@ -158,7 +159,7 @@ returns-clause-grows c =
     subst (λ x. Grows x.now new.items.defs end (Exported (record { name = name_of n x.now.resolve key; sort = sorts.Instance }) ∷ [])) world c.in_ok-export.ensures.grows in
     let mark : nested_mark definitions ∷ [] ≡ nested_mark c.in_ok-nested.nested.items ∷ [] = ap (λ (is : List Item). nested_mark is ∷ []) c.into_items.ensures in
     let nested : IsNestedOf w (named_types w.resolve c.args.id) c.functions_of-functions.result.now c.in_ok-nested.nested =
-    subst (λ (ts : List (List ℕ × TypeId)). IsNestedOf w ts c.functions_of-functions.result.now c.in_ok-nested.nested) c.types_of.ensures c.in_ok-nested.ensures.nested in
+    subst (λ (ts : List (List ℕ × TypeId)). IsNestedOf w ts c.functions_of-functions.result.now c.in_ok-nested.nested) c.listed_types-types.ensures.types c.in_ok-nested.ensures.nested in
     let expected = mark_expected w c.args.key.now c.args.id c.functions_of-functions.result.now c.functions_of-functions.ensures.functions c.in_ok-nested.nested nested in
     let marks : (nested_mark definitions ∷ []) ++ Exported (record { name = name_of n w.resolve key; sort = sorts.Instance }) ∷ [] ≡ export_marked n w key =
     ap (λ (l : List Landmark). l ++ Exported (record { name = name_of n w.resolve key; sort = sorts.Instance }) ∷ []) (mark ∙ expected) ∙ marked_as n w key (world_items.Interface c.args.id) c.requires.item in
