@@ -7,5 +7,6 @@
 //! `proofs/Needed.antt` (a live type of an imported interface is needed), `proofs/Near.antt` (live types that have no later place),
 //! `proofs/Uses.antt` and `proofs/Sound.antt` (the functions that are used, and what the resolve has). The laws are in
 //! `proofs/InterfaceTypes.antt`, `proofs/InterfaceNeeds.antt` (both of an imported interface), `proofs/RootTypes.antt`,
-//! `proofs/RootItems.antt` (of the root), `proofs/Staying.antt` and `proofs/ExportedInterfaces.antt` (of an exported interface).
+//! `proofs/RootItems.antt` (of the root), `proofs/Staying.antt` and `proofs/ExportedInterfaces.antt` (of an exported interface,
+//! which may use types of interfaces that are imported alone).
 #![tactic(auto)]

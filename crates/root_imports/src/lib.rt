@@ -8,7 +8,8 @@
 //! ([`RootScope::alias_type`]).
 //!
 //! While an exported interface is built, its types are defined at the root, too: with them its functions are lifted, and they
-//! are given to the component that exports them. Then the root forgets them.
+//! are given to the component that exports them. Then the root forgets them. A type that it uses of an imported interface is an
+//! alias, as above, and stays known.
 //!
 //! In reading order: `root_scope` (the scope, and types in it), `aliases` (aliases of types of interfaces), `world_types`
 //! (imports of types), `used` (the functions that core modules use), `functions` (imports of functions), `exported_types` (the

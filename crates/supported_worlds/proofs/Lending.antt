@@ -1,5 +1,5 @@
 -- The sets of the interfaces that a world imports and exports.
-use Rattle.std.proofs.Common.{◌≡◌, ◌∙◌, ap, ap₂, sym, refl, ◌&&◌, ◌||◌, Bool, true, false, not, List, [], ◌∷◌}
+use Rattle.std.proofs.Common.{◌≡◌, ◌∙◌, ap, ap₂, refl, ◌&&◌, ◌||◌, Bool, true, false, not, [], ◌∷◌}
 use Rattle.std.specs.List.{list_any}
 use Rattle.comp_lists.specs.Tables.{with_first}
 use Rattle.wit_data.specs.contracts.ids.InterfaceIdEq.TheImpl.Laws.{laws-law as id_laws}
