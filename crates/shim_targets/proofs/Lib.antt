@@ -14,4 +14,5 @@ pub mod EachShim
 pub mod ByKind
 pub mod GivenShims
 pub mod NeededShims
+pub mod DestructorShims
 pub mod Worked

@@ -69,7 +69,7 @@ kept known (m ∷ ns) n c = by (list_any (same_kind m.kind) known) refl (contain
     by false e (inl same) here there = inr (subst (λ (x : NeededShim). Contains (m.kind ∷ kinds_needed next) x.kind) same (contains_first m.kind (kinds_needed next)))
     by false e (inr later) here there = after (there later)
 
-has_shim : (w : ComponentWorld) (n : NeededShim) → Contains (needed w users.Main) n → IsSome (shim_of n.kind (shims_of w))
+pub has_shim : (w : ComponentWorld) (n : NeededShim) → Contains (needed w users.Main) n → IsSome (shim_of n.kind (shims_of w))
 has_shim w n c =
     let lacks : List NeededShim = lacking [] (needed w users.Main) in
     let among : Contains (kinds_needed lacks) n.kind = elim (kept [] (needed w users.Main) n c) [

@@ -6,5 +6,6 @@
 //! `proofs/OptionSets.antt` (sets of options without a memory), `proofs/Roles.antt` (what the roles of a world exclude),
 //! `proofs/Lowered.antt` and `proofs/Calls.antt` (how a function that main calls is lowered). The laws are in
 //! `proofs/NoOptions.antt`, `proofs/Unencoded.antt`, `proofs/FoundShims.antt`, `proofs/EachShim.antt`, `proofs/ByKind.antt`,
-//! `proofs/GivenShims.antt` and `proofs/NeededShims.antt`; `proofs/Worked.antt` has examples.
+//! `proofs/GivenShims.antt` and `proofs/NeededShims.antt` (imports) and `proofs/DestructorShims.antt`; `proofs/Worked.antt` has
+//! examples.
 #![tactic(auto)]
