@@ -30,7 +30,7 @@ use Rattle.comp_links.specs.Links.{link_of}
 use Rattle.comp_links.specs.Roles.{IsEncodedImport}
 use Rattle.shim_plan.specs.declared.shims.Shim.{Shim}
 use Rattle.world_shims.specs.WorldShims.{shims_of}
-use Rattle.comp_terms.specs.Generated.{shims_number, IsShimOf}
+use Rattle.comp_terms.specs.Generated.{shims_number, IsShimOf, Purpose, target_of, HasPurpose}
 use Rattle.comp_terms.specs.Terms.{CoreExport, TermOption, Term, IsExported, IsLifting, Is}
 use Rattle.comp_terms.specs.Terms as terms
 
@@ -123,9 +123,9 @@ pub record IsArgumentFor (w : ComponentWorld) (of : UserModule) (ds : List Def) 
 pub record IsFillFor (w : ComponentWorld) (ds : List Def) (e : CoreInlineExport) (s : Shim) : Type 0 where
   pub named : e.name ≡ s.name
   pub function : e.kind ≡ kinds.Func
-  pub role : Import
-  pub stands_for : IsShimOf w s role
-  pub serves : IsItemFor w ds spaces.CoreFunc e.index (link_of w targets.Main role)
+  pub purpose : Purpose
+  pub stands_for : HasPurpose w s purpose
+  pub serves : IsItemFor w ds spaces.CoreFunc e.index (target_of w purpose)
 
 -- the core instance is an inline instance with an entry for each shim, in order
 pub record AreFillsFor (w : ComponentWorld) (ds : List Def) (index : ℕ) : Type 0 where

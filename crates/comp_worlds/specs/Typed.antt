@@ -30,6 +30,10 @@ drop_type = externs.Func (function_type (I32 ∷ []) [])
 abbrev pub realloc_type : ExternType
 realloc_type = externs.Func (function_type (I32 ∷ I32 ∷ I32 ∷ I32 ∷ []) (I32 ∷ []))
 
+-- the type of a destructor: the representation of a resource is a number
+abbrev pub destructor_type : ExternType
+destructor_type = externs.Func (function_type (I32 ∷ []) [])
+
 -- the type of a post-return: it takes the core results of the function
 abbrev pub post_return_type : Resolve → Function → ExternType
 post_return_type r f = externs.Func (function_type (map value_type (signature GuestExport r.types f).results) [])
@@ -46,6 +50,7 @@ type_of_export r items (exports.WorldFunc key function abi) = option_map (called
 type_of_export r items (exports.InterfaceFunc key id function abi) = option_map (called_type r abi) (found function (functions_of r id))
 type_of_export r items (exports.WorldFuncPostReturn key) = option_map (post_return_type r) (root_function_at items.exports key)
 type_of_export r items (exports.InterfaceFuncPostReturn key function) = option_map (post_return_type r) (function_of_item r function (lookup (is_same_key key) items.exports))
+type_of_export r items (exports.ResourceDtor id) = Some destructor_type
 type_of_export r items (exports.Memory type) = Some (externs.Memory type)
 type_of_export r items exports.GeneralPurposeRealloc = Some realloc_type
 type_of_export r items exports.GeneralPurposeImportRealloc = Some realloc_type

@@ -93,12 +93,13 @@ pub record ExportsFunctionOf (w : ComponentWorld) (key : WorldKey) (id : Interfa
   pub has : Contains (map (λ e. e.0) (functions_of w.resolve id)) name
 
 -- the role of an export is a function that the world exports, at its root or in an interface, called in the right form, the
--- post-return of one, the memory, or a realloc
+-- post-return of one, the destructor of a resource, the memory, or a realloc
 abbrev pub IsExportRole : ComponentWorld → Export → Type 0
 IsExportRole w (exports.WorldFunc (keys.Name text) function abi) = Contains (exported_functions w) text × (function ≡ text) × (abi ≡ GuestExport)
 IsExportRole w (exports.InterfaceFunc key id function abi) = ExportsFunctionOf w key id function × (abi ≡ GuestExport)
 IsExportRole w (exports.WorldFuncPostReturn (keys.Name text)) = Contains (exported_functions w) text
 IsExportRole w (exports.InterfaceFuncPostReturn key function) = (id : InterfaceId) × ExportsFunctionOf w key id function
+IsExportRole w (exports.ResourceDtor id) = IsResource w.resolve.types id.index
 IsExportRole w (exports.Memory type) = Unit {0}
 IsExportRole w exports.GeneralPurposeRealloc = Unit {0}
 IsExportRole w exports.GeneralPurposeImportRealloc = Unit {0}

@@ -16,8 +16,8 @@ use Rattle.comp_links.specs.Links.{lower_needs}
 use Rattle.comp_links.specs.Roles.{import_encoding, IsEncodedImport}
 use Rattle.shim_plan.specs.Plans.{shim_of}
 use Rattle.shim_plan.specs.declared.kinds.ShimKind.{ShimKind}
-use Rattle.shim_plan.specs.declared.shims.Shim.{Shim}
-use Rattle.shim_targets.specs.ShimTargets.{kind_of_import, StandsFor}
+use Rattle.shim_targets.specs.ShimTargets.{kind_of_import, StandsFor, StandsForOne}
+use Rattle.shim_targets.proofs.ByKind.{for_role}
 use Rattle.shim_targets.proofs.EachShim.{each_stands}
 use Rattle.shim_targets.proofs.FoundShims.{found_shim}
 use Rattle.shim_targets.proofs.GivenShims.{given_shim}
@@ -49,7 +49,8 @@ module _ (w : ComponentWorld) (ok : IsEncodable w) (has : AllByRecursion (HasShi
   through i there e encoding encoded kind is =
       let s = known (shim_of kind (shims_of w)) (shim_there w ok i there encoding encoded e kind is) in
       let at = found_shim w ok kind s.0 s.1 in
-      let j = all_at (λ (x : Shim). (i : CoreImport) × StandsFor w x i) (shims_of w) at.0 s.0 (each_stands w ok) at.1 in
+      let own : kind_of_import i.role encoding ≡ Some s.0.kind = is ∙ ap Some (sym at.2) in
+      let j : (j : CoreImport) × StandsFor w s.0 j = for_role w s.0 i.role encoding own (all_at (StandsForOne w) (shims_of w) at.0 s.0 (each_stands w ok) at.1) in
       let given = given_shim w ok i there encoding encoded kind is s.0 s.1 in
       let same : j.0.role ≡ i.role = same_Some j.0.role i.role (sym j.1.is.of_kind ∙ given.of_kind) in
       let options : s.0.options.0 ≡ lower_needs w i.role = j.1.options ∙ ap (lower_needs w) same in

@@ -58,6 +58,10 @@ typed_by w name f (Some x) type e offered = (f x, offered ∙ sym e)
 abbrev realloc_core : FuncType
 realloc_core = function_type (I32 ∷ I32 ∷ I32 ∷ I32 ∷ []) (I32 ∷ [])
 
+-- that of a destructor
+abbrev destructor_core : FuncType
+destructor_core = function_type (I32 ∷ []) []
+
 -- an export of main with a role, unless it is a memory, is a function
 role_offered : (w : ComponentWorld) (name : List ℕ) (role : WorldExport) → memory_of (name, role) ≡ None → IsExportRole w role → FitsExport w.resolve (items_of w) w.main (name, role) → OffersFunction w name
 role_offered w name (exports.WorldFunc (keys.Name text) function abi) m r h =
@@ -67,6 +71,7 @@ role_offered w name (exports.InterfaceFuncPostReturn key function) m r h =
     typed_by w name (λ f. function_type (map value_type (signature GuestExport w.resolve.types f).results) []) (function_of_item w.resolve function (lookup (is_same_key key) (items_of w).exports)) h.type h.fits h.offered
 role_offered w name (exports.WorldFuncPostReturn (keys.Name text)) m r h =
     typed_by w name (λ f. function_type (map value_type (signature GuestExport w.resolve.types f).results) []) (root_function_at (items_of w).exports (keys.Name text)) h.type h.fits h.offered
+role_offered w name (exports.ResourceDtor id) m r h = (destructor_core, h.offered ∙ sym h.fits)
 role_offered w name exports.GeneralPurposeRealloc m r h = (realloc_core, h.offered ∙ sym h.fits)
 role_offered w name exports.GeneralPurposeImportRealloc m r h = (realloc_core, h.offered ∙ sym h.fits)
 role_offered w name exports.GeneralPurposeExportRealloc m r h = (realloc_core, h.offered ∙ sym h.fits)

@@ -48,17 +48,19 @@ use Rattle.comp_runs.specs.Store.{Thing, Export, HeldOption, HeldEncoding, HeldM
 use Rattle.comp_roles.specs.declared.offered.ExternType.{ExternType}
 use Rattle.comp_roles.specs.declared.offered.ExternType.TheVariants as externs
 use Rattle.comp_roles.specs.declared.offered.ImportType.{ImportType}
-use Rattle.comp_links.specs.Targets.{UserModule, Main, WorldFunction, ExportRef, TargetOption, Target, OfRoot, OfInterface, Lowered, Dropped, Lifted}
+use Rattle.comp_links.specs.Targets.{UserModule, Main, WorldFunction, ExportRef, TargetOption, Target, OfRoot, OfInterface, Lowered, ExportOf, Dropped, Lifted}
 use Rattle.comp_links.specs.Targets as targets
 use Rattle.comp_links.specs.Modules.{WorldModule, adapter_module, IsModule}
 use Rattle.comp_links.specs.Lists.{IsOriginOf, resource_of}
 use Rattle.comp_links.specs.Links.{lower_options, link_of, link_in, link_at}
+use Rattle.shim_plan.specs.Kinds.{kind_name}
+use Rattle.shim_plan.specs.declared.shims.Shim.{Shim}
 use Rattle.world_shims.specs.WorldShims.{shims_of, type_of_shim}
 use Rattle.shim_runs.specs.ShimRuns.{IsShimAt, instance_exports}
 use Rattle.shim_runs.proofs.Placed.{shim_at}
 use Rattle.shim_runs.proofs.Exported.{shims_found}
 use Rattle.link_laws.specs.Composition.{at_root, item_instantiates}
-use Rattle.comp_terms.specs.Generated.{shims_number}
+use Rattle.comp_terms.specs.Generated.{shims_number, role_of_kind, Purpose, OfImport, OfDestructor, target_of, HasPurpose}
 use Rattle.comp_terms.specs.Terms.{CoreExport, TermOption, Term, Is, IsFunctionType, IsResource, IsImportedFunction, IsInstanceOf, IsExported, IsOption, IsLowering, IsDropping, IsLifting}
 use Rattle.comp_terms.specs.Terms as terms
 use Rattle.comp_terms.specs.Planned.{IsExportFor, IsMemoryFor, IsOptionFor, IsTypeOf, IsTermFor, IsItemFor, IsGivenFor, IsLiftFor, IsEntryFor, IsArgumentFor}
@@ -73,7 +75,7 @@ use Rattle.instance_laws.proofs.Held.{trees_of_held, held_of_entries, IsTypeTher
 use Rattle.link_laws.proofs.Zips.{AllZip-filter, AllZip-back, mapped_some, filter-both, all_some-zip, found-zip, found-each}
 use Rattle.comp_worlds.proofs.Roles.{bound_some}
 use Rattle.link_laws.proofs.Plain.{IsFunctionImport, lowered_type, same_signature-refl, function_type_in, only_main_is, fields_right}
-use Rattle.link_laws.proofs.Stores.{IsOpaqueOf, IsInstance, IsUserItem, IsUserExport, IsUserInstance, IsNamedEntry, IsInlineInstance, ShimsAt, AreModuleExports, IsModuleInstance, NamesUser, IsLoweredItem, IsTypeAt, IsDropItem, IsLiftedItem, IsAliasedItem, DefIs, Means, makes, IsTypeEntry, entry_of, IsFunctionEntry, IsInstanceThing, IsLoweredFor, IsDropOf, IsServedAs, IsShimGivenAt, IsShimGiven, Serves, MayHaveShims, main_module, IsPlanned, IsMainExport, IsFirstMemory, IsOptionFunction, IsHeldOption, IsOptionHeld, IsCoreExportAt, IsLiftedFrom, Agrees}
+use Rattle.link_laws.proofs.Stores.{IsOpaqueOf, IsInstance, IsUserItem, IsUserExport, IsUserInstance, IsNamedEntry, IsInlineInstance, ShimsAt, AreModuleExports, IsModuleInstance, NamesUser, IsLoweredItem, IsTypeAt, IsDropItem, IsLiftedItem, IsAliasedItem, DefIs, Means, makes, IsTypeEntry, entry_of, IsFunctionEntry, IsInstanceThing, IsLoweredFor, IsDropOf, IsExportServed, IsServedAs, IsShimGivenAt, IsShimGiven, Serves, MayHaveShims, main_module, IsPlanned, IsMainExport, IsFirstMemory, IsOptionFunction, IsHeldOption, IsOptionHeld, IsCoreExportAt, IsLiftedFrom, Agrees}
 
 makes-space : (space : Space) (d : Def) → is_space space (space_of d) ≡ true → makes d ≡ true
 makes-space space d e = by (space_of d) e
@@ -332,7 +334,7 @@ module _ {w : ComponentWorld} {earlier : List Def} {c : Scope} {s : Store} (a : 
       (x.0, x.1, x.2.0, x.2.1)
 
   -- an alias of an export of main is that export of an instance of main, of its type
-  exported_there : {index : ℕ} {e : CoreExport} → e.of ≡ 0 → IsExported earlier index e → IsCoreExportAt c.items s index e
+  exported_there : {index : ℕ} {e : CoreExport} → e.of ≡ 0 → IsExported earlier index e → IsCoreExportAt w c.items s index e
   exported_there {index} {e} main h =
       let l : (x : ℕ) × (address_at (kind_space e.kind) index c.items ≡ Some x) × IsAliasedItem w earlier c.items s e.kind h.instance e.name x = thing_there h.made in
       let of : IsInstanceOf earlier h.instance 0 = subst (IsInstanceOf earlier h.instance) main h.of in
@@ -346,6 +348,7 @@ module _ {w : ComponentWorld} {earlier : List Def} {c : Scope} {s : Store} (a : 
         address = l.0;
         at = l.1;
         type = names.type;
+        offered = names.offered;
         of_kind = names.of_kind;
         user = m.2.user;
         of = record { instance = m.2.is.instance; present = m.2.is.present; of = m.2.is.of ∙ sym main };
@@ -373,11 +376,11 @@ module _ {w : ComponentWorld} {earlier : List Def} {c : Scope} {s : Store} (a : 
       let is : l.2.export ≡ shim = same_Some l.2.export shim (sym l.2.found ∙ found) in
       (l.0, l.1, at.0, at.1, sym l.2.is ∙ ap (λ (y : Export). y.address) is)
 
-  -- an alias of a function that main exports is that function, which is opaque
-  pub function_exported : IsWorld w → {index : ℕ} {e : CoreExport} {name : List ℕ} → e.kind ≡ kinds.Func → IsModule w e.of Main → e.name ≡ name → IsExported earlier index e →
-      (x : ℕ) × (address_at spaces.CoreFunc index c.items ≡ Some x) × IsMainExport s x name
-  function_exported ok {index} {e} {name} function of named h =
-      let x : IsCoreExportAt c.items s index e = exported_there (only_main_is w ok e.of of) h in
+  -- an alias of a function that main exports is that function, which is opaque, and has the type that validation found
+  pub function_offered : IsWorld w → {index : ℕ} {e : CoreExport} {name : List ℕ} → e.kind ≡ kinds.Func → IsModule w e.of Main → e.name ≡ name → IsExported earlier index e →
+      (x : ℕ) × (address_at spaces.CoreFunc index c.items ≡ Some x) × (m : IsMainExport s x name) × (found name w.main.offered ≡ Some (externs.Func m.type))
+  function_offered ok {index} {e} {name} function of named h =
+      let x : IsCoreExportAt w c.items s index e = exported_there (only_main_is w ok e.of of) h in
       let type : (t : FuncType) × (x.type ≡ externs.Func t) = type_of_function_kind x.type (subst (λ kind. IsOfKind kind x.type) function x.of_kind) in
       let opaque : IsOpaqueOf s x.export.address type.0 (ExportedBy x.user x.export.name) = subst (IsUserItem s x.user x.export) type.1 x.item in
       let renamed : IsOpaqueOf s x.export.address type.0 (ExportedBy x.user name) = subst (λ t. IsOpaqueOf s x.export.address type.0 (ExportedBy x.user t)) (x.named ∙ named) opaque in (
@@ -389,13 +392,18 @@ module _ {w : ComponentWorld} {earlier : List Def} {c : Scope} {s : Store} (a : 
           is = subst (λ n. IsOpaqueOf s n type.0 (ExportedBy x.user name)) x.is renamed;
           of = subst (IsInstance s x.user) (only_main_is w ok e.of of) x.of;
         },
+        ap (λ n. found n w.main.offered) (sym named) ∙ x.offered ∙ ap Some type.1,
       )
+
+  pub function_exported : IsWorld w → {index : ℕ} {e : CoreExport} {name : List ℕ} → e.kind ≡ kinds.Func → IsModule w e.of Main → e.name ≡ name → IsExported earlier index e →
+      (x : ℕ) × (address_at spaces.CoreFunc index c.items ≡ Some x) × IsMainExport s x name
+  function_exported ok function of named h = let x = function_offered ok function of named h in (x.0, x.1, x.2)
 
   -- an alias of the first memory that main exports is that memory
   memory_exported : IsWorld w → {index : ℕ} {e : CoreExport} → e.kind ≡ kinds.Memory → IsMemoryFor w e → IsExported earlier index e →
       (x : ℕ) × (address_at spaces.CoreMemory index c.items ≡ Some x) × IsFirstMemory w s x
   memory_exported ok {index} {e} memory asked h =
-      let x : IsCoreExportAt c.items s index e = exported_there (only_main_is w ok e.of asked.of) h in
+      let x : IsCoreExportAt w c.items s index e = exported_there (only_main_is w ok e.of asked.of) h in
       let space : x.export.space ≡ spaces.CoreMemory = x.space ∙ (space_of_kind e.kind x.type x.of_kind ∙ ap kind_space memory) in
       let whole : x.export ≡ record { space = spaces.CoreMemory; name = e.name; address = x.address } =
       by_parts x.export spaces.CoreMemory e.name space x.named ∙ ap (λ n. record { space = spaces.CoreMemory; name = e.name; address = n }) x.is in (
@@ -552,6 +560,21 @@ module _ {w : ComponentWorld} {earlier : List Def} {c : Scope} {s : Store} (a : 
       by kind term is asked = absurd asked
   item_there ok kind index role right h = absurd right
 
+  -- so has a destructor that main exports
+  destructor_there : IsWorld w → (index : ℕ) (name : List ℕ) → IsItemFor w earlier spaces.CoreFunc index (ExportOf (record { of = Main; name = name })) →
+      (x : ℕ) × (address_at spaces.CoreFunc index c.items ≡ Some x) × IsExportServed w s x (record { of = Main; name = name })
+  destructor_there ok index name h = by h.term h.is h.asked
+    where
+      by : (term : Term) → Is earlier spaces.CoreFunc index term → IsTermFor w (ExportOf (record { of = Main; name = name })) term → (x : ℕ) × (address_at spaces.CoreFunc index c.items ≡ Some x) × IsExportServed w s x (record { of = Main; name = name })
+      by (terms.Exported e) is asked = let x = function_offered ok (func_kind e.kind (sym is.0)) asked.of asked.named is.1 in (x.0, x.1, record { of = refl; is = x.2; offered = x.3 })
+      by term is asked = absurd asked
+
+  -- and what a shim stands for
+  pub purpose_there : IsWorld w → (index : ℕ) (shim : Shim) (p : Purpose) → HasPurpose w shim p → IsItemFor w earlier spaces.CoreFunc index (target_of w p) →
+      (x : ℕ) × (address_at spaces.CoreFunc index c.items ≡ Some x) × IsServedAs w s x (target_of w p)
+  purpose_there ok index shim (OfImport role) stands h = let x = item_there ok kinds.Func index role stands.right h in (x.1, x.2, x.3)
+  purpose_there ok index shim (OfDestructor name) stands h = destructor_there ok index name h
+
   -- so has what is given for an import: that item, or a shim
   given_item_there : IsWorld w → (kind : ExportKind) (index : ℕ) (role : Import) → IsImportRole w role → IsGivenFor w Main earlier (kind_space kind) index role →
       (kind ≡ kinds.Func) × (x : ℕ) × (address_at spaces.CoreFunc index c.items ≡ Some x) × Serves w a.shims s x role
@@ -617,6 +640,20 @@ served_opaque w s address (imports.InterfaceFunc key id function abi) type right
 served_opaque w s address (imports.ImportedResourceDrop key interface id) type right fits h =
     (IntrinsicOf (intrinsics.ResourceDrop h.of), subst (λ t. IsOpaqueOf s address t (IntrinsicOf (intrinsics.ResourceDrop h.of))) (ap (function_type_in type) (same_Some drop_type (externs.Func type) fits)) h.is)
 served_opaque w s address role type right fits h = absurd right
+
+-- what a shim hands on to is opaque, and has the shim's core type
+pub purpose_opaque : (w : ComponentWorld) (s : Store) (address : ℕ) (shim : Shim) (p : Purpose) → HasPurpose w shim p → IsServedAs w s address (target_of w p) → (item : CoreItem) × IsOpaqueOf s address (type_of_shim shim) item
+purpose_opaque w s address shim (OfImport role) stands h = served_opaque w s address role (type_of_shim shim) stands.right stands.typed h
+purpose_opaque w s address shim (OfDestructor name) stands h =
+    let typed : externs.Func h.is.type ≡ externs.Func (type_of_shim shim) = same_Some (externs.Func h.is.type) (externs.Func (type_of_shim shim)) (sym h.offered ∙ stands.typed) in
+    (ExportedBy h.is.user name, subst (λ t. IsOpaqueOf s address t (ExportedBy h.is.user name)) (ap (function_type_in (type_of_shim shim)) typed) h.is.is)
+
+-- a shim stands for one thing
+pub one_purpose : (w : ComponentWorld) (shim : Shim) (p q : Purpose) → HasPurpose w shim p → HasPurpose w shim q → p ≡ q
+one_purpose w shim (OfImport role) (OfImport other) h k = ap OfImport (same_Some role other (sym h.of_kind ∙ k.of_kind))
+one_purpose w shim (OfImport role) (OfDestructor name) h k = absurd (none-some role (ap (role_of_kind w) (sym k.of_kind) ∙ h.of_kind))
+one_purpose w shim (OfDestructor name) (OfImport role) h k = absurd (none-some role (ap (role_of_kind w) (sym h.of_kind) ∙ k.of_kind))
+one_purpose w shim (OfDestructor name) (OfDestructor other) h k = ap (λ kind. OfDestructor (kind_name kind)) (sym h.of_kind ∙ k.of_kind)
 
 -- what is given for a role is a function of the core type that the role requires
 record IsServedFunction (s : Store) (address : ℕ) (type : FuncType) : Type 0 where

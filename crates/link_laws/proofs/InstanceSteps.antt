@@ -7,14 +7,13 @@ use Rattle.std.specs.List.{slice_get, flat_map, AllZip, AllByRecursion, filter_m
 use Rattle.comp_lists.proofs.Lists.{slice_get-end, AllZip-weaker, AllByRecursion-weaker, AllByRecursion-push}
 use Rattle.comp_bytes.specs.Spaces.{kind_space, items_in}
 use Rattle.comp_bytes.specs.declared.space.Space.TheVariants as spaces
-use Rattle.standard_kinds.specs.declared.kinds.ExportKind.TheVariants as kinds
 use Rattle.comp_bytes.specs.declared.def.CoreArgument.{CoreArgument}
 use Rattle.comp_bytes.specs.declared.def.CoreInlineExport.{CoreInlineExport}
 use Rattle.comp_bytes.specs.declared.def.Item.TheVariants as items
 use Rattle.comp_bytes.specs.declared.def.Def.{Def}
 use Rattle.comp_bytes.specs.declared.def.Def.TheVariants as defs
 use Rattle.comp_worlds.specs.Worlds.{IsWorld}
-use Rattle.comp_terms.specs.Generated.{shims_number, fixup_number}
+use Rattle.comp_terms.specs.Generated.{shims_number, fixup_number, target_of}
 use Rattle.world_shims.specs.WorldShims.{shims_of, type_of_shim, sections_of_shims, sections_of_fixup}
 use Rattle.shim_runs.specs.ShimRuns.{instance_exports, with_shims, ShimsRun, IsActual, CanFix, with_slots, fixup_arguments, FixupRun}
 use Rattle.comp_roles.specs.declared.imports.ImportInstance.{ImportInstance}
@@ -38,14 +37,13 @@ use Rattle.shim_runs.proofs.FixupInstance.{fixup_run}
 use Rattle.world_shims.proofs.Numbered.{shims_numbered}
 use Rattle.shim_plan.specs.declared.shims.Shim.{Shim}
 use Rattle.core_runs.specs.Instances.{empty_table}
-use Rattle.comp_links.specs.Links.{link_of}
 use Rattle.std.proofs.lemmas.Bool.{ne_eqb}
 use Rattle.std.proofs.lemmas.List.Elements.{filter_map-append, Contains-append_left, Contains-append_right}
 use Rattle.link_laws.specs.Composition.{GeneratedModules, generated_sections, at_root, item_instantiates}
 use Rattle.link_laws.specs.Linking.{module_meanings}
 use Rattle.link_laws.proofs.Zips.{all_some-each}
 use Rattle.link_laws.proofs.Stores.{IsOpaqueOf, ShimsAt, IsModuleInstance, IsInlineInstance, IsFilledWith, AreFilled, AreShims, IsServedAs, IsNamedEntry, ExportsShims, MayHaveShims, main_module, IsPlanned, IsPlannedUser, NumberedFrom, Agrees}
-use Rattle.link_laws.proofs.Given.{thing_there, item_there, served_opaque, not_shims, of_shims, module_there, IsOffered, address_there, arguments_there, given_there}
+use Rattle.link_laws.proofs.Given.{thing_there, purpose_there, purpose_opaque, not_shims, of_shims, module_there, IsOffered, address_there, arguments_there, given_there}
 use Rattle.link_laws.proofs.Plain.{only, nothing_in, IsFunctionImport, function_imports, only_main, listed_main}
 use Rattle.link_laws.proofs.UserExports.{Exports, Alike, all_exports, all_alike, same_exports, each_export}
 use Rattle.link_laws.proofs.Kept.{IsFilledWith-kept, ShimsKept, shims_same, MayHaveShims-kept, Keeps, things_kept, IsPlannedUser-kept, AreKeyExports-kept}
@@ -293,12 +291,12 @@ module _ {w : ComponentWorld} {earlier : List Def} {c : Scope} {s : Store} (a : 
   fill_there : IsWorld w → (e : CoreInlineExport) (shim : Shim) (x : Export) → IsFillFor w earlier e shim → IsNamedEntry c.items e x → IsFilling w s shim x
   fill_there ok e shim x h n =
       let kind : kind_space e.kind ≡ spaces.CoreFunc = ap kind_space h.function in
-      let i : (kinds.Func ≡ kinds.Func) × (y : ℕ) × (address_at spaces.CoreFunc e.index c.items ≡ Some y) × IsServedAs w s y (link_of w Main h.role) = item_there a ok kinds.Func e.index h.role h.stands_for.right h.serves in
+      let i : (y : ℕ) × (address_at spaces.CoreFunc e.index c.items ≡ Some y) × IsServedAs w s y (target_of w h.purpose) = purpose_there a ok e.index shim h.purpose h.stands_for h.serves in
       let at : address_at spaces.CoreFunc e.index c.items ≡ Some x.address = subst (λ space. address_at space e.index c.items ≡ Some x.address) kind n.at in
-      let serves : IsServedAs w s x.address (link_of w Main h.role) = subst (λ y. IsServedAs w s y (link_of w Main h.role)) (same_Some i.1 x.address (sym i.2 ∙ at)) i.3 in
-      let o : (item : CoreItem) × IsOpaqueOf s x.address (type_of_shim shim) item = served_opaque w s x.address h.role (type_of_shim shim) h.stands_for.right h.stands_for.typed serves in (
+      let serves : IsServedAs w s x.address (target_of w h.purpose) = subst (λ y. IsServedAs w s y (target_of w h.purpose)) (same_Some i.0 x.address (sym i.1 ∙ at)) i.2 in
+      let o : (item : CoreItem) × IsOpaqueOf s x.address (type_of_shim shim) item = purpose_opaque w s x.address shim h.purpose h.stands_for serves in (
         record { named = n.named ∙ h.named; space = n.space ∙ kind; function = Opaque o.1.what (type_of_shim shim); present = o.1.present; typed = refl },
-        record { role = h.role; stands_for = h.stands_for; serves = serves },
+        record { purpose = h.purpose; stands_for = h.stands_for; serves = serves },
       )
 
   fills_there : IsWorld w → (es : List CoreInlineExport) (shims : List Shim) (xs : List Export) → AllZip (IsFillFor w earlier) es shims → AllZip (IsNamedEntry c.items) es xs → AllZip (IsFilling w s) shims xs

@@ -30,13 +30,13 @@ use Rattle.comp_roles.specs.declared.imports.Import.{Import}
 use Rattle.comp_roles.specs.declared.offered.ImportType.{ImportType}
 use Rattle.comp_worlds.specs.WorldContents.{exported_item}
 use Rattle.comp_worlds.specs.declared.world.ComponentWorld.{ComponentWorld}
-use Rattle.comp_links.specs.Targets.{Main, ExportRef, TargetOption, Target, Lowered, Dropped}
+use Rattle.comp_links.specs.Targets.{Main, ExportRef, TargetOption, Target, Lowered, ExportOf, Dropped}
 use Rattle.comp_links.specs.Targets as targets
 use Rattle.comp_links.specs.Lists.{resource_of, RequiredFunction, functions_required, RequiredType, types_required, type_of_world}
 use Rattle.comp_links.specs.Links.{link_of}
 use Rattle.shim_plan.specs.declared.shims.Shim.{Shim}
 use Rattle.world_shims.specs.WorldShims.{shims_of}
-use Rattle.comp_terms.specs.Generated.{shims_number, fixup_number}
+use Rattle.comp_terms.specs.Generated.{shims_number, fixup_number, target_of}
 use Rattle.core_runs.specs.Store.{Opaque}
 use Rattle.core_runs.specs.Instances.{empty_table}
 use Rattle.comp_runs.specs.Store.{Thing, Export, HeldOption, HeldMemory, HeldRealloc, HeldPostReturn, HeldCallback, CoreItem, Function, Imported, Lifting, TypeItem, TreeOf, ModuleInstance, Store, ComponentItem}
@@ -267,6 +267,11 @@ module _ {a b : List Thing} {s t : Store} (k : Keeps a b s t) where
     with_options = AllZip-weaker (IsOptionHeld-kept w) h.held options h.with_options;
   }
   IsServedAs-kept w address (Dropped id) h = record { of = h.of; is = IsOpaque-kept h.is; held = IsHeldAs-kept k.types (OfValues (ResourceAt (resource_of w id))) h.of h.held }
+  IsServedAs-kept w address (ExportOf export_ref) h = record {
+    of = h.of;
+    is = record { user = h.is.user; type = h.is.type; is = IsOpaque-kept h.is.is; of = IsInstance-kept h.is.of };
+    offered = h.offered;
+  }
   IsServedAs-kept w address target h = absurd h
 
   Serves-kept : (w : ComponentWorld) (old new : Option ShimsAt) → ShimsKept old new → (address : ℕ) (role : Import) → Serves w old s address role → Serves w new t address role
@@ -277,7 +282,7 @@ module _ {a b : List Thing} {s t : Store} (k : Keeps a b s t) where
   IsPlanned-kept w old new same x i h = record { role = h.role; said = h.said; space = h.space; serves = Serves-kept w old new same x.address h.role h.serves }
 
   pub IsFilledWith-kept : (w : ComponentWorld) (shim : Shim) (function : ℕ) → IsFilledWith w s shim function → IsFilledWith w t shim function
-  IsFilledWith-kept w shim function h = record { role = h.role; stands_for = h.stands_for; serves = IsServedAs-kept w function (link_of w Main h.role) h.serves }
+  IsFilledWith-kept w shim function h = record { purpose = h.purpose; stands_for = h.stands_for; serves = IsServedAs-kept w function (target_of w h.purpose) h.serves }
 
   -- the shims, where the tables are kept too, and no instance is new but those of modules of other numbers
   pub AreShims-kept : (w : ComponentWorld) (numbers more : List ℕ) (at : ShimsAt) → KeepsEntries s.code.tables t.code.tables → (Contains (numbers ++ more) (fixup_number w) → Contains numbers (fixup_number w)) →

@@ -35,9 +35,10 @@ use Rattle.comp_worlds.specs.Worlds.{IsWorld}
 use Rattle.comp_worlds.specs.declared.world.ComponentWorld.{ComponentWorld}
 use Rattle.comp_trees.specs.Trees.{FunctionTree}
 use Rattle.comp_trees.specs.DefinedTrees.{OfOthers}
-use Rattle.comp_links.specs.Targets.{Main, ExportRef, WorldFunction, TargetOption, Target, Lowered, Dropped, Lifted}
+use Rattle.comp_links.specs.Targets.{Main, ExportRef, WorldFunction, TargetOption, Target, Lowered, ExportOf, Dropped, Lifted}
 use Rattle.comp_links.specs.Targets as targets
 use Rattle.comp_links.specs.Links.{lift_options, link_of}
+use Rattle.comp_terms.specs.Generated.{Purpose, OfImport, target_of, HasPurpose}
 use Rattle.shim_plan.specs.declared.shims.Shim.{Shim}
 use Rattle.world_shims.specs.WorldShims.{shims_of, type_of_shim}
 use Rattle.shim_runs.specs.ShimRuns.{IsShimAt, AreShimsFrom}
@@ -51,12 +52,12 @@ use Rattle.comp_runs.specs.Store.{Thing, Export, HeldOption, HeldEncoding, HeldM
 use Rattle.comp_runs.specs.Machine.{Machine, export_in, export_of}
 use Rattle.nested_laws.proofs.Kept.{is_function}
 use Rattle.nested_laws.proofs.Exports.{front, other_space}
-use Rattle.link_laws.specs.Meeting.{CoreMeets, CoreExportMeets, task_hook, hooks_round, MemoryMeets, IsMainMemory, MeetsOption, ItemIsExport, ItemIsLowering, ItemIsDrop, Meets, MeetsIn, entry_kind}
+use Rattle.link_laws.specs.Meeting.{CoreMeets, CoreExportMeets, task_hook, hooks_round, MemoryMeets, IsMainMemory, MeetsOption, ItemIsExport, ItemIsLowering, ItemIsDrop, Meets, MeetsIn, entry_kind, IsExportOf}
 use Rattle.instance_laws.proofs.Held.{tree_of_held}
 use Rattle.link_laws.specs.Linking.{IsServed, AreServed, UsersServed, IsProvided, IsTypeProvided, exports_at}
 use Rattle.link_laws.proofs.Zips.{AllByRecursion-join, each_at}
-use Rattle.link_laws.proofs.Stores.{IsOpaqueOf, ShimsAt, drop_core, IsLoweredFor, IsDropOf, IsServedAs, IsShimGivenAt, Serves, IsFilledWith, AreFilled, main_module, IsPlanned, IsPlannedUser, IsMainExport, IsFirstMemory, IsOptionFunction, IsOptionHeld, main_key, main_function, type_at_key, IsRequiredAt, IsFunctionExport, IsAmong, IsTypeAmong, IsInterfaceExport, IsItemExport, IsKeyExport, AreKeyExports}
-use Rattle.link_laws.proofs.Given.{by_parts, served_opaque}
+use Rattle.link_laws.proofs.Stores.{IsOpaqueOf, IsInstance, ShimsAt, drop_core, IsLoweredFor, IsDropOf, IsExportServed, IsServedAs, Serves, IsFilledWith, AreFilled, main_module, IsPlanned, IsPlannedUser, IsMainExport, IsFirstMemory, IsOptionFunction, IsOptionHeld, main_key, main_function, IsRequiredAt, IsFunctionExport, IsAmong, IsInterfaceExport, IsItemExport, IsKeyExport, AreKeyExports, type_at_key, IsTypeAmong}
+use Rattle.link_laws.proofs.Given.{by_parts, purpose_opaque, one_purpose}
 use Rattle.link_laws.proofs.Plain.{listed_main, no_hook, no_memory_imported, function_key}
 use Rattle.comp_worlds.specs.WorldContents.{exported_item}
 
@@ -123,17 +124,20 @@ module _ (w : ComponentWorld) (ok : IsWorld w) (m : Machine) where
 -- ---- options
 
 module _ (w : ComponentWorld) (ok : IsWorld w) (m : Machine) where
+  is_export : (user : ℕ) (export_ref : ExportRef) → export_ref.of ≡ Main → IsInstance m.store user 0 → IsExportOf w m user export_ref.name export_ref
+  is_export user export_ref of h = record {
+    number = 0;
+    is = record { made = h.instance; present = h.present; of = h.of };
+    of = record { world_module = main_module w; listed = refl; same = sym of };
+    same_name = refl;
+  }
+
   main_export : (address : ℕ) (export_ref : ExportRef) → export_ref.of ≡ Main → IsMainExport m.store address export_ref.name → (type : FuncType) × (item : CoreItem) × IsOpaqueOf m.store address type item × ItemIsExport w m export_ref item
   main_export address export_ref of h = (
     h.type,
     ExportedBy h.user export_ref.name,
     h.is,
-    record {
-      number = 0;
-      is = record { made = h.of.instance; present = h.of.present; of = h.of.of };
-      of = record { world_module = main_module w; listed = refl; same = sym of };
-      same_name = refl;
-    },
+    is_export h.user export_ref of h.of,
   )
 
   function_meets : (kind : Bracketed) (address : ℕ) (export_ref : ExportRef) → IsOptionFunction m.store address export_ref → CoreExportMeets w m (Some kind) address export_ref
@@ -181,6 +185,10 @@ module _ (w : ComponentWorld) (ok : IsWorld w) (m : Machine) where
       forwarding_meets w ok m None address at drop_core (IntrinsicOf (intrinsics.ResourceDrop h.of)) (ItemIsDrop m (resource_of w id)) same h.is
       (ap (λ o. elim o [ None ↦ OfOthers | Some i ↦ item_tree h.of i ]) h.held.present ∙ h.held.denotes)
 
+  export_meets : (address at : ℕ) (export_ref : ExportRef) (h : IsExportServed w m.store at export_ref) → Forwards w ok m address at h.is.type → CoreExportMeets w m None address export_ref
+  export_meets address at export_ref h same =
+      forwarding_meets w ok m None address at h.is.type (ExportedBy h.is.user export_ref.name) (ItemIsExport w m export_ref) same h.is.is (is_export w ok m h.is.user export_ref h.of h.is.of)
+
   -- a function meets what another one is, where it forwards to that
   function_meets_as : (t : Thing) (at : ℕ) (target : Target) → t.space ≡ spaces.CoreFunc → ((type : FuncType) (item : CoreItem) → IsOpaqueOf m.store at type item → Forwards w ok m t.address at type) → IsServedAs w m.store at target → Meets w m (resource_of w) t target
   function_meets_as t at (Lowered function options) space same h =
@@ -189,6 +197,9 @@ module _ (w : ComponentWorld) (ok : IsWorld w) (m : Machine) where
   function_meets_as t at (Dropped id) space same h =
       subst (λ space. MeetsIn w m (resource_of w) space t.address (Dropped id)) (sym space)
       (drop_meets t.address at id h (same drop_core (IntrinsicOf (intrinsics.ResourceDrop h.of)) h.is))
+  function_meets_as t at (ExportOf export_ref) space same h =
+      subst (λ space. MeetsIn w m (resource_of w) space t.address (ExportOf export_ref)) (sym space)
+      (export_meets t.address at export_ref h (same h.is.type (ExportedBy h.is.user export_ref.name) h.is.is))
   function_meets_as t at target space same h = absurd h
 
   -- the shims are filled at the end
@@ -196,33 +207,34 @@ module _ (w : ComponentWorld) (ok : IsWorld w) (m : Machine) where
   FilledAtEnd None = Unit {0}
   FilledAtEnd (Some at) = AreShimsFrom m.store.code at.table 0 at.address (shims_of w) × AreFilled w m.store at.table × (length (shims_of w) < 2 ^ 32)
 
-  -- what a shim forwards to is what it stands for
-  shim_meets : (t : Thing) (at : ShimsAt) (role : Import) → t.space ≡ spaces.CoreFunc → FilledAtEnd (Some at) → IsShimGivenAt w at t.address role → Meets w m (resource_of w) t (link_of w Main role)
-  shim_meets t at role space filled h =
+  -- what a shim forwards to is what it stands for: for an import what that is to be given, for a destructor main's export
+  pub shim_meets : (t : Thing) (at : ShimsAt) (place : ℕ) (shim : Shim) (p : Purpose) → t.space ≡ spaces.CoreFunc → FilledAtEnd (Some at) → slice_get (shims_of w) place ≡ Some shim → HasPurpose w shim p → t.address ≡ at.address + place →
+      Meets w m (resource_of w) t (target_of w p)
+  shim_meets t at place shim p space filled listed stands is =
       let shims : List Shim = shims_of w in
-      let f = AllZip-at (IsFilledWith w m.store) shims filled.1.functions h.place h.shim filled.1.each h.listed in
-      let same : f.2.role ≡ role = same_Some f.2.role role (sym f.2.stands_for.of_kind ∙ h.stands_for.of_kind) in
-      let serves : IsServedAs w m.store f.0 (link_of w Main role) = subst (λ r. IsServedAs w m.store f.0 (link_of w Main r)) same f.2.serves in
-      let place_is : 0 + h.place ≡ h.place = omega arith in
-      let shim : IsShimAt m.store.code at.table t.address h.place (type_of_shim h.shim) =
-      subst (λ n. IsShimAt m.store.code at.table n h.place (type_of_shim h.shim)) (sym h.is)
-      (subst (λ p. IsShimAt m.store.code at.table (at.address + h.place) p (type_of_shim h.shim)) place_is (shim_at m.store.code at.table 0 at.address shims h.place h.shim filled.0 h.listed)) in
-      let slot : slice_get (map (λ f. Some f) filled.1.functions) h.place ≡ Some (Some f.0) = slice_get-map (λ f. Some f) filled.1.functions h.place ∙ ap (option_map (λ f. Some f)) f.1 in
-      let within = slice_get_within shims h.place h.shim h.listed in
+      let f = AllZip-at (IsFilledWith w m.store) shims filled.1.functions place shim filled.1.each listed in
+      let same : f.2.purpose ≡ p = one_purpose w shim f.2.purpose p f.2.stands_for stands in
+      let serves : IsServedAs w m.store f.0 (target_of w p) = subst (λ q. IsServedAs w m.store f.0 (target_of w q)) same f.2.serves in
+      let place_is : 0 + place ≡ place = omega arith in
+      let shim_there : IsShimAt m.store.code at.table t.address place (type_of_shim shim) =
+      subst (λ n. IsShimAt m.store.code at.table n place (type_of_shim shim)) (sym is)
+      (subst (λ n. IsShimAt m.store.code at.table (at.address + place) n (type_of_shim shim)) place_is (shim_at m.store.code at.table 0 at.address shims place shim filled.0 listed)) in
+      let slot : slice_get (map (λ f. Some f) filled.1.functions) place ≡ Some (Some f.0) = slice_get-map (λ f. Some f) filled.1.functions place ∙ ap (option_map (λ f. Some f)) f.1 in
+      let within = slice_get_within shims place shim listed in
       let room = filled.2 in
-      let small : h.place < 2 ^ 32 = omega (arith, within, room) in
-      let own : (item : CoreItem) × IsOpaqueOf m.store f.0 (type_of_shim h.shim) item = served_opaque w m.store f.0 role (type_of_shim h.shim) h.stands_for.right h.stands_for.typed serves in
-      function_meets_as t f.0 (link_of w Main role) space
+      let small : place < 2 ^ 32 = omega (arith, within, room) in
+      let own : (item : CoreItem) × IsOpaqueOf m.store f.0 (type_of_shim shim) item = purpose_opaque w m.store f.0 shim p stands serves in
+      function_meets_as t f.0 (target_of w p) space
       (λ type item o.
-      let typed : type_of_shim h.shim ≡ type = one_type m.store f.0 (type_of_shim h.shim) type own.0 item own.1 o in
+      let typed : type_of_shim shim ≡ type = one_type m.store f.0 (type_of_shim shim) type own.0 item own.1 o in
       subst (Forwards w ok m t.address f.0) typed
-      (λ arguments now fits. filled_shims_forward m.store.code at.table t.address h.place (type_of_shim h.shim) (map (λ f. Some f) filled.1.functions) f.0 own.1.what 0 shim filled.1.slots slot own.1.present small arguments now fits))
+      (λ arguments now fits. filled_shims_forward m.store.code at.table t.address place (type_of_shim shim) (map (λ f. Some f) filled.1.functions) f.0 own.1.what 0 shim_there filled.1.slots slot own.1.present small arguments now fits))
       serves
 
   serves_meets : (shims : Option ShimsAt) → FilledAtEnd shims → (t : Thing) (role : Import) → t.space ≡ spaces.CoreFunc → Serves w shims m.store t.address role → Meets w m (resource_of w) t (link_of w Main role)
   serves_meets shims filled t role space (inl h) = function_meets_as t t.address (link_of w Main role) space (λ type item o. forwards_itself w ok m t.address type item o) h
   serves_meets None filled t role space (inr h) = absurd h
-  serves_meets (Some at) filled t role space (inr h) = shim_meets t at role space filled h
+  serves_meets (Some at) filled t role space (inr h) = shim_meets t at h.place h.shim (OfImport role) space filled h.listed h.stands_for h.is
 
   planned_served : (shims : Option ShimsAt) → FilledAtEnd shims → (t : Thing) (i : ImportType) → IsPlanned w shims m.store t i → IsServed w m (resource_of w) (main_module w) t i
   planned_served shims filled t i h = record { target = link_of w Main h.role; said = h.said; meets = serves_meets shims filled t h.role h.space h.serves }

@@ -33,7 +33,7 @@ use Rattle.comp_roles.specs.declared.imports.Import.{Import}
 use Rattle.comp_roles.specs.declared.offered.ImportType.{ImportType}
 use Rattle.comp_worlds.specs.WorldContents.{core_name_of, exported_item, function_exported}
 use Rattle.comp_worlds.specs.declared.world.ComponentWorld.{ComponentWorld}
-use Rattle.comp_links.specs.Targets.{Main, ExportRef, WorldFunction, TargetOption, Target, Lowered, Dropped}
+use Rattle.comp_links.specs.Targets.{Main, ExportRef, WorldFunction, TargetOption, Target, Lowered, ExportOf, Dropped}
 use Rattle.comp_links.specs.Targets as targets
 use Rattle.comp_links.specs.Modules.{WorldModule}
 use Rattle.comp_links.specs.Lists.{IsOriginOf, resource_of, RequiredKey, RequiredFunction, functions_required, RequiredType, types_required, type_of_world}
@@ -41,7 +41,7 @@ use Rattle.comp_links.specs.Links.{lift_options, link_of, link_at}
 use Rattle.shim_plan.specs.declared.shims.Shim.{Shim}
 use Rattle.world_shims.specs.WorldShims.{shims_of}
 use Rattle.shim_runs.specs.ShimRuns.{AreShimsFrom, instance_exports}
-use Rattle.comp_terms.specs.Generated.{shims_number, fixup_number, IsShimOf}
+use Rattle.comp_terms.specs.Generated.{shims_number, fixup_number, IsShimOf, Purpose, target_of, HasPurpose}
 use Rattle.comp_terms.specs.Terms.{CoreExport, IsInstanceOf, imports_in}
 use Rattle.comp_terms.specs.Planned.{IsTypeOf, type_of_function}
 use Rattle.comp_terms.specs.Rules.{IsOfKind}
@@ -336,10 +336,17 @@ pub record IsDropOf (s : Store) (address : ℕ) (resource : Resource) : Type 0 w
   pub is : IsOpaqueOf s address drop_core (IntrinsicOf (intrinsics.ResourceDrop of))
   pub held : IsHeldAs s.types (OfValues (ResourceAt resource)) of
 
+-- the core function is an export of main, of the type that validation found
+pub record IsExportServed (w : ComponentWorld) (s : Store) (address : ℕ) (export_ref : ExportRef) : Type 0 where
+  pub of : export_ref.of ≡ Main
+  pub is : IsMainExport s address export_ref.name
+  pub offered : found export_ref.name w.main.offered ≡ Some (externs.Func is.type)
+
 -- the core function is what the target names
 abbrev pub IsServedAs : ComponentWorld → Store → ℕ → Target → Type 0
 IsServedAs w s address (Lowered function options) = IsLoweredFor w s address function options
 IsServedAs w s address (Dropped id) = IsDropOf s address (resource_of w id)
+IsServedAs w s address (ExportOf export_ref) = IsExportServed w s address export_ref
 IsServedAs w s address target = ⊥
 
 -- the core function is a shim that stands for what an import of this role is to be given
@@ -373,9 +380,9 @@ IsPlannedUser w shims s u = u.module_number ≡ 0 → AllZip (IsPlanned w shims 
 
 -- the function of a slot is what the shim of its place stands for
 pub record IsFilledWith (w : ComponentWorld) (s : Store) (shim : Shim) (function : ℕ) : Type 0 where
-  pub role : Import
-  pub stands_for : IsShimOf w shim role
-  pub serves : IsServedAs w s function (link_of w Main role)
+  pub purpose : Purpose
+  pub stands_for : HasPurpose w shim purpose
+  pub serves : IsServedAs w s function (target_of w purpose)
 
 -- each slot of the table holds one
 pub record AreFilled (w : ComponentWorld) (s : Store) (table : ℕ) : Type 0 where
@@ -410,10 +417,11 @@ pub record IsLiftedFrom (w : ComponentWorld) (s : Store) (address : ℕ) (name :
   pub with_options : AllZip (IsOptionHeld w s) held options
 
 -- an export of an instance of a user module, at the address of this index
-pub record IsCoreExportAt (things : List Thing) (s : Store) (index : ℕ) (e : CoreExport) : Type 0 where
+pub record IsCoreExportAt (w : ComponentWorld) (things : List Thing) (s : Store) (index : ℕ) (e : CoreExport) : Type 0 where
   pub address : ℕ
   pub at : address_at (kind_space e.kind) index things ≡ Some address
   pub type : ExternType
+  pub offered : found e.name w.main.offered ≡ Some type
   pub of_kind : IsOfKind e.kind type
   pub user : ℕ
   pub of : IsInstance s user e.of

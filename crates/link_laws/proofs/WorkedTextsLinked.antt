@@ -2,7 +2,7 @@
 -- other options of that lowering.
 use Rattle.comp_links.specs.Naming.{own_names}
 use Rattle.std.proofs.Common.{inl, inr, ◌≡◌, ◌∙◌, ℕ, zero, suc, Bool, true, false, true≢false, List, [], ◌∷◌, refl, sym, ap, subst, Option, Some, None, take, arith}
-use Rattle.std.proofs.lemmas.Option.{none-some, same_Some}
+use Rattle.std.proofs.lemmas.Option.{none-some}
 use Rattle.std.specs.Fmt.{digits}
 use Rattle.std.specs.List.{slice_get, AllZip}
 use Rattle.standard_kinds.specs.declared.kinds.ExportKind.TheVariants as kinds
@@ -27,10 +27,9 @@ use Rattle.comp_roles.specs.declared.imports.ImportInstance.TheVariants as insta
 use Rattle.comp_trees.specs.Trees.{PrimitiveOf, FunctionTree, is_known_function}
 use Rattle.comp_trees.specs.DefinedTrees.{function_tree}
 use Rattle.comp_trees.specs.Inventories.{inventory, scope_of}
-use Rattle.comp_links.specs.Links.{link_of}
 use Rattle.comp_links.specs.Targets.{Main, OfRoot}
 use Rattle.comp_links.specs.Targets as targets
-use Rattle.comp_terms.specs.Generated.{IsShimOf}
+use Rattle.comp_terms.specs.Generated.{IsShimOf, OfImport, target_of}
 use Rattle.comp_terms.specs.Terms.{CoreExport, TermOption, Term, IsFunctionType, IsImportedFunction, IsInstanceOf, IsExported, IsOption, IsLowering, Is}
 use Rattle.comp_terms.specs.Terms as terms
 use Rattle.comp_terms.specs.Planned.{IsTypeOf, IsOptionFor, IsTermFor, IsItemFor, IsArgumentFor, IsFillFor, AreFillsFor}
@@ -38,6 +37,7 @@ use Rattle.comp_terms.specs.Rules.{IsBuilt, AliasesShim, InstantiatesFixup, Inst
 use Rattle.comp_runs.specs.Machine.{Machine}
 use Rattle.link_laws.specs.Composition.{IsComposed}
 use Rattle.link_laws.specs.Linking.{outcome, IsLinked, Links}
+use Rattle.link_laws.proofs.Given.{one_purpose}
 use Rattle.link_laws.proofs.Stores.{main_module}
 use Rattle.link_laws.proofs.Runs.{composed, links}
 use Rattle.link_laws.proofs.Worked.{made, machine_of, one_apart, root_import}
@@ -127,7 +127,7 @@ f_filled = record {
     record {
       named = refl;
       function = refl;
-      role = role_f;
+      purpose = OfImport role_f;
       stands_for = stands_for_f;
       serves = record {
         term = terms.Lowering (root_import 0) f_tree term_options;
@@ -271,9 +271,9 @@ fill_entry = record { name = zero_text; kind = kinds.Func; index = 1 }
 
 filled_with : (options : List CanonicalOption) → IsFillFor world (before_fixup options) fill_entry only_shim → options ≡ right_options
 filled_with options fill =
-    let of_f : role_f ≡ fill.role = same_Some role_f fill.role fill.stands_for.of_kind in
+    let of_f : OfImport role_f ≡ fill.purpose = one_purpose world only_shim (OfImport role_f) fill.purpose stands_for_f fill.stands_for in
     let serves : IsItemFor world (before_fixup options) spaces.CoreFunc 1 (targets.Lowered (OfRoot f) named_options) =
-    subst (IsItemFor world (before_fixup options) spaces.CoreFunc 1) table_names_them (subst (λ r. IsItemFor world (before_fixup options) spaces.CoreFunc 1 (link_of world Main r)) (sym of_f) fill.serves) in
+    subst (IsItemFor world (before_fixup options) spaces.CoreFunc 1) table_names_them (subst (λ p. IsItemFor world (before_fixup options) spaces.CoreFunc 1 (target_of world p)) (sym of_f) fill.serves) in
     lowered_with options serves.term serves.is serves.asked
 
 -- the entries of an inline instance

@@ -18,7 +18,6 @@ use Rattle.comp_bytes.specs.ItemIndices.{IsAt}
 use Rattle.comp_bytes.specs.declared.space.Space.{Space}
 use Rattle.comp_worlds.specs.Encodable.{IsEncodable}
 use Rattle.comp_worlds.specs.declared.world.ComponentWorld.{ComponentWorld}
-use Rattle.comp_roles.specs.CoreImports.{CoreImport}
 use Rattle.comp_links.specs.Targets.{Target}
 use Rattle.comp_terms.specs.Planned.{IsItemFor, IsFillFor, AreFillsFor}
 use Rattle.comp_terms.specs.Rules.{Grows, IsEntry, AreEntries}
@@ -36,9 +35,9 @@ use Rattle.shim_plan.specs.declared.shims.Shim.{Shim}
 use Rattle.shim_plan.specs.Plans.{AreNumbered}
 use Rattle.world_shims.specs.WorldShims.{shims_of}
 use Rattle.world_shims.proofs.Numbered.{shims_numbered}
-use Rattle.shim_targets.specs.ShimTargets.{StandsFor}
+use Rattle.shim_targets.specs.ShimTargets.{StandsForOne}
 use Rattle.shim_targets.proofs.EachShim.{each_stands}
-use Rattle.main_fixup.specs.Filling.{AreFillSources, HasShimOptions, IsMainShim}
+use Rattle.main_fixup.specs.Filling.{AreFillSources, HasShimOptions}
 use Rattle.main_fixup.specs.declared.sources.FillSources.{FillSources}
 
 -- ---- what stays while definitions are added
@@ -59,7 +58,7 @@ pub item-kept : {w : ComponentWorld} {old new : List Def} → Longer old new →
 item-kept {w} {old} {new} g {space} {i} {target} h = record { term = h.term; is = term-kept old new g space i h.term h.is; asked = h.asked }
 
 pub fill-kept : {w : ComponentWorld} {old new : List Def} → Longer old new → (e : CoreInlineExport) (s : Shim) → IsFillFor w old e s → IsFillFor w new e s
-fill-kept g e s h = record { named = h.named; function = h.function; role = h.role; stands_for = h.stands_for; serves = item-kept g h.serves }
+fill-kept g e s h = record { named = h.named; function = h.function; purpose = h.purpose; stands_for = h.stands_for; serves = item-kept g h.serves }
 
 -- ---- one shim after the other
 
@@ -88,12 +87,11 @@ fills_step w old mid new before after entry rest s h extends grows fills offered
   offered = AllByRecursion-push (HasShimOptions w) h.done s h.offered offered;
 }
 
--- the next shim stands for an import of main
-pub next_stands : (w : ComponentWorld) → IsEncodable w → (old mid : Built) (entries : List CoreInlineExport) (s : Shim) (rest : List Shim) → FillsSoFar w old mid entries (s ∷ rest) → IsMainShim w s
+-- the next shim stands for an import of main, or for a destructor
+pub next_stands : (w : ComponentWorld) → IsEncodable w → (old mid : Built) (entries : List CoreInlineExport) (s : Shim) (rest : List Shim) → FillsSoFar w old mid entries (s ∷ rest) → StandsForOne w s
 next_stands w ok old mid entries s rest h =
     let present : Contains (shims_of w) s = subst (λ ss. Contains ss s) h.split (Contains-append_right h.done (s ∷ rest) s (0, omega arith, refl)) in
-    let of : (i : CoreImport) × StandsFor w s i = AllByRecursion-contains (λ (x : Shim). (i : CoreImport) × StandsFor w x i) (shims_of w) s (each_stands w ok) present in
-    record { import = of.0; stands = of.1 }
+    AllByRecursion-contains (StandsForOne w) (shims_of w) s (each_stands w ok) present
 
 -- when no shim is left, all are filled
 pub record AreFilled (w : ComponentWorld) (ds : List Def) (entries : List CoreInlineExport) : Type 0 where

@@ -16,6 +16,7 @@ use Rattle.comp_links.specs.Links.{if_needed, options_in, export_at, export_of, 
 use Rattle.comp_links.specs.Roles.{import_encoding}
 use Rattle.comp_links.specs.Targets.{Main, Target, TargetOption, Lowered}
 use Rattle.comp_links.specs.Targets as targets
+use Rattle.comp_terms.specs.Generated.{OfImport}
 use Rattle.comp_terms.specs.Planned.{IsOptionFor, IsTermFor}
 use Rattle.comp_terms.specs.Rules.{IsOptionRight, IsLowerOptionRight}
 use Rattle.comp_terms.specs.Terms.{TermOption, IsOption, IsLowering}
@@ -30,7 +31,7 @@ use Rattle.core_options.proofs.Refusals.{among_more, one_import_refused}
 use Rattle.core_options.specs.Causes.{indirect_name, IsCauseAmong, IsOptionRefusal}
 use Rattle.core_options.specs.MainOptions.{NameOptions, memory_name}
 use Rattle.core_options.specs.declared.fault.StateFault.{StateFault}
-use Rattle.main_fixup.specs.Filling.{HasShimOptions, IsBehind, IsLoweringFor}
+use Rattle.main_fixup.specs.Filling.{HasShimOptions, IsBehind, ServesShim}
 
 -- ---- the realloc of lowerings
 
@@ -124,12 +125,12 @@ module _ (w : ComponentWorld) (s : Shim) (encoding : StringEncoding) (name : Opt
 
   -- a lowering with these options is what the shim stands for
   pub lowering_for : (mid new : List Def) (function index : ℕ) (written : List CanonicalOption) → (b : IsBehind w mid s encoding function) → (named : NameOptions w mid written wanted) → IsLowering new index b.is.origin b.is.type named.terms →
-      IsLoweringFor w new s index
+      ServesShim w new s index
   lowering_for mid new function index written b named made =
       let linked : Lowered b.function wanted ≡ link_of w Main b.import.role = ap (Lowered b.function) (options_linked w s b.import encoding name b.stands b.encoded is) ∙ sym b.linked in
       let asked : IsTermFor w (Lowered b.function wanted) (terms.Lowering b.is.origin b.is.type named.terms) = (b.is.of, b.is.typed, named.asked) in
       record {
-        role = b.import.role;
+        purpose = OfImport b.import.role;
         stands_for = b.stands.is;
         serves = record { term = terms.Lowering b.is.origin b.is.type named.terms; is = made; asked = subst (λ t. IsTermFor w t (terms.Lowering b.is.origin b.is.type named.terms)) linked asked };
       }

@@ -1,5 +1,5 @@
--- What the lowerings behind shims need, and what they are (Canonical ABI: `canon lower`; component model, explainer: core
--- instances).
+-- What is behind shims, and what that needs (Canonical ABI: `canon lower`; component model, explainer: core instances, the
+-- destructor of a resource type).
 use Rattle.std.specs.Prelude.{◌≡◌, ℕ, List, Option, Some, None, true, map, Contains, IsTrue, IsSome}
 use Rattle.std.specs.Option.{option_copied, option_map}
 use Rattle.standard_kinds.specs.declared.kinds.StringEncoding.{StringEncoding}
@@ -14,7 +14,6 @@ use Rattle.world_values.specs.Items.{functions_of}
 use Rattle.comp_options.specs.Options.{needs}
 use Rattle.comp_roles.specs.CoreImports.{CoreImport}
 use Rattle.comp_roles.specs.Reallocs.{is_import_realloc, realloc_for}
-use Rattle.comp_roles.specs.declared.imports.Import.{Import}
 use Rattle.comp_worlds.specs.Encodable.{IsEncodable}
 use Rattle.comp_worlds.specs.WorldContents.{items_of}
 use Rattle.comp_worlds.specs.declared.world.ComponentWorld.{ComponentWorld}
@@ -23,7 +22,7 @@ use Rattle.comp_links.specs.Lists.{IsOriginOf}
 use Rattle.comp_links.specs.Roles.{is_used, is_used_of, import_encoding}
 use Rattle.comp_links.specs.Targets.{Main, WorldFunction, OfRoot, OfInterface, Lowered}
 use Rattle.shim_plan.specs.declared.shims.Shim.{Shim}
-use Rattle.comp_terms.specs.Generated.{interface_imported, IsShimOf}
+use Rattle.comp_terms.specs.Generated.{interface_imported, Purpose, target_of, HasPurpose}
 use Rattle.comp_terms.specs.Planned.{IsTypeOf, IsItemFor}
 use Rattle.comp_terms.specs.Terms.{IsImportedFunction}
 use Rattle.wit_types.specs.declared.maps.TypeEncodingMaps.{TypeEncodingMaps}
@@ -87,11 +86,6 @@ IsFunctionAt w ds interface name index = (function : WorldFunction) → function
 
 -- ---- shims
 
--- the shim stands for a core import of main
-pub record IsMainShim (w : ComponentWorld) (s : Shim) : Type 0 where
-  pub import : CoreImport
-  pub stands : StandsFor w s import
-
 -- the function of this index is the one that the shim stands for, which is called with this string encoding
 pub record IsBehind (w : ComponentWorld) (ds : List Def) (s : Shim) (encoding : StringEncoding) (index : ℕ) : Type 0 where
   pub import : CoreImport
@@ -101,8 +95,8 @@ pub record IsBehind (w : ComponentWorld) (ds : List Def) (s : Shim) (encoding : 
   pub linked : link_of w Main import.role ≡ Lowered function (lower_options w Main import.role)
   pub is : IsFunctionOf w ds index function
 
--- the core function of this index is what the link table names for the import that the shim stands for
-pub record IsLoweringFor (w : ComponentWorld) (ds : List Def) (s : Shim) (index : ℕ) : Type 0 where
-  pub role : Import
-  pub stands_for : IsShimOf w s role
-  pub serves : IsItemFor w ds spaces.CoreFunc index (link_of w Main role)
+-- the core function of this index is what the shim stands for
+pub record ServesShim (w : ComponentWorld) (ds : List Def) (s : Shim) (index : ℕ) : Type 0 where
+  pub purpose : Purpose
+  pub stands_for : HasPurpose w s purpose
+  pub serves : IsItemFor w ds spaces.CoreFunc index (target_of w purpose)

@@ -8,10 +8,11 @@ ghost use Rattle.comp_terms.specs.Planned.{IsFillFor, AreFillsFor};
 ghost use Rattle.comp_terms.specs.Rules.{Grows};
 ghost use Rattle.comp_worlds.specs.WorldContents.{core_imports};
 ghost use Rattle.core_options.specs.Causes.{IsCauseAmong};
-ghost use Rattle.main_fixup.specs.Filling.{AreFillSources, HasShimOptions, IsMainShim};
+ghost use Rattle.main_fixup.specs.Filling.{AreFillSources, HasShimOptions};
+ghost use Rattle.shim_targets.specs.ShimTargets.{StandsForOne};
 ghost use Rattle.world_shims.specs.WorldShims.{shims_of};
 
-use crate::lowerings::lower_shim;
+use crate::lowerings::function_behind;
 use crate::sources::FillSources;
 use comp_bytes::CoreInlineExport;
 use comp_lists::Seq;
@@ -28,7 +29,7 @@ fn fill(
     shim: &Shim,
 ) -> Result<CoreInlineExport, StateFault>
     requires sources { AreFillSources root.old.world.now sources.now root.old.last_type root.old.items.defs root.old.maps root.old.instances }
-    requires stands { IsMainShim root.old.world.now shim.now }
+    requires stands { StandsForOne root.old.world.now shim.now }
     ensures same { root.new ≡ record root.old { items = root.new.items } }
     ensures extends { Extends root.old.items root.new.items }
     ensures grows { OnOk result (Grows root.old.world.now root.old.items.defs root.new.items.defs []) }
@@ -37,7 +38,7 @@ fn fill(
     ensures cause { IfErr result (IsCauseAmong root.old.world.now (core_imports root.old.world.now) []) }
 {
     let name = shim.name.clone(root.items.allocator())?;
-    let index = lower_shim(root, sources, shim)?;
+    let index = function_behind(root, sources, shim)?;
     Ok(CoreInlineExport {
         name,
         kind: ExportKind::Func,

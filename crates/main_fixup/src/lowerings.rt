@@ -1,4 +1,4 @@
-//! The lowering behind a shim.
+//! The core function behind a shim.
 #![tactic(auto, using(comp_items::proofs::Extending::extends_none, comp_items::proofs::Extending::extends_same, comp_items::proofs::Extending::extends_then))]
 
 ghost use Rattle.std.specs.Prelude.{◌≡◌, [], IfOk, IfErr, OnOk};
@@ -10,8 +10,10 @@ ghost use Rattle.comp_worlds.specs.WorldContents.{core_imports};
 ghost use Rattle.comp_roles.specs.Reallocs.{is_import_realloc, realloc_for};
 ghost use Rattle.core_options.specs.Causes.{IsCauseAmong};
 ghost use Rattle.core_options.specs.MainOptions.{AreOptionSources};
-ghost use Rattle.main_fixup.specs.Filling.{AreFillSources, HasShimOptions, IsMainShim, IsBehind, IsLoweringFor};
+ghost use Rattle.main_fixup.specs.Filling.{AreFillSources, HasShimOptions, IsBehind, ServesShim};
+ghost use Rattle.shim_targets.specs.ShimTargets.{StandsForOne};
 
+use crate::destructors::destructor;
 use crate::functions::imported_function;
 use crate::sources::FillSources;
 use comp_worlds::ComponentWorld;
@@ -37,7 +39,7 @@ fn lower_function(
     ensures same { root.new ≡ record root.old { items = root.new.items } }
     ensures extends { Extends root.old.items root.new.items }
     ensures grows { OnOk result (Grows root.old.world.now root.old.items.defs root.new.items.defs []) }
-    ensures lowered { IfOk result (IsLoweringFor root.old.world.now root.new.items.defs shim.now) }
+    ensures serves { IfOk result (ServesShim root.old.world.now root.new.items.defs shim.now) }
     ensures offered { OnOk result (HasShimOptions root.old.world.now shim.now) }
     ensures cause { IfErr result (IsCauseAmong root.old.world.now (core_imports root.old.world.now) []) }
 {
@@ -47,20 +49,21 @@ fn lower_function(
     Ok(index)
 }
 
-/// Lowers the function that a shim stands for: the one at the root, or an alias of the one of an imported interface.
+/// The core function that a shim stands for: the lowering of the function at the root, or of an alias of that of an imported
+/// interface; or an alias of the destructor that main exports.
 ///
-/// `E7` where its options need a memory and main exports none, `E8` where they need a realloc and main exports none for imports.
-pub(crate) fn lower_shim(
+/// `E7` where a lowering needs a memory and main exports none, `E8` where it needs a realloc and main exports none for imports.
+pub(crate) fn function_behind(
     root: &mut RootScope<'_, ComponentWorld>,
     sources: &FillSources<'_>,
     shim: &Shim,
 ) -> Result<u32, StateFault>
     requires sources { AreFillSources root.old.world.now sources.now root.old.last_type root.old.items.defs root.old.maps root.old.instances }
-    requires stands { IsMainShim root.old.world.now shim.now }
+    requires stands { StandsForOne root.old.world.now shim.now }
     ensures same { root.new ≡ record root.old { items = root.new.items } }
     ensures extends { Extends root.old.items root.new.items }
     ensures grows { OnOk result (Grows root.old.world.now root.old.items.defs root.new.items.defs []) }
-    ensures lowered { IfOk result (IsLoweringFor root.old.world.now root.new.items.defs shim.now) }
+    ensures serves { IfOk result (ServesShim root.old.world.now root.new.items.defs shim.now) }
     ensures offered { OnOk result (HasShimOptions root.old.world.now shim.now) }
     ensures cause { IfErr result (IsCauseAmong root.old.world.now (core_imports root.old.world.now) []) }
 {
@@ -74,6 +77,10 @@ pub(crate) fn lower_shim(
             let index = imported_function(root, sources, interface, &function.name)?;
             let lowered = lower_function(root, &sources.options, shim, *encoding, index)?;
             Ok(lowered)
+        }
+        ShimKind::ResourceDtor { module: _, export } => {
+            let aliased = destructor(root, sources.options.instance, export)?;
+            Ok(aliased)
         }
         _ => unreachable!(),
     }

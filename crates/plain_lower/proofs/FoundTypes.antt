@@ -107,7 +107,7 @@ post_return_typed : (core : CoreModule) (r : Resolve) (e : EntityType) (o : Opti
 post_return_typed core r e (Some f) ty fits is = entity_of core e (returning (signature GuestExport r.types f)) fits ∙ is
 post_return_typed core r e None ty fits is = absurd (none-some ty is)
 
--- `resource.drop` takes a handle
+-- `resource.drop` takes a handle, and a destructor a representation
 abbrev dropping : WasmSignature
 dropping = record { params = numbers.I32 ∷ []; results = []; indirect_params = false; retptr = false }
 
@@ -191,6 +191,8 @@ module _ (r : Resolve) (present : 0 < length r.worlds) (core : CoreModule) where
       ap (λ (o : Option World). is_function core e (option_map (post_return r) (option_and_then (λ w. root_function_at w.exports key) o))) (sym the_world) ∙ fits in
       post_return_typed core r e (root_function_at the_items.exports key) ty asked is
   export_typed (exports.WorldFuncPostReturn key) items.Tag ty fits is = absurd (true≢false (sym fits))
+  export_typed (exports.ResourceDtor id) (items.Entity e) ty fits is = entity_of core e dropping fits ∙ is
+  export_typed (exports.ResourceDtor id) items.Tag ty fits is = absurd (true≢false (sym fits))
   export_typed (exports.Memory type) (items.Entity e) ty fits is = memory_typed core e type fits ∙ is
   export_typed (exports.Memory type) items.Tag ty fits is = absurd (true≢false (sym fits))
   export_typed exports.GeneralPurposeRealloc (items.Entity e) ty fits is = entity_of core e reallocating fits ∙ is

@@ -1,6 +1,6 @@
 -- What main needs of a call: where its options need a memory and it has an encoding, a shim that stands for its import, and
 -- nothing else.
-use Rattle.std.proofs.Common.{◌≡◌, ◌∙◌, ℕ, Bool, true, false, ◌&&◌, List, [], Contains, if◌then◌else◌, Option, Some, None, refl, sym, ap, subst}
+use Rattle.std.proofs.Common.{◌≡◌, ◌∙◌, ℕ, Bool, true, false, ◌&&◌, List, [], Contains, if◌then◌else◌, Option, Some, None, inl, refl, sym, ap, subst}
 use Rattle.std.proofs.Math.Bool.{and-false}
 use Rattle.std.proofs.lemmas.Option.{same_Some}
 use Rattle.std.specs.List.{AllByRecursion}
@@ -26,15 +26,15 @@ use Rattle.shim_plan.specs.declared.needs.NeededShim.{NeededShim}
 use Rattle.shim_plan.specs.declared.reallocs.ReallocSite.TheVariants as sites
 use Rattle.comp_links.specs.Links.{lower_needs}
 use Rattle.comp_links.specs.Roles.{import_encoding}
-use Rattle.shim_targets.specs.ShimTargets.{kind_of_import, StandsFor}
+use Rattle.shim_targets.specs.ShimTargets.{kind_of_import, StandsForOne}
 use Rattle.shim_targets.proofs.Calls.{IsLowered, role_back}
 use Rattle.shim_targets.proofs.Lists.{contains_first}
 use Rattle.shim_targets.proofs.OptionSets.{none_needed}
 use Rattle.shim_targets.proofs.Roles.{import_role, no_hook}
 
--- a shim that is needed stands for an import, at whatever place
+-- a shim that is needed stands for an import or a destructor, at whatever place
 abbrev pub Stands : ComponentWorld → NeededShim → Type 0
-Stands w n = (place : ℕ) → (i : CoreImport) × StandsFor w (shim_at place n) i
+Stands w n = (place : ℕ) → StandsForOne w (shim_at place n)
 
 -- ---- reallocs
 
@@ -89,7 +89,7 @@ module _ (w : ComponentWorld) (i : CoreImport) (interface : Option WorldKey) (ke
 
   module _ (ok : IsEncodable w) (there : Contains (core_imports w) i) where
     shim_stands : needs options.0 1 ≡ true → (encoding : StringEncoding) → of_function key name w.main.metadata.import_encodings ≡ Some encoding → Stands w (shim_with encoding)
-    shim_stands memory encoding encoded place = (
+    shim_stands memory encoding encoded place = inl (
       i,
       record {
         present = there;

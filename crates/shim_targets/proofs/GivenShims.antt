@@ -12,7 +12,8 @@ use Rattle.shim_plan.specs.declared.shims.Shim.{Shim}
 use Rattle.world_shims.specs.WorldShims.{shims_of}
 use Rattle.comp_links.specs.Roles.{import_encoding}
 use Rattle.comp_terms.specs.Generated.{role_of_kind, IsShimOf}
-use Rattle.shim_targets.specs.ShimTargets.{kind_of_import, StandsFor}
+use Rattle.shim_targets.specs.ShimTargets.{kind_of_import, StandsFor, StandsForOne}
+use Rattle.shim_targets.proofs.ByKind.{for_role}
 use Rattle.shim_targets.proofs.Calls.{role_back}
 use Rattle.shim_targets.proofs.EachShim.{each_stands}
 use Rattle.shim_targets.proofs.FoundShims.{found_shim}
@@ -23,6 +24,7 @@ pub given_shim : (w : ComponentWorld) → IsEncodable w → (i : CoreImport) →
     shim_of kind (shims_of w) ≡ Some s → IsShimOf w s i.role
 given_shim w ok i there encoding encoded kind is s e =
     let at = found_shim w ok kind s e in
-    let other = all_at (λ (x : Shim). (j : CoreImport) × StandsFor w x j) (shims_of w) at.0 s (each_stands w ok) at.1 in
+    let own : kind_of_import i.role encoding ≡ Some s.kind = is ∙ ap Some (sym at.2) in
+    let other : (j : CoreImport) × StandsFor w s j = for_role w s i.role encoding own (all_at (StandsForOne w) (shims_of w) at.0 s (each_stands w ok) at.1) in
     let role : role_of_kind w s.kind ≡ Some i.role = ap (role_of_kind w) at.2 ∙ role_back w ok i.role (import_role w ok i there) encoding kind is in
     subst (IsShimOf w s) (same_Some other.0.role i.role (sym other.1.is.of_kind ∙ role)) other.1.is

@@ -11,6 +11,8 @@ pub mod Unencoded
 pub mod Synchronous
 pub mod FoundShims
 pub mod EachShim
+pub mod ByKind
 pub mod GivenShims
 pub mod NeededShims
+pub mod DestructorShims
 pub mod Worked

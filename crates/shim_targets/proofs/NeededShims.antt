@@ -1,7 +1,8 @@
 -- An import that needs a memory has its shim, and one that has none has no option.
 use Rattle.std.proofs.Common.{◌≡◌, ◌∙◌, ◌⊎◌, inl, inr, ℕ, suc, Bool, true, false, true≢false, List, [], ◌∷◌, ◌++◌, map, Contains, if◌then◌else◌, is_some, Some, None, refl, sym, ap, subst}
 use Rattle.std.specs.Prelude.{IsTrue, IsSome}
-use Rattle.std.specs.List.{list_any}
+use Rattle.std.specs.List.{flat_map, list_any}
+use Rattle.std.proofs.lemmas.List.Elements.{Contains-append_left}
 use Rattle.std.proofs.lemmas.Option.{none-some}
 use Rattle.standard_kinds.specs.declared.kinds.StringEncoding.{StringEncoding}
 use Rattle.wit_data.specs.declared.worlds.WorldKey.TheVariants as keys
@@ -17,7 +18,7 @@ use Rattle.comp_worlds.specs.Worlds.{IsImportRole}
 use Rattle.comp_worlds.specs.declared.world.ComponentWorld.{ComponentWorld}
 use Rattle.shim_plan.proofs.Appending.{known as known_by_kinds}
 use Rattle.shim_plan.proofs.EqualKinds.{are_one}
-use Rattle.shim_plan.specs.Needed.{import_needs, needed}
+use Rattle.shim_plan.specs.Needed.{import_needs, export_needs, needed}
 use Rattle.shim_plan.specs.Plans.{same_kind, kinds_of, shim_of, numbered, lacking}
 use Rattle.shim_plan.specs.declared.kinds.ShimKind.{ShimKind}
 use Rattle.shim_plan.specs.declared.needs.NeededShim.{NeededShim}
@@ -28,7 +29,6 @@ use Rattle.comp_links.specs.Targets.{Main}
 use Rattle.shim_targets.specs.ShimTargets.{kind_of_import}
 use Rattle.shim_targets.proofs.CallNeeds.{shim_with, call_needed, kind_of_shim}
 use Rattle.shim_targets.proofs.Calls.{world_call, interface_call}
-use Rattle.shim_targets.proofs.EachShim.{needed_of_imports}
 use Rattle.shim_targets.proofs.Lists.{contains_none, contains_cons, contains_first, contains_later, contains_flat, passes_any, any_push}
 use Rattle.shim_targets.proofs.NoOptions.{no_options}
 use Rattle.shim_targets.proofs.Roles.{import_role}
@@ -69,7 +69,7 @@ kept known (m ∷ ns) n c = by (list_any (same_kind m.kind) known) refl (contain
     by false e (inl same) here there = inr (subst (λ (x : NeededShim). Contains (m.kind ∷ kinds_needed next) x.kind) same (contains_first m.kind (kinds_needed next)))
     by false e (inr later) here there = after (there later)
 
-has_shim : (w : ComponentWorld) (n : NeededShim) → Contains (needed w users.Main) n → IsSome (shim_of n.kind (shims_of w))
+pub has_shim : (w : ComponentWorld) (n : NeededShim) → Contains (needed w users.Main) n → IsSome (shim_of n.kind (shims_of w))
 has_shim w n c =
     let lacks : List NeededShim = lacking [] (needed w users.Main) in
     let among : Contains (kinds_needed lacks) n.kind = elim (kept [] (needed w users.Main) n c) [
@@ -104,7 +104,8 @@ pub shim_there : (w : ComponentWorld) → IsEncodable w → (i : CoreImport) →
     kind_of_import i.role encoding ≡ Some kind → IsSome (shim_of kind (shims_of w))
 shim_there w ok i there encoding encoded memory kind is =
     let n : IsKindNeeded w i kind = import_needed w ok i.module_name i.field i.role there (import_role w ok i there) encoding encoded memory kind is in
-    let among : Contains (needed w users.Main) n.shim = subst (λ ns. Contains ns n.shim) (sym (needed_of_imports w ok)) (contains_flat (import_needs w users.Main w.main) (imports_of w.main) i n.shim there n.there) in
+    let of_import : Contains (flat_map (import_needs w users.Main w.main) (imports_of w.main)) n.shim = contains_flat (import_needs w users.Main w.main) (imports_of w.main) i n.shim there n.there in
+    let among : Contains (needed w users.Main) n.shim = Contains-append_left (flat_map (import_needs w users.Main w.main) (imports_of w.main)) (flat_map (export_needs w users.Main) w.main.exports.exports) n.shim of_import in
     subst (λ k. IsSome (shim_of k (shims_of w))) n.same (has_shim w n.shim among)
 
 -- ---- imports that have no shim

@@ -1,4 +1,4 @@
--- What the roles of a world exclude: main imports no memory, and exports no task hook and no destructor.
+-- What the roles of a world exclude: main imports no memory, and exports no task hook.
 use Rattle.std.proofs.Common.{◌≡◌, ℕ, false, List, [], ◌∷◌, map, Contains, None, is_some, refl, ap}
 use Rattle.std.specs.List.{AllByRecursion, flat_map}
 use Rattle.comp_lists.proofs.Lists.{AllByRecursion-contains}
@@ -10,12 +10,10 @@ use Rattle.comp_roles.specs.declared.imports.Import.{Import}
 use Rattle.comp_roles.specs.declared.imports.Import.TheVariants as imports
 use Rattle.comp_roles.specs.declared.imports.ImportInstance.{ImportInstance}
 use Rattle.comp_roles.specs.declared.imports.ImportInstance.TheVariants as instances
-use Rattle.comp_roles.specs.declared.libraries.MainOrAdapter.{MainOrAdapter}
 use Rattle.comp_worlds.specs.Encodable.{IsEncodable}
 use Rattle.comp_worlds.specs.WorldContents.{core_imports}
 use Rattle.comp_worlds.specs.Worlds.{IsImportRole, IsImportGroup, IsExportRole}
 use Rattle.comp_worlds.specs.declared.world.ComponentWorld.{ComponentWorld}
-use Rattle.shim_plan.specs.Needed.{export_needs}
 use Rattle.shim_targets.proofs.Lists.{all_both}
 
 -- ---- imports
@@ -68,14 +66,3 @@ no_hook_in w (e ∷ es) h = rw (not_hook w e.1 h.0) (no_hook_in w es h.1)
 
 pub no_hook : (w : ComponentWorld) → IsEncodable w → is_some (first_export is_task_hook w.main.exports.exports) ≡ false
 no_hook w ok = ap is_some (no_hook_in w w.main.exports.exports ok.valid.main.export_roles)
-
-not_destructor : (w : ComponentWorld) (which : MainOrAdapter) (e : List ℕ × Export) → IsExportRole w e.1 → export_needs w which e ≡ []
-not_destructor w which (name, exports.ResourceDtor id) h = absurd h
-not_destructor w which (name, role) h = refl
-
-no_destructor_in : (w : ComponentWorld) (which : MainOrAdapter) (es : List (List ℕ × Export)) → AllByRecursion (λ e. IsExportRole w e.1) es → flat_map (export_needs w which) es ≡ []
-no_destructor_in w which [] h = refl
-no_destructor_in w which (e ∷ es) h = rw (not_destructor w which e h.0) (no_destructor_in w which es h.1)
-
-pub no_destructor : (w : ComponentWorld) → IsEncodable w → (which : MainOrAdapter) → flat_map (export_needs w which) w.main.exports.exports ≡ []
-no_destructor w ok which = no_destructor_in w which w.main.exports.exports ok.valid.main.export_roles

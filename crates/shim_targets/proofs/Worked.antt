@@ -1,4 +1,5 @@
--- Worked examples: a world that imports a function of a text and one of a number at its root, and one of texts in an interface.
+-- Worked examples: a world that imports a function of a text and one of a number at its root, and one of texts in an interface;
+-- and one whose main module exports the destructor of a resource.
 use Rattle.std.proofs.Common.{◌≡◌, ◌<◌, ℕ, arith, false, true, List, [], ◌∷◌, refl, Some, None}
 use Rattle.std.specs.Fmt.{digits}
 use Rattle.std.specs.List.{IsDistinct}
@@ -11,7 +12,10 @@ use Rattle.wit_data.specs.declared.functions.AbiVariant.TheVariants.{GuestImport
 use Rattle.wit_data.specs.declared.functions.Function.{Function}
 use Rattle.wit_data.specs.declared.functions.FunctionKind.TheVariants.{Freestanding}
 use Rattle.wit_data.specs.declared.signatures.WasmType.TheVariants.{I32}
+use Rattle.wit_data.specs.declared.ids.TypeId.{TypeId}
 use Rattle.wit_data.specs.declared.types.Type.TheVariants.{Primitive as Simple}
+use Rattle.wit_data.specs.declared.types.TypeDefKind.TheVariants.{Resource}
+use Rattle.wit_data.specs.declared.types.TypeOwner.TheVariants as owners
 use Rattle.wit_data.specs.declared.worlds.WorldItem.TheVariants as items
 use Rattle.wit_data.specs.declared.worlds.WorldKey.{WorldKey}
 use Rattle.wit_data.specs.declared.worlds.WorldKey.TheVariants as keys
@@ -21,7 +25,7 @@ use Rattle.wit_data.specs.Sound.{IsSound}
 use Rattle.comp_roles.specs.CoreImports.{CoreImport}
 use Rattle.comp_roles.specs.declared.offered.ExternType.TheVariants as externs
 use Rattle.comp_worlds.specs.Encodable.{IsEncodable}
-use Rattle.comp_worlds.specs.Typed.{realloc_type}
+use Rattle.comp_worlds.specs.Typed.{destructor_type, realloc_type}
 use Rattle.comp_worlds.specs.Worlds.{IsWorld}
 use Rattle.comp_roles.specs.declared.exports.Export.TheVariants as exports
 use Rattle.comp_roles.specs.declared.imports.Import.{Import}
@@ -39,9 +43,10 @@ use Rattle.shim_plan.specs.declared.shims.Shim.{Shim}
 use Rattle.world_shims.specs.WorldShims.{shims_of}
 use Rattle.comp_links.specs.Links.{lower_needs, lower_options}
 use Rattle.comp_links.specs.Roles.{import_encoding, field_path}
-use Rattle.comp_links.specs.Targets.{Main, Memory, Realloc, Encoding}
-use Rattle.comp_terms.specs.Generated.{role_of_kind}
-use Rattle.shim_targets.specs.ShimTargets.{kind_of_import, StandsFor}
+use Rattle.comp_links.specs.Targets.{Main, Memory, Realloc, Encoding, ExportOf}
+use Rattle.comp_terms.specs.Generated.{role_of_kind, OfDestructor, target_of}
+use Rattle.shim_targets.specs.ShimTargets.{kind_of_import, StandsFor, StandsForDestructor}
+use Rattle.shim_targets.proofs.ByKind.{for_role}
 use Rattle.shim_targets.proofs.EachShim.{each_stands}
 
 -- ---- the worlds
@@ -271,7 +276,55 @@ is_encodable = record {
 -- so the second shim stands for an import
 second_stands : (i : CoreImport) × StandsFor mixed_world (record shim_f { name = codes "1"; debug_name = codes "indirect-m-z" }) i
 unfolding values_from digits
-second_stands = (each_stands mixed_world is_encodable).1.0
+second_stands = for_role mixed_world (record shim_f { name = codes "1"; debug_name = codes "indirect-m-z" }) role_f encodings.UTF8 refl (each_stands mixed_world is_encodable).1.0
+
+-- ---- a destructor
+
+abbrev resource : TypeId
+resource = record { index = 0 }
+
+-- main imports f, and exports `d`, the destructor of the resource `res`
+abbrev destructor_world : ComponentWorld
+destructor_world = whole_of (record {
+  resolve = record {
+    interfaces = [];
+    types = record { name = Some (codes "res"); kind = Resource; owner = owners.«None» } ∷ [];
+    worlds = record { imports = (keys.Name f, items.Function wit_f) ∷ []; exports = [] } ∷ [];
+  };
+  world = record { index = 0 };
+  main = record {
+    bytes = core_preamble;
+    imports = record { modules = (codes "m", instances.Names ((codes "x", role_f) ∷ [])) ∷ [] };
+    exports = record { exports = (codes "d", exports.ResourceDtor resource) ∷ (codes "memory", exports.Memory memory_type) ∷ [] };
+    imported = [];
+    offered = (codes "d", destructor_type) ∷ (codes "memory", externs.Memory memory_type) ∷ [];
+    metadata = record { import_encodings = encoded; export_encodings = [] };
+  };
+  main_exports = [];
+  adapters = [];
+  can_use_context_slot_1 = false;
+})
+
+abbrev shim_d : Shim
+shim_d = record {
+  options = record { 0 = 0 };
+  name = codes "1";
+  debug_name = codes "dtor-res";
+  kind = kinds.ResourceDtor users.Main (codes "d");
+  sig = record { params = I32 ∷ []; results = []; indirect_params = false; retptr = false };
+}
+
+-- its shim comes after those of the imports
+after_imports : shims_of destructor_world ≡ shim_f ∷ shim_d ∷ []
+unfolding values_from digits
+after_imports = refl
+
+-- and stands for the export, of the type that validation found
+stands_for_d : StandsForDestructor destructor_world shim_d (codes "d")
+stands_for_d = record { is = record { of_kind = refl; resource = resource; exported = (0, omega arith, refl); typed = refl }; options = refl }
+
+target_of_d : target_of destructor_world (OfDestructor (codes "d")) ≡ ExportOf (record { of = Main; name = codes "d" })
+target_of_d = refl
 
 -- ---- without encodings
 

@@ -1,6 +1,6 @@
 -- What the shims of a world stand for, by its link table (Canonical ABI: `canon lower`; component model, explainer: core
 -- instances).
-use Rattle.std.specs.Prelude.{◌≡◌, ◌++◌, Option, Some, None, IsTrue, Contains, codes}
+use Rattle.std.specs.Prelude.{◌≡◌, ◌++◌, ◌⊎◌, ℕ, List, Option, Some, None, IsTrue, Contains, codes}
 use Rattle.standard_kinds.specs.declared.kinds.StringEncoding.{StringEncoding}
 use Rattle.comp_roles.specs.CoreImports.{CoreImport}
 use Rattle.comp_roles.specs.declared.imports.Import.{Import}
@@ -14,7 +14,7 @@ use Rattle.shim_plan.specs.declared.kinds.ShimKind.TheVariants as kinds
 use Rattle.shim_plan.specs.declared.shims.Shim.{Shim}
 use Rattle.comp_links.specs.Links.{lower_needs}
 use Rattle.comp_links.specs.Roles.{import_encoding}
-use Rattle.comp_terms.specs.Generated.{IsShimOf}
+use Rattle.comp_terms.specs.Generated.{IsShimOf, IsShimOfDestructor}
 
 -- the kind of the shim for an import of main that is called with this string encoding: that of a lowering, where its role is
 -- a function of the world
@@ -34,3 +34,12 @@ pub record StandsFor (w : ComponentWorld) (s : Shim) (i : CoreImport) : Type 0 w
   pub encoded : import_encoding w i.role ≡ Some encoding
   pub kind : kind_of_import i.role encoding ≡ Some s.kind
   pub named : s.debug_name ≡ codes "indirect-" ++ i.module_name ++ codes "-" ++ i.field
+
+-- The shim is that of the destructor that main exports under this name: it has no options.
+pub record StandsForDestructor (w : ComponentWorld) (s : Shim) (name : List ℕ) : Type 0 where
+  pub is : IsShimOfDestructor w s name
+  pub options : s.options.0 ≡ 0
+
+-- the shim stands for a core import of main, or for a destructor that main exports
+abbrev pub StandsForOne : ComponentWorld → Shim → Type 0
+StandsForOne w s = ((i : CoreImport) × StandsFor w s i) ⊎ ((name : List ℕ) × StandsForDestructor w s name)

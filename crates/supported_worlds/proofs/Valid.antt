@@ -284,6 +284,7 @@ module _ (p : WorldParts) (present : HasSoundParts p) (encoded : IsEncoded p) (a
       (subst (λ (o : Option WorldItem). IsSome (function_of_item p.resolve function o)) (sym there.exported) (function_found key h.0 function there))
   export_typed (exports.WorldFuncPostReturn (keys.Name text)) h =
       mapped_there (post_return_type p.resolve) (root_function_at (items_of p).exports (keys.Name text)) (name_at text (items_of p).exports h.0 apart.items.exports h.1 h.2)
+  export_typed (exports.ResourceDtor id) h = refl
   export_typed (exports.Memory type) h = refl
   export_typed exports.GeneralPurposeRealloc h = refl
   export_typed exports.GeneralPurposeImportRealloc h = refl

@@ -5,8 +5,9 @@ use Rattle.comp_terms.specs.Rules.{Grows}
 use Rattle.comp_worlds.specs.declared.world.ComponentWorld.{ComponentWorld}
 use Rattle.root_imports.specs.declared.root_scope.RootScope.{RootScope}
 use Rattle.shim_plan.specs.declared.shims.Shim.{Shim}
+use Rattle.shim_targets.specs.ShimTargets.{StandsForOne}
 use Rattle.world_shims.specs.WorldShims.{shims_of}
-use Rattle.main_fixup.specs.Filling.{AreFillSources, HasShimOptions, IsMainShim}
+use Rattle.main_fixup.specs.Filling.{AreFillSources, HasShimOptions}
 use Rattle.main_fixup.proofs.Filled.{FillsSoFar, fills_start, fills_step, next_stands, sources-kept}
 use Rattle.main_fixup.proofs.fills.fills.Goals as goal
 
@@ -34,7 +35,7 @@ fill-requires-clause-stands c =
     let w = c.args.root.now.world.now in
     let before : FillsSoFar w c.args.root.now.items c.loop-shim.root.items c.loop-shim.entries (c.in-Some.shim.now ∷ c.next.new.self) =
     subst (λ (ss : List Shim). FillsSoFar w c.args.root.now.items c.loop-shim.root.items c.loop-shim.entries ss) c.in-Some.ensures.steps c.loop-shim.invariant.3 in
-    subst (λ (r : Root). IsMainShim r.world.now c.in-Some.shim.now) (sym c.loop-shim.invariant.2)
+    subst (λ (r : Root). StandsForOne r.world.now c.in-Some.shim.now) (sym c.loop-shim.invariant.2)
     (next_stands w c.requires.sources.valid c.args.root.now.items c.loop-shim.root.items c.loop-shim.entries c.in-Some.shim.now c.next.new.self before)
 
 pub loop-shim-preserved : goal.loop-shim-preserved

@@ -1,4 +1,4 @@
-use Rattle.std.proofs.Common.{ℕ, List, [], ap, sym, subst, Option, IfSome}
+use Rattle.std.proofs.Common.{[], ap}
 use Rattle.std.specs.Option.{option_copied}
 use Rattle.comp_builder.specs.Built.{Built}
 use Rattle.comp_bytes.specs.declared.def.Def.TheVariants as defs
@@ -6,8 +6,6 @@ use Rattle.comp_bytes.specs.declared.def.Item.TheVariants as items
 use Rattle.comp_items.proofs.Remembering.{longer}
 use Rattle.comp_terms.specs.Rules.{Grows}
 use Rattle.root_imports.specs.Growing.{Grows-by, Grows-then}
-use Rattle.core_options.specs.MainOptions.{OffersFunction}
-use Rattle.core_options.proofs.Offered.{import_realloc_if_offered}
 use Rattle.main_fixup.specs.Filling.{IsBehind}
 use Rattle.main_fixup.proofs.Lowering.{behind-kept, lower_options_right, lowering_for, options_there}
 use Rattle.main_fixup.proofs.lowerings.lower_function.Goals as goal
@@ -24,8 +22,8 @@ returns-clause-grows c =
     (record { origin = b.is.origin; type = b.is.type; is = b.is.is }, lower_options_right w s c.args.encoding name c.requires.realloc mid b.import b.stands c.in_ok-options.options c.in_ok-options.ensures.named) in
     Grows-then c.in_ok-options.ensures.grows one
 
-pub returns-clause-lowered : goal.returns-clause-lowered
-returns-clause-lowered c =
+pub returns-clause-serves : goal.returns-clause-serves
+returns-clause-serves c =
     let w = c.args.root.now.world.now in
     let s = c.args.shim.now in
     let mid = c.options_of_main.new.root.items.defs in

@@ -9,8 +9,8 @@ use Rattle.comp_worlds.specs.declared.world.ComponentWorld.{ComponentWorld}
 use Rattle.root_imports.specs.Growing.{Grows-then}
 use Rattle.root_imports.specs.declared.root_scope.RootScope.{RootScope}
 use Rattle.main_fixup.specs.Filling.{IsBehind}
-use Rattle.main_fixup.proofs.Behind.{called_used, found_behind}
-use Rattle.main_fixup.proofs.lowerings.lower_shim.Goals as goal
+use Rattle.main_fixup.proofs.Behind.{called_used, found_behind, destructor_offered, destructor_serves}
+use Rattle.main_fixup.proofs.lowerings.function_behind.Goals as goal
 
 abbrev Root : Type 0
 Root = RootScope ComponentWorld
@@ -41,10 +41,20 @@ lower_function-requires-clause-behind c =
     found_behind c.args.root.now.world.now c.args.shim.now c.requires.stands k.interface k.function k.realloc k.encoding k.is ds of.index of.ensures.function in
     subst (λ (r : Root). IsBehind r.world.now ds c.args.shim.now k.encoding of.index) (sym of.ensures.same) behind
 
-pub returns-clause-grows : goal.returns-clause-grows
-returns-clause-grows c =
+pub returns-in_ok-lowered-in-IndirectLowering-clause-grows : goal.returns-in_ok-lowered-in-IndirectLowering-clause-grows
+returns-in_ok-lowered-in-IndirectLowering-clause-grows c =
     let of = c.in_ok-index-in-IndirectLowering in
     let mid = c.imported_function.new.root.items.defs in
     let new = c.lower_function.new.root.items.defs in
     let second : Grows c.args.root.now.world.now mid new [] = subst (λ (r : Root). Grows r.world.now mid new []) of.ensures.same c.in_ok-lowered-in-IndirectLowering.ensures.grows in
     Grows-then of.ensures.grows second
+
+pub destructor-requires-clause-offered : goal.destructor-requires-clause-offered
+destructor-requires-clause-offered c =
+    let k = c.in-ResourceDtor in destructor_offered c.args.root.now.world.now c.args.shim.now c.requires.stands k.«module» k.export k.is
+
+pub returns-in_ok-aliased-in-ResourceDtor-clause-serves : goal.returns-in_ok-aliased-in-ResourceDtor-clause-serves
+returns-in_ok-aliased-in-ResourceDtor-clause-serves c =
+    let k = c.in-ResourceDtor in
+    let of = c.in_ok-aliased-in-ResourceDtor in
+    destructor_serves c.args.root.now.world.now c.args.shim.now c.requires.stands k.«module» k.export k.is c.before.before.destructor.new.root.items.defs of.aliased of.ensures.alias
