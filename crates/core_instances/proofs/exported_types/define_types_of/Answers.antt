@@ -1,5 +1,4 @@
-use Rattle.std.proofs.Common.{◌≡◌, ◌∙◌, ℕ, List, [], ◌∷◌, Contains, sym, ap, subst}
-use Rattle.std.specs.List.{AllByRecursion}
+use Rattle.std.proofs.Common.{◌≡◌, ◌∙◌, ℕ, List, [], ◌∷◌, Contains, sym, subst}
 use Rattle.comp_lists.proofs.Lists.{Contains-map}
 use Rattle.wit_data.specs.Live.{named_types}
 use Rattle.wit_data.specs.declared.ids.TypeId.{TypeId}
@@ -11,7 +10,7 @@ use Rattle.root_imports.specs.Keeping.{Root, RootKept}
 use Rattle.root_imports.specs.RootScopes.{AreTablesRight}
 use Rattle.root_imports.proofs.Keeping.{kept_none, kept_typed, kept_then}
 use Rattle.core_instances.specs.Instances.{IsDefinedType}
-use Rattle.core_instances.proofs.Defining.{ListedSoFar, AreDefined, listed_start, listed_step, listed_end, next_listed}
+use Rattle.core_instances.proofs.Defining.{ListedSoFar, listed_start, listed_step, listed_end, next_listed}
 use Rattle.core_instances.proofs.exported_types.define_types_of.Goals as goal
 
 abbrev Listed : Type 0
