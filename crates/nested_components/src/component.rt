@@ -224,8 +224,9 @@ fn contents_of<P: Placement>(
     ensures passed { IfOk result (ArePassedOn P.given P.origin resolve.now.types types.now functions.now names.now) }
     ensures cause { IfErr result IsExcess }
 {
-    let mut encoder: NestedEncoder<'_, P> =
-        begin_component(alloc, resolve, interface, types, functions, taken)?;
+    let mut encoder: NestedEncoder<'_, P> = begin_component(
+        alloc, resolve, interface, types, functions, taken,
+    )?;
     let tables = encoder.type_tables()?;
     import_functions(alloc, &mut encoder, resolve, names.as_slice(), functions)?;
     encoder.begin_exports(tables);

@@ -9,10 +9,7 @@ use wit_data::{TypeDefKind, TypeId};
 use wit_types::TypeEncodingMaps;
 
 /// An equal table of types by their numbers, memory allowing.
-fn copy_ids(
-    alloc: Global,
-    table: &Keyed<TypeId, u32>,
-) -> Result<Keyed<TypeId, u32>, AllocError>
+fn copy_ids(alloc: Global, table: &Keyed<TypeId, u32>) -> Result<Keyed<TypeId, u32>, AllocError>
     ensures { IfOk result (λ copy. copy ≡ table.now) }
 {
     let mut copy = Keyed::new(alloc);

@@ -12,9 +12,11 @@ loop-n-preserved c =
     let n = c.loop-n.n in
     let within : n < length c.args.params.now = omega (arith, c.loop-n-test.true) in
     let of = c.in_ok-meet_part.ensures in
-    let param : Param = c.index-params-n.result in
-    (of.right, λ d. met_more c.args.types.now c.args.here (λ (p : Param). Some p.ty) c.args.params.now d c.args.walk.now.listed c.requires.back c.loop-n.walk.listed c.meet_part.new.walk.listed n (Some (get_or c.args.params.now n param).ty) within
-        (ap (λ (p : Param). Some p.ty) (same_at c.args.params.now n param d within)) (c.loop-n.invariant.1 d) of.covered of.lists)
+    let param : Param = c.index-params-n.result in (
+      of.right,
+      λ d. met_more c.args.types.now c.args.here (λ (p : Param). Some p.ty) c.args.params.now d c.args.walk.now.listed c.requires.back c.loop-n.walk.listed c.meet_part.new.walk.listed n (Some (get_or c.args.params.now n param).ty) within
+          (ap (λ (p : Param). Some p.ty) (same_at c.args.params.now n param d within)) (c.loop-n.invariant.1 d) of.covered of.lists,
+    )
 
 abbrev nothing : Param
 nothing = record { name = []; ty = Id (record { index = 0 }) }

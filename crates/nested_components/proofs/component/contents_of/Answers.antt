@@ -61,7 +61,7 @@ export_all-requires-clause-typed g c =
     let names = c.args.names.now in
     let types = c.args.resolve.now.types in
     let all = imports_all given origin n.home n.stage es names (record { items = []; taken = c.args.taken }) n.contents m.contents b.grows
-        (subst (λ (ns : List (List ℕ)). Grows given origin n.home n.stage n.contents m.contents (nested_functions origin n.home.types (functions_of es) ns)) c.as_slice.ensures c.in_ok-import_functions.ensures.grows) in
+    (subst (λ (ns : List (List ℕ)). Grows given origin n.home n.stage n.contents m.contents (nested_functions origin n.home.types (functions_of es) ns)) c.as_slice.ensures c.in_ok-import_functions.ensures.grows) in
     subst (λ x. AllZip (IsTyped origin x.home.types) (scope_of given x.contents.items).functions (functions_of es)) (sym c.begin_exports.ensures)
     (subst (λ (x : Home). AllZip (IsTyped origin x.types) (scope_of given m.contents.items).functions (functions_of es)) (sym c.in_ok-import_functions.ensures.home)
     (subst (λ gs. AllZip (IsTyped origin n.home.types) gs (functions_of es)) (sym (functions_made given origin n.home n.stage es names (record { items = []; taken = c.args.taken }) m.contents refl all))
@@ -82,7 +82,7 @@ returns-clause-passed g c =
     let first : Contents = record { items = []; taken = c.args.taken } in
     let h : Home = with_foreign (new_home types c.args.interface named) b.ids in
     let all = imports_all given origin n.home n.stage es names first n.contents m.contents b.grows
-        (subst (λ (ns : List (List ℕ)). Grows given origin n.home n.stage n.contents m.contents (nested_functions origin n.home.types (functions_of es) ns)) c.as_slice.ensures c.in_ok-import_functions.ensures.grows) in
+    (subst (λ (ns : List (List ℕ)). Grows given origin n.home n.stage n.contents m.contents (nested_functions origin n.home.types (functions_of es) ns)) c.as_slice.ensures c.in_ok-import_functions.ensures.grows) in
     let grows : Grows given origin h n.stage first m.contents (nested_functions origin types (functions_of es) names) =
     subst (λ (x : Home). Grows given origin x n.stage first m.contents (nested_functions origin x.types (functions_of es) names)) b.same all in
     let home : m.home ≡ h = c.in_ok-import_functions.ensures.home ∙ b.same in
