@@ -71,4 +71,49 @@ def types_of_an_interface(count):
     return exporting([f"a:b/i#{name}" for name in names]), record, IMPORT + "export i;", f"interface i {{\n{texts}}}\n"
 
 
-table(*sys.argv[1:], [exported_functions, functions_of_an_interface, interfaces_with_a_function, types_of_an_interface])
+def types_of_another_interface(count):
+    """Each function of the interface takes a type of an imported one."""
+    names = [f"g{n}" for n in range(count)]
+    types = [{"name": f"t{n}", "type": {"record": [["s", "string"]]}} for n in range(count)]
+    functions = [{"name": name, "params": [["a", {"ref": [0, f"t{n}"]}]]} for n, name in enumerate(names)]
+    record = {
+        **IMPORTED,
+        "interfaces": [{"id": "a:b/t", "types": types, "functions": []}, {"id": "a:b/i", "types": [], "functions": functions}],
+        "imports": [{"interface": 0}, *IMPORTED["imports"]],
+        "exports": [{"interface": 1}],
+        "core-exports": MEMORY + [{"field": f"a:b/i#{name}", "role": ["interface-func", 1, name, "sync"]} for name in names],
+    }
+    used = ", ".join(f"t{n}" for n in range(count))
+    texts = "".join(f"{name}: func(a: t{n});\n" for n, name in enumerate(names))
+    records = "".join(f"record t{n} {{ s: string }}\n" for n in range(count))
+    interfaces = f"interface t {{\n{records}}}\ninterface i {{\nuse t.{{{used}}};\n{texts}}}\n"
+    return exporting([f"a:b/i#{name}" for name in names]), record, "import t;\n" + IMPORT + "export i;", interfaces
+
+
+def interfaces_that_use_a_type(count):
+    names = [f"i{n}" for n in range(count)]
+    first = {"id": "a:b/t", "types": [{"name": "t", "type": {"record": [["s", "string"]]}}], "functions": []}
+    function = {"name": "f", "params": [["a", {"ref": [0, "t"]}]]}
+    record = {
+        **IMPORTED,
+        "interfaces": [first, *({"id": f"a:b/{name}", "types": [], "functions": [function]} for name in names)],
+        "imports": [{"interface": 0}, *IMPORTED["imports"]],
+        "exports": [{"interface": n + 1} for n in range(count)],
+        "core-exports": MEMORY + [{"field": f"a:b/{name}#f", "role": ["interface-func", n + 1, "f", "sync"]} for n, name in enumerate(names)],
+    }
+    interfaces = "interface t { record t { s: string } }\n" + "".join(f"interface {name} {{ use t.{{t}}; f: func(a: t); }}\n" for name in names)
+    world = "import t;\n" + IMPORT + "".join(f"export {name};\n" for name in names)
+    return exporting([f"a:b/{name}#f" for name in names]), record, world, interfaces
+
+
+table(
+    *sys.argv[1:],
+    [
+        exported_functions,
+        functions_of_an_interface,
+        interfaces_with_a_function,
+        types_of_an_interface,
+        types_of_another_interface,
+        interfaces_that_use_a_type,
+    ],
+)
