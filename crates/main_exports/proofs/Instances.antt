@@ -51,7 +51,7 @@ use Rattle.comp_terms.specs.Exports.{argument_named, IsNestedRight, IsNestedFor,
 use Rattle.comp_terms.specs.Rules.{Grows, NestedOf, nested_marked}
 use Rattle.comp_items.proofs.Kept.{Longer, denotes-kept}
 use Rattle.root_imports.specs.Growing.{Grows-by, Grows-then}
-use Rattle.interface_needs.proofs.Owners.{same_name}
+use Rattle.root_imports.proofs.ExportedTypes.{same_name}
 use Rattle.interface_needs.proofs.Usable.{usable_from}
 use Rattle.main_exports.proofs.TypeArguments.{usable_import}
 use Rattle.main_exports.specs.Exports.{IsNestedOf, nested_mark, functions_at, functions_of_key, AreLiftArguments, IsTypeArgument, AreArgumentsOf, AreArgumentsFor, IsInstantiated}

@@ -16,7 +16,7 @@ use Rattle.comp_worlds.specs.WorldContents.{exported_item}
 use Rattle.comp_worlds.specs.declared.world.ComponentWorld.{ComponentWorld}
 use Rattle.interface_needs.specs.RootNeeds.{IsExportedInterface, is_lent_type, IsUsableType}
 use Rattle.interface_needs.proofs.ExportedInterfaces.{exported_types_home, exported_functions_home}
-use Rattle.interface_needs.proofs.Owners.{same_name}
+use Rattle.root_imports.proofs.ExportedTypes.{same_name}
 use Rattle.comp_terms.specs.Rules.{Grows}
 use Rattle.nested_components.specs.Types.{IsImportOf}
 use Rattle.nested_components.specs.declared.type_import.TypeImport.{TypeImport}
