@@ -44,8 +44,10 @@ ENDED = re.compile(r"checked (\S+), \d+ of \d+$")
 AT = re.compile(r"(?:note: )?(?:\./)?((?:src|specs|proofs)/\S+?):(\d+):\d+: (.*)")
 # What is said of a wrong body whose function may have waited for the proof of one that it calls.
 WAITS = False, "NOT TRIED: its function is not proved, but no goal of it is open"
-# An answer that names what the edit took away says little of the contract.
+# An answer that names what the edit took away, as a step or a goal of a call, says little of the contract.
 SHAPE = re.compile(r"has no field|is not in scope|has no `|was not admitted")
+# A long message says in its second line what the record of a step, or the module of the goals, lacks.
+LACKS = re.compile(r"  (?:module `\S+` )?has no (?:field )?`")
 
 
 def kit():
@@ -283,11 +285,12 @@ class Trial:
         merged = Merged(batch, self.sources)
         ran = self.checked(merged)
         found = {body: [] for body in batch}
-        for line in ran.lines:
+        for line, below in zip(ran.lines, [*ran.lines[1:], ""]):
             if at := AT.match(line):
+                text = f"{at[3]} {below.strip()}" if LACKS.match(below) else at[3]
                 for body in batch:
                     if merged.has_place(body, at[1], int(at[2])):
-                        found[body].append(at[3])
+                        found[body].append(text)
         if not ran.ended():
             self.without_bad_edits(batch, found, ran)
             return
@@ -318,11 +321,13 @@ class Trial:
     def judged(self, functions, found, ran):
         """Whether a wrong body of a check that ended is refused, and what is to be printed of it."""
         open_goals = [it for it in found if it.startswith("it is not proved") or re.match(r"error\b", it)]
-        of_meaning = [it for it in open_goals if not SHAPE.search(it)]
+        # (a goal that is open says more than an answer that doesn't fit)
+        of_meaning = sorted((it for it in open_goals if not SHAPE.search(it)), key=lambda it: not it.startswith("it is not proved"))
         if of_meaning:
             return True, f"refused: {of_meaning[0][:160]}"
         if open_goals:
-            return False, f"NOT TRIED: a proof file names what the edit took away: change a value, and keep the names: {open_goals[0][:160]}"
+            why = "a proof file names what the edit took away: keep the calls, and change a value"
+            return False, f"NOT TRIED: it is refused for its shape, {why}: {open_goals[0][:300]}"
         names = "|".join(re.escape(it.name) for _, it in functions)
         if any(re.match(rf"fn \S*\b({names}): (?!proved)", it) for it in ran.lines):
             return WAITS
