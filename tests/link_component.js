@@ -26,28 +26,62 @@ const instanceType = (members, outer) => {
   return exported;
 };
 
+// The steps of definitions that make types, functions and instances, in a component or a nested one, and what they make.
+// `importOf` answers what an import is.
+const scope = importOf => {
+  const items = { func: [], type: [], instance: [], component: [] };
+  const exported = { func: {}, type: {}, instance: {} };
+  const steps = {
+    type: ({ type }) => items.type.push(resolved(type, items.type)),
+    alias: ({ sort, instance, name }) => items[sort].push(items.instance[instance][sort][name]),
+    import: definition => items[definition.sort].push(importOf(definition, items)),
+    component: ({ definitions }) => items.component.push(definitions),
+    instantiate: ({ component, args }) => {
+      const given = { func: {}, type: {} };
+      for (const { name, sort, index } of args) given[sort][name] = items[sort][index];
+      items.instance.push(nested(items.component[component], given));
+    },
+    export: ({ name, sort, index }) => {
+      items[sort].push(items[sort][index]);
+      exported[sort][name] = items[sort][index];
+    },
+  };
+  return { items, exported, steps };
+};
+
+// What an instance of a nested component exports, where this is given for its imports: a type is the one that is given, and a function
+// is called as the nested component imports it.
+const nested = (definitions, given) => {
+  const importOf = ({ name, sort, index }, items) => (sort === 'type' ? given.type[name] : { ...given.func[name], type: items.type[index] });
+  const { exported, steps } = scope(importOf);
+  for (const definition of definitions) steps[definition.define](definition);
+  return exported;
+};
+
+const callsOf = functions => Object.fromEntries(Object.entries(functions).map(([name, { call }]) => [name, call]));
+
 // `outside` has the functions that are imported by name, and an object of such for an imported instance. `seen` is called
 // with each core module's number, its imports and its exports, once it is instantiated. The answer is the component's exported
-// functions by name, and the functions that were lowered.
+// functions by name, an object of such for an exported instance, and the functions that were lowered.
 const linked = (definitions, outside, seen = () => {}) => {
   const modules = [];
   const coreInstances = [];
   const core = { func: [], table: [], memory: [], global: [] };
-  const items = { func: [], type: [], instance: [] };
-  const made = { exports: {}, lowerings: new Set() };
-
-  // the functions and the memory that options name
-  const named = ({ encoding, memory, realloc, postReturn }) =>
-    ({ encoding, memory: core.memory[memory], realloc: core.func[realloc], postReturn: core.func[postReturn] });
-  const importOf = ({ name, sort, index }) => {
+  const lowerings = new Set();
+  const importOf = ({ name, sort, index }, items) => {
     const type = items.type[index];
     if (sort === 'func') return { type, call: outside[name] };
     if (sort === 'type') return type;
     const functions = Object.entries(type.func).map(([of, its]) => [of, { type: its, call: outside[name][of] }]);
     return { func: Object.fromEntries(functions), type: type.type };
   };
+  const { items, exported, steps } = scope(importOf);
 
-  const steps = {
+  // the functions and the memory that options name
+  const named = ({ encoding, memory, realloc, postReturn }) =>
+    ({ encoding, memory: core.memory[memory], realloc: core.func[realloc], postReturn: core.func[postReturn] });
+
+  const coreSteps = {
     'core-module': ({ bytes }) => modules.push(new WebAssembly.Module(bytes)),
     'core-exports': ({ entries }) =>
       coreInstances.push(Object.fromEntries(entries.map(({ name, sort, index }) => [name, core[sort][index]]))),
@@ -58,23 +92,18 @@ const linked = (definitions, outside, seen = () => {}) => {
       seen(module, imports, exports);
     },
     'core-alias': ({ sort, instance, name }) => core[sort].push(coreInstances[instance][name]),
-    type: ({ type }) => items.type.push(resolved(type, items.type)),
-    alias: ({ sort, instance, name }) => items[sort].push(items.instance[instance][sort][name]),
-    import: definition => items[definition.sort].push(importOf(definition)),
     lower: ({ func, options }) => {
       const { type, call } = items.func[func];
       core.func.push(lowered(call, named(options), type));
-      made.lowerings.add(core.func[core.func.length - 1]);
+      lowerings.add(core.func[core.func.length - 1]);
     },
     lift: ({ func, options, type }) =>
       items.func.push({ type: items.type[type], call: lifted(core.func[func], named(options), items.type[type]) }),
-    export: ({ name, sort, index }) => {
-      items[sort].push(items[sort][index]);
-      if (sort === 'func') made.exports[name] = items.func[index].call;
-    },
   };
-  for (const definition of definitions) steps[definition.define](definition);
-  return made;
+  const all = { ...steps, ...coreSteps };
+  for (const definition of definitions) all[definition.define](definition);
+  const instances = Object.entries(exported.instance).map(([name, { func }]) => [name, callsOf(func)]);
+  return { exports: { ...callsOf(exported.func), ...Object.fromEntries(instances) }, lowerings };
 };
 
 module.exports = { linked };

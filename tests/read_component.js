@@ -125,6 +125,12 @@ const coreInstance = from => {
   return { define: 'core-instantiate', module: from.number(), args: from.list(argument) };
 };
 
+const instance = from => {
+  from.expect(0);
+  const argument = () => ({ name: from.name(), sort: from.among(SORTS, 'sort'), index: from.number() });
+  return { define: 'instantiate', component: from.number(), args: from.list(argument) };
+};
+
 const OPTIONS = ['utf8', 'utf16', 'compact', 'memory', 'realloc', 'postReturn'];
 const options = from => {
   const read = { encoding: 'utf8' };
@@ -151,6 +157,7 @@ const exported = from => {
 };
 const SECTIONS = {
   2: coreInstance,
+  5: instance,
   6: alias,
   7: from => ({ define: 'type', type: definedType(from) }),
   8: canonical,
@@ -166,9 +173,10 @@ const readComponent = bytes => {
     const id = from.byte();
     const section = new Reader(from.take(from.number()));
     if (id === 1) definitions.push({ define: 'core-module', bytes: section.bytes });
+    else if (id === 4) definitions.push({ define: 'component', definitions: readComponent(section.bytes) });
     else if (SECTIONS[id] !== undefined) definitions.push(...section.list(SECTIONS[id]));
     else if (id !== 0) throw new Error(`a section ${id} isn't read`);
-    if (id > 1 && !section.ended()) throw new Error(`a section ${id} has bytes after its definitions`);
+    if (SECTIONS[id] !== undefined && !section.ended()) throw new Error(`a section ${id} has bytes after its definitions`);
   }
   return definitions;
 };

@@ -86,7 +86,19 @@ const runPeople = (name, file) => {
   holds(`${name}: all of none`, fromAge(0), []);
 };
 
-const RUNS = { main: runMain, strings: runStrings, log: runLog, people: runPeople };
+const runSearch = (name, file) => {
+  const outside = { 'example:registry/people': { people: () => PEOPLE } };
+  const exports = withShim(name, file, outside, 'example:registry/people', 'people');
+  holds(`${name}: what it exports`, Object.keys(exports), ['example:registry/search']);
+  const { find, count } = exports['example:registry/search'];
+  holds(`${name}: those from 36 to 85`, find({ least: 36, most: 85 }), PEOPLE.slice(0, 2));
+  holds(`${name}: those of no age`, find({ least: 1, most: 35 }), []);
+  for (let i = 0; i < 1000; i++) find({ least: 0, most: 4000000000 });
+  holds(`${name}: how many there are`, count({ least: 0, most: 4000000000 }), 4);
+  holds(`${name}: how many are younger than 36`, count({ least: 0, most: 35 }), 1);
+};
+
+const RUNS = { main: runMain, strings: runStrings, log: runLog, people: runPeople, search: runSearch };
 for (const argument of process.argv.slice(2)) {
   const [name, file] = argument.split('=');
   try {
