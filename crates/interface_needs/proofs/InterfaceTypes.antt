@@ -4,7 +4,7 @@ use Rattle.std.proofs.lemmas.Option.{same_Some}
 use Rattle.comp_lists.specs.Found.{found}
 use Rattle.comp_trees.specs.Trees.{Origin, ImportedAt}
 use Rattle.comp_trees.specs.DefinedTrees.{TypeTree}
-use Rattle.comp_trees.specs.Inventories.{surroundings_of}
+use Rattle.comp_inventories.specs.Inventories.{surroundings_of}
 use Rattle.wit_data.specs.Names.{text_of}
 use Rattle.wit_data.specs.declared.ids.InterfaceId.{InterfaceId}
 use Rattle.wit_data.specs.declared.ids.TypeId.{TypeId}

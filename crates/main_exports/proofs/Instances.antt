@@ -29,9 +29,9 @@ use Rattle.wit_data.specs.declared.ids.TypeId.{TypeId}
 use Rattle.wit_data.specs.declared.types.TypeDef.{TypeDef}
 use Rattle.wit_data.specs.declared.worlds.WorldItem.TheVariants as world_items
 use Rattle.wit_data.specs.declared.worlds.WorldKey.{WorldKey}
-use Rattle.comp_trees.specs.Inventories.{FunctionEntry, inventory, no_function as no_entry}
-use Rattle.comp_trees.proofs.Counting.{functions-counted}
-use Rattle.comp_trees.proofs.InventoryGrowth.{function_kept, scope_counted}
+use Rattle.comp_inventories.specs.Inventories.{argument_named, FunctionEntry, inventory, no_function as no_entry}
+use Rattle.comp_inventories.proofs.Counting.{functions-counted}
+use Rattle.comp_inventories.proofs.InventoryGrowth.{function_kept, scope_counted}
 use Rattle.comp_trees.specs.Trees.{Resource}
 use Rattle.comp_trees.specs.DefinedTrees.{TypeTree}
 use Rattle.nested_terms.specs.Naming.{import_names}
@@ -47,7 +47,7 @@ use Rattle.comp_worlds.specs.WorldContents.{exported_item}
 use Rattle.comp_worlds.specs.declared.world.ComponentWorld.{ComponentWorld}
 use Rattle.comp_links.specs.Lists.{resource_of, IsTypeImport}
 use Rattle.interface_needs.proofs.Lists.{all_both}
-use Rattle.comp_terms.specs.Exports.{argument_named, IsNestedRight, IsNestedFor, IsArgumentIn, IsArgumentRight, IsFunctionGiven, IsTypeGiven, IsImportGiven, InstantiatesNested, PassesOn, ExportsInterface, exports_in}
+use Rattle.comp_terms.specs.Exports.{IsNestedRight, IsNestedFor, IsArgumentIn, IsArgumentRight, IsFunctionGiven, IsTypeGiven, IsImportGiven, InstantiatesNested, PassesOn, ExportsInterface, exports_in}
 use Rattle.comp_terms.specs.Rules.{Grows, NestedOf, nested_marked}
 use Rattle.comp_items.proofs.Kept.{Longer, denotes-kept}
 use Rattle.root_imports.specs.Growing.{Grows-by, Grows-then}

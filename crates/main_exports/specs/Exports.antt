@@ -27,7 +27,7 @@ use Rattle.nested_components.specs.Types.{type_given, exported_type, IsImportOf}
 use Rattle.nested_components.specs.declared.component.NestedComponent.{NestedComponent}
 use Rattle.nested_components.specs.declared.type_import.TypeImport.{TypeImport}
 use Rattle.comp_trees.specs.DefinedScopes.{Denotes}
-use Rattle.comp_trees.specs.Inventories.{inventory, scope_of}
+use Rattle.comp_inventories.specs.Inventories.{inventory, scope_of}
 use Rattle.comp_roles.specs.declared.metadata.FunctionKey.{FunctionKey}
 use Rattle.comp_worlds.specs.Encodable.{IsEncodable}
 use Rattle.comp_worlds.specs.WorldContents.{core_name_of, function_exported}

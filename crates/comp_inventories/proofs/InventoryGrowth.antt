@@ -10,9 +10,9 @@ use Rattle.comp_bytes.specs.declared.space.Space.TheVariants as spaces
 use Rattle.comp_bytes.specs.declared.def.Def.{Def}
 use Rattle.comp_trees.specs.DefinedTrees.{TypeTree, OfOthers}
 use Rattle.comp_trees.specs.DefinedScopes.{Denotes}
-use Rattle.comp_trees.specs.Inventories.{Inventory, TypeEntry, FunctionEntry, entry_tree, types_made, functions_made, with_def, inventory_after, inventory, scope_of, no_type}
-use Rattle.comp_trees.proofs.Inventories.{inventory-append, inventory-push}
-use Rattle.comp_trees.proofs.Counting.{types-counted, functions-counted}
+use Rattle.comp_inventories.specs.Inventories.{Inventory, TypeEntry, FunctionEntry, entry_tree, types_made, functions_made, with_def, inventory_after, inventory, scope_of, no_type}
+use Rattle.comp_inventories.proofs.Inventories.{inventory-append, inventory-push}
+use Rattle.comp_inventories.proofs.Counting.{types-counted, functions-counted}
 
 length-map : {A B : Type 0} (f : A → B) (xs : List A) → length (map f xs) ≡ length xs
 length-map f [] = refl
@@ -28,10 +28,10 @@ pub record Behind {A : Type 0} (old new : List A) : Type 0 where
   pub more : List A
   pub grown : new ≡ old ++ more
 
-behind_none : {A : Type 0} (xs : List A) → Behind xs xs
+pub behind_none : {A : Type 0} (xs : List A) → Behind xs xs
 behind_none xs = record { more = []; grown = sym (append-nil xs) }
 
-behind_then : {A : Type 0} (xs ys zs : List A) → Behind (xs ++ ys) zs → Behind xs zs
+pub behind_then : {A : Type 0} (xs ys zs : List A) → Behind (xs ++ ys) zs → Behind xs zs
 behind_then xs ys zs h = record { more = ys ++ h.more; grown = h.grown ∙ append_assoc xs ys h.more }
 
 types_behind : (v : Inventory) (ds : List Def) → Behind v.types (inventory_after v ds).types

@@ -12,10 +12,10 @@ use Rattle.comp_bytes.specs.declared.types.Description.TheVariants as descriptio
 use Rattle.comp_bytes.specs.declared.def.Item.TheVariants as items
 use Rattle.comp_bytes.specs.declared.def.Def.{Def}
 use Rattle.comp_bytes.specs.declared.def.Def.TheVariants as defs
-use Rattle.comp_trees.specs.Inventories.{Inventory, types_made, functions_made, instances_made, with_def, inventory_after, inventory, empty_inventory}
+use Rattle.comp_inventories.specs.Inventories.{Inventory, types_made, functions_made, instances_made, components_made, with_def, inventory_after, inventory, empty_inventory}
 
 -- one, where the definition makes an item of the space
-abbrev one_of : Space → Def → ℕ
+abbrev pub one_of : Space → Def → ℕ
 one_of space d = cond (is_space space (space_of d)) 1 0
 
 one_type : (v : Inventory) (d : Def) → length (types_made v d) ≡ one_of spaces.Type d
@@ -119,6 +119,40 @@ one_instance v (defs.Item (items.Export name sorts.Type index description)) = re
 one_instance v (defs.Item (items.Export name sorts.Component index description)) = refl
 one_instance v (defs.Item (items.Export name sorts.Instance index description)) = refl
 one_instance v (defs.Item (items.Custom name contents)) = refl
+
+pub one_component : (v : Inventory) (d : Def) → length (components_made v d) ≡ one_of spaces.Component d
+one_component v (defs.Component inner) = refl
+one_component v (defs.Item (items.CoreModule bytes)) = refl
+one_component v (defs.Item (items.CoreInstantiate number arguments)) = refl
+one_component v (defs.Item (items.CoreExports entries)) = refl
+one_component v (defs.Item (items.Instantiate component arguments)) = refl
+one_component v (defs.Item (items.Alias (aliases.Export exports.Func instance name))) = refl
+one_component v (defs.Item (items.Alias (aliases.Export exports.Type instance name))) = refl
+one_component v (defs.Item (items.Alias (aliases.Export exports.Component instance name))) = refl
+one_component v (defs.Item (items.Alias (aliases.Export exports.Instance instance name))) = refl
+one_component v (defs.Item (items.Alias (aliases.CoreExport kinds.Func instance name))) = refl
+one_component v (defs.Item (items.Alias (aliases.CoreExport kinds.Table instance name))) = refl
+one_component v (defs.Item (items.Alias (aliases.CoreExport kinds.Memory instance name))) = refl
+one_component v (defs.Item (items.Alias (aliases.CoreExport kinds.Global instance name))) = refl
+one_component v (defs.Item (items.Alias (aliases.Outer count index))) = refl
+one_component v (defs.Item (items.Type t)) = refl
+one_component v (defs.Item (items.InstanceType t)) = refl
+one_component v (defs.Item (items.Lift core options kind)) = refl
+one_component v (defs.Item (items.Lower function options)) = refl
+one_component v (defs.Item (items.Intrinsic i)) = refl
+one_component v (defs.Item (items.Import name (descriptions.Func kind))) = refl
+one_component v (defs.Item (items.Import name (descriptions.TypeEqual index))) = refl
+one_component v (defs.Item (items.Import name descriptions.SubResource)) = refl
+one_component v (defs.Item (items.Import name (descriptions.Instance kind))) = refl
+one_component v (defs.Item (items.Export name (sorts.Core kinds.Func) index description)) = refl
+one_component v (defs.Item (items.Export name (sorts.Core kinds.Table) index description)) = refl
+one_component v (defs.Item (items.Export name (sorts.Core kinds.Memory) index description)) = refl
+one_component v (defs.Item (items.Export name (sorts.Core kinds.Global) index description)) = refl
+one_component v (defs.Item (items.Export name sorts.Func index description)) = refl
+one_component v (defs.Item (items.Export name sorts.Type index description)) = refl
+one_component v (defs.Item (items.Export name sorts.Component index description)) = refl
+one_component v (defs.Item (items.Export name sorts.Instance index description)) = refl
+one_component v (defs.Item (items.Custom name contents)) = refl
 
 module _ (space : Space) (size : Inventory → ℕ) (step : (v : Inventory) (d : Def) → size (with_def v d) ≡ size v + one_of space d) where
   counted_after : (v : Inventory) (ds : List Def) → size (inventory_after v ds) ≡ size v + items_in space ds

@@ -1,7 +1,7 @@
 -- The inventory of a list, definition by definition.
 use Rattle.std.proofs.Common.{◌≡◌, List, [], ◌∷◌, ◌++◌, refl}
 use Rattle.comp_bytes.specs.declared.def.Def.{Def}
-use Rattle.comp_trees.specs.Inventories.{Inventory, with_def, inventory_after, inventory, empty_inventory}
+use Rattle.comp_inventories.specs.Inventories.{Inventory, with_def, inventory_after, inventory, empty_inventory}
 
 -- the inventory of no definition
 pub inventory-empty : inventory [] ≡ empty_inventory
