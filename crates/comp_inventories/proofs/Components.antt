@@ -1,5 +1,5 @@
 -- The nested component of an index is the one that was defined there.
-use Rattle.std.proofs.Common.{◌≡◌, ◌∙◌, ◌+◌, ℕ, zero, suc, Bool, true, false, List, [], ◌∷◌, ◌++◌, length, refl, sym, ap, subst, zero-add, length-append, append-nil, append_assoc, arith, Some, cond, if◌then◌else◌}
+use Rattle.std.proofs.Common.{◌≡◌, ◌∙◌, ◌+◌, ℕ, zero, suc, Bool, true, false, List, [], ◌∷◌, ◌++◌, length, refl, sym, ap, subst, zero-add, length-append, arith, Some, cond, if◌then◌else◌}
 use Rattle.std.specs.Prelude.{slice_get}
 use Rattle.std.proofs.lemmas.Option.{none-some, same_Some}
 use Rattle.comp_lists.proofs.Lists.{slice_get-append, slice_get-end}
@@ -10,7 +10,7 @@ use Rattle.comp_bytes.specs.declared.def.Item.{Item}
 use Rattle.comp_bytes.specs.declared.def.Def.{Def}
 use Rattle.comp_bytes.specs.declared.def.Def.TheVariants as defs
 use Rattle.comp_inventories.specs.Inventories.{Inventory, components_made, with_def, inventory_after, inventory, empty_inventory}
-use Rattle.comp_inventories.proofs.Counting.{one_of, one_component}
+use Rattle.comp_inventories.proofs.Counting.{one_component}
 use Rattle.comp_inventories.proofs.InventoryGrowth.{Behind, behind_none, behind_then}
 
 components_behind : (v : Inventory) (ds : List Def) → Behind v.components (inventory_after v ds).components
