@@ -1,6 +1,7 @@
 -- A worked example: an interface that lists one type, a stream, which its function takes; and one whose function takes a type of
 -- another interface.
 use Rattle.std.proofs.Common.{◌≡◌, ◌<◌, ◌==◌, ◌&&◌, arith, ℕ, zero, suc, Bool, true, false, List, [], ◌∷◌, refl, ap, Some, None}
+use Rattle.std.specs.List.{IsDistinct}
 use Rattle.std.specs.Prelude.{codes, Contains}
 use Rattle.std.proofs.lemmas.Option.{same_Some}
 use Rattle.wit_data.specs.declared.functions.Function.{Function}
@@ -69,9 +70,10 @@ lent = refl
 
 -- it is imported before the function, and behind nothing
 foreign_type : AreForeignTypes types (record { index = 1 }) [] ((codes "f", f) ∷ []) (t ∷ [])
-unfolding values_from
+unfolding values_from IsDistinct
 foreign_type = record {
   ready = (record { within = omega arith; other = here; owner = refl; parts = refl }, tt);
+  once = (tt, tt);
   types_covered = tt;
   functions_covered = (refl, tt);
   reached = (record { each = λ test types_pass functions_pass. and_first (value (each_passes test) types (Some (Id t))) functions_pass.0 }, tt);
