@@ -39,15 +39,14 @@ module _ (w : ComponentWorld) (ok : IsEncodable w) (id : InterfaceId) (t : TypeI
   abbrev by_owner : Option InterfaceId → Bool
   by_owner o = elim o [
     | Some other ↦ is_lent_type w n && is_some (settings.name_at w.resolve.types n)
-    | None ↦ is_none (settings.name_at w.resolve.types n) || is_some (foreign None (owner_at w.resolve.types n))
+    | None ↦ not (is_resource kind) && (is_none (settings.name_at w.resolve.types n) || is_some (foreign None (owner_at w.resolve.types n)))
   ]
 
   is_home : by_owner (foreign (Some id) (owner_at w.resolve.types n)) ≡ true
   is_home =
       let test : ℕ → TypeDefKind → Bool = is_at_home w.resolve.types (is_lent_type w) id in
       let whole = sym (made_whole (each_passes test) w.resolve.types n ok.sound.back h.within) ∙ h.passes in
-      let first = and_parts (test n kind) (list_all (λ b. b) (map (value (each_passes test) w.resolve.types) (parts kind))) whole in
-      (and_parts (not (is_resource kind)) (by_owner (foreign (Some id) (owner_at w.resolve.types n))) first.0).1
+      (and_parts (test n kind) (list_all (λ b. b) (map (value (each_passes test) w.resolve.types) (parts kind))) whole).0
 
   named : is_some (settings.name_at w.resolve.types n) ≡ true
   named = ap is_some (same_name w.resolve.types n) ∙ h.named
@@ -56,7 +55,8 @@ module _ (w : ComponentWorld) (ok : IsEncodable w) (id : InterfaceId) (t : TypeI
   owned : by_owner None ≡ true → interface_at w.resolve.types n ≡ None → ⊥
   owned e none =
       let root : is_some (foreign None (owner_at w.resolve.types n)) ≡ false = ap is_some (at_root w.resolve.types n ∙ none) in
-      by (is_none (settings.name_at w.resolve.types n)) refl (sym (ap (λ b. is_none (settings.name_at w.resolve.types n) || b) root) ∙ e)
+      let either = (and_parts (not (is_resource kind)) (is_none (settings.name_at w.resolve.types n) || is_some (foreign None (owner_at w.resolve.types n))) e).1 in
+      by (is_none (settings.name_at w.resolve.types n)) refl (sym (ap (λ b. is_none (settings.name_at w.resolve.types n) || b) root) ∙ either)
     where
       by : (b : Bool) → is_none (settings.name_at w.resolve.types n) ≡ b → (b || false) ≡ true → ⊥
       by true none e = unnamed (settings.name_at w.resolve.types n) named none

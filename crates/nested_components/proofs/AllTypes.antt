@@ -82,8 +82,9 @@ module _ (given : List ℕ → TypeTree) (origin : TypeId → Resource) (home : 
     next_defined types same back =
         subst (λ (ts : List TypeDef). IsDefinedHere (nested_setting origin home stage) (kind_at ts t.1.index)) same
         (let refers = subst RefersBack (sym same) back in
-        type_defined origin s.lent home stage refers t.1 s.titled.0.present (known_exporting origin s.lent home s.known stage s.exporting t.1.index comes_next.none_left) s.types.0
-        (parts_of_own home.types home.here refers home.foreign t.1 s.titled.0.present (own_owner home.here (owner_at home.types t.1.index) s.titled.0.owner) s.covered.0))
+        let own = own_owner home.here (owner_at home.types t.1.index) s.titled.0.owner in
+        type_defined origin s.lent home stage refers t.1 s.titled.0.present own (known_exporting origin s.lent home s.known stage s.exporting t.1.index comes_next.none_left) s.types.0
+        (parts_of_own home.types home.here refers home.foreign t.1 s.titled.0.present own s.covered.0))
 
     pub types_more : (now : Contents) (after : Stage) → after ≡ stages.Exporting (Some t.1) → Exports given old now (exported_type origin home.types t ∷ []) [] → AreTypesTo given origin home first now after rest
     types_more now after is one = record {

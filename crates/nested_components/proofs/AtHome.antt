@@ -35,6 +35,7 @@ use Rattle.foreign_types.specs.Foreign.{is_covered, is_parts_covered, is_functio
 use Rattle.foreign_types.proofs.Covering.{listed_other, parts_of_own}
 use Rattle.nested_components.specs.declared.stage.Stage.{Stage}
 use Rattle.nested_components.specs.declared.stage.Stage.TheVariants as stages
+use Rattle.nested_components.specs.Foreign.{HasParts}
 use Rattle.nested_components.specs.Functions.{functions_of}
 use Rattle.nested_components.specs.Homes.{Home, IsHome, next_of, last_of, is_passed, is_met, is_listed, may_own_named, nested_setting, IsExporting}
 use Rattle.nested_components.specs.Types.{listed_ids}
@@ -99,9 +100,8 @@ module _ (origin : TypeId → Resource) (lent : ℕ → Bool) (home : Home) (sta
   -- what is known of a type at home that no other interface owns
   titled_own : (n : ℕ) (k : TypeDefKind) → is_at_home types lent home.here n k ≡ true → foreign (Some home.here) (owner_at types n) ≡ None → (not (is_resource k) ≡ true) × ((is_none (name_at types n) || is_some (foreign None (owner_at types n))) ≡ true)
   titled_own n k e own =
-      let other : Option InterfaceId → Bool = λ o. elim o [ Some other ↦ lent n && is_some (name_at types n) | None ↦ is_none (name_at types n) || is_some (foreign None (owner_at types n)) ] in
-      let a = both (not (is_resource k)) (other (foreign (Some home.here) (owner_at types n))) e in
-      (a.0, ap other (sym own) ∙ a.1)
+      let by : Option InterfaceId → Bool = λ o. elim o [ Some other ↦ lent n && is_some (name_at types n) | None ↦ not (is_resource k) && (is_none (name_at types n) || is_some (foreign None (owner_at types n))) ] in
+      both (not (is_resource k)) (is_none (name_at types n) || is_some (foreign None (owner_at types n))) (ap by (sym own) ∙ e)
 
   -- a type at home that no other interface owns may be made of its parts
   made : (n : ℕ) (k : TypeDefKind) (bs : List Bool) → IsKnown n → is_at_home types lent home.here n k ≡ true → foreign (Some home.here) (owner_at types n) ≡ None → list_all (λ b. b) bs ≡ true → may_have s n k bs ≡ true
@@ -162,25 +162,26 @@ module _ (origin : TypeId → Resource) (lent : ℕ → Bool) (home : Home) (sta
     below k zero most known id l m e c = absurd (omega (arith, l))
     below k (suc bound) most known id l m e c = step id (omega (arith, most, m)) (known id.index m) (λ j n q d. below k bound most known j (omega (arith, l, n)) (omega (arith, n, m)) q d) e c
 
-    -- a type at home may be made, once those of the interface below it are known, and those of others that are met in it were imported
-    pub type_defined : (id : TypeId) → id.index < length types → AreKnown id.index → passes (Some (Id id)) ≡ true → is_parts_covered types home.here home.foreign id.index ≡ true → IsDefinedHere s (kind_at types id.index)
-    type_defined id within known e c =
+    -- the parts of a type at home may be made, once those of the interface below it are known, and those of others that are met in it were
+    -- imported
+    pub parts_defined : (id : TypeId) → id.index < length types → AreKnown id.index → passes (Some (Id id)) ≡ true → is_parts_covered types home.here home.foreign id.index ≡ true → HasParts s (kind_at types id.index)
+    parts_defined id within known e c =
         let w = whole id within e in
-        let other : Bool = elim (foreign (Some home.here) (owner_at types id.index)) [
-          | Some other ↦ lent id.index && is_some (name_at types id.index)
-          | None ↦ is_none (name_at types id.index) || is_some (foreign None (owner_at types id.index))
-        ] in
-        record {
-          values = not_true (is_resource (kind_at types id.index)) (both (not (is_resource (kind_at types id.index))) other w.0).0;
-          allowed = each_parts id.index (λ j n q d. below id.index id.index (omega (arith, within)) known j n n q d) (parts (kind_at types id.index)) (parts_below types id.index back within) w.1 c;
-        }
+        record { allowed = each_parts id.index (λ j n q d. below id.index id.index (omega (arith, within)) known j n n q d) (parts (kind_at types id.index)) (parts_below types id.index back within) w.1 c }
+
+    -- so may a type of the interface itself
+    pub type_defined : (id : TypeId) → id.index < length types → foreign (Some home.here) (owner_at types id.index) ≡ None → AreKnown id.index → passes (Some (Id id)) ≡ true → is_parts_covered types home.here home.foreign id.index ≡ true →
+        IsDefinedHere s (kind_at types id.index)
+    type_defined id within own known e c =
+        let h = parts_defined id within known e c in
+        record { values = not_true (is_resource (kind_at types id.index)) (titled_own id.index (kind_at types id.index) (whole id within e).0 own).0; allowed = h.allowed }
 
     -- a type of another interface that is at home has a name
     pub foreign_named : (id : TypeId) (other : InterfaceId) → id.index < length types → passes (Some (Id id)) ≡ true → foreign (Some home.here) (owner_at types id.index) ≡ Some other → is_some (name_at types id.index) ≡ true
     foreign_named id other within e owner =
-        let by : Option InterfaceId → Bool = λ o. elim o [ Some other ↦ lent id.index && is_some (name_at types id.index) | None ↦ is_none (name_at types id.index) || is_some (foreign None (owner_at types id.index)) ] in
-        let a = both (not (is_resource (kind_at types id.index))) (by (foreign (Some home.here) (owner_at types id.index))) (whole id within e).0 in
-        (both (lent id.index) (is_some (name_at types id.index)) (ap by (sym owner) ∙ a.1)).1
+        let k = kind_at types id.index in
+        let by : Option InterfaceId → Bool = λ o. elim o [ Some other ↦ lent id.index && is_some (name_at types id.index) | None ↦ not (is_resource k) && (is_none (name_at types id.index) || is_some (foreign None (owner_at types id.index))) ] in
+        (both (lent id.index) (is_some (name_at types id.index)) (ap by (sym owner) ∙ (whole id within e).0)).1
 
     part_allowed : AreKnown (length types) → (p : Option Ty) → IsBelow (length types) p → passes p ≡ true → covers p ≡ true → is_allowed s p ≡ true
     part_allowed known p l e c = each_part (length types) (λ j n q d. below (length types) (length types) (omega arith) known j n n q d) p l e c

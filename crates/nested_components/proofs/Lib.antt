@@ -11,6 +11,7 @@ pub mod AllTypes
 pub mod AtHome
 pub mod Copying
 pub mod ForeignTypes
+pub mod Planned
 pub mod Keeping
 pub mod Whole
 mod WorkedFunctions

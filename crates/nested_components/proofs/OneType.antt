@@ -55,6 +55,7 @@ module _ (given : List ℕ → TypeTree) (origin : TypeId → Resource) (mid new
   type_exported name named =
       record {
         taken = ap (λ (c : Contents). c.taken) is;
+        types = ap (λ (c : Contents). c.types) is;
         items = record {
           more = export ∷ [];
           grown = grown;

@@ -1,5 +1,6 @@
 -- All together: the items import the functions, and export the types and the functions.
-use Rattle.std.proofs.Common.{◌≡◌, ◌∙◌, ◌<◌, arith, inl, inr, ℕ, zero, suc, true, List, [], ◌∷◌, ◌++◌, length, map, refl, ap, sym, subst, append-nil, Some}
+use Rattle.std.proofs.Common.{◌≡◌, ◌∙◌, ◌<◌, arith, inl, inr, ℕ, zero, suc, true, List, [], ◌∷◌, ◌++◌, length, map, refl, ap, sym, subst, append-nil, append_assoc, Some}
+use Rattle.std.proofs.lemmas.List.{map-append}
 use Rattle.std.proofs.lemmas.Option.{none-some}
 use Rattle.comp_lists.proofs.Lists.{AllByRecursion-weaker, AllByRecursion-contains}
 use Rattle.std.specs.List.{AllByRecursion, AllZip, IsDistinct}
@@ -27,8 +28,8 @@ use Rattle.nested_components.specs.Functions.{functions_of, nested_functions, ex
 use Rattle.foreign_types.specs.Foreign.{type_passes, IsReached, AreForeignTypes}
 use Rattle.nested_components.specs.Homes.{Home, new_home, with_foreign, IsHome, CanExport, AreAllPassed, nested_setting}
 use Rattle.nested_components.specs.Types.{IsAtHome, type_given, exported_type, IsImportOf}
-use Rattle.nested_components.specs.Growing.{scope_of, ItemsGrow, function_entry, type_entry, IsImportIn, Grows, Exports, ArePassedOn}
-use Rattle.nested_components.specs.Following.{items_on, exports_on, grows_on}
+use Rattle.nested_components.specs.Growing.{scope_of, ItemsGrow, function_entry, type_entry, planned_among, met_among, all_among, IsImportIn, GrowsBy, Grows, Exports, ArePassedOn}
+use Rattle.nested_components.specs.Following.{items_on, exports_on, grows_by_on}
 use Rattle.nested_components.proofs.AtHome.{AreKnown, functions_allowed, known_importing, known_exporting}
 
 -- each function has a name, so that each is one of the nested component
@@ -109,8 +110,8 @@ import_of types here named entries titled ids f t h = elim h.from [
 
 -- ---- the whole
 
-module _ (given : List ℕ → TypeTree) (origin : TypeId → Resource) (home : Home) (stage : Stage) (entries : List (List ℕ × Function)) (names : List (List ℕ)) (first mid : Contents) (none : first.items ≡ [])
-    (imports : Grows given origin home stage first mid (nested_functions origin home.types (functions_of entries) names)) where
+module _ (given : List ℕ → TypeTree) (origin : TypeId → Resource) (home : Home) (stage : Stage) (entries : List (List ℕ × Function)) (names : List (List ℕ)) (planned : List TypeImport) (first mid : Contents) (none : first.items ≡ [])
+    (imports : GrowsBy given origin home stage planned first mid (nested_functions origin home.types (functions_of entries) names)) where
   abbrev fs : List Function
   fs = functions_of entries
 
@@ -124,10 +125,13 @@ module _ (given : List ℕ → TypeTree) (origin : TypeId → Resource) (home : 
   abbrev all_exports : List NestedExport
   all_exports = map (exported_type origin home.types) home.named ++ exported fs gs
 
-  from_none : AllByRecursion (IsImportOf home.types home.named entries) imports.more → (last : Contents) → ItemsGrow given first.items last.items gs (map (type_given origin home.types) imports.more) all_exports (gs ++ gs) → PassesOn given origin home.types home.named entries gs imports.more last.items
+  abbrev ts : List TypeImport
+  ts = all_among imports.more
+
+  from_none : AllByRecursion (IsImportOf home.types home.named entries) ts → (last : Contents) → ItemsGrow given first.items last.items gs (map (type_given origin home.types) ts) all_exports (gs ++ gs) → PassesOn given origin home.types home.named entries gs ts last.items
   from_none own last g =
-      let h : ItemsGrow given [] last.items gs (map (type_given origin home.types) imports.more) all_exports (gs ++ gs) =
-      subst (λ is. ItemsGrow given is last.items gs (map (type_given origin home.types) imports.more) all_exports (gs ++ gs)) none g in
+      let h : ItemsGrow given [] last.items gs (map (type_given origin home.types) ts) all_exports (gs ++ gs) =
+      subst (λ is. ItemsGrow given is last.items gs (map (type_given origin home.types) ts) all_exports (gs ++ gs)) none g in
       record {
         right = subst (λ more. AreItemsRight given empty_scope more) (sym h.grown) h.right;
         functions = ap (λ is. functions_imported (imports_after given empty_scope is)) h.grown ∙ h.imported;
@@ -136,31 +140,39 @@ module _ (given : List ℕ → TypeTree) (origin : TypeId → Resource) (home : 
         exports = ap (exports_after given empty_scope) h.grown ∙ h.exported;
       }
 
-  pub whole : AllByRecursion (IsImportOf home.types home.named entries) imports.more → (last : Contents) → first.taken ≡ map function_entry names →
+  pub whole : AllByRecursion (IsImportOf home.types home.named entries) ts → (last : Contents) → first.taken ≡ map function_entry names ++ map type_entry planned → first.types ≡ [] →
       Exports given mid last (map (exported_type origin home.types) home.named ++ exported fs (scope_of given mid.items).functions) (scope_of given mid.items).functions → ArePassedOn given origin home.types home.named entries names last
-  whole own last taken exports =
+  whole own last taken untyped exports =
+      let first_types = planned_among imports.more in
+      let met = met_among imports.more in
       let tree = type_given origin home.types in
       let later : Exports given mid last all_exports gs =
       subst (λ hs. Exports given mid last (map (exported_type origin home.types) home.named ++ exported fs hs) hs) functions_made exports in
-      let joined : ItemsGrow given first.items last.items (gs ++ []) (map tree imports.more ++ []) all_exports (gs ++ gs) =
-      items_on given first.items mid.items last.items gs [] (map tree imports.more) [] [] all_exports gs gs imports.items later.items in
+      let joined : ItemsGrow given first.items last.items (gs ++ []) (map tree ts ++ []) all_exports (gs ++ gs) =
+      items_on given first.items mid.items last.items gs [] (map tree ts) [] [] all_exports gs gs imports.items later.items in
       record {
         imports = imports.more;
         passes = from_none own last
-            (subst (λ xs. ItemsGrow given first.items last.items xs (map tree imports.more) all_exports (gs ++ gs)) (append-nil gs)
-            (subst (λ ts. ItemsGrow given first.items last.items (gs ++ []) ts all_exports (gs ++ gs)) (append-nil (map tree imports.more)) joined));
-        taken = exports.taken ∙ (imports.taken ∙ ap (λ ts. ts ++ map type_entry imports.more) taken);
+            (subst (λ xs. ItemsGrow given first.items last.items xs (map tree ts) all_exports (gs ++ gs)) (append-nil gs)
+            (subst (λ xs. ItemsGrow given first.items last.items (gs ++ []) xs all_exports (gs ++ gs)) (append-nil (map tree ts)) joined));
+        taken = exports.taken ∙ (imports.taken ∙ (ap (λ es. es ++ map type_entry met) taken
+            ∙ (append_assoc (map function_entry names) (map type_entry planned) (map type_entry met)
+            ∙ ap (λ es. map function_entry names ++ es) (ap (λ xs. map type_entry xs ++ map type_entry met) (sym imports.chosen) ∙ sym (map-append type_entry first_types met)))));
+        typed = exports.types ∙ (imports.types ∙ ap (λ xs. xs ++ ts) untyped);
       }
 
 -- functions are imported behind what was imported before
-pub imports_all : (given : List ℕ → TypeTree) (origin : TypeId → Resource) (home : Home) (stage : Stage) (entries : List (List ℕ × Function)) (names : List (List ℕ)) (first mid last : Contents) → Grows given origin home stage first mid [] →
-    Grows given origin home stage mid last (nested_functions origin home.types (functions_of entries) names) → Grows given origin home stage first last (nested_functions origin home.types (functions_of entries) names)
-imports_all given origin home stage entries names first mid last x y = grows_on given origin home stage first mid last [] (nested_functions origin home.types (functions_of entries) names) x y
+pub imports_all : (given : List ℕ → TypeTree) (origin : TypeId → Resource) (home : Home) (stage : Stage) (entries : List (List ℕ × Function)) (names : List (List ℕ)) (planned : List TypeImport) (first mid last : Contents) → GrowsBy given origin home stage planned first mid [] →
+    Grows given origin home stage mid last (nested_functions origin home.types (functions_of entries) names) → GrowsBy given origin home stage planned first last (nested_functions origin home.types (functions_of entries) names)
+imports_all given origin home stage entries names planned first mid last x y =
+    let gs = nested_functions origin home.types (functions_of entries) names in
+    subst (λ ts. GrowsBy given origin home stage ts first last gs) (append-nil planned) (grows_by_on given origin home stage planned [] first mid last [] gs x y)
 
 -- the same of an interface for which types of others were imported
 pub whole_of : (given : List ℕ → TypeTree) (origin : TypeId → Resource) (types : List TypeDef) (here : InterfaceId) (named : List (List ℕ × TypeId)) (entries : List (List ℕ × Function)) (at : IsAtHome types here named entries) (ids : List TypeId) → AreForeignTypes types here named entries ids →
-    (stage : Stage) (names : List (List ℕ)) (first mid last : Contents) → first.items ≡ [] → first.taken ≡ map function_entry names → Grows given origin (with_foreign (new_home types here named) ids) stage first mid (nested_functions origin types (functions_of entries) names) →
+    (stage : Stage) (names : List (List ℕ)) (planned : List TypeImport) (first mid last : Contents) → first.items ≡ [] → first.taken ≡ map function_entry names ++ map type_entry planned → first.types ≡ [] →
+    GrowsBy given origin (with_foreign (new_home types here named) ids) stage planned first mid (nested_functions origin types (functions_of entries) names) →
     Exports given mid last (map (exported_type origin types) named ++ exported (functions_of entries) (scope_of given mid.items).functions) (scope_of given mid.items).functions → ArePassedOn given origin types named entries names last
-whole_of given origin types here named entries at ids f stage names first mid last none taken grows exports =
-    whole given origin (with_foreign (new_home types here named) ids) stage entries names first mid none grows
-    (AllByRecursion-weaker (import_of types here named entries at.titled ids f) grows.more grows.own) last taken exports
+whole_of given origin types here named entries at ids f stage names planned first mid last none taken untyped grows exports =
+    whole given origin (with_foreign (new_home types here named) ids) stage entries names planned first mid none grows
+    (AllByRecursion-weaker (import_of types here named entries at.titled ids f) (all_among grows.more) grows.own) last taken untyped exports

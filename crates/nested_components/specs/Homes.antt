@@ -94,7 +94,7 @@ nested_setting origin home stage =
     }
 
 -- types are imported in the first stage alone
-abbrev pub MayImport : Stage → List TypeImport → Type 0
+abbrev pub MayImport : Stage → List (Bool × TypeImport) → Type 0
 MayImport stages.Importing ts = Unit {0}
 MayImport (stages.Exporting last) ts = ts ≡ []
 

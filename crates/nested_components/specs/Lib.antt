@@ -6,5 +6,6 @@ pub mod Foreign
 pub mod Counts
 pub mod Tables
 pub mod Growing
+pub mod Planning
 pub mod Beginning
 pub mod Following

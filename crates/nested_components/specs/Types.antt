@@ -24,13 +24,17 @@ use Rattle.nested_components.specs.declared.type_import.TypeImport.{TypeImport}
 abbrev pub listed_ids : List (List ℕ × TypeId) → List TypeId
 listed_ids named = map (λ t. t.1) named
 
+-- the types that are imported, without the names of their imports
+abbrev pub imported_ids : List TypeImport → List TypeId
+imported_ids ts = map (λ t. t.id) ts
+
 -- each type that the interface owns and that has a name is listed under it
 pub record IsEachListed (types : List TypeDef) (here : InterfaceId) (named : List (List ℕ × TypeId)) : Type 0 where
   pub each : (n : ℕ) → n < length types → owner_at types n ≡ owners.Interface here → (name : List ℕ) → name_at types n ≡ Some name → Contains named (name, record { index = n })
 
 -- An interface whose nested component can be made: it lists types of its own, each under its name, in the order of the resolve;
--- they and its functions are made of these, of types without names, and of types that other interfaces lend under names, and none
--- is a resource.
+-- they and its functions are made of these, of types without names, and of types that other interfaces lend under names. None that it
+-- owns is a resource.
 pub record IsAtHome (all : List TypeDef) (here : InterfaceId) (named : List (List ℕ × TypeId)) (entries : List (List ℕ × Function)) : Type 0 where
   pub lent : ℕ → Bool
   pub titled : AllByRecursion (λ t. IsTitled all here t.1 t.0) named

@@ -60,10 +60,10 @@ function_passes test types f = list_all (λ p. value (each_passes test) types (S
 abbrev pub is_unnamed : List TypeDef → ℕ → TypeDefKind → Bool
 is_unnamed types n kind = is_none (name_at types n) && (is_none (foreign None (owner_at types n)) && not (is_resource kind))
 
--- A type that is no resource, and that this interface owns, or that has no name and no interface, or that another interface owns
--- under a name and lends.
+-- A type that another interface owns under a name and that is lent, be it a resource; or a type of values that this interface owns,
+-- or that has no name and no interface.
 abbrev pub is_at_home : List TypeDef → (ℕ → Bool) → InterfaceId → ℕ → TypeDefKind → Bool
-is_at_home types lent here n kind = not (is_resource kind) && elim (foreign (Some here) (owner_at types n)) [
+is_at_home types lent here n kind = elim (foreign (Some here) (owner_at types n)) [
   | Some other ↦ lent n && is_some (name_at types n)
-  | None ↦ is_none (name_at types n) || is_some (foreign None (owner_at types n))
+  | None ↦ not (is_resource kind) && (is_none (name_at types n) || is_some (foreign None (owner_at types n)))
 ]

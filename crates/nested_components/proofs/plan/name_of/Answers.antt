@@ -1,7 +1,7 @@
 use Rattle.std.proofs.Common.{◌≡◌, ◌∙◌, true≢false, List, get_or, ap, sym, is_some}
 use Rattle.wit_data.specs.declared.types.TypeDef.{TypeDef}
 use Rattle.wit_types.proofs.Owning.{name_there}
-use Rattle.nested_components.proofs.foreign_imports.name_of.Goals as goal
+use Rattle.nested_components.proofs.plan.name_of.Goals as goal
 
 pub unreachable-requires : goal.unreachable-requires
 unreachable-requires c =
