@@ -1,9 +1,10 @@
 -- The types and the functions of an exported interface: where they are in the resolve, and that all of which they are made is of
 -- the interface, of ones that are imported alone, or has no name.
-use Rattle.std.proofs.Common.{◌≡◌, ◌∙◌, ◌<◌, ◌&&◌, ℕ, suc, Bool, true, false, List, [], ◌∷◌, ◌++◌, length, map, not, inl, inr, Contains, sym, ap, refl, subst, Option, Some, None, IsSome}
+use Rattle.std.proofs.Common.{◌≡◌, ◌∙◌, ◌<◌, ◌&&◌, ℕ, suc, Bool, true, false, true≢false, List, [], ◌∷◌, ◌++◌, length, map, not, inl, inr, Contains, sym, ap, refl, subst, Option, Some, None, is_some, IsSome}
 use Rattle.std.specs.List.{AllByRecursion, flat_map, list_all, list_any}
 use Rattle.std.specs.Str.{bytes_eq}
 use Rattle.std.proofs.lemmas.Bool.{and_from, and_parts}
+use Rattle.std.proofs.lemmas.Bool.Decides.{Decides-eqb}
 use Rattle.std.proofs.lemmas.List.Elements.{Contains-append_left, Contains-append_right}
 use Rattle.std.proofs.lemmas.Option.{none-some, same_Some}
 use Rattle.comp_lists.specs.Found.{found}
@@ -38,10 +39,10 @@ use Rattle.comp_worlds.specs.declared.world.ComponentWorld.{ComponentWorld}
 use Rattle.comp_links.specs.Lists.{needed_types}
 use Rattle.interface_needs.specs.Needs.{IsImported, IsNeeded}
 use Rattle.interface_needs.specs.RootNeeds.{interface_of_item, IsExportedFunction, IsExportedInterface, is_lent_type, IsUsableType, IsInterfaceScope}
-use Rattle.interface_needs.proofs.Lists.{IsImage, IsInOne, Passes, all_of_each, any_passes, contains_cons, contains_first, contains_later, contains_none, contains_one, contains_flat, flat_contains, is_there, map_contains}
+use Rattle.interface_needs.proofs.Lists.{IsImage, IsInOne, Passes, all_of_each, any_passes, contains_cons, contains_first, contains_later, contains_none, contains_one, contains_flat, flat_contains, is_there, map_contains, passes_any}
 use Rattle.interface_needs.proofs.Live.{live_given, live_part}
 use Rattle.interface_needs.proofs.Needed.{used_in, is_needed}
-use Rattle.interface_needs.proofs.Owners.{owner_of, owned_within, interface_of, of_other, same_id, same_name}
+use Rattle.interface_needs.proofs.Owners.{owner_of, owned_within, interface_of, of_other, own_or_none, at_root, same_id, same_name}
 use Rattle.interface_needs.proofs.RootTypes.{all_tests}
 use Rattle.interface_needs.proofs.Staying.{passing_holds, home_of, home_allowed, each_type}
 use Rattle.interface_needs.proofs.Tables.{lookup_contains}
@@ -71,6 +72,37 @@ interface_there ((key, items.Interface other) ∷ es) id c = elim (contains_cons
 ]
 interface_there ((key, items.Function f) ∷ es) id c = let r = interface_there es id c in (r.0, contains_later (key, items.Function f) es (r.0, items.Interface id) r.1)
 interface_there ((key, items.NamedType t) ∷ es) id c = let r = interface_there es id c in (r.0, contains_later (key, items.NamedType t) es (r.0, items.Interface id) r.1)
+
+-- an interface that is exported lends nothing
+exports_interface : (es : Entries) (key : WorldKey) (id : InterfaceId) → Contains es (key, items.Interface id) → Contains (interfaces_of es) id
+exports_interface [] key id c = contains_none (key, items.Interface id) c
+exports_interface ((k, items.Interface other) ∷ es) key id c = elim (contains_cons (k, items.Interface other) es (key, items.Interface id) c) [
+  | inl same ↦ subst (λ (i : WorldItem). Contains (interfaces_of ((k, i) ∷ es)) id) (sym (ap (λ (e : WorldKey × WorldItem). e.1) same)) (contains_first id (interfaces_of es))
+  | inr later ↦ contains_later other (interfaces_of es) id (exports_interface es key id later)
+]
+exports_interface ((k, items.Function f) ∷ es) key id c = elim (contains_cons (k, items.Function f) es (key, items.Interface id) c) [
+  | inl same ↦ let no = ap (λ (e : WorldKey × WorldItem). e.1) same in cc
+  | inr later ↦ exports_interface es key id later
+]
+exports_interface ((k, items.NamedType t) ∷ es) key id c = elim (contains_cons (k, items.NamedType t) es (key, items.Interface id) c) [
+  | inl same ↦ let no = ap (λ (e : WorldKey × WorldItem). e.1) same in cc
+  | inr later ↦ exports_interface es key id later
+]
+
+lends_none : (w : ComponentWorld) (id : InterfaceId) → IsExportedInterface w id → is_lent (items_of w) id ≡ true → ⊥
+lends_none w id h lent =
+    let world = items_of w in
+    let there = lookup_contains (is_same_key h.key) world.exports (items.Interface id) h.of in
+    let exported : list_any (same_interface id) (interfaces_of world.exports) ≡ true = passes_any (same_interface id) (interfaces_of world.exports) id (exports_interface world.exports there.0 id there.1) ((Decides-eqb id.index id.index).1 refl) in
+    let b = and_parts (list_any (same_interface id) (interfaces_of world.imports)) (not (list_any (same_interface id) (interfaces_of world.exports))) lent in
+    true≢false (sym b.1 ∙ ap not exported)
+
+-- none of its types is lent
+pub own_not_lent : (w : ComponentWorld) (id : InterfaceId) (n : ℕ) → IsExportedInterface w id → interface_at w.resolve.types n ≡ Some id → is_lent_type w n ≡ true → ⊥
+own_not_lent w id n h is lent =
+    let by : (is_lent (items_of w) id && is_one_of (needed_types w id) n) ≡ true =
+    subst (λ (o : Option InterfaceId). elim o [ Some i ↦ is_lent (items_of w) i && is_one_of (needed_types w i) n | None ↦ false ] ≡ true) is lent in
+    lends_none w id h (and_parts (is_lent (items_of w) id) (is_one_of (needed_types w id) n) by).0
 
 -- the world imports it
 lent_imported : (w : ComponentWorld) (other : InterfaceId) → is_lent (items_of w) other ≡ true → IsImported w other
@@ -227,14 +259,23 @@ module _ (w : ComponentWorld) (ok : IsEncodable w) (id : InterfaceId) where
         let owner = of_other w.resolve.types n id other (ap (λ (ts : List TypeDef). foreign (Some id) (owner_at ts n)) (sym scope.types) ∙ is) in
         scope.imports other (record { index = n }) (lent_needed w n other owner.0 lent)
 
+    -- no resource of the interface is at hand
+    none_own : IsExportedInterface w id → (n : ℕ) → foreign (Some id) (owner_at s.types n) ≡ None → is_some (foreign None (owner_at s.types n)) ≡ true → is_lent_type w n ≡ true → ⊥
+    none_own exported n is owned lent =
+        let here : foreign (Some id) (owner_at w.resolve.types n) ≡ None = ap (λ (ts : List TypeDef). foreign (Some id) (owner_at ts n)) (sym scope.types) ∙ is in
+        elim (own_or_none w.resolve.types n id here) [
+          | inl none ↦ true≢false (sym owned ∙ ap is_some (ap (λ (ts : List TypeDef). foreign None (owner_at ts n)) scope.types ∙ (at_root w.resolve.types n ∙ none)))
+          | inr own ↦ own_not_lent w id n exported own lent
+        ]
+
     -- what is at home in the interface
-    home_is_allowed : (p : Option Ty) → home p ≡ true → is_allowed s p ≡ true
-    home_is_allowed p h =
-        home_allowed s id (subst RefersBack (sym scope.types) ok.sound.back) scope.interface scope.own (is_lent_type w) may_import p
+    home_is_allowed : IsExportedInterface w id → (p : Option Ty) → home p ≡ true → is_allowed s p ≡ true
+    home_is_allowed exported p h =
+        home_allowed s id (subst RefersBack (sym scope.types) ok.sound.back) scope.interface scope.own (is_lent_type w) may_import (none_own exported) p
         (subst (λ (ts : List TypeDef). value (each_passes (is_at_home ts (is_lent_type w) id)) ts p ≡ true) (sym scope.types) h)
 
     pub interface_type_allowed : (t : TypeId) → IsUsableType w id t → is_allowed s (Some (Id t)) ≡ true
-    interface_type_allowed t h = home_is_allowed (Some (Id t)) h.passes
+    interface_type_allowed t h = home_is_allowed h.exported (Some (Id t)) h.passes
 
     none_allowed : is_allowed s None ≡ true
     unfolding is_allowed
@@ -245,4 +286,5 @@ module _ (w : ComponentWorld) (ok : IsEncodable w) (id : InterfaceId) where
         let is : exported_item w h.key ≡ Some (items.Interface id) = item_is (exported_item w h.key) id h.of in
         let at : found h.name (functions_of w.resolve id) ≡ Some f = subst (λ o. function_of_item w.resolve h.name o ≡ Some f) is h.exported in
         let there = lookup_contains (bytes_eq h.name) (functions_of w.resolve id) f at in
-        each_type (is_allowed s) none_allowed f (λ t c. home_is_allowed (Some t) (function_home (record { key = h.key; of = is }) (there.0, f) there.1 t c))
+        let exported : IsExportedInterface w id = record { key = h.key; of = is } in
+        each_type (is_allowed s) none_allowed f (λ t c. home_is_allowed exported (Some t) (function_home exported (there.0, f) there.1 t c))

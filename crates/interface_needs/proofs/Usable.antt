@@ -1,7 +1,7 @@
 -- Of which interface a type is that an exported interface may use.
-use Rattle.std.proofs.Common.{◌≡◌, ◌∙◌, ◌⊎◌, ◌&&◌, ◌||◌, not, inl, inr, ℕ, Bool, true, false, true≢false, List, map, refl, ap, sym, subst, Option, Some, None, is_some, is_none}
+use Rattle.std.proofs.Common.{◌≡◌, ◌∙◌, ◌⊎◌, ◌&&◌, ◌||◌, not, inl, inr, ℕ, Bool, true, false, true≢false, List, map, refl, ap, sym, subst, Option, Some, None, is_some, is_none, if◌then◌else◌}
 use Rattle.std.specs.List.{list_all}
-use Rattle.std.proofs.lemmas.Bool.{and_parts}
+use Rattle.std.proofs.lemmas.Bool.{and_parts, or_cases}
 use Rattle.wit_data.specs.declared.ids.InterfaceId.{InterfaceId}
 use Rattle.wit_data.specs.declared.ids.TypeId.{TypeId}
 use Rattle.wit_data.specs.declared.types.TypeDefKind.{TypeDefKind}
@@ -36,11 +36,13 @@ module _ (w : ComponentWorld) (ok : IsEncodable w) (id : InterfaceId) (t : TypeI
   kind = kind_at w.resolve.types n
 
   -- whether it is at home, by the interface that owns it, where that is another one
+  abbrev here : Bool
+  here =
+      if is_resource kind then is_lent_type w n && (is_some (settings.name_at w.resolve.types n) && is_some (foreign None (owner_at w.resolve.types n)))
+      else is_none (settings.name_at w.resolve.types n) || is_some (foreign None (owner_at w.resolve.types n))
+
   abbrev by_owner : Option InterfaceId → Bool
-  by_owner o = elim o [
-    | Some other ↦ is_lent_type w n && is_some (settings.name_at w.resolve.types n)
-    | None ↦ not (is_resource kind) && (is_none (settings.name_at w.resolve.types n) || is_some (foreign None (owner_at w.resolve.types n)))
-  ]
+  by_owner o = elim o [ Some other ↦ is_lent_type w n && is_some (settings.name_at w.resolve.types n) | None ↦ here ]
 
   is_home : by_owner (foreign (Some id) (owner_at w.resolve.types n)) ≡ true
   is_home =
@@ -52,17 +54,20 @@ module _ (w : ComponentWorld) (ok : IsEncodable w) (id : InterfaceId) (t : TypeI
   named = ap is_some (same_name w.resolve.types n) ∙ h.named
 
   -- a type of no interface has no name
-  owned : by_owner None ≡ true → interface_at w.resolve.types n ≡ None → ⊥
+  owned : here ≡ true → interface_at w.resolve.types n ≡ None → ⊥
   owned e none =
       let root : is_some (foreign None (owner_at w.resolve.types n)) ≡ false = ap is_some (at_root w.resolve.types n ∙ none) in
-      let either = (and_parts (not (is_resource kind)) (is_none (settings.name_at w.resolve.types n) || is_some (foreign None (owner_at w.resolve.types n))) e).1 in
-      by (is_none (settings.name_at w.resolve.types n)) refl (sym (ap (λ b. is_none (settings.name_at w.resolve.types n) || b) root) ∙ either)
+      by (is_resource kind) (is_some (foreign None (owner_at w.resolve.types n))) root e
     where
-      by : (b : Bool) → is_none (settings.name_at w.resolve.types n) ≡ b → (b || false) ≡ true → ⊥
-      by true none e = unnamed (settings.name_at w.resolve.types n) named none
-      by false none e = true≢false (sym e)
+      by : (resource owner : Bool) → owner ≡ false → (if resource then is_lent_type w n && (is_some (settings.name_at w.resolve.types n) && owner) else is_none (settings.name_at w.resolve.types n) || owner) ≡ true → ⊥
+      by true owner none e =
+          let b = and_parts (is_lent_type w n) (is_some (settings.name_at w.resolve.types n) && owner) e in
+          true≢false (sym (and_parts (is_some (settings.name_at w.resolve.types n)) owner b.1).1 ∙ none)
+      by false owner none e = elim (or_cases (is_none (settings.name_at w.resolve.types n)) owner e) [
+        | inl nameless ↦ unnamed (settings.name_at w.resolve.types n) named nameless
+        | inr has ↦ true≢false (sym has ∙ none)
+      ]
 
-  -- the type is of the interface, or a component needs it of one that is only imported
   pub usable_from : (interface_at w.resolve.types t.index ≡ Some id) ⊎ IsNeededType w t
   usable_from = by (foreign (Some id) (owner_at w.resolve.types n)) refl
     where
