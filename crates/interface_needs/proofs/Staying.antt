@@ -97,8 +97,8 @@ foreign_here here (owners.World w) = refl
 foreign_here here owners.«None» = refl
 
 -- the owner and the name of a type that is at home in an interface, by its interface, where it is one of values or a resource
-abbrev home_by : (ℕ → Bool) → ℕ → Bool → Option InterfaceId → Option InterfaceId → Option (List ℕ) → Bool
-home_by lent n resource other owner name = elim other [ Some i ↦ lent n && is_some name | None ↦ not resource && (is_none name || is_some owner) ]
+abbrev pub home_by : (ℕ → Bool) → ℕ → Bool → Option InterfaceId → Option InterfaceId → Option (List ℕ) → Bool
+home_by lent n resource other owner name = elim other [ Some i ↦ lent n && is_some name | None ↦ if resource then lent n && (is_some name && is_some owner) else is_none name || is_some owner ]
 
 abbrev owned_home : (ℕ → Bool) → InterfaceId → ℕ → Bool → Option InterfaceId → Option (List ℕ) → Bool
 owned_home lent here n resource owner name = home_by lent n resource (other_than here owner) owner name
@@ -129,10 +129,19 @@ module _ (types : List TypeDef) (lent : ℕ → Bool) (lends : InterfaceId → B
       let values : is_resource k ≡ false = not_true (is_resource k) (ap not (same_kind k) ∙ b.0) in
       owner_home types lent here n (is_resource k) ∙ (ap (λ r. owned_home lent here n r (interface_at types n) (name_at types n)) values ∙ owned (interface_at types n) (name_at types n) refl b.1)
 
+-- a type of the interface that is not lent is one of values
+pub own_values : (lent : ℕ → Bool) (n : ℕ) (k : TypeDefKind) (owner : Option InterfaceId) (name : Option (List ℕ)) → lent n ≡ false → home_by lent n (is_resource k) None owner name ≡ true → is_resource k ≡ false
+own_values lent n k owner name unlent e = by (is_resource k) e
+  where
+    by : (r : Bool) → home_by lent n r None owner name ≡ true → r ≡ false
+    by false e = refl
+    by true e = absurd (true≢false (sym (and_parts (lent n) (is_some name && is_some owner) e).0 ∙ unlent))
+
 -- ---- a type that is at home in an interface may be encoded in a scope of it
 
 module _ (s : Setting) (here : InterfaceId) (back : RefersBack s.types) (inside : s.interface ≡ Some here) (own : (n : ℕ) → s.may_own n ≡ true) (lent : ℕ → Bool)
-    (may : (n : ℕ) (other : InterfaceId) → foreign (Some here) (owner_at s.types n) ≡ Some other → lent n ≡ true → s.may_import other (record { index = n }) ≡ true) where
+    (may : (n : ℕ) (other : InterfaceId) → foreign (Some here) (owner_at s.types n) ≡ Some other → lent n ≡ true → s.may_import other (record { index = n }) ≡ true)
+    (unlent : (n : ℕ) → foreign (Some here) (owner_at s.types n) ≡ None → lent n ≡ false) where
   made_allowed : (n : ℕ) (bs : List Bool) → is_at_home s.types lent here n (kind_at s.types n) ≡ true → AllByRecursion (λ b. b ≡ true) bs → may_have s n (kind_at s.types n) bs ≡ true
   made_allowed n bs e h = by (s.met (record { index = n })) (foreign (Some here) (owner_at s.types n)) refl e
     where
@@ -145,8 +154,7 @@ module _ (s : Setting) (here : InterfaceId) (back : RefersBack s.types) (inside 
       by : (met : Bool) (o : Option InterfaceId) → foreign (Some here) (owner_at s.types n) ≡ o → home_by lent n (is_resource k) o (foreign None (owner_at s.types n)) (settings.name_at s.types n) ≡ true → (if met then true else may_make s n k bs (foreign s.interface (owner_at s.types n))) ≡ true
       by true o is e = refl
       by false None is e =
-          let b = and_parts (not (is_resource k)) (is_none (settings.name_at s.types n) || is_some (foreign None (owner_at s.types n))) e in
-          of None is ∙ and_from (s.may_own n) (may_define s n k bs) (own n) (of_parts s n k bs (not_true (is_resource k) b.0) (all_tests (λ (b : Bool). b) bs h))
+          of None is ∙ and_from (s.may_own n) (may_define s n k bs) (own n) (of_parts s n k bs (own_values lent n k (foreign None (owner_at s.types n)) (settings.name_at s.types n) (unlent n is) e) (all_tests (λ (b : Bool). b) bs h))
       by false (Some other) is e = let c = and_parts (lent n) (is_some (settings.name_at s.types n)) e in of (Some other) is ∙ may n other is c.0
 
   pub home_allowed : (p : Option Ty) → value (each_passes (is_at_home s.types lent here)) s.types p ≡ true → is_allowed s p ≡ true

@@ -1,5 +1,5 @@
 -- Of which interface a type is that an exported interface may use.
-use Rattle.std.proofs.Common.{◌≡◌, ◌∙◌, ◌⊎◌, ◌&&◌, ◌||◌, not, inl, inr, ℕ, Bool, true, false, true≢false, List, map, refl, ap, sym, subst, Option, Some, None, is_some, is_none}
+use Rattle.std.proofs.Common.{◌≡◌, ◌∙◌, ◌⊎◌, ◌&&◌, ◌||◌, not, inl, inr, ℕ, Bool, true, false, true≢false, List, map, refl, ap, sym, subst, Option, Some, None, is_some, if◌then◌else◌, is_none}
 use Rattle.std.specs.List.{list_all}
 use Rattle.std.proofs.lemmas.Bool.{and_parts}
 use Rattle.wit_data.specs.declared.ids.InterfaceId.{InterfaceId}
@@ -39,7 +39,7 @@ module _ (w : ComponentWorld) (ok : IsEncodable w) (id : InterfaceId) (t : TypeI
   abbrev by_owner : Option InterfaceId → Bool
   by_owner o = elim o [
     | Some other ↦ is_lent_type w n && is_some (settings.name_at w.resolve.types n)
-    | None ↦ not (is_resource kind) && (is_none (settings.name_at w.resolve.types n) || is_some (foreign None (owner_at w.resolve.types n)))
+    | None ↦ if is_resource kind then is_lent_type w n && (is_some (settings.name_at w.resolve.types n) && is_some (foreign None (owner_at w.resolve.types n))) else is_none (settings.name_at w.resolve.types n) || is_some (foreign None (owner_at w.resolve.types n))
   ]
 
   is_home : by_owner (foreign (Some id) (owner_at w.resolve.types n)) ≡ true
@@ -55,9 +55,19 @@ module _ (w : ComponentWorld) (ok : IsEncodable w) (id : InterfaceId) (t : TypeI
   owned : by_owner None ≡ true → interface_at w.resolve.types n ≡ None → ⊥
   owned e none =
       let root : is_some (foreign None (owner_at w.resolve.types n)) ≡ false = ap is_some (at_root w.resolve.types n ∙ none) in
-      let either = (and_parts (not (is_resource kind)) (is_none (settings.name_at w.resolve.types n) || is_some (foreign None (owner_at w.resolve.types n))) e).1 in
-      by (is_none (settings.name_at w.resolve.types n)) refl (sym (ap (λ b. is_none (settings.name_at w.resolve.types n) || b) root) ∙ either)
+      elim (either (is_resource kind) e) [
+        | inl owner ↦ true≢false (sym owner ∙ root)
+        | inr values ↦ by (is_none (settings.name_at w.resolve.types n)) refl (sym (ap (λ b. is_none (settings.name_at w.resolve.types n) || b) root) ∙ values)
+      ]
     where
+      either : (r : Bool) → (if r then is_lent_type w n && (is_some (settings.name_at w.resolve.types n) && is_some (foreign None (owner_at w.resolve.types n))) else is_none (settings.name_at w.resolve.types n) || is_some (foreign None (owner_at w.resolve.types n))) ≡ true →
+          (is_some (foreign None (owner_at w.resolve.types n)) ≡ true) ⊎ ((is_none (settings.name_at w.resolve.types n) || is_some (foreign None (owner_at w.resolve.types n))) ≡ true)
+      either false e = inr e
+      either true e =
+          let name = is_some (settings.name_at w.resolve.types n) in
+          let owner = is_some (foreign None (owner_at w.resolve.types n)) in
+          inl (and_parts name owner (and_parts (is_lent_type w n) (name && owner) e).1).1
+
       by : (b : Bool) → is_none (settings.name_at w.resolve.types n) ≡ b → (b || false) ≡ true → ⊥
       by true none e = unnamed (settings.name_at w.resolve.types n) named none
       by false none e = true≢false (sym e)
