@@ -8,7 +8,7 @@ use Rattle.std.proofs.lemmas.Bool.Decides.{Decides-eqb}
 use Rattle.std.proofs.lemmas.List.{map-append, take_all, take_more}
 use Rattle.std.proofs.lemmas.List.Elements.{Contains-append_right}
 use Rattle.std.proofs.Math.Seq.{drop-cons}
-use Rattle.comp_lists.proofs.Lists.{AllByRecursion-weaker}
+use Rattle.comp_lists.proofs.Lists.{AllByRecursion-weaker, AllByRecursion-front}
 use Rattle.wit_data.specs.declared.functions.Function.{Function}
 use Rattle.wit_data.specs.declared.ids.InterfaceId.{InterfaceId}
 use Rattle.wit_data.specs.declared.ids.TypeId.{TypeId}
@@ -39,13 +39,13 @@ use Rattle.nested_components.specs.declared.stage.Stage.TheVariants as stages
 use Rattle.nested_components.specs.declared.plan.ImportNames.{ImportNames}
 use Rattle.nested_components.specs.declared.type_import.TypeImport.{TypeImport}
 use Rattle.nested_components.specs.Counts.{types_in}
-use Rattle.nested_components.specs.Homes.{Home, IsHome, with_foreign, new_home, nested_setting, MayImport}
-use Rattle.nested_components.specs.Types.{IsAtHome, imported_ids}
+use Rattle.nested_components.specs.Homes.{Home, IsHome, is_met, with_foreign, new_home, nested_setting, MayImport}
+use Rattle.nested_components.specs.Types.{IsAtHome, AreResourcesLater, is_home_before, imported_ids}
 use Rattle.nested_components.specs.Foreign.{IsForeignType, AreUsableAfter, AreUsable, HasParts}
 use Rattle.nested_components.specs.Planning.{HasName, IsNamedImport, IsPlan, IsGiven}
 use Rattle.nested_components.specs.Growing.{scope_of, AreTablesRight, IsImportIn, GrowsBy, Grows, type_item, IsBoundRight, ImportsPlanned}
 use Rattle.nested_components.specs.Following.{grows_none, grows_by_on, grows_later}
-use Rattle.nested_components.proofs.AtHome.{parts_defined, known_importing, foreign_named}
+use Rattle.nested_components.proofs.AtHome.{parts_defined, known_first, home_before, foreign_named}
 use Rattle.nested_components.proofs.OneFunction.{tables_longer}
 use Rattle.nested_components.proofs.OneType.{met_foreign}
 use Rattle.nested_components.proofs.Scoping.{scope_more, types_more, denotes_new}
@@ -167,6 +167,14 @@ one_more (x ∷ xs) id n e = elim (or_cases (n == x.index) (is_one_of (xs ++ id 
     by true h = refl
     by false h = h
 
+-- those that were in the tables still are, and one more is
+pub met_more : (given : List ℕ → TypeTree) (origin : TypeId → Resource) (home : Home) (id : TypeId) (is : List Item) (maps : TypeEncodingMaps) (ids : List TypeId) → HasIndex maps id → AreTablesRight given origin home stages.Importing is maps →
+    ((i : TypeId) → is_one_of ids i.index ≡ true → is_met stages.Importing home i ≡ true) → (j : TypeId) → is_one_of (ids ++ id ∷ []) j.index ≡ true → HasIndex maps j
+met_more given origin home id is maps ids recorded h met j e = elim (or_cases (is_one_of ids j.index) (j.index == id.index) (one_more ids id j.index e)) [
+  | inl before ↦ h.met j (met j before)
+  | inr same ↦ subst (λ (n : ℕ). HasIndex maps (record { index = n })) (sym ((Decides-eqb j.index id.index).0 same)) recorded
+]
+
 pub right_imported : (given : List ℕ → TypeTree) (origin : TypeId → Resource) (home : Home) (stage : Stage) (id : TypeId) (is : List Item) (maps : TypeEncodingMaps) → stage ≡ stages.Importing → HasIndex maps id →
     AreTablesRight given origin home stage is maps → AreTablesRight given origin (with_foreign home (id ∷ [])) stage is maps
 unfolding tree_in
@@ -175,9 +183,9 @@ right_imported given origin home stages.Importing id is maps importing recorded 
   named = AllByRecursion-weaker (λ e n. record { as_own = n.as_own }) maps.id_to_index h.named;
   kinds = h.kinds;
   functions = h.functions;
-  met = λ j e. elim (or_cases (is_one_of home.foreign j.index) (j.index == id.index) (one_more home.foreign id j.index e)) [
-    | inl before ↦ h.met j before
-    | inr same ↦ subst (λ (n : ℕ). HasIndex maps (record { index = n })) (sym ((Decides-eqb j.index id.index).0 same)) recorded
+  met = λ j e. elim (or_cases (is_one_of (home.foreign ++ id ∷ []) j.index) (is_one_of home.resources j.index) e) [
+    | inl one ↦ met_more given origin home id is maps home.foreign recorded h (λ i f. or_left (is_one_of home.foreign i.index) (is_one_of home.resources i.index) f) j one
+    | inr own ↦ h.met j (or_right (is_one_of home.foreign j.index) (is_one_of home.resources j.index) own)
   ];
   offers = h.offers;
 }
@@ -209,7 +217,7 @@ module _ (given : List ℕ → TypeTree) (origin : TypeId → Resource) where
       let one = u.each.0 in
       record {
         within = one.ready.within;
-        named = foreign_named (λ i. DefinedAt 0) u.lent home stages.Importing back t.id one.ready.other one.ready.within one.passes one.ready.owner;
+        named = foreign_named (λ i. DefinedAt 0) u.lent home stages.Importing (is_home_before home.types u.lent home.here) (home_before home.types u.lent home.here) back t.id one.ready.other one.ready.within one.passes one.ready.owner;
         other = one.ready.other;
         owner = one.ready.owner;
       }
@@ -218,25 +226,27 @@ module _ (given : List ℕ → TypeTree) (origin : TypeId → Resource) where
   next_parts home stage t ts types same back importing u =
       let one = u.each.0 in
       subst (λ (xs : List TypeDef). HasParts (nested_setting origin home stage) (kind_at xs t.id.index)) same
-      (parts_defined origin u.lent home stage (subst RefersBack (sym same) back) t.id one.ready.within (known_importing origin u.lent home u.known stage importing u.apart t.id.index) one.passes one.ready.parts)
+      (parts_defined origin u.lent home stage (is_home_before home.types u.lent home.here) (home_before home.types u.lent home.here) (subst RefersBack (sym same) back) t.id one.ready.within
+      (known_first origin u.lent home u.known stage importing u.apart t.id.index) one.passes one.ready.parts)
 
 -- those that an interface reaches can be imported for it
-usable_each : (types : List TypeDef) (lent : ℕ → Bool) (here : InterfaceId) (before ids : List TypeId) → AreReadyAfter types here before ids → AllByRecursion (λ id. type_passes (is_at_home types lent here) types id) ids → AreUsableAfter types lent here before ids
-usable_each types lent here before [] ready passes = tt
-usable_each types lent here before (id ∷ ids) ready passes = (record { ready = ready.0; passes = passes.0 }, usable_each types lent here (before ++ id ∷ []) ids ready.1 passes.1)
+usable_each : (types : List TypeDef) (lent : ℕ → Bool) (here : InterfaceId) (before ids : List TypeId) → AreResourcesLater types lent here → AreReadyAfter types here before ids → AllByRecursion (λ id. type_passes (is_at_home types lent here) types id) ids → AreUsableAfter types lent here before ids
+usable_each types lent here before [] later ready passes = tt
+usable_each types lent here before (id ∷ ids) later ready passes =
+    (record { ready = ready.0; passes = later.each id ready.0.within (ap is_some ready.0.owner) passes.0 }, usable_each types lent here (before ++ id ∷ []) ids later ready.1 passes.1)
 
 pub usable_ids : (types : List TypeDef) (here : InterfaceId) (named : List (List ℕ × TypeId)) (entries : List (List ℕ × Function)) (h : IsAtHome types here named entries) (ids : List TypeId) → AreForeignTypes types here named entries ids → AreUsableAfter types h.lent here [] ids
-usable_ids types here named entries h ids f = usable_each types h.lent here [] ids f.ready (AllByRecursion-weaker (λ id r. r.each (is_at_home types h.lent here) h.types h.functions) ids f.reached)
+usable_ids types here named entries h ids f = usable_each types h.lent here [] ids h.later f.ready (AllByRecursion-weaker (λ id r. r.each (is_at_home types h.lent here) h.types h.functions) ids f.reached)
 
 pub usable_all : (given : List ℕ → TypeTree) (origin : TypeId → Resource) (types : List TypeDef) (here : InterfaceId) (named : List (List ℕ × TypeId)) (entries : List (List ℕ × Function)) → IsAtHome types here named entries → IsDistinct bytes_eq (keys_of named) →
-    (names : ImportNames) (taken : List (List ℕ × Option TypeId)) → IsPlan types here named entries names taken → AllByRecursion (IsGiven given origin types) names.foreign → AreUsable given origin (new_home types here named) names.foreign
+    (names : ImportNames) (taken : List (List ℕ × Option TypeId)) → IsPlan types here named entries names taken → AllByRecursion (IsGiven given origin types) (names.foreign ++ names.resources) → AreUsable given origin (new_home types here named) names.foreign
 usable_all given origin types here named entries h apart names taken p all = record {
   lent = h.lent;
   known = record { titled = h.titled; ascend = h.ascend; types = h.types; every = h.every };
   apart = apart;
   each = usable_ids types here named entries h (imported_ids names.foreign) p.foreign;
   named = p.titled;
-  gives = all;
+  gives = AllByRecursion-front (IsGiven given origin types) names.foreign names.resources all;
 }
 
 -- they have names
@@ -244,7 +254,7 @@ names_each : (home : Home) (lent : ℕ → Bool) (before ids : List TypeId) → 
 names_each home lent before [] back u = tt
 names_each home lent before (id ∷ ids) back u =
     let one = u.0 in (
-      record { within = one.ready.within; named = foreign_named (λ i. DefinedAt 0) lent home stages.Importing back id one.ready.other one.ready.within one.passes one.ready.owner },
+      record { within = one.ready.within; named = foreign_named (λ i. DefinedAt 0) lent home stages.Importing (is_home_before home.types lent home.here) (home_before home.types lent home.here) back id one.ready.other one.ready.within one.passes one.ready.owner },
       names_each home lent (before ++ id ∷ []) ids back u.1,
     )
 

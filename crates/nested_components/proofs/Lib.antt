@@ -12,6 +12,7 @@ pub mod AtHome
 pub mod Copying
 pub mod ForeignTypes
 pub mod Planned
+pub mod OwnResources
 pub mod Keeping
 pub mod Whole
 mod WorkedFunctions

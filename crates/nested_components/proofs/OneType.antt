@@ -87,7 +87,7 @@ met_before home stage j exporting listed before =
 
 -- a type of another interface that was imported is in the tables
 pub met_foreign : (home : Home) (stage : Stage) (j : TypeId) → is_one_of home.foreign j.index ≡ true → is_met stage home j ≡ true
-met_foreign home stages.Importing j e = e
+met_foreign home stages.Importing j e = or_left (is_one_of home.foreign j.index) (is_one_of home.resources j.index) e
 met_foreign home (stages.Exporting last) j e = or_left (is_one_of home.foreign j.index) (is_passed home last j) e
 
 pub right_passed : (given : List ℕ → TypeTree) (origin : TypeId → Resource) (home : Home) (stage : Stage) (id : TypeId) (is : List Item) (maps : TypeEncodingMaps) → IsExporting stage → IsNextOf home stage id → HasIndex maps id →

@@ -14,12 +14,12 @@ use Rattle.comp_trees.specs.Trees.{Resource}
 use Rattle.comp_trees.specs.DefinedTrees.{TypeTree}
 use Rattle.wit_types.specs.Allowing.{foreign, is_allowed}
 use Rattle.wit_types.specs.Settings.{Setting, owner_at, name_at}
-use Rattle.type_scopes.specs.Needs.{each_passes, is_at_home}
+use Rattle.type_scopes.specs.Needs.{each_passes}
 use Rattle.foreign_types.specs.Foreign.{IsReady}
 use Rattle.nested_components.specs.declared.type_import.TypeImport.{TypeImport}
 use Rattle.nested_components.specs.Homes.{Home, IsHome}
 use Rattle.nested_components.specs.Planning.{IsNamedImport, IsGiven}
-use Rattle.nested_components.specs.Types.{imported_ids}
+use Rattle.nested_components.specs.Types.{imported_ids, is_home_before}
 
 -- a type that another interface owns under a name
 pub record IsForeignType (types : List TypeDef) (here : InterfaceId) (id : TypeId) : Type 0 where
@@ -28,10 +28,10 @@ pub record IsForeignType (types : List TypeDef) (here : InterfaceId) (id : TypeI
   pub other : InterfaceId
   pub owner : foreign (Some here) (owner_at types id.index) ≡ Some other
 
--- A type of another interface that is made of those before it, and of which the interface may be made.
+-- A type of another interface that is made of those before it, and of which the interface may be made, and of no resource of its own.
 pub record IsUsable (types : List TypeDef) (lent : ℕ → Bool) (here : InterfaceId) (before : List TypeId) (id : TypeId) : Type 0 where
   pub ready : IsReady types here before id
-  pub passes : value (each_passes (is_at_home types lent here)) types (Some (Id id)) ≡ true
+  pub passes : value (each_passes (is_home_before types lent here)) types (Some (Id id)) ≡ true
 
 -- so is each of these, behind those and the ones before it
 abbrev pub AreUsableAfter : List TypeDef → (ℕ → Bool) → InterfaceId → List TypeId → List TypeId → Type 0

@@ -7,5 +7,6 @@ pub mod Counts
 pub mod Tables
 pub mod Growing
 pub mod Planning
+pub mod Resources
 pub mod Beginning
 pub mod Following

@@ -19,7 +19,7 @@ use Rattle.nested_components.specs.declared.plan.ImportNames.{ImportNames}
 use Rattle.nested_components.specs.declared.type_import.TypeImport.{TypeImport}
 use Rattle.nested_components.specs.Functions.{functions_of}
 use Rattle.nested_components.specs.Growing.{function_entry, type_entry}
-use Rattle.nested_components.specs.Types.{imported_ids}
+use Rattle.nested_components.specs.Types.{imported_ids, own_resources}
 
 -- a type that has a name
 pub record HasName (types : List TypeDef) (id : TypeId) : Type 0 where
@@ -47,13 +47,16 @@ pub record PlansTypes (types : List TypeDef) (old new : List (List ℕ × Option
   pub named : AllByRecursion (IsNamedImport types) ts
   pub taken : new ≡ old ++ map type_entry ts
 
--- The names of the imports of an interface that lists these types and has these functions: those of its functions, and those of the
--- types of other interfaces of which it is made. These names are taken, and no others, and they are distinct.
+-- The names of the imports of an interface that lists these types and has these functions: those of its functions, those of the
+-- types of other interfaces of which it is made, and those of the resources that it lists. These names are taken, and no others, and
+-- they are distinct.
 pub record IsPlan (types : List TypeDef) (here : InterfaceId) (named : List (List ℕ × TypeId)) (entries : List (List ℕ × Function)) (names : ImportNames) (taken : List (List ℕ × Option TypeId)) : Type 0 where
   pub functions : AreNames (functions_of entries) names.functions
   pub foreign : AreForeignTypes types here named entries (imported_ids names.foreign)
   pub titled : AllByRecursion (IsNamedImport types) names.foreign
-  pub table : taken ≡ map function_entry names.functions ++ map type_entry names.foreign
+  pub resources : imported_ids names.resources ≡ own_resources types named
+  pub own_titled : AllByRecursion (IsNamedImport types) names.resources
+  pub table : taken ≡ map function_entry names.functions ++ map type_entry (names.foreign ++ names.resources)
   pub apart : IsDistinct bytes_eq (keys_of taken)
 
 -- what is given for the import of a type is that type

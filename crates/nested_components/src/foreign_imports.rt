@@ -6,7 +6,6 @@ ghost use Rattle.comp_trees.specs.WitTrees.{wit_tree};
 ghost use Rattle.wit_data.specs.Sound.{IsSound};
 ghost use Rattle.wit_data.specs.Values.{kind_at};
 ghost use Rattle.wit_data.specs.declared.types.Type.TheVariants.{Id};
-ghost use Rattle.wit_types.specs.Allowing.{is_resource};
 ghost use Rattle.wit_types.specs.Denoting.{IsCause};
 ghost use Rattle.wit_types.specs.Maps.{HasIndex};
 ghost use Rattle.nested_components.specs.declared.stage.Stage.TheVariants as stages;
@@ -19,18 +18,12 @@ ghost use Rattle.nested_components.specs.Types.{imported_ids};
 
 use crate::nested_encoder::NestedEncoder;
 use crate::placement::Placement;
+use crate::resources::is_resource;
 use crate::type_import::TypeImport;
 use byte_encoding::BuildFault;
 use std::alloc::Global;
-use wit_data::{Resolve, TypeDefKind, kind_of};
+use wit_data::{Resolve, kind_of};
 use wit_types::{encode_definition, record_type_index};
-
-/// Whether a type is a resource.
-fn is_resource(kind: &TypeDefKind) -> bool
-    ensures { result ≡ is_resource kind.now }
-{
-    matches!(kind, TypeDefKind::Resource)
-}
 
 /// Imports the types of other interfaces, one after the other, each under its name and right behind its definition.
 pub(crate) fn import_foreign_types<P: Placement>(

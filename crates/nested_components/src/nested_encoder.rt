@@ -15,7 +15,7 @@ ghost use Rattle.wit_types.specs.Denoting.{Makes, MayMake, IsCause, exported_or}
 ghost use Rattle.wit_types.specs.Maps.{no_maps};
 ghost use Rattle.type_scopes.specs.Exports.{any_index};
 ghost use Rattle.nested_components.specs.declared.stage.Stage.TheVariants as stages;
-ghost use Rattle.nested_components.specs.Homes.{nested_setting, with_foreign};
+ghost use Rattle.nested_components.specs.Homes.{nested_setting, with_foreign, with_resources};
 ghost use Rattle.nested_components.specs.Tables.{types_alone};
 ghost use Rattle.nested_components.specs.Counts.{types_in, is_full};
 ghost use Rattle.nested_components.specs.Growing.{scope_of, plain, Grows, ImportsPlanned, ImportsNamed};
@@ -34,6 +34,7 @@ use comp_bytes::{DefinedType, ExternName, FuncTypeDef, TypeDef};
 use comp_lists::{Keyed, Text};
 use std::alloc::{AllocError, Global};
 use std::marker::PhantomData;
+use std::mem;
 use wit_data::{InterfaceId, TypeId};
 use wit_types::{TypeEncodingMaps, ValtypeEncoder};
 
@@ -118,13 +119,22 @@ impl<'a, P: Placement> NestedEncoder<'a, P> {
         self.home.add_foreign(id)
     }
 
+    /// A resource of the interface was imported, and recorded.
+    pub(crate) fn pass_resource(&mut self, id: TypeId) -> Result<(), AllocError>
+        ensures { OnOk result (self.new ≡ record self.old { home = with_resources self.old.home (id ∷ []) }) }
+    {
+        self.home.add_resource(id)
+    }
+
     /// All was imported. The tables are those that there were when types of other interfaces had been imported: what is exported is
-    /// made of these, and of types that are defined anew.
-    pub(crate) fn begin_exports(&mut self, tables: TypeEncodingMaps)
-        ensures { self.new ≡ record self.old { stage = stages.Exporting None; maps = tables } }
+    /// made of these, and of types that are defined anew. It returns the tables that there are, which have the resources of the
+    /// interface.
+    pub(crate) fn begin_exports(&mut self, tables: TypeEncodingMaps) -> TypeEncodingMaps
+        ensures begun { self.new ≡ record self.old { stage = stages.Exporting None; maps = tables } }
+        ensures maps { result ≡ self.old.maps }
     {
         self.stage = Stage::Exporting(None);
-        self.maps = tables;
+        mem::replace(&mut self.maps, tables)
     }
 
     /// A type was exported, and those that are listed before it.

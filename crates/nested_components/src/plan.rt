@@ -1,5 +1,5 @@
 //! The names of the imports of a nested component, which are chosen before anything is imported: those of the functions of the
-//! interface, and then those of the types of other interfaces of which it is made.
+//! interface, those of the types of other interfaces of which it is made, and then those of the resources that it lists.
 
 ghost use Rattle.std.specs.Prelude.{◌≡◌, ◌<◌, length, Some, IsSome, IfOk, OnOk};
 ghost use Rattle.std.specs.List.{AllByRecursion, IsDistinct};
@@ -11,17 +11,19 @@ ghost use Rattle.nested_components.specs.Types.{IsAtHome};
 ghost use Rattle.nested_components.specs.Planning.{HasName, PlansType, PlansTypes, IsPlan};
 
 use crate::names::{choose_names, free_type_name};
+use crate::resources::own_resources;
 use crate::type_import::TypeImport;
 use comp_lists::{Keyed, Seq, Text};
 use foreign_types::all_foreign_types;
 use std::alloc::{AllocError, Global};
 use wit_data::{Function, InterfaceId, Resolve, TypeId};
 
-/// The names of the imports of functions, in the order of the functions, and of types of other interfaces, in the order in which
-/// they are imported.
+/// The names of the imports of functions, in the order of the functions, of types of other interfaces, and of the resources of the
+/// interface, in the order in which they are imported.
 pub(crate) struct ImportNames {
     pub(crate) functions: Seq<Text>,
     pub(crate) foreign: Seq<TypeImport>,
+    pub(crate) resources: Seq<TypeImport>,
 }
 
 impl Drop for ImportNames {
@@ -29,6 +31,7 @@ impl Drop for ImportNames {
         let ImportNames {
             functions: _,
             foreign: _,
+            resources: _,
         } = self;
     }
 }
@@ -41,6 +44,7 @@ impl ImportNames {
         let ImportNames {
             functions,
             foreign: _,
+            resources: _,
         } = self;
         functions
     }
@@ -136,14 +140,17 @@ pub(crate) fn plan_imports(
     ensures { IfOk result (λ plan. IsPlan resolve.now.types interface types.now functions.now plan.names plan.taken) }
 {
     let ids = all_foreign_types(alloc, resolve, interface, types, functions)?;
+    let own = own_resources(alloc, resolve, types)?;
     let chosen = choose_names(alloc, functions)?;
     let (names, mut taken) = chosen.into_parts();
     let foreign = choose_type_names(alloc, resolve, &mut taken, ids.as_slice())?;
+    let resources = choose_type_names(alloc, resolve, &mut taken, own.as_slice())?;
     taken_apart(&taken);
     Ok(Plan {
         names: ImportNames {
             functions: names,
             foreign,
+            resources,
         },
         taken,
     })
