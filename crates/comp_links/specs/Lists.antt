@@ -1,6 +1,6 @@
 -- What a component imports and exports, in order, and the section of its names (component model: the imports and exports
 -- of a component; binary format: name section).
-use Rattle.std.specs.Prelude.{◌≡◌, ◌==◌, ◌++◌, ◌⊎◌, ℕ, suc, List, [], ◌∷◌, codes, map, Option, Some, None, Contains, slice_get, if◌then◌else◌, unwrap_or}
+use Rattle.std.specs.Prelude.{◌≡◌, ◌==◌, ◌++◌, ◌⊎◌, ℕ, suc, List, [], ◌∷◌, codes, map, Option, Some, None, Contains, filter, slice_get, if◌then◌else◌, unwrap_or}
 use Rattle.std.specs.List.{flat_map}
 use Rattle.std.specs.Map.{lookup}
 use Rattle.comp_bytes.specs.declared.space.Sort.{Sort}
@@ -13,18 +13,20 @@ use Rattle.comp_bytes.specs.declared.def.Def.{Def}
 use Rattle.comp_bytes.specs.declared.def.Def.TheVariants as defs
 use Rattle.wit_data.specs.Names.{text_of}
 use Rattle.wit_data.specs.Live.{named_types}
+use Rattle.wit_data.specs.Values.{kind_at}
 use Rattle.wit_data.specs.declared.functions.Function.{Function}
 use Rattle.wit_data.specs.declared.worlds.WorldItem.{WorldItem}
 use Rattle.wit_data.specs.declared.worlds.WorldItem.TheVariants as items
 use Rattle.wit_data.specs.declared.worlds.WorldKey.{WorldKey}
 use Rattle.wit_data.specs.declared.ids.InterfaceId.{InterfaceId}
 use Rattle.wit_data.specs.declared.ids.TypeId.{TypeId}
+use Rattle.comp_worlds.specs.Encodable.{is_resource_kind}
 use Rattle.comp_worlds.specs.WorldContents.{items_of, imported_types, interface_at, name_at, exported_item}
 use Rattle.world_values.specs.Items.{functions_of, functions_in}
 use Rattle.nested_terms.specs.Naming.{import_names, type_import_name, numbered}
 use Rattle.comp_worlds.specs.declared.world.ComponentWorld.{ComponentWorld}
 use Rattle.wit_data.specs.declared.types.Type.TheVariants.{Id}
-use Rattle.comp_trees.specs.Trees.{Origin, Resource, ImportedAt}
+use Rattle.comp_trees.specs.Trees.{Origin, Resource, ImportedAt, DefinedAt}
 use Rattle.comp_trees.specs.WitTrees.{wit_tree}
 use Rattle.comp_trees.specs.DefinedTrees.{TypeTree, OfValues}
 use Rattle.comp_links.specs.Targets.{UserModule, Main, WorldFunction, OfRoot, OfInterface}
@@ -106,9 +108,34 @@ origin_of_type w id = elim (interface_at w.resolve.types id.index) [
   | Some interface ↦ record { number = number_of_interface interface (import_entries w); inner = Some (type_name w id) }
 ]
 
--- the resource that an imported type is, where it is one
+-- ---- resources
+
+-- the types that an item of the world lists, each with its name
+abbrev pub types_in : ComponentWorld → Option WorldItem → List (List ℕ × TypeId)
+types_in w (Some (items.Interface id)) = named_types w.resolve id
+types_in w item = []
+
+-- the resources that the component defines: those that the interfaces list which main has to export, in order
+abbrev pub types_exported : ComponentWorld → List TypeId
+types_exported w = flat_map (λ key. map (λ t. t.1) (types_in w (exported_item w key))) w.main_exports
+
+abbrev pub own_resources : ComponentWorld → List TypeId
+own_resources w = filter (λ id. is_resource_kind (kind_at w.resolve.types id.index)) (types_exported w)
+
+-- the number of a type among these, from this number on
+abbrev pub number_among : TypeId → ℕ → List TypeId → Option ℕ
+number_among id n [] = None
+number_among id n (own ∷ ids) = if id.index == own.index then Some n else number_among id (suc n) ids
+
+-- the resource that a type of the world is, where it is one: the component defines it, or imports it
+abbrev pub resource_as : Origin → Option ℕ → Resource
+resource_as origin None = ImportedAt origin
+resource_as origin (Some number) = DefinedAt number
+
 abbrev pub resource_of : ComponentWorld → TypeId → Resource
-resource_of w id = ImportedAt (origin_of_type w id)
+resource_of w id = resource_as (origin_of_type w id) (number_among id 0 (own_resources w))
+
+-- ---- types
 
 -- the types that the component imports: those that the world does, and of its interfaces those that are needed
 abbrev pub needed_of : ComponentWorld → ImportEntry → List TypeId
@@ -179,11 +206,6 @@ functions_required w r = map (λ name. record { of = r.of; key = r.key; function
 
 abbrev pub required_functions : ComponentWorld → List RequiredFunction
 required_functions w = flat_map (functions_required w) (required_keys w)
-
--- the types that an item of the world lists, each with its name
-abbrev pub types_in : ComponentWorld → Option WorldItem → List (List ℕ × TypeId)
-types_in w (Some (items.Interface id)) = named_types w.resolve id
-types_in w item = []
 
 -- a type that has to be exported under a name, at a key
 pub record RequiredType : Type 0 where

@@ -229,6 +229,9 @@ module _ (w : ComponentWorld) (ok : IsEncodable w) (id : InterfaceId) where
   listed_own : IsExportedInterface w id → (e : List ℕ × TypeId) → Contains (named_types w.resolve id) e → IsOwnType w.resolve.types id e
   listed_own h e c = AllByRecursion-contains (IsOwnType w.resolve.types id) (named_types w.resolve id) e (exported_placed h).own c
 
+  pub listed_owner : IsExportedInterface w id → (t : TypeId) → Contains (map (λ e. e.1) (named_types w.resolve id)) t → interface_at w.resolve.types t.index ≡ Some id
+  listed_owner h t c = let e = listed_name t c in (listed_own h (e.0, t) e.1).own
+
   -- the interface may be made of them
   pub usable_listed : IsExportedInterface w id → (t : TypeId) → Contains (map (λ e. e.1) (named_types w.resolve id)) t → IsUsableType w id t
   usable_listed h t c =

@@ -2,6 +2,7 @@
 use Rattle.std.proofs.Common.{◌≡◌, ◌∙◌, ◌⊎◌, ◌&&◌, ◌||◌, not, inl, inr, ℕ, Bool, true, false, true≢false, List, map, refl, ap, sym, subst, Option, Some, None, is_some, is_none, if◌then◌else◌}
 use Rattle.std.specs.List.{list_all}
 use Rattle.std.proofs.lemmas.Bool.{and_parts, or_cases}
+use Rattle.std.proofs.lemmas.Bool.Decides.{Decides-eqb}
 use Rattle.wit_data.specs.declared.ids.InterfaceId.{InterfaceId}
 use Rattle.wit_data.specs.declared.ids.TypeId.{TypeId}
 use Rattle.wit_data.specs.declared.types.TypeDefKind.{TypeDefKind}
@@ -17,8 +18,8 @@ use Rattle.comp_worlds.specs.WorldContents.{interface_at}
 use Rattle.comp_worlds.specs.declared.world.ComponentWorld.{ComponentWorld}
 use Rattle.comp_links.specs.Lists.{IsNeededType}
 use Rattle.interface_needs.specs.RootNeeds.{is_lent_type, IsUsableType}
-use Rattle.interface_needs.proofs.ExportedInterfaces.{lent_needed}
-use Rattle.interface_needs.proofs.Owners.{own_or_none, of_other, at_root, same_name}
+use Rattle.interface_needs.proofs.ExportedInterfaces.{lent_needed, own_not_lent}
+use Rattle.interface_needs.proofs.Owners.{own_or_none, of_other, owner_of, at_root, same_name}
 
 -- a type that is lent is one that a component needs of an interface that is only imported
 lent_from : (w : ComponentWorld) (t : TypeId) (other : InterfaceId) → interface_at w.resolve.types t.index ≡ Some other → is_lent_type w t.index ≡ true → IsNeededType w t
@@ -79,3 +80,19 @@ module _ (w : ComponentWorld) (ok : IsEncodable w) (id : InterfaceId) (t : TypeI
         | inl none ↦ absurd (owned (ap by_owner (sym is) ∙ is_home) none)
         | inr own ↦ inl own
       ]
+
+  -- one of the interface is no resource
+  pub own_values : interface_at w.resolve.types n ≡ Some id → is_resource kind ≡ false
+  own_values own =
+      by (is_resource kind) refl (ap by_owner (sym here_is) ∙ is_home)
+    where
+      here_is : foreign (Some id) (owner_at w.resolve.types n) ≡ None
+      here_is =
+          ap (foreign (Some id)) (owner_of w.resolve.types n id own)
+          ∙ ap (λ b. if b then None else Some id) ((Decides-eqb id.index id.index).1 refl)
+
+      by : (resource : Bool) → is_resource kind ≡ resource →
+          (if resource then is_lent_type w n && (is_some (settings.name_at w.resolve.types n) && is_some (foreign None (owner_at w.resolve.types n))) else is_none (settings.name_at w.resolve.types n) || is_some (foreign None (owner_at w.resolve.types n))) ≡ true →
+          resource ≡ false
+      by false is e = refl
+      by true is e = absurd (own_not_lent w id n h.exported own (and_parts (is_lent_type w n) (is_some (settings.name_at w.resolve.types n) && is_some (foreign None (owner_at w.resolve.types n))) e).0)
