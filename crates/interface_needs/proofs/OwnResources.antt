@@ -38,7 +38,7 @@ module _ (w : ComponentWorld) (ok : IsEncodable w) where
       (λ t c.
       let listed : WorldKey → List TypeId = λ key. map (λ e. e.1) (types_in w (exported_item w key)) in
       let i : IsInOne listed w.main_exports t = flat_contains listed w.main_exports t c in
-      listed_values i.x (exported_item w i.x) t refl i.one)
+      listed_values i.x (exported_item w i.x) t refl i.there)
 
   -- so each is imported
   pub resource_imported : (id : TypeId) → resource_of w id ≡ ImportedAt (origin_of_type w id)

@@ -78,7 +78,7 @@ module _ (types : List TypeDef) (back : RefersBack types) (test : ℕ → TypeDe
 
 -- ---- a type that stays in an interface is at home there
 
-same_kind : (k : TypeDefKind) → is_resource k ≡ is_resource_kind k
+pub same_kind : (k : TypeDefKind) → is_resource k ≡ is_resource_kind k
 same_kind kinds.Resource = refl
 same_kind k = refl
 
@@ -92,13 +92,9 @@ foreign_here here (owners.Interface i) = refl
 foreign_here here (owners.World w) = refl
 foreign_here here owners.«None» = refl
 
--- the kind, the owner and the name of a type that is at home in an interface: of a type that no other interface owns, and of any, by
--- the interface that owns it
-abbrev home_here : (ℕ → Bool) → ℕ → Bool → Option InterfaceId → Option (List ℕ) → Bool
-home_here lent n resource owner name = if resource then lent n && (is_some name && is_some owner) else is_none name || is_some owner
-
-abbrev home_by : (ℕ → Bool) → ℕ → Bool → Option InterfaceId → Option InterfaceId → Option (List ℕ) → Bool
-home_by lent n resource other owner name = elim other [ Some i ↦ lent n && is_some name | None ↦ home_here lent n resource owner name ]
+-- the owner and the name of a type that is at home in an interface, by its interface, where it is one of values or a resource
+abbrev pub home_by : (ℕ → Bool) → ℕ → Bool → Option InterfaceId → Option InterfaceId → Option (List ℕ) → Bool
+home_by lent n resource other owner name = elim other [ Some i ↦ lent n && is_some name | None ↦ if resource then lent n && (is_some name && is_some owner) else is_none name || is_some owner ]
 
 abbrev owned_home : (ℕ → Bool) → InterfaceId → ℕ → Bool → Option InterfaceId → Option (List ℕ) → Bool
 owned_home lent here n resource owner name = home_by lent n resource (other_than here owner) owner name
@@ -134,37 +130,33 @@ module _ (types : List TypeDef) (lent : ℕ → Bool) (lends : InterfaceId → B
       owner_home types lent here n (is_resource k)
       ∙ owned (is_resource k) (interface_at types n) (name_at types n) refl (ap (λ b. owned_by b (interface_at types n) (name_at types n)) (same_kind k) ∙ e)
 
+-- a type of the interface that is not lent is one of values
+pub own_values : (lent : ℕ → Bool) (n : ℕ) (k : TypeDefKind) (owner : Option InterfaceId) (name : Option (List ℕ)) → lent n ≡ false → home_by lent n (is_resource k) None owner name ≡ true → is_resource k ≡ false
+own_values lent n k owner name unlent e = by (is_resource k) e
+  where
+    by : (r : Bool) → home_by lent n r None owner name ≡ true → r ≡ false
+    by false e = refl
+    by true e = absurd (true≢false (sym (and_parts (lent n) (is_some name && is_some owner) e).0 ∙ unlent))
+
 -- ---- a type that is at home in an interface may be encoded in a scope of it
 
 module _ (s : Setting) (here : InterfaceId) (back : RefersBack s.types) (inside : s.interface ≡ Some here) (own : (n : ℕ) → s.may_own n ≡ true) (lent : ℕ → Bool)
     (may : (n : ℕ) (other : InterfaceId) → foreign (Some here) (owner_at s.types n) ≡ Some other → lent n ≡ true → s.may_import other (record { index = n }) ≡ true)
-    (none : (n : ℕ) → foreign (Some here) (owner_at s.types n) ≡ None → is_some (foreign None (owner_at s.types n)) ≡ true → lent n ≡ true → ⊥) where
+    (unlent : (n : ℕ) → foreign (Some here) (owner_at s.types n) ≡ None → lent n ≡ false) where
   made_allowed : (n : ℕ) (bs : List Bool) → is_at_home s.types lent here n (kind_at s.types n) ≡ true → AllByRecursion (λ b. b ≡ true) bs → may_have s n (kind_at s.types n) bs ≡ true
   made_allowed n bs e h = by (s.met (record { index = n })) (foreign (Some here) (owner_at s.types n)) refl e
     where
       k : TypeDefKind
       k = kind_at s.types n
 
-      owner : Option InterfaceId
-      owner = foreign None (owner_at s.types n)
-
-      name : Option (List ℕ)
-      name = settings.name_at s.types n
-
       of : (o : Option InterfaceId) → foreign (Some here) (owner_at s.types n) ≡ o → may_make s n k bs (foreign s.interface (owner_at s.types n)) ≡ may_make s n k bs o
       of o is = ap (may_make s n k bs) (ap (λ i. foreign i (owner_at s.types n)) inside ∙ is)
 
-      -- no resource of the interface is lent
-      values : (resource : Bool) → foreign (Some here) (owner_at s.types n) ≡ None → home_here lent n resource owner name ≡ true → resource ≡ false
-      values false is e = refl
-      values true is e =
-          let b = and_parts (lent n) (is_some name && is_some owner) e in
-          absurd (none n is (and_parts (is_some name) (is_some owner) b.1).1 b.0)
-
-      by : (met : Bool) (o : Option InterfaceId) → foreign (Some here) (owner_at s.types n) ≡ o → home_by lent n (is_resource k) o owner name ≡ true → (if met then true else may_make s n k bs (foreign s.interface (owner_at s.types n))) ≡ true
+      by : (met : Bool) (o : Option InterfaceId) → foreign (Some here) (owner_at s.types n) ≡ o → home_by lent n (is_resource k) o (foreign None (owner_at s.types n)) (settings.name_at s.types n) ≡ true → (if met then true else may_make s n k bs (foreign s.interface (owner_at s.types n))) ≡ true
       by true o is e = refl
-      by false None is e = of None is ∙ and_from (s.may_own n) (may_define s n k bs) (own n) (of_parts s n k bs (values (is_resource k) is e) (all_tests (λ (b : Bool). b) bs h))
-      by false (Some other) is e = let c = and_parts (lent n) (is_some name) e in of (Some other) is ∙ may n other is c.0
+      by false None is e =
+          of None is ∙ and_from (s.may_own n) (may_define s n k bs) (own n) (of_parts s n k bs (own_values lent n k (foreign None (owner_at s.types n)) (settings.name_at s.types n) (unlent n is) e) (all_tests (λ (b : Bool). b) bs h))
+      by false (Some other) is e = let c = and_parts (lent n) (is_some (settings.name_at s.types n)) e in of (Some other) is ∙ may n other is c.0
 
   pub home_allowed : (p : Option Ty) → value (each_passes (is_at_home s.types lent here)) s.types p ≡ true → is_allowed s p ≡ true
   unfolding is_allowed

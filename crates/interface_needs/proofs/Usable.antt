@@ -18,7 +18,7 @@ use Rattle.comp_worlds.specs.WorldContents.{interface_at}
 use Rattle.comp_worlds.specs.declared.world.ComponentWorld.{ComponentWorld}
 use Rattle.comp_links.specs.Lists.{IsNeededType}
 use Rattle.interface_needs.specs.RootNeeds.{is_lent_type, IsUsableType}
-use Rattle.interface_needs.proofs.ExportedInterfaces.{lent_needed, own_not_lent}
+use Rattle.interface_needs.proofs.ExportedInterfaces.{lent_needed, unlent}
 use Rattle.interface_needs.proofs.Owners.{own_or_none, of_other, owner_of, at_root, same_name}
 
 -- a type that is lent is one that a component needs of an interface that is only imported
@@ -95,4 +95,6 @@ module _ (w : ComponentWorld) (ok : IsEncodable w) (id : InterfaceId) (t : TypeI
           (if resource then is_lent_type w n && (is_some (settings.name_at w.resolve.types n) && is_some (foreign None (owner_at w.resolve.types n))) else is_none (settings.name_at w.resolve.types n) || is_some (foreign None (owner_at w.resolve.types n))) ≡ true →
           resource ≡ false
       by false is e = refl
-      by true is e = absurd (own_not_lent w id n h.exported own (and_parts (is_lent_type w n) (is_some (settings.name_at w.resolve.types n) && is_some (foreign None (owner_at w.resolve.types n))) e).0)
+      by true is e =
+          let lent = (and_parts (is_lent_type w n) (is_some (settings.name_at w.resolve.types n) && is_some (foreign None (owner_at w.resolve.types n))) e).0 in
+          absurd (true≢false (sym lent ∙ unlent w ok id h.exported n here_is))
