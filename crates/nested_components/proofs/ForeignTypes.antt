@@ -1,6 +1,6 @@
 -- A type of another interface that is imported as equal to its definition, and then others.
 use Rattle.std.proofs.Common.{◌≡◌, ◌∙◌, ◌<◌, ◌≤◌, ◌+◌, ◌==◌, ◌||◌, arith, inl, inr, ℕ, suc, take, drop, Bool, true, false, true≢false, List, [], ◌∷◌, ◌++◌, length, refl, ap, sym, subst, get_or, append-nil, append_assoc, Option, Some, None, is_some}
-use Rattle.std.specs.List.{AllByRecursion, IsDistinct, list_any}
+use Rattle.std.specs.List.{AllByRecursion, IsDistinct}
 use Rattle.std.specs.Map.{keys_of}
 use Rattle.std.specs.Str.{bytes_eq}
 use Rattle.std.proofs.lemmas.Bool.{or_left, or_right, or_cases}
@@ -47,7 +47,6 @@ use Rattle.nested_components.specs.Growing.{scope_of, AreTablesRight, IsImportIn
 use Rattle.nested_components.specs.Following.{grows_none, grows_by_on, grows_later}
 use Rattle.nested_components.proofs.AtHome.{parts_defined, known_first, home_before, foreign_named}
 use Rattle.nested_components.proofs.OneFunction.{tables_longer}
-use Rattle.nested_components.proofs.OneType.{met_foreign}
 use Rattle.nested_components.proofs.Scoping.{scope_more, types_more, denotes_new}
 
 -- ---- the import of a type

@@ -1,5 +1,5 @@
 -- The tables that are kept while functions are imported.
-use Rattle.std.proofs.Common.{◌≡◌, ◌∙◌, ◌||◌, arith, nat_lt, ltb-true, inl, inr, ℕ, true, List, [], ◌∷◌, ◌++◌, refl, ap, sym, subst, Some, None}
+use Rattle.std.proofs.Common.{◌≡◌, ◌∙◌, ◌||◌, arith, nat_lt, ltb-true, inl, inr, ℕ, true, List, [], ◌∷◌, refl, ap, sym, subst, None}
 use Rattle.std.proofs.lemmas.Bool.{and_parts, or_cases, or_left}
 use Rattle.comp_lists.proofs.Lists.{AllByRecursion-weaker}
 use Rattle.wit_data.specs.declared.ids.TypeId.{TypeId}

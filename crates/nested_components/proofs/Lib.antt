@@ -17,4 +17,5 @@ pub mod Keeping
 pub mod Whole
 mod WorkedFunctions
 mod WorkedTypes
+mod WorkedResources
 pub mod Apart

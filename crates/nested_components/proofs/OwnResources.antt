@@ -1,6 +1,5 @@
 -- The resources of the interface: which they are, their imports, and that they are in the tables.
-use Rattle.std.proofs.Common.{◌≡◌, ◌∙◌, ◌<◌, ◌≤◌, ◌+◌, ◌==◌, ◌||◌, arith, inl, inr, ℕ, zero, suc, take, Bool, true, false, true≢false, List, [], ◌∷◌, ◌++◌, length, map, refl, ap, sym, subst, get_or, append-nil, append_assoc, Option, Some, None, is_some, filter}
-use Rattle.std.specs.Prelude.{IfSome}
+use Rattle.std.proofs.Common.{◌≡◌, ◌∙◌, ◌<◌, ◌≤◌, ◌+◌, ◌==◌, arith, inl, inr, ℕ, zero, suc, take, Bool, true, false, true≢false, List, [], ◌∷◌, ◌++◌, length, refl, ap, sym, subst, get_or, append-nil, append_assoc, Option, Some, None, is_some}
 use Rattle.std.specs.List.{AllByRecursion}
 use Rattle.std.specs.Map.{lookup}
 use Rattle.std.proofs.lemmas.Bool.{or_left, or_right, or_cases}
@@ -36,7 +35,7 @@ use Rattle.nested_components.specs.declared.plan.ImportNames.{ImportNames}
 use Rattle.nested_components.specs.declared.stage.Stage.{Stage}
 use Rattle.nested_components.specs.declared.stage.Stage.TheVariants as stages
 use Rattle.nested_components.specs.declared.type_import.TypeImport.{TypeImport}
-use Rattle.nested_components.specs.Homes.{Home, with_resources, with_foreign, new_home, nested_setting, is_met}
+use Rattle.nested_components.specs.Homes.{Home, with_resources, with_foreign, new_home, nested_setting}
 use Rattle.nested_components.specs.Types.{IsAtHome, IsEachListed, imported_ids, listed_ids, own_resources}
 use Rattle.nested_components.specs.Growing.{scope_of, AreTablesRight, IsImportIn, GrowsBy, Grows, all_among, IsBoundRight, ImportsPlanned}
 use Rattle.nested_components.specs.Following.{grows_none, grows_by_on}

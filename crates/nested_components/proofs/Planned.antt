@@ -3,7 +3,7 @@ use Rattle.std.proofs.Common.{◌≡◌, ◌∙◌, ◌<◌, ◌≤◌, ◌+◌,
 use Rattle.std.specs.Cmp.{IsEquivalence}
 use Rattle.std.specs.Cmp.Rules.{comparing}
 use Rattle.std.specs.List.{AllByRecursion, IsDistinct}
-use Rattle.std.specs.Map.{keys_of, lookup}
+use Rattle.std.specs.Map.{keys_of}
 use Rattle.std.specs.Str.{bytes_eq}
 use Rattle.std.proofs.lemmas.List.{map-append, take_all, take_more}
 use Rattle.std.proofs.lemmas.Map.Views.{lookup-from_Contains}
@@ -25,7 +25,9 @@ pub plans_type : (types : List TypeDef) (taken now : List (List ℕ × Option Ty
 plans_type types taken now old new id text key free titled first same added put = record {
   import = record { name = free; id = id };
   of = refl;
-  named = record { text = text; titled = titled; count = first.count; same = first.same };
+  text = text;
+  titled = titled;
+  free = first;
   added = added;
   taken = put ∙ ap (λ (k : List ℕ). taken ++ (k, Some id) ∷ []) same;
 }
@@ -43,7 +45,7 @@ module _ (types : List TypeDef) (old : List (List ℕ × Option TypeId)) where
       let added = one.added in
       record {
         of = ap imported_ids added ∙ (map-append (λ (t : TypeImport). t.id) ts (one.import ∷ []) ∙ (ap (λ (is : List TypeId). is ++ one.import.id ∷ []) h.of ∙ (ap (λ (i : TypeId). take count ids ++ i ∷ []) one.of ∙ sym more)));
-        named = subst (AllByRecursion _) (sym added) (AllByRecursion-push _ ts one.import h.named one.named);
+        named = subst (AllByRecursion _) (sym added) (AllByRecursion-push _ ts one.import h.named (record { text = one.text; titled = one.titled; count = one.free.count; same = one.free.same }));
         taken = one.taken ∙ (ap (λ es. es ++ type_entry one.import ∷ []) h.taken ∙ (append_assoc old (map type_entry ts) (type_entry one.import ∷ []) ∙ ap (λ es. old ++ es) (sym (ap (map type_entry) added ∙ map-append type_entry ts (one.import ∷ [])))));
       }
 

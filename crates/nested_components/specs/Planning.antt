@@ -14,7 +14,7 @@ use Rattle.comp_trees.specs.DefinedTrees.{TypeTree, OfValues, OfOthers}
 use Rattle.comp_trees.specs.WitTrees.{wit_tree}
 use Rattle.wit_types.specs.Settings.{name_at}
 use Rattle.foreign_types.specs.Foreign.{AreForeignTypes}
-use Rattle.nested_terms.specs.Naming.{type_import_name, numbered, AreNames}
+use Rattle.nested_terms.specs.Naming.{type_import_name, numbered, IsFirstFree, AreNames}
 use Rattle.nested_components.specs.declared.plan.ImportNames.{ImportNames}
 use Rattle.nested_components.specs.declared.type_import.TypeImport.{TypeImport}
 use Rattle.nested_components.specs.Functions.{functions_of}
@@ -33,11 +33,13 @@ pub record IsNamedImport (types : List TypeDef) (t : TypeImport) : Type 0 where
   pub count : ℕ
   pub same : t.name ≡ numbered count (type_import_name text)
 
--- a name is chosen for the import of one type more, and taken for it
+-- a name that is free is chosen for the import of one type more, and taken for it
 pub record PlansType (types : List TypeDef) (old_taken new_taken : List (List ℕ × Option TypeId)) (old new : List TypeImport) (id : TypeId) : Type 0 where
   pub import : TypeImport
   pub of : import.id ≡ id
-  pub named : IsNamedImport types import
+  pub text : List ℕ
+  pub titled : name_at types import.id.index ≡ Some text
+  pub free : IsFirstFree (keys_of old_taken) (type_import_name text) import.name
   pub added : new ≡ old ++ import ∷ []
   pub taken : new_taken ≡ old_taken ++ type_entry import ∷ []
 

@@ -75,10 +75,10 @@ impl NestedComponent {
 ///
 /// The types of other interfaces of which the interface is made are imported first, each as equal to its definition and behind those
 /// of which it is made, and each resource as one that is given. The resources that the interface lists are imported next, as given
-/// ones too, and exported by the indices of these imports. The type of a function stands right before the import, unless an equal one was written before, and behind
-/// what it is made of; a type of the interface is imported as equal to its definition as soon as that is written, and stands for it
-/// from then on. The exports use no type that was written for the imports of functions. (No clause says which types are imported:
-/// those of other interfaces, and those of which the functions are made.)
+/// ones too, and exported by the indices of these imports. The type of a function stands right before the import, unless an equal
+/// one was written before, and behind what it is made of; a type of values of the interface is imported as equal to its definition as
+/// soon as that is written, and stands for it from then on. The exports use no type that was written for the imports of functions.
+/// (No clause says which types are imported: those of other interfaces, the resources, and those of which the functions are made.)
 pub fn nested_component(
     alloc: Global,
     resolve: &Resolve,

@@ -22,22 +22,22 @@
 //! and the number of their type indices), `imported_types` (the types that were imported), `contents` (these, the items and the names
 //! that are taken, which a type that is imported changes together), `stage` (how far all has come), `tables` (copies of the tables of
 //! types), `nested_encoder` (the scope), `foreign_imports` (types of other interfaces), `resources` (the resources of the interface),
-//! `passing` (functions, one after the other),
-//! `named_types` (types, one after the other), `component` (all of it).
+//! `passing` (functions, one after the other), `named_types` (types, one after the other), `component` (all of it).
 //!
 //! In `specs/`: `Types` (what is asked of an interface, and what is imported and exported for its types), `Functions` (and for its
 //! functions), `Names` (how the names grow), `Planning` (the names that are chosen first, and what is given for them), `Homes` (what
 //! definitions take as given, by the stage), `Foreign` (types of other interfaces that can be imported), `Resources` (the resources of
-//! the interface, and their indices), `Tables` (the tables without functions), `Counts` (type indices), `Growing` (how the items grow), `Beginning` (what the types of other interfaces leave), `Following`
-//! (growth adds up).
+//! the interface, and their indices), `Tables` (the tables without functions), `Counts` (type indices), `Growing` (how the items
+//! grow), `Beginning` (what there is once the types of other interfaces were imported), `Following` (growth adds up).
 //!
 //! Upward this crate promises: [`import_names`] gives each function a name that no earlier one has, with as few numbers behind it
 //! as it takes (`AreNames` of `nested_terms`); and where [`nested_component`] succeeds, there is something to give for each import of
 //! a resource with which the following holds (`IsNestedComponent`): the items are right (`AreItemsRight`); the functions that they
 //! import are those of the interface in their order, each under its name and of its type; the types that they import are of types of
 //! which the interface is made, each under the name of its type, lengthened by numbers; no two imports have one name; and they export
-//! the types that the interface lists, and then the functions, in their order, each under its own name, and nothing else. Which types are written and imported, and where, no clause says. A refusal is out of memory, or more type indices
-//! or functions than there can be.
+//! the types that the interface lists, and then the functions, in their order, each under its own name, and nothing else. Which types
+//! are written and imported, and where, no clause says. A refusal is out of memory, or more type indices or functions than there can
+//! be.
 #![tactic(auto)]
 
 mod component;

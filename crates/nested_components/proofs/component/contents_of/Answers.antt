@@ -12,9 +12,9 @@ use Rattle.nested_components.specs.declared.type_import.TypeImport.{TypeImport}
 use Rattle.nested_components.specs.Foreign.{AreUsable}
 use Rattle.nested_components.specs.Functions.{functions_of, nested_functions, exported, IsTyped}
 use Rattle.nested_components.specs.Growing.{scope_of, AreTablesRight, GrowsBy, Exports, ArePassedOn}
-use Rattle.nested_components.specs.Homes.{Home, new_home, with_foreign, with_resources, CanExport, nested_setting}
+use Rattle.nested_components.specs.Homes.{Home, new_home, with_resources, CanExport, nested_setting}
 use Rattle.nested_components.specs.Resources.{IsOwnResource, AreResourcesImported}
-use Rattle.nested_components.specs.Types.{exported_type, imported_ids, own_resources}
+use Rattle.nested_components.specs.Types.{exported_type, imported_ids}
 use Rattle.nested_components.proofs.ForeignTypes.{usable_all}
 use Rattle.nested_components.proofs.Keeping.{tables_kept, grown_longer}
 use Rattle.nested_components.proofs.OwnResources.{own_planned, own_met, resources_imported, right_with}

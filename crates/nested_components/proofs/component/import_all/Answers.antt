@@ -7,7 +7,7 @@ use Rattle.wit_types.specs.Allowing.{allows_function}
 use Rattle.nested_components.specs.declared.stage.Stage.{Stage}
 use Rattle.nested_components.specs.declared.type_import.TypeImport.{TypeImport}
 use Rattle.nested_components.specs.Functions.{functions_of, nested_functions}
-use Rattle.nested_components.specs.Growing.{AreTablesRight, GrowsBy, Grows}
+use Rattle.nested_components.specs.Growing.{GrowsBy, Grows}
 use Rattle.nested_components.specs.Homes.{Home, with_resources, nested_setting}
 use Rattle.nested_components.specs.Resources.{IsOwnResource}
 use Rattle.nested_components.specs.Types.{imported_ids}

@@ -1,4 +1,4 @@
-use Rattle.std.proofs.Common.{◌∙◌, ℕ, List, sym, subst}
+use Rattle.std.proofs.Common.{ℕ, List, sym, subst}
 use Rattle.std.specs.List.{IsDistinct, flat_map}
 use Rattle.std.specs.Str.{bytes_eq}
 use Rattle.comp_bytes.specs.ScopeNames.{item_import}

@@ -4,7 +4,6 @@ use Rattle.comp_trees.specs.WitTrees.{wit_tree}
 use Rattle.std.specs.Prelude.{Some}
 use Rattle.wit_data.specs.declared.types.Type.TheVariants.{Id}
 use Rattle.wit_data.specs.declared.types.TypeDef.{TypeDef}
-use Rattle.wit_data.specs.declared.types.TypeDefKind.{TypeDefKind}
 use Rattle.wit_data.specs.Values.{kind_at}
 use Rattle.wit_types.specs.Allowing.{is_resource}
 use Rattle.nested_terms.specs.Nested.{IsOfResource}

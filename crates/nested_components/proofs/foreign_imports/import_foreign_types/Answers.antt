@@ -1,6 +1,6 @@
 use Rattle.std.proofs.Common.{◌∙◌, ◌+◌, drop, ap}
 use Rattle.nested_components.specs.Homes.{Home}
-use Rattle.nested_components.proofs.ForeignTypes.{back_of, usable_next, imported_more, next_parts}
+use Rattle.nested_components.proofs.ForeignTypes.{usable_next, imported_more, next_parts}
 use Rattle.nested_components.proofs.foreign_imports.import_foreign_types.Goals as goal
 
 pub import_foreign_type-requires-clause-parts : goal.import_foreign_type-requires-clause-parts

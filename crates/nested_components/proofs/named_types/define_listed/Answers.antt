@@ -1,13 +1,7 @@
 use Rattle.std.proofs.Common.{◌≡◌, ◌∙◌, List, true, ap, sym, subst, is_some}
-use Rattle.comp_trees.specs.DefinedScopes.{Denotes}
-use Rattle.comp_trees.specs.DefinedTrees.{OfValues}
-use Rattle.comp_trees.specs.WitTrees.{wit_tree}
-use Rattle.std.specs.Prelude.{Some}
-use Rattle.wit_data.specs.declared.types.Type.TheVariants.{Id}
 use Rattle.wit_data.specs.declared.types.TypeDef.{TypeDef}
 use Rattle.wit_data.specs.Values.{kind_at}
 use Rattle.wit_types.specs.Allowing.{is_resource}
-use Rattle.nested_components.specs.Growing.{scope_of}
 use Rattle.nested_components.proofs.OwnResources.{import_at}
 use Rattle.nested_components.proofs.named_types.define_listed.Goals as goal
 

@@ -1,4 +1,4 @@
-use Rattle.std.proofs.Common.{◌≡◌, ◌∙◌, true≢false, List, get_or, ap, sym, is_some}
+use Rattle.std.proofs.Common.{◌∙◌, true≢false, List, get_or, ap, sym, is_some}
 use Rattle.wit_data.specs.declared.types.TypeDef.{TypeDef}
 use Rattle.wit_types.proofs.Owning.{name_there}
 use Rattle.nested_components.proofs.plan.name_of.Goals as goal

@@ -1,4 +1,4 @@
-use Rattle.std.proofs.Common.{◌≡◌, ◌∙◌, [], ap, sym, subst, None}
+use Rattle.std.proofs.Common.{[], ap, sym, subst, None}
 use Rattle.nested_components.specs.declared.stage.Stage.{Stage}
 use Rattle.nested_components.specs.Growing.{scope_of, Grows}
 use Rattle.nested_components.specs.Homes.{Home}

@@ -1,10 +1,9 @@
-use Rattle.std.proofs.Common.{◌≡◌, ◌∙◌, List, [], ◌∷◌, ◌++◌, ℕ, Option, Some, None, ap, ap₂, sym, subst}
+use Rattle.std.proofs.Common.{◌≡◌, ◌∙◌, List, [], ◌∷◌, ◌++◌, ℕ, Option, Some, None, ap, sym, subst}
 use Rattle.std.specs.Map.{lookup}
 use Rattle.std.specs.Str.{bytes_eq}
 use Rattle.indexmap.specs.IndexMap.{swap_remove_entry}
 use Rattle.wit_data.specs.declared.ids.TypeId.{TypeId}
 use Rattle.nested_terms.specs.Naming.{type_import_name}
-use Rattle.nested_components.specs.declared.contents.Contents.{Contents}
 use Rattle.nested_components.proofs.Naming.{free_absent}
 use Rattle.nested_components.proofs.Removing.{last_removed, put_back}
 use Rattle.nested_components.proofs.contents.Contents.import_type.Goals as goal
