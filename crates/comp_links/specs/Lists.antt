@@ -1,6 +1,6 @@
 -- What a component imports and exports, in order, and the section of its names (component model: the imports and exports
 -- of a component; binary format: name section).
-use Rattle.std.specs.Prelude.{◌≡◌, ◌==◌, ◌++◌, ◌⊎◌, ℕ, suc, List, [], ◌∷◌, codes, map, Option, Some, None, Contains, filter, slice_get, if◌then◌else◌, unwrap_or}
+use Rattle.std.specs.Prelude.{◌≡◌, ◌==◌, ◌++◌, ◌⊎◌, ℕ, suc, Bool, true, false, List, [], ◌∷◌, codes, map, Option, Some, None, Contains, filter, slice_get, if◌then◌else◌, unwrap_or}
 use Rattle.std.specs.List.{flat_map}
 use Rattle.std.specs.Map.{lookup}
 use Rattle.comp_bytes.specs.declared.space.Sort.{Sort}
@@ -15,12 +15,13 @@ use Rattle.wit_data.specs.Names.{text_of}
 use Rattle.wit_data.specs.Live.{named_types}
 use Rattle.wit_data.specs.Values.{kind_at}
 use Rattle.wit_data.specs.declared.functions.Function.{Function}
+use Rattle.wit_data.specs.declared.types.TypeDefKind.{TypeDefKind}
+use Rattle.wit_data.specs.declared.types.TypeDefKind.TheVariants as kinds
 use Rattle.wit_data.specs.declared.worlds.WorldItem.{WorldItem}
 use Rattle.wit_data.specs.declared.worlds.WorldItem.TheVariants as items
 use Rattle.wit_data.specs.declared.worlds.WorldKey.{WorldKey}
 use Rattle.wit_data.specs.declared.ids.InterfaceId.{InterfaceId}
 use Rattle.wit_data.specs.declared.ids.TypeId.{TypeId}
-use Rattle.comp_worlds.specs.Encodable.{is_resource_kind}
 use Rattle.comp_worlds.specs.WorldContents.{items_of, imported_types, interface_at, name_at, exported_item}
 use Rattle.world_values.specs.Items.{functions_of, functions_in}
 use Rattle.nested_terms.specs.Naming.{import_names, type_import_name, numbered}
@@ -116,24 +117,21 @@ types_in w (Some (items.Interface id)) = named_types w.resolve id
 types_in w item = []
 
 -- the resources that the component defines: those that the interfaces list which main has to export, in order
-abbrev pub types_exported : ComponentWorld → List TypeId
-types_exported w = flat_map (λ key. map (λ t. t.1) (types_in w (exported_item w key))) w.main_exports
+abbrev pub is_resource : TypeDefKind → Bool
+is_resource kinds.Resource = true
+is_resource kind = false
 
 abbrev pub own_resources : ComponentWorld → List TypeId
-own_resources w = filter (λ id. is_resource_kind (kind_at w.resolve.types id.index)) (types_exported w)
+own_resources w = filter (λ id. is_resource (kind_at w.resolve.types id.index)) (flat_map (λ key. map (λ t. t.1) (types_in w (exported_item w key))) w.main_exports)
 
--- the number of a type among these, from this number on
-abbrev pub number_among : TypeId → ℕ → List TypeId → Option ℕ
-number_among id n [] = None
-number_among id n (own ∷ ids) = if id.index == own.index then Some n else number_among id (suc n) ids
-
--- the resource that a type of the world is, where it is one: the component defines it, or imports it
-abbrev pub resource_as : Origin → Option ℕ → Resource
-resource_as origin None = ImportedAt origin
-resource_as origin (Some number) = DefinedAt number
+-- The resource that a type of the world is, where it is one: the component defines it, and then it is known by its number among
+-- these, from n on; or it is imported.
+abbrev pub resource_among : Origin → TypeId → ℕ → List TypeId → Resource
+resource_among origin id n [] = ImportedAt origin
+resource_among origin id n (own ∷ ids) = if id.index == own.index then DefinedAt n else resource_among origin id (suc n) ids
 
 abbrev pub resource_of : ComponentWorld → TypeId → Resource
-resource_of w id = resource_as (origin_of_type w id) (number_among id 0 (own_resources w))
+resource_of w id = resource_among (origin_of_type w id) id 0 (own_resources w)
 
 -- ---- types
 

@@ -1,7 +1,7 @@
 -- What a run has made so far (core standard, execution: store, addresses; component model, explainer:
 -- index spaces of component instances). Lists only grow, so an address never changes its meaning; an item of an
 -- index space is an address. No entry contains another: a reference to an item is its address.
-use Rattle.std.specs.Prelude.{ℕ, Bool, true, false, List, Option, Some, None, slice_get, count_by}
+use Rattle.std.specs.Prelude.{ℕ, suc, List, [], ◌∷◌, Option, Some, None, slice_get}
 use Rattle.comp_bytes.specs.declared.space.Space.{Space}
 use Rattle.comp_bytes.specs.declared.types.Member.{Member}
 use Rattle.comp_bytes.specs.declared.canon.Intrinsic.{Intrinsic}
@@ -60,12 +60,10 @@ item_tree (OwnResource number destructor) = OfValues (ResourceAt (DefinedAt numb
 item_tree (InstanceTypeOf members around) = OfOthers
 
 -- how many resources the component has defined
-abbrev is_own_resource : TypeItem → Bool
-is_own_resource (OwnResource number destructor) = true
-is_own_resource item = false
-
 abbrev pub own_resources : List TypeItem → ℕ
-own_resources items = count_by is_own_resource items
+own_resources [] = 0
+own_resources (OwnResource number destructor ∷ items) = suc (own_resources items)
+own_resources (item ∷ items) = own_resources items
 
 abbrev pub tree_held : List TypeItem → ℕ → TypeTree
 tree_held types address = elim (slice_get types address) [ None ↦ OfOthers | Some t ↦ item_tree t ]

@@ -78,7 +78,7 @@ module _ (types : List TypeDef) (back : RefersBack types) (test : ℕ → TypeDe
 
 -- ---- a type that stays in an interface is at home there
 
-pub same_kind : (k : TypeDefKind) → is_resource k ≡ is_resource_kind k
+same_kind : (k : TypeDefKind) → is_resource k ≡ is_resource_kind k
 same_kind kinds.Resource = refl
 same_kind k = refl
 
