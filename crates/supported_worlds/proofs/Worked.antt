@@ -339,7 +339,6 @@ type_of_an_earlier_export_is_reported : order_left_out (resolve_of (of_two (kind
 unfolding values_from
 type_of_an_earlier_export_is_reported = refl
 
-
 -- nor are its types listed in another order
 own_types_in_another_order_are_reported : order_left_out
     (resolve_of (of_first (codes "t") (kinds.Stream None) ∷ of_first (codes "u") (kinds.Stream None) ∷ []) (interface_of ((codes "u", another_type) ∷ (codes "t", a_type) ∷ []) plain ∷ []))
