@@ -9,7 +9,7 @@ use Rattle.comp_bytes.specs.declared.space.Space.{Space}
 use Rattle.comp_bytes.specs.declared.types.InstanceType.{InstanceType}
 use Rattle.byte_encoding.specs.declared.fault.BuildFault.{BuildFault}
 use Rattle.comp_builder.specs.Built.{Built, Adds}
-use Rattle.comp_trees.specs.Inventories.{ImportedInstance, OfInstances, surroundings_of, inventory, scope_of}
+use Rattle.comp_inventories.specs.Inventories.{ImportedInstance, OfInstances, surroundings_of, inventory, scope_of}
 use Rattle.comp_trees.specs.Members.{AreMembersRight}
 use Rattle.comp_items.specs.Items.{Extends}
 use Rattle.comp_items.proofs.Extending.{extends_adds, extends_then}

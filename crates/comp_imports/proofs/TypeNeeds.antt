@@ -4,7 +4,7 @@ use Rattle.std.specs.List.{AllByRecursion, flat_map}
 use Rattle.comp_bytes.specs.ScopeNames.{member_export}
 use Rattle.comp_bytes.specs.declared.types.Member.{Member}
 use Rattle.comp_bytes.specs.declared.def.Def.{Def}
-use Rattle.comp_trees.specs.Inventories.{surroundings_of, scope_of}
+use Rattle.comp_inventories.specs.Inventories.{surroundings_of, scope_of}
 use Rattle.comp_trees.specs.Members.{member_trees}
 use Rattle.wit_data.specs.Sound.{HasFunction}
 use Rattle.wit_data.specs.declared.functions.Function.{Function}

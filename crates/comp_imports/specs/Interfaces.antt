@@ -7,7 +7,7 @@ use Rattle.std.specs.Str.{bytes_eq}
 use Rattle.std.specs.Ordering.{on, eq_of_both}
 use Rattle.comp_bytes.specs.declared.def.Def.{Def}
 use Rattle.type_scopes.specs.Places.{Place}
-use Rattle.comp_trees.specs.Inventories.{surroundings_of, scope_of}
+use Rattle.comp_inventories.specs.Inventories.{surroundings_of, scope_of}
 use Rattle.wit_data.specs.contracts.ids.InterfaceIdPartialEq.TheImpl as same_id
 use Rattle.wit_data.specs.declared.ids.InterfaceId.{InterfaceId}
 use Rattle.wit_data.specs.declared.worlds.WorldItem.{WorldItem}

@@ -19,10 +19,10 @@ use Rattle.comp_trees.specs.Trees.{Origin, FunctionTree}
 use Rattle.comp_trees.specs.DefinedTrees.{TypeTree, OfFunctions}
 use Rattle.comp_trees.specs.DefinedScopes.{Denotes}
 use Rattle.comp_trees.specs.Members.{member_trees, type_exported, function_exported}
-use Rattle.comp_trees.specs.Inventories.{Inventory, TypeEntry, OfInstances, FunctionEntry, InstanceEntry, ImportedInstance, OtherInstance, surroundings_of, type_of_instance, function_of_instance, instance_imported, types_made, instances_made, with_def, inventory_after, inventory, scope_of, entry_tree, no_type}
-use Rattle.comp_trees.proofs.Inventories.{inventory-append, inventory-push}
-use Rattle.comp_trees.proofs.InventoryGrowth.{Behind, types_grow, function_kept, function_made}
-use Rattle.comp_trees.proofs.Counting.{types-counted, instances-counted}
+use Rattle.comp_inventories.specs.Inventories.{Inventory, TypeEntry, OfInstances, FunctionEntry, InstanceEntry, ImportedInstance, OtherInstance, surroundings_of, type_of_instance, function_of_instance, instance_imported, types_made, instances_made, with_def, inventory_after, inventory, scope_of, entry_tree, no_type}
+use Rattle.comp_inventories.proofs.Inventories.{inventory-append, inventory-push}
+use Rattle.comp_inventories.proofs.InventoryGrowth.{Behind, types_grow, function_kept, function_made}
+use Rattle.comp_inventories.proofs.Counting.{types-counted, instances-counted}
 use Rattle.comp_terms.specs.Terms.{IsImportedFunction, imports_in}
 use Rattle.comp_items.proofs.Kept.{Longer, added_type}
 

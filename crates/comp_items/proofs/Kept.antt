@@ -21,9 +21,9 @@ use Rattle.standard_kinds.specs.declared.kinds.ExportKind.TheVariants as kinds
 use Rattle.comp_trees.specs.Trees.{Origin, Resource, FunctionTree}
 use Rattle.comp_trees.specs.DefinedTrees.{TypeTree, OfFunctions, OfOthers}
 use Rattle.comp_trees.specs.DefinedScopes.{Denotes}
-use Rattle.comp_trees.specs.Inventories.{TypeEntry, entry_tree, types_made, inventory, scope_of}
-use Rattle.comp_trees.proofs.InventoryGrowth.{denotes_kept, function_kept, scope_counted, denotes_made, function_made}
-use Rattle.comp_trees.proofs.Counting.{functions-counted}
+use Rattle.comp_inventories.specs.Inventories.{TypeEntry, entry_tree, types_made, inventory, scope_of}
+use Rattle.comp_inventories.proofs.InventoryGrowth.{denotes_kept, function_kept, scope_counted, denotes_made, function_made}
+use Rattle.comp_inventories.proofs.Counting.{functions-counted}
 use Rattle.comp_builder.specs.Built.{Built, and_then}
 use Rattle.comp_terms.specs.Terms.{CoreExport, TermOption, Term, IsFunctionType, IsResource, IsImportedFunction, IsInstanceOf, IsExported, IsOption, IsLowering, IsDropping, IsLifting, Is, imports_in}
 use Rattle.comp_terms.specs.Terms as terms

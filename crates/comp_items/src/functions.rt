@@ -8,7 +8,7 @@ ghost use Rattle.comp_builder.specs.Built.{Adds, Full};
 ghost use Rattle.comp_builder.specs.Optional.{option_now};
 ghost use Rattle.comp_trees.specs.Trees.{Origin, FunctionTree};
 ghost use Rattle.comp_trees.specs.DefinedTrees.{OfFunctions};
-ghost use Rattle.comp_trees.specs.Inventories.{inventory};
+ghost use Rattle.comp_inventories.specs.Inventories.{inventory};
 ghost use Rattle.comp_terms.specs.Terms.{CoreExport, TermOption, IsFunctionType, IsImportedFunction, IsExported, IsOption, IsLowering, IsLifting, imports_in};
 ghost use Rattle.standard_kinds.specs.declared.kinds.ExportKind.TheVariants as kinds;
 

@@ -11,7 +11,7 @@ ghost use Rattle.comp_trees.specs.Trees.{FunctionTree};
 ghost use Rattle.comp_trees.specs.DefinedTrees.{TypeTree, OfFunctions};
 ghost use Rattle.comp_trees.specs.DefinedScopes.{Denotes};
 ghost use Rattle.comp_trees.specs.Members.{member_trees, type_exported, function_exported};
-ghost use Rattle.comp_trees.specs.Inventories.{OfInstances, ImportedInstance, surroundings_of, inventory, scope_of};
+ghost use Rattle.comp_inventories.specs.Inventories.{OfInstances, ImportedInstance, surroundings_of, inventory, scope_of};
 ghost use Rattle.comp_terms.specs.Terms.{IsImportedFunction, imports_in};
 
 use crate::items::ComponentItems;

@@ -6,7 +6,7 @@ ghost use Rattle.comp_builder.specs.Optional.{option_now};
 ghost use Rattle.comp_trees.specs.Trees.{ResourceAt, ImportedAt};
 ghost use Rattle.comp_trees.specs.DefinedTrees.{OfValues, OfFunctions, OfOthers, defined_tree, function_tree};
 ghost use Rattle.comp_trees.specs.DefinedScopes.{Denotes};
-ghost use Rattle.comp_trees.specs.Inventories.{OfInstances, inventory, scope_of};
+ghost use Rattle.comp_inventories.specs.Inventories.{OfInstances, inventory, scope_of};
 ghost use Rattle.comp_terms.specs.Terms.{imports_in};
 
 use crate::items::ComponentItems;

@@ -1,6 +1,6 @@
 -- What a component imports and exports, in order, and the section of its names (component model: the imports and exports
 -- of a component; binary format: name section).
-use Rattle.std.specs.Prelude.{◌≡◌, ◌==◌, ◌++◌, ◌⊎◌, ℕ, suc, List, [], ◌∷◌, codes, map, Option, Some, None, Contains, slice_get, if◌then◌else◌, unwrap_or}
+use Rattle.std.specs.Prelude.{◌≡◌, ◌==◌, ◌++◌, ◌⊎◌, ℕ, suc, Bool, true, false, List, [], ◌∷◌, codes, map, Option, Some, None, Contains, filter, slice_get, if◌then◌else◌, unwrap_or}
 use Rattle.std.specs.List.{flat_map}
 use Rattle.std.specs.Map.{lookup}
 use Rattle.comp_bytes.specs.declared.space.Sort.{Sort}
@@ -13,7 +13,10 @@ use Rattle.comp_bytes.specs.declared.def.Def.{Def}
 use Rattle.comp_bytes.specs.declared.def.Def.TheVariants as defs
 use Rattle.wit_data.specs.Names.{text_of}
 use Rattle.wit_data.specs.Live.{named_types}
+use Rattle.wit_data.specs.Values.{kind_at}
 use Rattle.wit_data.specs.declared.functions.Function.{Function}
+use Rattle.wit_data.specs.declared.types.TypeDefKind.{TypeDefKind}
+use Rattle.wit_data.specs.declared.types.TypeDefKind.TheVariants as kinds
 use Rattle.wit_data.specs.declared.worlds.WorldItem.{WorldItem}
 use Rattle.wit_data.specs.declared.worlds.WorldItem.TheVariants as items
 use Rattle.wit_data.specs.declared.worlds.WorldKey.{WorldKey}
@@ -24,7 +27,7 @@ use Rattle.world_values.specs.Items.{functions_of, functions_in}
 use Rattle.nested_terms.specs.Naming.{import_names, type_import_name, numbered}
 use Rattle.comp_worlds.specs.declared.world.ComponentWorld.{ComponentWorld}
 use Rattle.wit_data.specs.declared.types.Type.TheVariants.{Id}
-use Rattle.comp_trees.specs.Trees.{Origin, Resource, ImportedAt}
+use Rattle.comp_trees.specs.Trees.{Origin, Resource, ImportedAt, DefinedAt}
 use Rattle.comp_trees.specs.WitTrees.{wit_tree}
 use Rattle.comp_trees.specs.DefinedTrees.{TypeTree, OfValues}
 use Rattle.comp_links.specs.Targets.{UserModule, Main, WorldFunction, OfRoot, OfInterface}
@@ -106,9 +109,31 @@ origin_of_type w id = elim (interface_at w.resolve.types id.index) [
   | Some interface ↦ record { number = number_of_interface interface (import_entries w); inner = Some (type_name w id) }
 ]
 
--- the resource that an imported type is, where it is one
+-- ---- resources
+
+-- the types that an item of the world lists, each with its name
+abbrev pub types_in : ComponentWorld → Option WorldItem → List (List ℕ × TypeId)
+types_in w (Some (items.Interface id)) = named_types w.resolve id
+types_in w item = []
+
+-- the resources that the component defines: those that the interfaces list which main has to export, in order
+abbrev pub is_resource : TypeDefKind → Bool
+is_resource kinds.Resource = true
+is_resource kind = false
+
+abbrev pub own_resources : ComponentWorld → List TypeId
+own_resources w = filter (λ id. is_resource (kind_at w.resolve.types id.index)) (flat_map (λ key. map (λ t. t.1) (types_in w (exported_item w key))) w.main_exports)
+
+-- The resource that a type of the world is, where it is one: the component defines it, and then it is known by its number among
+-- these, from n on; or it is imported.
+abbrev pub resource_among : Origin → TypeId → ℕ → List TypeId → Resource
+resource_among origin id n [] = ImportedAt origin
+resource_among origin id n (own ∷ ids) = if id.index == own.index then DefinedAt n else resource_among origin id (suc n) ids
+
 abbrev pub resource_of : ComponentWorld → TypeId → Resource
-resource_of w id = ImportedAt (origin_of_type w id)
+resource_of w id = resource_among (origin_of_type w id) id 0 (own_resources w)
+
+-- ---- types
 
 -- the types that the component imports: those that the world does, and of its interfaces those that are needed
 abbrev pub needed_of : ComponentWorld → ImportEntry → List TypeId
@@ -179,11 +204,6 @@ functions_required w r = map (λ name. record { of = r.of; key = r.key; function
 
 abbrev pub required_functions : ComponentWorld → List RequiredFunction
 required_functions w = flat_map (functions_required w) (required_keys w)
-
--- the types that an item of the world lists, each with its name
-abbrev pub types_in : ComponentWorld → Option WorldItem → List (List ℕ × TypeId)
-types_in w (Some (items.Interface id)) = named_types w.resolve id
-types_in w item = []
 
 -- a type that has to be exported under a name, at a key
 pub record RequiredType : Type 0 where

@@ -33,7 +33,7 @@ use Rattle.comp_trees.specs.DefinedTrees.{TypeTree, OfValues, OfFunctions, funct
 use Rattle.comp_roles.specs.declared.offered.ExternType.{ExternType}
 use Rattle.comp_roles.specs.declared.offered.ExternType.TheVariants as externs
 use Rattle.comp_roles.specs.declared.offered.ImportType.{ImportType}
-use Rattle.comp_runs.specs.Store.{Thing, Export, CoreItem, ExportedBy, Imported, TypeItem, TreeOf, ImportedResource, OwnResource, InstanceTypeOf, tree_held, ModuleInstance}
+use Rattle.comp_runs.specs.Store.{Thing, Export, CoreItem, ExportedBy, Imported, TypeItem, TreeOf, ImportedResource, OwnResource, own_resources, InstanceTypeOf, tree_held, ModuleInstance}
 use Rattle.comp_runs.specs.Machine.{Machine, Outcome, Stuck, Next, with_some, all_some, address_at, is_of, export_named, export_in, export_of, with_item, with_opaque, new_core_instance, new_function, new_type, new_instance, resumed}
 
 -- the exports of a core module by their names, each with its type
@@ -207,8 +207,8 @@ known_function f = if is_known_function f then Some (OfFunctions f) else None
 -- the type as a run holds it
 abbrev pub type_item : TypeDef → Machine → Option TypeItem
 type_item (types.Func f) m = option_map (λ tree. TreeOf tree) (known_function (function_tree (type_scope m) f))
-type_item (types.Resource None) m = Some (OwnResource None)
-type_item (types.Resource (Some index)) m = option_map (λ (a : ℕ). OwnResource (Some a)) (address_at spaces.CoreFunc index m.scope.items)
+type_item (types.Resource None) m = Some (OwnResource (own_resources m.store.types) None)
+type_item (types.Resource (Some index)) m = option_map (λ (a : ℕ). OwnResource (own_resources m.store.types) (Some a)) (address_at spaces.CoreFunc index m.scope.items)
 type_item (types.Defined t) m = if is_known (defined_tree (type_scope m) t) then Some (TreeOf (OfValues (defined_tree (type_scope m) t))) else None
 
 -- continues with the type of functions, if the type item is one

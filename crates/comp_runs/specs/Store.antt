@@ -1,7 +1,7 @@
 -- What a run has made so far (core standard, execution: store, addresses; component model, explainer:
 -- index spaces of component instances). Lists only grow, so an address never changes its meaning; an item of an
 -- index space is an address. No entry contains another: a reference to an item is its address.
-use Rattle.std.specs.Prelude.{ℕ, List, Option, Some, None, slice_get}
+use Rattle.std.specs.Prelude.{ℕ, suc, List, [], ◌∷◌, Option, Some, None, slice_get}
 use Rattle.comp_bytes.specs.declared.space.Space.{Space}
 use Rattle.comp_bytes.specs.declared.types.Member.{Member}
 use Rattle.comp_bytes.specs.declared.canon.Intrinsic.{Intrinsic}
@@ -43,23 +43,30 @@ pub data Function : Type 0 where
   Imported : (origin : Origin) (type : FunctionTree) → Function
   Lifting : (core : ℕ) (options : List HeldOption) (type : FunctionTree) → Function
 
--- A type of values or of functions is a tree. An imported resource is known by where it is imported, one of
--- the component's own by its address, and an instance type says what an import of it exports.
+-- A type of values or of functions is a tree. An imported resource is known by where it is imported, one that the component
+-- defines by its number among those, with the core function that is its destructor, if it has one; and an instance type says what
+-- an import of it exports.
 pub data TypeItem : Type 0 where
   TreeOf : (tree : TypeTree) → TypeItem
   ImportedResource : (origin : Origin) → TypeItem
-  OwnResource : (destructor : Option ℕ) → TypeItem
+  OwnResource : (number : ℕ) (destructor : Option ℕ) → TypeItem
   InstanceTypeOf : (members : List Member) (around : List (List Thing)) → TypeItem
 
--- what the type at an address denotes
-abbrev pub item_tree : ℕ → TypeItem → TypeTree
-item_tree address (TreeOf tree) = tree
-item_tree address (ImportedResource origin) = OfValues (ResourceAt (ImportedAt origin))
-item_tree address (OwnResource destructor) = OfValues (ResourceAt (DefinedAt address))
-item_tree address (InstanceTypeOf members around) = OfOthers
+-- what a type denotes
+abbrev pub item_tree : TypeItem → TypeTree
+item_tree (TreeOf tree) = tree
+item_tree (ImportedResource origin) = OfValues (ResourceAt (ImportedAt origin))
+item_tree (OwnResource number destructor) = OfValues (ResourceAt (DefinedAt number))
+item_tree (InstanceTypeOf members around) = OfOthers
+
+-- how many resources the component has defined
+abbrev pub own_resources : List TypeItem → ℕ
+own_resources [] = 0
+own_resources (OwnResource number destructor ∷ items) = suc (own_resources items)
+own_resources (item ∷ items) = own_resources items
 
 abbrev pub tree_held : List TypeItem → ℕ → TypeTree
-tree_held types address = elim (slice_get types address) [ None ↦ OfOthers | Some t ↦ item_tree address t ]
+tree_held types address = elim (slice_get types address) [ None ↦ OfOthers | Some t ↦ item_tree t ]
 
 -- a nested component: its definitions, and the scopes around it, innermost first
 pub record ComponentItem : Type 0 where

@@ -20,7 +20,7 @@ use Rattle.comp_links.specs.Links.{lower_realloc, lift_realloc}
 use Rattle.comp_links.specs.Targets.{Main}
 use Rattle.comp_terms.specs.Generated.{GeneratedBytes, MayBeGenerated}
 use Rattle.comp_links.specs.Roles.{import_encoding, IsEncodedImport, export_encoding}
-use Rattle.comp_trees.specs.Inventories.{inventory}
+use Rattle.comp_inventories.specs.Inventories.{inventory}
 use Rattle.comp_terms.specs.Terms.{imports_in}
 use Rattle.comp_terms.specs.Rules.{Grows, RightAfter, Landmark, ModuleIs, landmarks, imports_marked, exports_marked, expected, IsUnnamed, IsBuilt}
 use Rattle.root_imports.specs.Growing.{Grows-then}

@@ -33,15 +33,15 @@ use Rattle.comp_worlds.specs.declared.world.ComponentWorld.{ComponentWorld}
 use Rattle.comp_links.specs.Targets.{UserModule}
 use Rattle.comp_terms.specs.Exports.{IsArgumentIn, IsArgumentRight}
 use Rattle.comp_terms.specs.Planned.{IsArgumentFor}
-use Rattle.comp_trees.specs.Inventories as inventories
-use Rattle.comp_trees.specs.Inventories.{surroundings_of}
-use Rattle.comp_trees.proofs.Counting.{instances-counted}
-use Rattle.comp_trees.proofs.InventoryGrowth.{scope_counted}
+use Rattle.comp_inventories.specs.Inventories as inventories
+use Rattle.comp_inventories.specs.Inventories.{surroundings_of}
+use Rattle.comp_inventories.proofs.Counting.{instances-counted}
+use Rattle.comp_inventories.proofs.InventoryGrowth.{scope_counted}
 use Rattle.comp_trees.proofs.KnownScopes.{known_defined, known_function_names}
 use Rattle.comp_trees.proofs.MemberScopes.{members_scoped}
 use Rattle.comp_items.proofs.Kept.{function_in_range}
 use Rattle.comp_state.proofs.Nesting.{nested_scoped}
-use Rattle.comp_terms.specs.Rules.{AliasesImported, ImportsInterface, InstantiatesModule, IsOptionRight, IsLowerOptionRight, IsTypeRight, IsIntrinsicRight, IsRight, RightAfter, IsEntry, IsBuilt}
+use Rattle.comp_terms.specs.Rules.{AliasesImported, AliasesType, ImportsInterface, InstantiatesModule, IsOptionRight, IsLowerOptionRight, IsTypeRight, IsIntrinsicRight, IsRight, RightAfter, IsEntry, IsBuilt}
 
 abbrev Within : List Def → Reference → Type 0
 Within earlier = InScope (scope_of space_of earlier ∷ [])
@@ -110,6 +110,11 @@ instance_in_range : (earlier : List Def) (space : Space) (instance : ℕ) (name 
 instance_in_range earlier space instance name h =
     subst (λ n. instance < n) (instances-counted earlier) (slice_get_within (inventories.inventory earlier).instances instance (inventories.ImportedInstance h.number h.outer h.members) h.imported)
 
+type_alias_in_range : (earlier : List Def) (instance : ℕ) (name : List ℕ) → AliasesType earlier instance name → instance < items_in spaces.Instance earlier
+type_alias_in_range earlier instance name (inl h) = instance_in_range earlier spaces.Type instance name h
+type_alias_in_range earlier instance name (inr h) =
+    subst (λ n. instance < n) (instances-counted earlier) (slice_get_within (inventories.inventory earlier).instances instance (inventories.NestedInstance h.exported) h.nested)
+
 -- the import of an instance names a type of the list
 instance_type_there : (w : ComponentWorld) (earlier : List Def) (index : ℕ) → ImportsInterface w earlier index → index < length (inventories.scope_of earlier)
 instance_type_there w earlier index h =
@@ -122,7 +127,7 @@ within w earlier (defs.Item (items.CoreInstantiate number arguments)) h = (modul
 within w earlier (defs.Item (items.CoreExports entries)) h = (entries_within earlier entries h.each, tt)
 within w earlier (defs.Item (items.Instantiate component arguments)) h = ((in_range h.made, given_within earlier arguments h.scoped), tt)
 within w earlier (defs.Item (items.Alias (aliases.Export exports.Func instance name))) h = ((instance_in_range earlier spaces.Func instance name h, tt), tt)
-within w earlier (defs.Item (items.Alias (aliases.Export exports.Type instance name))) h = ((instance_in_range earlier spaces.Type instance name h, tt), tt)
+within w earlier (defs.Item (items.Alias (aliases.Export exports.Type instance name))) h = ((type_alias_in_range earlier instance name h, tt), tt)
 within w earlier (defs.Item (items.Alias (aliases.Export exports.Component instance name))) h = absurd h
 within w earlier (defs.Item (items.Alias (aliases.Export exports.Instance instance name))) h = absurd h
 within w earlier (defs.Item (items.Alias (aliases.CoreExport kind instance name))) (inl h) = ((in_range h.is.made, tt), tt)

@@ -21,7 +21,7 @@ use Rattle.wit_data.specs.declared.worlds.WorldItem.TheVariants as world_items
 use Rattle.wit_data.specs.declared.worlds.WorldKey.{WorldKey}
 use Rattle.comp_trees.specs.DefinedTrees.{TypeTree}
 use Rattle.comp_trees.specs.DefinedScopes.{Denotes}
-use Rattle.comp_trees.specs.Inventories.{inventory, scope_of, no_function}
+use Rattle.comp_inventories.specs.Inventories.{inventory, scope_of, no_function, argument_named}
 use Rattle.nested_terms.specs.Nested.{NestedFunction, NestedImport, ImportedFunction, ImportedType, NestedExport, type_import, empty_scope, function_named, type_named, imports_after, exports_after, AreItemsRight}
 use Rattle.comp_worlds.specs.WorldContents.{exported_item, function_exported}
 use Rattle.comp_worlds.specs.declared.world.ComponentWorld.{ComponentWorld}
@@ -45,11 +45,6 @@ pub record IsNestedFor (w : ComponentWorld) (definitions : List Item) : Type 0 w
   pub apart : IsDistinct bytes_eq (flat_map item_import definitions)
 
 -- ---- arguments
-
--- the first argument of this sort and this name
-abbrev pub argument_named : Sort → List ℕ → List Argument → Option Argument
-argument_named sort name [] = None
-argument_named sort name (a ∷ more) = if is_space (sort_space sort) (Some (sort_space a.sort)) && bytes_eq name a.name then Some a else argument_named sort name more
 
 -- the import of a function is given a function of its type
 pub record IsFunctionGiven (earlier : List Def) (arguments : List Argument) (name : List ℕ) (type : TypeTree) : Type 0 where

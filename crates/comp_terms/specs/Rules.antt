@@ -38,14 +38,14 @@ use Rattle.wit_data.specs.declared.ids.TypeId.{TypeId}
 use Rattle.comp_trees.specs.Trees.{Origin, Resource, ImportedAt, ResourceAt, FunctionTree, is_known, is_known_function}
 use Rattle.comp_trees.specs.DefinedTrees.{TypeTree, OfValues, OfOthers, defined_tree, function_tree}
 use Rattle.comp_trees.specs.Members.{AreMembersRight, exports_name}
-use Rattle.comp_trees.specs.Inventories.{OfInstances, ImportedInstance, surroundings_of, inventory, scope_of}
+use Rattle.comp_inventories.specs.Inventories.{OfInstances, ImportedInstance, NestedInstance, surroundings_of, inventory, scope_of}
 use Rattle.comp_roles.specs.declared.offered.ExternType.{ExternType}
 use Rattle.comp_roles.specs.declared.offered.ExternType.TheVariants as externs
 use Rattle.wit_data.specs.declared.worlds.WorldItem.{WorldItem}
 use Rattle.wit_data.specs.declared.worlds.WorldItem.TheVariants as world_items
 use Rattle.wit_data.specs.declared.worlds.WorldKey.{WorldKey}
 use Rattle.nested_terms.specs.Naming.{import_names}
-use Rattle.nested_terms.specs.Nested.{function_import}
+use Rattle.nested_terms.specs.Nested.{NestedExport, function_import, type_named}
 use Rattle.comp_worlds.specs.WorldContents.{exported_item}
 use Rattle.comp_worlds.specs.declared.world.ComponentWorld.{ComponentWorld}
 use Rattle.comp_links.specs.Roles.{is_used}
@@ -171,9 +171,19 @@ pub record AliasesImported (earlier : List Def) (space : Space) (instance : ℕ)
   pub imported : slice_get (inventory earlier).instances instance ≡ Some (ImportedInstance number outer members)
   pub exported : list_any (exports_name space name) members ≡ true
 
+-- an alias of a type that an instance of a nested component exports
+pub record AliasesNested (earlier : List Def) (instance : ℕ) (name : List ℕ) : Type 0 where
+  pub exported : List NestedExport
+  pub tree : TypeTree
+  pub nested : slice_get (inventory earlier).instances instance ≡ Some (NestedInstance exported)
+  pub named : type_named name exported ≡ Some tree
+
+abbrev pub AliasesType : List Def → ℕ → List ℕ → Type 0
+AliasesType earlier instance name = AliasesImported earlier spaces.Type instance name ⊎ AliasesNested earlier instance name
+
 abbrev pub IsAliasRight : ComponentWorld → List Def → Alias → Type 0
 IsAliasRight w earlier (aliases.Export exports.Func instance name) = AliasesImported earlier spaces.Func instance name
-IsAliasRight w earlier (aliases.Export exports.Type instance name) = AliasesImported earlier spaces.Type instance name
+IsAliasRight w earlier (aliases.Export exports.Type instance name) = AliasesType earlier instance name
 IsAliasRight w earlier (aliases.CoreExport kind instance name) = AliasesUser w earlier kind instance name ⊎ AliasesShim w earlier kind instance name
 IsAliasRight w earlier _ = ⊥
 

@@ -21,7 +21,7 @@ use Rattle.comp_bytes.specs.declared.def.Def.TheVariants as defs
 use Rattle.comp_trees.specs.Trees.{Origin, Resource, ResourceAt, FunctionTree}
 use Rattle.comp_trees.specs.DefinedTrees.{OfValues, OfFunctions}
 use Rattle.comp_trees.specs.DefinedScopes.{Denotes}
-use Rattle.comp_trees.specs.Inventories.{inventory, scope_of}
+use Rattle.comp_inventories.specs.Inventories.{inventory, scope_of}
 
 -- what the instance of a core module exports, by the module's number, and by the kind and name of the export
 pub record CoreExport : Type 0 where

@@ -4,9 +4,6 @@ pub mod Signing
 pub mod Knowing
 pub mod Resources
 pub mod Keeping
-pub mod Inventories
-pub mod Counting
-pub mod InventoryGrowth
 pub mod KnownScopes
 pub mod MemberScopes
 mod Worked

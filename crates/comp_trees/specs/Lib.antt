@@ -4,5 +4,4 @@ pub mod Flattening
 pub mod DefinedTrees
 pub mod DefinedScopes
 pub mod Members
-pub mod Inventories
 pub mod Laws

@@ -13,10 +13,10 @@ pub record Origin : Type 0 where
   pub number : ℕ
   pub inner : Option (List ℕ)
 
--- a resource: an imported one, by where it is imported; or one that the component defines, by its address
+-- a resource: an imported one, by where it is imported; or one that the component defines, by its number among those
 pub data Resource : Type 0 where
   ImportedAt : (origin : Origin) → Resource
-  DefinedAt : (address : ℕ) → Resource
+  DefinedAt : (number : ℕ) → Resource
 
 -- whether two resources are one
 abbrev pub same_origin : Origin → Origin → Bool

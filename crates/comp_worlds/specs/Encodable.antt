@@ -121,12 +121,12 @@ is_resource_kind kind = false
 abbrev pub is_lent : World → InterfaceId → Bool
 is_lent world id = list_any (same_interface id) (interfaces_of world.imports) && not (list_any (same_interface id) (interfaces_of world.exports))
 
--- Whether a type is no resource, and belongs to this interface, or under a name to another one whose types exported interfaces may
--- use, or to none and has no name.
+-- Whether a type belongs to this interface and is no resource, or belongs under a name to another one whose types exported interfaces
+-- may use, or to none, has no name and is no resource.
 abbrev pub is_of_interface : List TypeDef → (InterfaceId → Bool) → InterfaceId → ℕ → TypeDefKind → Bool
-is_of_interface types lent here n kind = not (is_resource_kind kind) && elim (interface_at types n) [
-  | Some id ↦ here.index == id.index || (lent id && is_some (name_at types n))
-  | None ↦ is_none (name_at types n)
+is_of_interface types lent here n kind = elim (interface_at types n) [
+  | Some id ↦ here.index == id.index && not (is_resource_kind kind) || (lent id && is_some (name_at types n))
+  | None ↦ is_none (name_at types n) && not (is_resource_kind kind)
 ]
 
 -- and so is all that it is made of
@@ -136,8 +136,8 @@ staying_in types lent here = record { absent = true; simple = λ p. true; made =
 abbrev pub stays_in : List TypeDef → (InterfaceId → Bool) → InterfaceId → Option Ty → Bool
 stays_in types lent here part = value (staying_in types lent here) types part
 
--- an exported interface lists types of its own, in the order of the resolve; they and its functions are made of these, of named types
--- of interfaces that are only imported, and of types without names, and none is a resource
+-- an exported interface lists types of its own, in the order of the resolve, none of which is a resource; they and its functions are
+-- made of these, of named types of interfaces that are only imported, and of types without names
 pub record IsExportedPlaced (r : Resolve) (world : World) (id : InterfaceId) : Type 0 where
   pub own : AllByRecursion (IsOwnType r.types id) (named_types r id)
   pub ordered : AscendFrom 0 (map (λ t. t.1.index) (named_types r id))

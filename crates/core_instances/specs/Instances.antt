@@ -15,7 +15,7 @@ use Rattle.wit_types.specs.declared.maps.TypeEncodingMaps.{TypeEncodingMaps}
 use Rattle.wit_data.specs.Live.{named_types}
 use Rattle.wit_data.specs.declared.worlds.WorldKey.{WorldKey}
 use Rattle.comp_trees.specs.DefinedScopes.{Denotes}
-use Rattle.comp_trees.specs.Inventories.{scope_of}
+use Rattle.comp_inventories.specs.Inventories.{scope_of}
 use Rattle.comp_worlds.specs.Encodable.{IsEncodable}
 use Rattle.comp_worlds.specs.WorldContents.{exported_item}
 use Rattle.comp_links.specs.Lists.{type_of_world}

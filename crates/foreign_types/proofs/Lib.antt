@@ -1,2 +1,3 @@
 pub mod Covering
+pub mod Once
 pub mod Walking

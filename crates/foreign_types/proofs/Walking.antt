@@ -1,6 +1,6 @@
 -- A walk, step by step.
-use Rattle.std.proofs.Common.{◌≡◌, ◌∙◌, ◌+◌, ◌<◌, ◌≤◌, ◌&&◌, arith, inl, inr, ℕ, zero, suc, Bool, true, false, true≢false, List, [], ◌∷◌, ◌++◌, length, refl, ap, sym, subst, get_or, append-nil, append_assoc, Option, Some, None, is_some}
-use Rattle.std.specs.List.{AllByRecursion, list_all}
+use Rattle.std.proofs.Common.{◌≡◌, ◌∙◌, ◌+◌, ◌<◌, ◌≤◌, arith, inl, inr, ℕ, zero, suc, Bool, true, false, true≢false, List, [], ◌∷◌, ◌++◌, length, refl, ap, sym, subst, get_or, append-nil, append_assoc, Option, Some, None, is_some}
+use Rattle.std.specs.List.{AllByRecursion, IsDistinct, list_all}
 use Rattle.std.specs.Map.{lookup}
 use Rattle.std.proofs.lemmas.Bool.{and_from, and_parts, cases_lt}
 use Rattle.comp_lists.specs.Tables.{with_first}
@@ -8,14 +8,13 @@ use Rattle.comp_lists.proofs.Lists.{AllByRecursion-weaker, AllByRecursion-push, 
 use Rattle.wit_data.specs.declared.functions.Function.{Function}
 use Rattle.wit_data.specs.declared.ids.InterfaceId.{InterfaceId}
 use Rattle.wit_data.specs.declared.ids.TypeId.{TypeId}
-use Rattle.wit_data.specs.contracts.ids.TypeIdPartialEq.TheImpl as same_id
 use Rattle.wit_data.specs.declared.types.Type.{«Type» as Ty}
 use Rattle.wit_data.specs.declared.types.Type.TheVariants.{Id}
 use Rattle.wit_data.specs.declared.types.TypeDef.{TypeDef}
 use Rattle.wit_data.specs.declared.types.TypeDefKind.{TypeDefKind}
 use Rattle.wit_data.specs.declared.types.TypeOwner.{TypeOwner}
-use Rattle.wit_data.specs.Parts.{parts, RefersBack}
-use Rattle.wit_data.specs.Values.{kind_at, value}
+use Rattle.wit_data.specs.Parts.{RefersBack}
+use Rattle.wit_data.specs.Values.{value}
 use Rattle.wit_types.specs.Settings.{owner_at}
 use Rattle.wit_types.specs.Allowing.{foreign}
 use Rattle.wit_types.proofs.Growing.{holds_of_found, holds_of_added}
@@ -23,9 +22,10 @@ use Rattle.wit_types.proofs.SameKeys.{one_id}
 use Rattle.type_scopes.specs.Needs.{each_passes}
 use Rattle.type_scopes.specs.Titles.{is_one_of}
 use Rattle.foreign_types.specs.declared.walk.Walk.{Walk}
-use Rattle.foreign_types.specs.Foreign.{is_covered, is_parts_covered, is_function_covered, IsReady, AreReady, type_passes, IsReached, AreForeignTypes}
-use Rattle.foreign_types.specs.Walking.{IsWalk, AllPass, Lists, Passes, PartsPass, ListedPass, EntriesPass}
-use Rattle.foreign_types.proofs.Covering.{one_of_last, ready_more, covered_other, covered_own, covered_more, each_more, parts_pass}
+use Rattle.foreign_types.specs.Foreign.{is_covered, is_parts_covered, is_function_covered, AreReady, same_type, type_passes, IsReached, AreForeignTypes}
+use Rattle.foreign_types.specs.Walking.{IsWalk, is_entered, AllPass, Lists, Passes, PartsPass, ListedPass, EntriesPass}
+use Rattle.foreign_types.proofs.Once.{still_there, now_there, listed_once}
+use Rattle.foreign_types.proofs.Covering.{one_of_last, ready_more, covered_other, covered_own, covered_more, parts_pass}
 
 -- ---- what is listed
 
@@ -70,43 +70,56 @@ owned_by types here id owner o is of = sym (of ∙ ap (foreign (Some here)) is)
 
 module _ (types : List TypeDef) (here : InterfaceId) where
   pub walk_start : (walk : Walk) → walk.listed ≡ [] → walk.entered ≡ [] → IsWalk types here walk
+  unfolding IsDistinct
   walk_start walk none nothing = record {
     ready = subst (λ ids. AreReady types here ids) (sym none) tt;
+    once = subst (λ ids. IsDistinct same_type ids) (sym none) tt;
+    known = subst (λ ids. AllByRecursion (λ id. is_entered walk id ≡ true) ids) (sym none) tt;
     entered = subst (λ es. AllByRecursion (λ e. is_covered types here walk.listed (Some (Id e.0)) ≡ true) es) (sym nothing) tt;
   }
 
   -- a type that was entered is covered
-  pub covered_before : (walk : Walk) (id : TypeId) (there : Bool) → IsWalk types here walk → there ≡ is_some (lookup (same_id.eq-value.it id) walk.entered) → there ≡ true → is_covered types here walk.listed (Some (Id id)) ≡ true
-  covered_before walk id there h is found = by (lookup (same_id.eq-value.it id) walk.entered) refl
+  pub covered_before : (walk : Walk) (id : TypeId) (there : Bool) → IsWalk types here walk → there ≡ is_some (lookup (same_type id) walk.entered) → there ≡ true → is_covered types here walk.listed (Some (Id id)) ≡ true
+  covered_before walk id there h is found = by (lookup (same_type id) walk.entered) refl
     where
-      by : (o : Option (Unit {0})) → lookup (same_id.eq-value.it id) walk.entered ≡ o → is_covered types here walk.listed (Some (Id id)) ≡ true
+      by : (o : Option (Unit {0})) → lookup (same_type id) walk.entered ≡ o → is_covered types here walk.listed (Some (Id id)) ≡ true
       by None e = let no = ap is_some (sym e) ∙ (sym is ∙ found) in absurd (true≢false (sym no))
-      by (Some x) e = holds_of_found same_id.eq-value.it one_id (λ (p : TypeId × Unit {0}). is_covered types here walk.listed (Some (Id p.0)) ≡ true) id walk.entered x h.entered e
+      by (Some x) e = holds_of_found same_type one_id (λ (p : TypeId × Unit {0}). is_covered types here walk.listed (Some (Id p.0)) ≡ true) id walk.entered x h.entered e
+
+  -- what was entered still is, and so is this type
+  entered_more : (mid new : Walk) (id : TypeId) (ids : List TypeId) → new.entered ≡ with_first same_type mid.entered id tt → AllByRecursion (λ x. is_entered mid x ≡ true) ids → AllByRecursion (λ x. is_entered new x ≡ true) ids
+  entered_more mid new id ids is known = AllByRecursion-weaker (λ x k. subst (λ (es : List (TypeId × Unit {0})). is_some (lookup (same_type x) es) ≡ true) (sym is) (still_there same_type mid.entered id x tt k)) ids known
 
   -- a type that is covered is entered
-  pub walk_entered : (mid new : Walk) (id : TypeId) → IsWalk types here mid → is_covered types here mid.listed (Some (Id id)) ≡ true → new.listed ≡ mid.listed → new.entered ≡ with_first same_id.eq-value.it mid.entered id tt → IsWalk types here new
+  pub walk_entered : (mid new : Walk) (id : TypeId) → IsWalk types here mid → is_covered types here mid.listed (Some (Id id)) ≡ true → new.listed ≡ mid.listed → new.entered ≡ with_first same_type mid.entered id tt → IsWalk types here new
   walk_entered mid new id h covered same is =
       let P : List TypeId → TypeId × Unit {0} → Type 0 = λ ids e. is_covered types here ids (Some (Id e.0)) ≡ true in
       record {
         ready = subst (λ ids. AreReady types here ids) (sym same) h.ready;
-        entered = subst (λ ids. AllByRecursion (P ids) new.entered) (sym same) (subst (λ es. AllByRecursion (P mid.listed) es) (sym is) (holds_of_added same_id.eq-value.it (P mid.listed) mid.entered id tt h.entered covered));
+        once = subst (λ ids. IsDistinct same_type ids) (sym same) h.once;
+        known = subst (λ ids. AllByRecursion (λ x. is_entered new x ≡ true) ids) (sym same) (entered_more mid new id mid.listed is h.known);
+        entered = subst (λ ids. AllByRecursion (P ids) new.entered) (sym same) (subst (λ es. AllByRecursion (P mid.listed) es) (sym is) (holds_of_added same_type (P mid.listed) mid.entered id tt h.entered covered));
       }
 
   module _ (back : RefersBack types) where
-    -- a type of another interface whose parts are covered is listed
+    -- a type of another interface whose parts are covered is entered and listed
     module _ (mid new : Walk) (id : TypeId) (other : InterfaceId) (h : IsWalk types here mid) (l : id.index < length types) (owner : foreign (Some here) (owner_at types id.index) ≡ Some other) (inside : is_parts_covered types here mid.listed id.index ≡ true)
         (is : new.listed ≡ mid.listed ++ id ∷ []) where
-      pub walk_listed : new.entered ≡ mid.entered → IsWalk types here new
-      walk_listed same =
-          let P : List TypeId → TypeId × Unit {0} → Type 0 = λ ids e. is_covered types here ids (Some (Id e.0)) ≡ true in
-          record {
-            ready = subst (λ ids. AreReady types here ids) (sym is) (ready_more types here [] mid.listed id h.ready (record { within = l; other = other; owner = owner; parts = inside }));
-            entered = subst (λ ids. AllByRecursion (P ids) new.entered) (sym is)
-                (subst (λ es. AllByRecursion (P (mid.listed ++ id ∷ [])) es) (sym same) (AllByRecursion-weaker (λ e c. covered_more types here back mid.listed (id ∷ []) (Some (Id e.0)) c) mid.entered h.entered));
-          }
-
       pub covered_listed : is_covered types here new.listed (Some (Id id)) ≡ true
       covered_listed = covered_other types here back new.listed id other l owner (subst (λ ids. is_one_of ids id.index ≡ true) (sym is) (one_of_last mid.listed id))
+
+      pub walk_listed : (old : Walk) → is_entered old id ≡ false → AllByRecursion (λ x. is_entered old x ≡ true) old.listed → Lists types old.listed mid.listed (PartsPass types id.index) → new.entered ≡ with_first same_type mid.entered id tt → IsWalk types here new
+      walk_listed old unmet known lists same =
+          let P : List TypeId → TypeId × Unit {0} → Type 0 = λ ids e. is_covered types here ids (Some (Id e.0)) ≡ true in
+          let all : List TypeId = mid.listed ++ id ∷ [] in
+          record {
+            ready = subst (λ ids. AreReady types here ids) (sym is) (ready_more types here [] mid.listed id h.ready (record { within = l; other = other; owner = owner; parts = inside }));
+            once = subst (λ ids. IsDistinct same_type ids) (sym is) (listed_once types back old mid.listed id l unmet known lists h.once);
+            known = subst (λ ids. AllByRecursion (λ x. is_entered new x ≡ true) ids) (sym is)
+                (AllByRecursion-push (λ x. is_entered new x ≡ true) mid.listed id (entered_more mid new id mid.listed same h.known) (subst (λ (es : List (TypeId × Unit {0})). is_some (lookup (same_type id) es) ≡ true) (sym same) (now_there mid.entered id)));
+            entered = subst (λ es. AllByRecursion (P new.listed) es) (sym same)
+                (holds_of_added same_type (P new.listed) mid.entered id tt (subst (λ ids. AllByRecursion (P ids) mid.entered) (sym is) (AllByRecursion-weaker (λ e c. covered_more types here back mid.listed (id ∷ []) (Some (Id e.0)) c) mid.entered h.entered)) covered_listed);
+          }
 
       pub lists_listed : (old : List TypeId) → Lists types old mid.listed (PartsPass types id.index) → Lists types old new.listed (Passes types (Some (Id id)))
       lists_listed old h =
@@ -184,6 +197,7 @@ all_foreign types here back named entries first mid last none covered listed wal
     let is : last.listed ≡ all.more = all.grown ∙ ap (λ ids. ids ++ all.more) none in
     record {
       ready = walk.ready;
+      once = walk.once;
       types_covered = subst (λ ids. AllByRecursion (λ t. is_covered types here ids (Some (Id t.1)) ≡ true) named) (sym more.grown) (AllByRecursion-weaker (λ t h. covered_more types here back mid more.more (Some (Id t.1)) h) named covered);
       functions_covered = functions;
       reached = subst (λ ids. AllByRecursion (IsReached types named entries) ids) (sym is) (each_of (λ x. IsReached types named entries x) all.more (λ n d l. record { each = λ test h k. all_of test all.more n d (all.passing test (h, k)) l }));

@@ -1,10 +1,11 @@
 -- The types of other interfaces of which an interface is made, each behind those of which it is made itself (component model, WIT:
 -- `use`).
 use Rattle.std.specs.Prelude.{ℕ, ◌≡◌, ◌<◌, ◌&&◌, Bool, true, List, [], ◌∷◌, ◌++◌, length, Option, Some, None}
-use Rattle.std.specs.List.{AllByRecursion, list_all}
+use Rattle.std.specs.List.{AllByRecursion, IsDistinct, list_all}
 use Rattle.wit_data.specs.declared.functions.Function.{Function}
 use Rattle.wit_data.specs.declared.ids.InterfaceId.{InterfaceId}
 use Rattle.wit_data.specs.declared.ids.TypeId.{TypeId}
+use Rattle.wit_data.specs.contracts.ids.TypeIdPartialEq.TheImpl as same_id
 use Rattle.wit_data.specs.declared.types.Type.{«Type» as Ty}
 use Rattle.wit_data.specs.declared.types.Type.TheVariants.{Id}
 use Rattle.wit_data.specs.declared.types.TypeDef.{TypeDef}
@@ -67,9 +68,14 @@ pub record IsReached (types : List TypeDef) (named : List (List ℕ × TypeId)) 
 
 -- ---- the whole
 
--- all types of other interfaces of which these types and functions of an interface are made
+-- whether two are one type
+abbrev pub same_type : TypeId → TypeId → Bool
+same_type = same_id.eq-value.it
+
+-- all types of other interfaces of which these types and functions of an interface are made, each once
 pub record AreForeignTypes (types : List TypeDef) (here : InterfaceId) (named : List (List ℕ × TypeId)) (entries : List (List ℕ × Function)) (ids : List TypeId) : Type 0 where
   pub ready : AreReady types here ids
+  pub once : IsDistinct same_type ids
   pub types_covered : AllByRecursion (λ t. is_covered types here ids (Some (Id t.1)) ≡ true) named
   pub functions_covered : AllByRecursion (λ e. is_function_covered types here ids e.1 ≡ true) entries
   pub reached : AllByRecursion (IsReached types named entries) ids

@@ -1,6 +1,7 @@
 -- A walk that lists types of other interfaces.
-use Rattle.std.specs.Prelude.{ℕ, ◌≡◌, Bool, true, List, [], ◌∷◌, ◌++◌, Option, Some}
-use Rattle.std.specs.List.{AllByRecursion, list_all}
+use Rattle.std.specs.Prelude.{ℕ, ◌≡◌, Bool, true, List, ◌++◌, Option, Some, is_some}
+use Rattle.std.specs.List.{AllByRecursion, IsDistinct, list_all}
+use Rattle.std.specs.Map.{lookup}
 use Rattle.wit_data.specs.declared.ids.InterfaceId.{InterfaceId}
 use Rattle.wit_data.specs.declared.ids.TypeId.{TypeId}
 use Rattle.wit_data.specs.declared.types.Type.{«Type» as Ty}
@@ -13,11 +14,17 @@ use Rattle.wit_data.specs.Parts.{parts}
 use Rattle.wit_data.specs.Values.{value, kind_at}
 use Rattle.type_scopes.specs.Needs.{each_passes, function_passes}
 use Rattle.foreign_types.specs.declared.walk.Walk.{Walk}
-use Rattle.foreign_types.specs.Foreign.{is_covered, AreReady, type_passes}
+use Rattle.foreign_types.specs.Foreign.{is_covered, AreReady, same_type, type_passes}
 
--- the types that were listed are ready, and all that was met in a type that was entered is listed
+-- whether a type was entered
+abbrev pub is_entered : Walk → TypeId → Bool
+is_entered walk id = is_some (lookup (same_type id) walk.entered)
+
+-- the types that were listed are ready, and each was listed once, and entered; all that was met in a type that was entered is listed
 pub record IsWalk (types : List TypeDef) (here : InterfaceId) (walk : Walk) : Type 0 where
   pub ready : AreReady types here walk.listed
+  pub once : IsDistinct same_type walk.listed
+  pub known : AllByRecursion (λ id. is_entered walk id ≡ true) walk.listed
   pub entered : AllByRecursion (λ e. is_covered types here walk.listed (Some (Id e.0)) ≡ true) walk.entered
 
 -- all of these pass a test

@@ -1,10 +1,10 @@
 //! A walk through a type and all of which it is made.
 
-ghost use Rattle.std.specs.Prelude.{◌≡◌, ◌<◌, length, true, Some, OnOk};
+ghost use Rattle.std.specs.Prelude.{◌≡◌, ◌<◌, length, true, false, Some, OnOk};
 ghost use Rattle.wit_data.specs.Parts.{RefersBack, IsBelow};
 ghost use Rattle.wit_data.specs.declared.types.Type.TheVariants.{Id};
 ghost use Rattle.foreign_types.specs.Foreign.{is_covered, is_parts_covered};
-ghost use Rattle.foreign_types.specs.Walking.{IsWalk, Lists, Passes, PartsPass};
+ghost use Rattle.foreign_types.specs.Walking.{IsWalk, is_entered, Lists, Passes, PartsPass};
 
 use crate::walk::Walk;
 use std::alloc::AllocError;
@@ -51,12 +51,10 @@ pub(crate) fn meet_type(
     if walk.entered.contains_key(&id) {
         return Ok(());
     }
-    enter_type(types, here, walk, id)?;
-    walk.entered.insert_if_absent(id, ())?;
-    Ok(())
+    enter_type(types, here, walk, id)
 }
 
-/// Walks through all of which the type with an index is made, and lists it then, if another interface owns it.
+/// Walks through all of which the type with an index is made; lists it then, if another interface owns it.
 #[cycle(meeting)]
 fn enter_type(
     types: &[TypeDef],
@@ -66,12 +64,14 @@ fn enter_type(
 ) -> Result<(), AllocError>
     requires back { RefersBack types.now }
     requires present { id.index < length types.now }
+    requires unmet { is_entered walk.old id ≡ false }
     requires right { IsWalk types.now here walk.old }
     ensures right { OnOk result (IsWalk types.now here walk.new) }
     ensures covered { OnOk result (is_covered types.now here walk.new.listed (Some (Id id)) ≡ true) }
     ensures lists { OnOk result (Lists types.now walk.old.listed walk.new.listed (Passes types.now (Some (Id id)))) }
 {
     meet_parts(types, here, walk, id)?;
+    walk.entered.insert_if_absent(id, ())?;
     match foreign(Some(here), owner_of(types, id)) {
         Some(_) => {
             walk.listed.push(id)?;

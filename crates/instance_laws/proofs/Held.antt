@@ -9,7 +9,7 @@ use Rattle.comp_bytes.specs.declared.space.Space.{Space}
 use Rattle.comp_bytes.specs.declared.space.Space.TheVariants as spaces
 use Rattle.comp_trees.specs.Trees.{FunctionTree}
 use Rattle.comp_trees.specs.DefinedTrees.{TypeTree, OfFunctions, OfOthers}
-use Rattle.comp_trees.specs.Inventories.{TypeEntry, Inventory, entry_tree, trees_in}
+use Rattle.comp_inventories.specs.Inventories.{TypeEntry, Inventory, entry_tree, trees_in}
 use Rattle.comp_runs.specs.Store.{Thing, Export, Function, Imported, TypeItem, TreeOf, ImportedResource, OwnResource, InstanceTypeOf, item_tree, tree_held}
 use Rattle.comp_runs.specs.Machine.{Machine, is_of, address_at}
 use Rattle.comp_runs.specs.Instances.{type_scope}
@@ -19,7 +19,7 @@ use Rattle.instance_laws.specs.Instantiated.{IsHeldAs, IsThingHeldAs, AreHeldAs,
 held_trees : (types : List TypeItem) (trees : List TypeTree) (ts : List Thing) → AllZip (IsThingHeldAs types) trees ts → map (λ (t : Thing). tree_held types t.address) ts ≡ trees
 held_trees types [] [] h = refl
 held_trees types (x ∷ xs) (t ∷ ts) h =
-    ap₂ (λ y ys. y ∷ ys) (ap (λ o. elim o [ None ↦ OfOthers | Some i ↦ item_tree t.address i ]) h.0.present ∙ h.0.denotes) (held_trees types xs ts h.1)
+    ap₂ (λ y ys. y ∷ ys) (ap (λ o. elim o [ None ↦ OfOthers | Some i ↦ item_tree i ]) h.0.present ∙ h.0.denotes) (held_trees types xs ts h.1)
 held_trees types [] (t ∷ ts) h = absurd h
 held_trees types (x ∷ xs) [] h = absurd h
 
@@ -27,13 +27,13 @@ pub trees_of_held : (types : List TypeItem) (trees : List TypeTree) (items : Lis
 trees_of_held types trees items h = held_trees types trees (filter (is_of spaces.Type) items) h
 
 pub tree_of_held : (types : List TypeItem) (tree : TypeTree) (address : ℕ) → IsHeldAs types tree address → tree_held types address ≡ tree
-tree_of_held types tree address h = ap (λ o. elim o [ None ↦ OfOthers | Some i ↦ item_tree address i ]) h.present ∙ h.denotes
+tree_of_held types tree address h = ap (λ o. elim o [ None ↦ OfOthers | Some i ↦ item_tree i ]) h.present ∙ h.denotes
 
 -- and the other way round, where each address has an entry: what has none would denote another type once the store grows
 thing_held : (types : List TypeItem) (t : Thing) → t.address < length types → IsThingHeldAs types (tree_held types t.address) t
 thing_held types t l =
     let x : (x : TypeItem) × (slice_get types t.address ≡ Some x) = there types t.address l in
-    record { item = x.0; present = x.1; denotes = sym (ap (λ o. elim o [ None ↦ OfOthers | Some i ↦ item_tree t.address i ]) x.1) }
+    record { item = x.0; present = x.1; denotes = sym (ap (λ o. elim o [ None ↦ OfOthers | Some i ↦ item_tree i ]) x.1) }
 
 things_held : (types : List TypeItem) (ts : List Thing) → AllByRecursion (λ (t : Thing). t.address < length types) ts → AllZip (IsThingHeldAs types) (map (λ (t : Thing). tree_held types t.address) ts) ts
 things_held types [] h = tt
@@ -124,7 +124,7 @@ AreHeldAs-beside types trees items address h =
     rw (filter-append (is_of spaces.Type) items (t ∷ []), append-nil (filter (is_of spaces.Type) items)) h
 
 -- a new type
-pub new_held : (types : List TypeItem) (item : TypeItem) (tree : TypeTree) → item_tree (length types) item ≡ tree → IsHeldAs (types ++ item ∷ []) tree (length types)
+pub new_held : (types : List TypeItem) (item : TypeItem) (tree : TypeTree) → item_tree item ≡ tree → IsHeldAs (types ++ item ∷ []) tree (length types)
 new_held types item tree e = record { item = item; present = slice_get-end types item; denotes = e }
 
 -- ---- the type of an index
@@ -151,8 +151,8 @@ index_of_functions (x ∷ xs) zero type e = omega arith
 index_of_functions (x ∷ xs) (suc index) type e = let l = index_of_functions xs index type e in omega (arith, l)
 
 -- what denotes a type of functions is its tree
-pub item_of_functions : (address : ℕ) (item : TypeItem) (type : FunctionTree) → item_tree address item ≡ OfFunctions type → item ≡ TreeOf (OfFunctions type)
-item_of_functions address (TreeOf tree) type e = ap (λ (t : TypeTree). TreeOf t) e
-item_of_functions address (ImportedResource origin) type e = cc
-item_of_functions address (OwnResource destructor) type e = cc
-item_of_functions address (InstanceTypeOf members around) type e = cc
+pub item_of_functions : (item : TypeItem) (type : FunctionTree) → item_tree item ≡ OfFunctions type → item ≡ TreeOf (OfFunctions type)
+item_of_functions (TreeOf tree) type e = ap (λ (t : TypeTree). TreeOf t) e
+item_of_functions (ImportedResource origin) type e = cc
+item_of_functions (OwnResource number destructor) type e = cc
+item_of_functions (InstanceTypeOf members around) type e = cc

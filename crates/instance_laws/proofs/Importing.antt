@@ -6,13 +6,14 @@ use Rattle.comp_bytes.specs.declared.types.Member.{Member}
 use Rattle.comp_trees.specs.Trees.{Origin}
 use Rattle.comp_trees.specs.DefinedTrees.{TypeTree}
 use Rattle.comp_trees.specs.Members.{AreMembersRight, member_trees, exports_name, type_exported, function_exported}
-use Rattle.comp_trees.specs.Inventories.{InstanceEntry, ImportedInstance, OtherInstance, Inventory, trees_in, entry_tree, surroundings_of, type_of_instance, function_of_instance}
+use Rattle.comp_inventories.specs.Inventories.{InstanceEntry, ImportedInstance, NestedInstance, OtherInstance, Inventory, trees_in, entry_tree, surroundings_of, type_of_instance, function_of_instance}
+use Rattle.nested_terms.specs.Nested.{NestedExport, type_named}
 use Rattle.comp_runs.specs.Store.{Thing, Export, Function, TypeItem, InstanceTypeOf}
 use Rattle.comp_runs.specs.Machine.{Machine, with_some, address_at}
 use Rattle.comp_runs.specs.Instances.{type_at, instance_of_type}
 use Rattle.instance_laws.specs.Instantiated.{AreHeldAs, member_exports, with_now, RunsInstanceType, FindsFunction, FindsType}
-use Rattle.instance_laws.specs.InstanceEntries.{IsInstanceType, IsImportedInstance, IsInstanceEntry, RunsImport, AliasesFunction, AliasesType}
-use Rattle.instance_laws.proofs.Held.{KeepsEntries, AreHeldAs-kept, exports_kept}
+use Rattle.instance_laws.specs.InstanceEntries.{IsInstanceType, IsImportedInstance, HasTypesOf, IsInstanceEntry, RunsImport, AliasesFunction, AliasesType}
+use Rattle.instance_laws.proofs.Held.{KeepsEntries, IsHeldAs-kept, AreHeldAs-kept, exports_kept}
 use Rattle.instance_laws.proofs.Members.{instance_runs}
 use Rattle.instance_laws.proofs.Finding.{finds_function, finds_type}
 
@@ -27,6 +28,9 @@ IsInstanceType-kept k outer all item h = record { next_out = h.next_out; further
 pub IsInstanceEntry-kept : {types types' : List TypeItem} {functions functions' : List Function} → KeepsEntries types types' → KeepsEntries functions functions' → (entry : InstanceEntry) (es : List Export) →
     IsInstanceEntry types functions entry es → IsInstanceEntry types' functions' entry es
 IsInstanceEntry-kept k l (ImportedInstance number outer all) es h = record { right = h.right; each = exports_kept number k l (member_exports (surroundings_of number outer) [] all) es h.each }
+IsInstanceEntry-kept k l (NestedInstance exported) es h = record {
+  each = λ name tree named. let f = h.each name tree named in record { export = f.export; found = f.found; space = f.space; is = IsHeldAs-kept k tree f.export.address f.is };
+}
 IsInstanceEntry-kept k l OtherInstance es h = tt
 
 -- An import of a type of instances whose members are right runs, and makes an instance that is what its entry says.
@@ -71,3 +75,10 @@ module _ (m : Machine) (instance address : ℕ) (es : List Export) (name : List 
       let f : FindsType m.store.types es name (type_exported (surroundings_of number outer) (member_trees (surroundings_of number outer) [] all) name all) =
       finds_type number m.store.types m.store.functions (surroundings_of number outer) name [] all es h.right h.each there in
       record { address = f.export.address; at = rw (at, present, f.found) (ap (λ space. Some (record { space = space; address = f.export.address })) f.space); is = f.is }
+
+-- An alias of a type that a nested component is said to export finds a type that denotes what is said.
+pub aliases_nested_type : (m : Machine) (instance address : ℕ) (es : List Export) (name : List ℕ) (exported : List NestedExport) (tree : TypeTree) → address_at spaces.Instance instance m.scope.items ≡ Some address →
+    slice_get m.store.instances address ≡ Some es → HasTypesOf exported m.store.types es → type_named name exported ≡ Some tree → AliasesType m instance name tree
+aliases_nested_type m instance address es name exported tree at present h named =
+    let f : FindsType m.store.types es name tree = h.each name tree named in
+    record { address = f.export.address; at = rw (at, present, f.found) (ap (λ space. Some (record { space = space; address = f.export.address })) f.space); is = f.is }

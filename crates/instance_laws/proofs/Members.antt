@@ -16,7 +16,7 @@ use Rattle.core_runs.specs.Store.{Now}
 use Rattle.comp_trees.specs.Trees.{Origin, ImportedAt, ResourceAt, is_known, is_known_function}
 use Rattle.comp_trees.specs.DefinedTrees.{TypeTree, OfValues, OfFunctions, OfOthers, function_tree, defined_tree}
 use Rattle.comp_trees.specs.Members.{IsOfFunctions, IsMemberRight, AreMembersRight, with_member, member_trees}
-use Rattle.comp_trees.specs.Inventories.{surroundings_of}
+use Rattle.comp_inventories.specs.Inventories.{surroundings_of}
 use Rattle.comp_runs.specs.Store.{Thing, Export, Function, Imported, TypeItem, TreeOf, ImportedResource}
 use Rattle.comp_runs.specs.Machine.{Machine, Next, new_instance}
 use Rattle.comp_runs.specs.Instances.{type_scope, known_function, type_item, each_member}
@@ -140,7 +140,7 @@ module _ (number : ℕ) {outer scope : List TypeTree} {m : Machine} (a : IsScope
   member_function : (name : ExternName) (index : ℕ) → IsOfFunctions scope index → RunsMember number outer scope (members.Export name (descriptions.Func index)) m
   member_function name index f =
       let x : IsTypeThere m.store.types scope m.scope.items index = type_there m.store.types scope m.scope.items index a.held (index_of_functions scope index f.type f.tree) in
-      let there : slice_get m.store.types x.address ≡ Some (TreeOf (OfFunctions f.type)) = x.is.present ∙ ap (λ (i : TypeItem). Some i) (item_of_functions x.address x.is.item f.type (x.is.denotes ∙ f.tree)) in
+      let there : slice_get m.store.types x.address ≡ Some (TreeOf (OfFunctions f.type)) = x.is.present ∙ ap (λ (i : TypeItem). Some i) (item_of_functions x.is.item f.type (x.is.denotes ∙ f.tree)) in
       let function : Function = Imported (record { number = number; inner = Some name.name }) f.type in
       let e : Export = record { space = spaces.Func; name = name.name; address = length m.store.functions } in
       record {

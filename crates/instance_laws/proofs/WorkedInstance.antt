@@ -15,7 +15,7 @@ use Rattle.core_runs.specs.Store.{Now, Store as CodeStore}
 use Rattle.comp_trees.specs.Trees.{Origin, ImportedAt, ResourceAt, Tree, PrimitiveOf, OwnOf, RecordOf, Nil, Cons, FunctionTree}
 use Rattle.comp_trees.specs.DefinedTrees.{OfValues, OfFunctions}
 use Rattle.comp_trees.specs.Members.{AreMembersRight, member_trees, function_exported}
-use Rattle.comp_trees.specs.Inventories.{surroundings_of}
+use Rattle.comp_inventories.specs.Inventories.{surroundings_of}
 use Rattle.comp_runs.specs.Store.{Store, Imported, TypeItem, TreeOf, ImportedResource, InstanceTypeOf}
 use Rattle.comp_runs.specs.Machine.{Machine, Done}
 use Rattle.comp_runs.specs.Instances.{instance_of_type}

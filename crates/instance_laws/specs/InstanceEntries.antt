@@ -10,11 +10,12 @@ use Rattle.core_runs.specs.Store.{Now}
 use Rattle.comp_trees.specs.Trees.{Origin, FunctionTree}
 use Rattle.comp_trees.specs.DefinedTrees.{TypeTree, OfFunctions}
 use Rattle.comp_trees.specs.Members.{AreMembersRight}
-use Rattle.comp_trees.specs.Inventories.{FunctionEntry, InstanceEntry, ImportedInstance, OtherInstance, surroundings_of}
+use Rattle.comp_inventories.specs.Inventories.{FunctionEntry, InstanceEntry, ImportedInstance, NestedInstance, OtherInstance, surroundings_of}
+use Rattle.nested_terms.specs.Nested.{NestedExport, type_named}
 use Rattle.comp_runs.specs.Store.{Thing, Export, Function, Imported, TypeItem, InstanceTypeOf}
 use Rattle.comp_runs.specs.Machine.{Machine, Next}
 use Rattle.comp_runs.specs.Instances.{aliased, described, instance_of_type}
-use Rattle.instance_laws.specs.Instantiated.{IsHeldAs, AreHeldAs, member_exports, IsExportedAs, with_now, with_instance}
+use Rattle.instance_laws.specs.Instantiated.{IsHeldAs, AreHeldAs, member_exports, IsExportedAs, with_now, with_instance, FindsType}
 
 -- a type of instances with these members, of a scope whose types denote `outer`
 pub record IsInstanceType (types : List TypeItem) (outer : List TypeTree) (all : List Member) (item : TypeItem) : Type 0 where
@@ -28,9 +29,14 @@ pub record IsImportedInstance (number : ℕ) (outer : List TypeTree) (all : List
   pub right : AreMembersRight (surroundings_of number outer) [] all
   pub each : AllZip (IsExportedAs number types functions) (member_exports (surroundings_of number outer) [] all) exports
 
+-- an instance with these exports has each type that a nested component is said to export
+pub record HasTypesOf (exported : List NestedExport) (types : List TypeItem) (exports : List Export) : Type 0 where
+  pub each : (name : List ℕ) (tree : TypeTree) → type_named name exported ≡ Some tree → FindsType types exports name tree
+
 -- an instance with these exports is what the entry of an inventory says
 abbrev pub IsInstanceEntry : List TypeItem → List Function → InstanceEntry → List Export → Type 0
 IsInstanceEntry types functions (ImportedInstance number outer all) exports = IsImportedInstance number outer all types functions exports
+IsInstanceEntry types functions (NestedInstance exported) exports = HasTypesOf exported types exports
 IsInstanceEntry types functions OtherInstance exports = Unit {0}
 
 -- an import of the type with this index runs: there is one instance more, and what was at an address is there

@@ -14,7 +14,7 @@ use Rattle.core_runs.specs.Store.{Now}
 use Rattle.comp_trees.specs.Trees.{Origin, FunctionTree}
 use Rattle.comp_trees.specs.DefinedTrees.{TypeTree, OfFunctions, OfOthers}
 use Rattle.comp_trees.specs.Members.{Surroundings, member_tree, with_member, member_trees}
-use Rattle.comp_trees.specs.Inventories.{surroundings_of}
+use Rattle.comp_inventories.specs.Inventories.{surroundings_of}
 use Rattle.comp_runs.specs.Store.{Thing, Export, Function, Imported, TypeItem, InstanceTypeOf, item_tree}
 use Rattle.comp_runs.specs.Machine.{Machine, Next, is_of, export_of, new_instance}
 use Rattle.comp_runs.specs.Instances.{type_scope, each_member, instance_of_type}
@@ -23,7 +23,7 @@ use Rattle.comp_runs.specs.Instances.{type_scope, each_member, instance_of_type}
 pub record IsHeldAs (types : List TypeItem) (tree : TypeTree) (address : ℕ) : Type 0 where
   pub item : TypeItem
   pub present : slice_get types address ≡ Some item
-  pub denotes : item_tree address item ≡ tree
+  pub denotes : item_tree item ≡ tree
 
 abbrev pub IsThingHeldAs : List TypeItem → TypeTree → Thing → Type 0
 IsThingHeldAs types tree t = IsHeldAs types tree t.address

@@ -1,9 +1,10 @@
 -- The types and the functions of an exported interface: where they are in the resolve, and that all of which they are made is of
 -- the interface, of ones that are imported alone, or has no name.
-use Rattle.std.proofs.Common.{◌≡◌, ◌∙◌, ◌<◌, ◌&&◌, ℕ, suc, Bool, true, false, List, [], ◌∷◌, ◌++◌, length, map, not, inl, inr, Contains, sym, ap, refl, subst, Option, Some, None, IsSome}
+use Rattle.std.proofs.Common.{◌≡◌, ◌∙◌, ◌<◌, ◌&&◌, ℕ, suc, Bool, true, false, List, [], ◌∷◌, ◌++◌, length, map, not, inl, inr, Contains, sym, ap, refl, subst, Option, Some, None, IsSome, is_none}
 use Rattle.std.specs.List.{AllByRecursion, flat_map, list_all, list_any}
 use Rattle.std.specs.Str.{bytes_eq}
 use Rattle.std.proofs.lemmas.Bool.{and_from, and_parts}
+use Rattle.std.proofs.lemmas.Bool.Decides.{Decides-eqb}
 use Rattle.std.proofs.lemmas.List.Elements.{Contains-append_left, Contains-append_right}
 use Rattle.std.proofs.lemmas.Option.{none-some, same_Some}
 use Rattle.comp_lists.specs.Found.{found}
@@ -14,6 +15,7 @@ use Rattle.wit_data.specs.declared.ids.TypeId.{TypeId}
 use Rattle.wit_data.specs.declared.types.Type.{«Type» as Ty}
 use Rattle.wit_data.specs.declared.types.Type.TheVariants.{Primitive, Id}
 use Rattle.wit_data.specs.declared.types.TypeDef.{TypeDef}
+use Rattle.wit_data.specs.declared.types.TypeDefKind.{TypeDefKind}
 use Rattle.wit_data.specs.declared.types.TypeOwner.TheVariants as owners
 use Rattle.wit_data.specs.declared.worlds.WorldItem.{WorldItem}
 use Rattle.wit_data.specs.declared.worlds.WorldItem.TheVariants as items
@@ -23,7 +25,7 @@ use Rattle.wit_data.specs.Keys.{is_same_key}
 use Rattle.wit_data.specs.Live.{named_types, is_live}
 use Rattle.wit_data.specs.Parts.{IsBelow, RefersBack}
 use Rattle.wit_data.specs.Values.{kind_at, value}
-use Rattle.wit_types.specs.Allowing.{foreign, is_allowed, allows_function}
+use Rattle.wit_types.specs.Allowing.{foreign, is_resource, is_allowed, allows_function}
 use Rattle.wit_types.specs.Settings.{Setting, owner_at}
 use Rattle.wit_types.specs.Settings as settings
 use Rattle.type_scopes.specs.Needs.{IsLive, each_passes, function_passes, is_at_home}
@@ -38,12 +40,12 @@ use Rattle.comp_worlds.specs.declared.world.ComponentWorld.{ComponentWorld}
 use Rattle.comp_links.specs.Lists.{needed_types}
 use Rattle.interface_needs.specs.Needs.{IsImported, IsNeeded}
 use Rattle.interface_needs.specs.RootNeeds.{interface_of_item, IsExportedFunction, IsExportedInterface, is_lent_type, IsUsableType, IsInterfaceScope}
-use Rattle.interface_needs.proofs.Lists.{IsImage, IsInOne, Passes, all_of_each, any_passes, contains_cons, contains_first, contains_later, contains_none, contains_one, contains_flat, flat_contains, is_there, map_contains}
+use Rattle.interface_needs.proofs.Lists.{IsImage, IsInOne, Passes, all_of_each, any_passes, passes_any, contains_cons, contains_first, contains_later, contains_none, contains_one, contains_flat, flat_contains, is_there, map_contains}
 use Rattle.interface_needs.proofs.Live.{live_given, live_part}
 use Rattle.interface_needs.proofs.Needed.{used_in, is_needed}
-use Rattle.interface_needs.proofs.Owners.{owner_of, owned_within, interface_of, of_other, same_id, same_name}
+use Rattle.interface_needs.proofs.Owners.{owner_of, owned_within, interface_of, of_other, own_or_none, same_id, same_name}
 use Rattle.interface_needs.proofs.RootTypes.{all_tests}
-use Rattle.interface_needs.proofs.Staying.{passing_holds, home_of, home_allowed, each_type}
+use Rattle.interface_needs.proofs.Staying.{passing_holds, home_of, home_by, own_values, home_allowed, each_type}
 use Rattle.interface_needs.proofs.Tables.{lookup_contains}
 
 item_is : (o : Option WorldItem) (id : InterfaceId) → interface_of_item o ≡ Some id → o ≡ Some (items.Interface id)
@@ -71,6 +73,32 @@ interface_there ((key, items.Interface other) ∷ es) id c = elim (contains_cons
 ]
 interface_there ((key, items.Function f) ∷ es) id c = let r = interface_there es id c in (r.0, contains_later (key, items.Function f) es (r.0, items.Interface id) r.1)
 interface_there ((key, items.NamedType t) ∷ es) id c = let r = interface_there es id c in (r.0, contains_later (key, items.NamedType t) es (r.0, items.Interface id) r.1)
+
+-- the item of an interface is one among those
+there_interface : (es : Entries) (key : WorldKey) (id : InterfaceId) → Contains es (key, items.Interface id) → Contains (interfaces_of es) id
+there_interface [] key id c = contains_none (key, items.Interface id) c
+there_interface ((k, items.Interface other) ∷ es) key id c = elim (contains_cons (k, items.Interface other) es (key, items.Interface id) c) [
+  | inl same ↦ subst (λ (i : InterfaceId). Contains (other ∷ interfaces_of es) i) (same_item other id (ap (λ (e : WorldKey × WorldItem). e.1) same)) (contains_first other (interfaces_of es))
+  | inr later ↦ contains_later other (interfaces_of es) id (there_interface es key id later)
+]
+  where
+    same_item : (a b : InterfaceId) → items.Interface a ≡ items.Interface b → a ≡ b
+    same_item a b e = same_Some a b (ap interface_of_item (ap Some e))
+there_interface ((k, items.Function f) ∷ es) key id c = elim (contains_cons (k, items.Function f) es (key, items.Interface id) c) [
+  | inl same ↦ absurd (none-some id (ap interface_of_item (ap Some (ap (λ (e : WorldKey × WorldItem). e.1) same))))
+  | inr later ↦ there_interface es key id later
+]
+there_interface ((k, items.NamedType t) ∷ es) key id c = elim (contains_cons (k, items.NamedType t) es (key, items.Interface id) c) [
+  | inl same ↦ absurd (none-some id (ap interface_of_item (ap Some (ap (λ (e : WorldKey × WorldItem). e.1) same))))
+  | inr later ↦ there_interface es key id later
+]
+
+same_self : (id : InterfaceId) → same_interface id id ≡ true
+same_self id = (Decides-eqb id.index id.index).1 refl
+
+and_false : (b : Bool) → (b && false) ≡ false
+and_false true = refl
+and_false false = refl
 
 -- the world imports it
 lent_imported : (w : ComponentWorld) (other : InterfaceId) → is_lent (items_of w) other ≡ true → IsImported w other
@@ -197,6 +225,9 @@ module _ (w : ComponentWorld) (ok : IsEncodable w) (id : InterfaceId) where
   listed_own : IsExportedInterface w id → (e : List ℕ × TypeId) → Contains (named_types w.resolve id) e → IsOwnType w.resolve.types id e
   listed_own h e c = AllByRecursion-contains (IsOwnType w.resolve.types id) (named_types w.resolve id) e (exported_placed h).own c
 
+  pub listed_owner : IsExportedInterface w id → (t : TypeId) → Contains (map (λ e. e.1) (named_types w.resolve id)) t → interface_at w.resolve.types t.index ≡ Some id
+  listed_owner h t c = let e = listed_name t c in (listed_own h (e.0, t) e.1).own
+
   -- the interface may be made of them
   pub usable_listed : IsExportedInterface w id → (t : TypeId) → Contains (map (λ e. e.1) (named_types w.resolve id)) t → IsUsableType w id t
   usable_listed h t c =
@@ -219,6 +250,45 @@ module _ (w : ComponentWorld) (ok : IsEncodable w) (id : InterfaceId) where
       let root : IsRootType w.resolve.types i.x.1 = subst (IsItemPlaced w.resolve (items_of w).imports) (of_world_type one.x i.x one.there) placed in
       none-some id (sym root.own ∙ (ap (interface_at w.resolve.types) i.same ∙ (listed_own h (e.0, t) e.1).own))
 
+  -- none of its types is lent: exported interfaces use types of those that are imported alone
+  pub unlent : IsExportedInterface w id → (n : ℕ) → foreign (Some id) (owner_at w.resolve.types n) ≡ None → is_lent_type w n ≡ false
+  unlent h n own = elim (own_or_none w.resolve.types n id own) [
+    | inl none ↦ ap by none
+    | inr here ↦ ap by here ∙ ap (λ b. b && is_one_of (needed_types w id) n) exported
+  ]
+    where
+      by : Option InterfaceId → Bool
+      by o = elim o [ Some i ↦ is_lent (items_of w) i && is_one_of (needed_types w i) n | None ↦ false ]
+
+      exported : is_lent (items_of w) id ≡ false
+      exported =
+          let world = items_of w in
+          let there = exported_there h in
+          let listed = passes_any (same_interface id) (interfaces_of world.exports) id (there_interface world.exports there.0 id there.1) (same_self id) in
+          ap (λ b. list_any (same_interface id) (interfaces_of world.imports) && not b) listed ∙ and_false (list_any (same_interface id) (interfaces_of world.imports))
+
+  -- a resource that is at home is one of another interface
+  abbrev pub is_home_later : ℕ → TypeDefKind → Bool
+  is_home_later n k = is_at_home w.resolve.types (is_lent_type w) id n k && not (is_resource k && is_none (foreign (Some id) (owner_at w.resolve.types n)))
+
+  pub home_later : IsExportedInterface w id → (t : TypeId) → home (Some (Id t)) ≡ true → value (each_passes is_home_later) w.resolve.types (Some (Id t)) ≡ true
+  home_later h t e =
+      passing_holds w.resolve.types ok.sound.back (is_at_home w.resolve.types (is_lent_type w) id) (λ n. true) (λ n m l c live. refl) (each_passes is_home_later) (λ b. b ≡ true) refl (λ q. refl) made (Some (Id t)) (λ l. refl) e
+    where
+      made : (n : ℕ) (bs : List Bool) → true ≡ true → is_at_home w.resolve.types (is_lent_type w) id n (kind_at w.resolve.types n) ≡ true → AllByRecursion (λ b. b ≡ true) bs → (is_home_later n (kind_at w.resolve.types n) && list_all (λ b. b) bs) ≡ true
+      made n bs live test each =
+          let k = kind_at w.resolve.types n in
+          let none = is_none (foreign (Some id) (owner_at w.resolve.types n)) in
+          and_from (is_home_later n k) (list_all (λ b. b) bs) (and_from (is_at_home w.resolve.types (is_lent_type w) id n k) (not (is_resource k && none)) test (by (foreign (Some id) (owner_at w.resolve.types n)) refl)) (all_tests (λ (b : Bool). b) bs each)
+        where
+          by : (o : Option InterfaceId) → foreign (Some id) (owner_at w.resolve.types n) ≡ o → not (is_resource (kind_at w.resolve.types n) && is_none (foreign (Some id) (owner_at w.resolve.types n))) ≡ true
+          by (Some other) is = ap (λ o. not (is_resource (kind_at w.resolve.types n) && is_none o)) is ∙ ap not (and_false (is_resource (kind_at w.resolve.types n)))
+          by None is =
+              let k = kind_at w.resolve.types n in
+              let test_by : Option InterfaceId → Bool = λ o. home_by (is_lent_type w) n (is_resource k) o (foreign None (owner_at w.resolve.types n)) (settings.name_at w.resolve.types n) in
+              let values = own_values (is_lent_type w) n k (foreign None (owner_at w.resolve.types n)) (settings.name_at w.resolve.types n) (unlent h n is) (ap test_by (sym is) ∙ test) in
+              ap (λ r. not (r && is_none (foreign (Some id) (owner_at w.resolve.types n)))) values
+
   -- ---- what may be encoded in a scope of the interface
 
   module _ (s : Setting) (scope : IsInterfaceScope w id s) where
@@ -228,13 +298,14 @@ module _ (w : ComponentWorld) (ok : IsEncodable w) (id : InterfaceId) where
         scope.imports other (record { index = n }) (lent_needed w n other owner.0 lent)
 
     -- what is at home in the interface
-    home_is_allowed : (p : Option Ty) → home p ≡ true → is_allowed s p ≡ true
-    home_is_allowed p h =
-        home_allowed s id (subst RefersBack (sym scope.types) ok.sound.back) scope.interface scope.own (is_lent_type w) may_import p
+    home_is_allowed : IsExportedInterface w id → (p : Option Ty) → home p ≡ true → is_allowed s p ≡ true
+    home_is_allowed here p h =
+        home_allowed s id (subst RefersBack (sym scope.types) ok.sound.back) scope.interface scope.own (is_lent_type w) may_import
+        (λ n own. unlent here n (ap (λ (ts : List TypeDef). foreign (Some id) (owner_at ts n)) (sym scope.types) ∙ own)) p
         (subst (λ (ts : List TypeDef). value (each_passes (is_at_home ts (is_lent_type w) id)) ts p ≡ true) (sym scope.types) h)
 
     pub interface_type_allowed : (t : TypeId) → IsUsableType w id t → is_allowed s (Some (Id t)) ≡ true
-    interface_type_allowed t h = home_is_allowed (Some (Id t)) h.passes
+    interface_type_allowed t h = home_is_allowed h.exported (Some (Id t)) h.passes
 
     none_allowed : is_allowed s None ≡ true
     unfolding is_allowed
@@ -245,4 +316,4 @@ module _ (w : ComponentWorld) (ok : IsEncodable w) (id : InterfaceId) where
         let is : exported_item w h.key ≡ Some (items.Interface id) = item_is (exported_item w h.key) id h.of in
         let at : found h.name (functions_of w.resolve id) ≡ Some f = subst (λ o. function_of_item w.resolve h.name o ≡ Some f) is h.exported in
         let there = lookup_contains (bytes_eq h.name) (functions_of w.resolve id) f at in
-        each_type (is_allowed s) none_allowed f (λ t c. home_is_allowed (Some t) (function_home (record { key = h.key; of = is }) (there.0, f) there.1 t c))
+        each_type (is_allowed s) none_allowed f (λ t c. home_is_allowed (record { key = h.key; of = is }) (Some t) (function_home (record { key = h.key; of = is }) (there.0, f) there.1 t c))

@@ -7,10 +7,11 @@ mod Needed
 mod Near
 mod Uses
 mod Sound
-pub mod InterfaceTypes
 pub mod InterfaceNeeds
 mod RootTypes
 mod Staying
 pub mod ExportedInterfaces
 pub mod RootItems
 pub mod Usable
+pub mod OwnResources
+pub mod InterfaceTypes

@@ -82,10 +82,6 @@ same_kind : (k : TypeDefKind) → is_resource k ≡ is_resource_kind k
 same_kind kinds.Resource = refl
 same_kind k = refl
 
-not_true : (b : Bool) → not b ≡ true → b ≡ false
-not_true false e = refl
-not_true true e = absurd (true≢false (sym e))
-
 -- what is another interface than this one
 abbrev other_than : InterfaceId → Option InterfaceId → Option InterfaceId
 other_than here None = None
@@ -96,58 +92,70 @@ foreign_here here (owners.Interface i) = refl
 foreign_here here (owners.World w) = refl
 foreign_here here owners.«None» = refl
 
--- the owner and the name of a type that is at home in an interface, by its interface
-abbrev owned_home : (ℕ → Bool) → InterfaceId → ℕ → Option InterfaceId → Option (List ℕ) → Bool
-owned_home lent here n owner name = elim (other_than here owner) [ Some other ↦ lent n && is_some name | None ↦ is_none name || is_some owner ]
+-- the owner and the name of a type that is at home in an interface, by its interface, where it is one of values or a resource
+abbrev pub home_by : (ℕ → Bool) → ℕ → Bool → Option InterfaceId → Option InterfaceId → Option (List ℕ) → Bool
+home_by lent n resource other owner name = elim other [ Some i ↦ lent n && is_some name | None ↦ if resource then lent n && (is_some name && is_some owner) else is_none name || is_some owner ]
 
-abbrev home_by : (ℕ → Bool) → ℕ → Option InterfaceId → Option InterfaceId → Option (List ℕ) → Bool
-home_by lent n other owner name = elim other [ Some i ↦ lent n && is_some name | None ↦ is_none name || is_some owner ]
+abbrev owned_home : (ℕ → Bool) → InterfaceId → ℕ → Bool → Option InterfaceId → Option (List ℕ) → Bool
+owned_home lent here n resource owner name = home_by lent n resource (other_than here owner) owner name
 
-owner_home : (types : List TypeDef) (lent : ℕ → Bool) (here : InterfaceId) (n : ℕ) →
-    home_by lent n (foreign (Some here) (owner_at types n)) (foreign None (owner_at types n)) (settings.name_at types n) ≡ owned_home lent here n (interface_at types n) (name_at types n)
-owner_home types lent here n =
-    ap (λ i. home_by lent n i (foreign None (owner_at types n)) (settings.name_at types n)) (foreign_here here (owner_at types n))
-    ∙ (ap (λ i. owned_home lent here n i (settings.name_at types n)) (at_root types n)
-    ∙ ap (owned_home lent here n (interface_at types n)) (same_name types n))
+owner_home : (types : List TypeDef) (lent : ℕ → Bool) (here : InterfaceId) (n : ℕ) (resource : Bool) →
+    home_by lent n resource (foreign (Some here) (owner_at types n)) (foreign None (owner_at types n)) (settings.name_at types n) ≡ owned_home lent here n resource (interface_at types n) (name_at types n)
+owner_home types lent here n resource =
+    ap (λ i. home_by lent n resource i (foreign None (owner_at types n)) (settings.name_at types n)) (foreign_here here (owner_at types n))
+    ∙ (ap (λ i. owned_home lent here n resource i (settings.name_at types n)) (at_root types n)
+    ∙ ap (owned_home lent here n resource (interface_at types n)) (same_name types n))
 
 module _ (types : List TypeDef) (lent : ℕ → Bool) (lends : InterfaceId → Bool) (here : InterfaceId) (n : ℕ) (given : (other : InterfaceId) → interface_at types n ≡ Some other → lends other ≡ true → lent n ≡ true) where
   -- whether the owner of a type is this interface, or one that lends it under a name; or there is neither
-  abbrev owned_by : Option InterfaceId → Option (List ℕ) → Bool
-  owned_by owner name = elim owner [ Some id ↦ here.index == id.index || (lends id && is_some name) | None ↦ is_none name ]
+  abbrev owned_by : Bool → Option InterfaceId → Option (List ℕ) → Bool
+  owned_by resource owner name = elim owner [ Some id ↦ here.index == id.index && not resource || (lends id && is_some name) | None ↦ is_none name && not resource ]
 
-  owned : (owner : Option InterfaceId) (name : Option (List ℕ)) → interface_at types n ≡ owner → owned_by owner name ≡ true → owned_home lent here n owner name ≡ true
-  owned None name is e = or_left (is_none name) false e
-  owned (Some id) name is e = by (here.index == id.index) e
+  owned : (resource : Bool) (owner : Option InterfaceId) (name : Option (List ℕ)) → interface_at types n ≡ owner → owned_by resource owner name ≡ true → owned_home lent here n resource owner name ≡ true
+  owned true None name is e = absurd (true≢false (sym (and_parts (is_none name) false e).1))
+  owned false None name is e = or_left (is_none name) false (and_parts (is_none name) true e).0
+  owned resource (Some id) name is e =
+      by (here.index == id.index) resource e
     where
-      by : (b : Bool) → (b || (lends id && is_some name)) ≡ true → home_by lent n (if b then None else Some id) (Some id) name ≡ true
-      by true e = or_right (is_none name) true refl
-      by false e = let b = and_parts (lends id) (is_some name) e in and_from (lent n) (is_some name) (given id is b.0) b.1
+      is_lent : lends id && is_some name ≡ true → (lent n ≡ true) × (is_some name ≡ true)
+      is_lent h = let b = and_parts (lends id) (is_some name) h in (given id is b.0, b.1)
+
+      by : (own resource : Bool) → (own && not resource || (lends id && is_some name)) ≡ true → home_by lent n resource (if own then None else Some id) (Some id) name ≡ true
+      by true false e = or_right (is_none name) true refl
+      by true true e = let h = is_lent e in and_from (lent n) (is_some name && true) h.0 (and_from (is_some name) true h.1 refl)
+      by false resource e = let h = is_lent e in and_from (lent n) (is_some name) h.0 h.1
 
   pub home_of : (k : TypeDefKind) → is_of_interface types lends here n k ≡ true → is_at_home types lent here n k ≡ true
   home_of k e =
-      let b = and_parts (not (is_resource_kind k)) (owned_by (interface_at types n) (name_at types n)) e in
-      and_from (not (is_resource k)) (home_by lent n (foreign (Some here) (owner_at types n)) (foreign None (owner_at types n)) (settings.name_at types n)) (ap not (same_kind k) ∙ b.0)
-      (owner_home types lent here n ∙ owned (interface_at types n) (name_at types n) refl b.1)
+      owner_home types lent here n (is_resource k)
+      ∙ owned (is_resource k) (interface_at types n) (name_at types n) refl (ap (λ b. owned_by b (interface_at types n) (name_at types n)) (same_kind k) ∙ e)
+
+-- a type of the interface that is not lent is one of values
+pub own_values : (lent : ℕ → Bool) (n : ℕ) (k : TypeDefKind) (owner : Option InterfaceId) (name : Option (List ℕ)) → lent n ≡ false → home_by lent n (is_resource k) None owner name ≡ true → is_resource k ≡ false
+own_values lent n k owner name unlent e = by (is_resource k) e
+  where
+    by : (r : Bool) → home_by lent n r None owner name ≡ true → r ≡ false
+    by false e = refl
+    by true e = absurd (true≢false (sym (and_parts (lent n) (is_some name && is_some owner) e).0 ∙ unlent))
 
 -- ---- a type that is at home in an interface may be encoded in a scope of it
 
 module _ (s : Setting) (here : InterfaceId) (back : RefersBack s.types) (inside : s.interface ≡ Some here) (own : (n : ℕ) → s.may_own n ≡ true) (lent : ℕ → Bool)
-    (may : (n : ℕ) (other : InterfaceId) → foreign (Some here) (owner_at s.types n) ≡ Some other → lent n ≡ true → s.may_import other (record { index = n }) ≡ true) where
+    (may : (n : ℕ) (other : InterfaceId) → foreign (Some here) (owner_at s.types n) ≡ Some other → lent n ≡ true → s.may_import other (record { index = n }) ≡ true)
+    (unlent : (n : ℕ) → foreign (Some here) (owner_at s.types n) ≡ None → lent n ≡ false) where
   made_allowed : (n : ℕ) (bs : List Bool) → is_at_home s.types lent here n (kind_at s.types n) ≡ true → AllByRecursion (λ b. b ≡ true) bs → may_have s n (kind_at s.types n) bs ≡ true
-  made_allowed n bs e h = by (s.met (record { index = n })) (foreign (Some here) (owner_at s.types n)) refl b.1
+  made_allowed n bs e h = by (s.met (record { index = n })) (foreign (Some here) (owner_at s.types n)) refl e
     where
       k : TypeDefKind
       k = kind_at s.types n
 
-      b : (not (is_resource k) ≡ true) × (home_by lent n (foreign (Some here) (owner_at s.types n)) (foreign None (owner_at s.types n)) (settings.name_at s.types n) ≡ true)
-      b = and_parts (not (is_resource k)) (home_by lent n (foreign (Some here) (owner_at s.types n)) (foreign None (owner_at s.types n)) (settings.name_at s.types n)) e
-
       of : (o : Option InterfaceId) → foreign (Some here) (owner_at s.types n) ≡ o → may_make s n k bs (foreign s.interface (owner_at s.types n)) ≡ may_make s n k bs o
       of o is = ap (may_make s n k bs) (ap (λ i. foreign i (owner_at s.types n)) inside ∙ is)
 
-      by : (met : Bool) (o : Option InterfaceId) → foreign (Some here) (owner_at s.types n) ≡ o → home_by lent n o (foreign None (owner_at s.types n)) (settings.name_at s.types n) ≡ true → (if met then true else may_make s n k bs (foreign s.interface (owner_at s.types n))) ≡ true
+      by : (met : Bool) (o : Option InterfaceId) → foreign (Some here) (owner_at s.types n) ≡ o → home_by lent n (is_resource k) o (foreign None (owner_at s.types n)) (settings.name_at s.types n) ≡ true → (if met then true else may_make s n k bs (foreign s.interface (owner_at s.types n))) ≡ true
       by true o is e = refl
-      by false None is e = of None is ∙ and_from (s.may_own n) (may_define s n k bs) (own n) (of_parts s n k bs (not_true (is_resource k) b.0) (all_tests (λ (b : Bool). b) bs h))
+      by false None is e =
+          of None is ∙ and_from (s.may_own n) (may_define s n k bs) (own n) (of_parts s n k bs (own_values lent n k (foreign None (owner_at s.types n)) (settings.name_at s.types n) (unlent n is) e) (all_tests (λ (b : Bool). b) bs h))
       by false (Some other) is e = let c = and_parts (lent n) (is_some (settings.name_at s.types n)) e in of (Some other) is ∙ may n other is c.0
 
   pub home_allowed : (p : Option Ty) → value (each_passes (is_at_home s.types lent here)) s.types p ≡ true → is_allowed s p ≡ true

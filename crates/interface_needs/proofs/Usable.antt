@@ -1,7 +1,8 @@
 -- Of which interface a type is that an exported interface may use.
-use Rattle.std.proofs.Common.{◌≡◌, ◌∙◌, ◌⊎◌, ◌&&◌, ◌||◌, not, inl, inr, ℕ, Bool, true, false, true≢false, List, map, refl, ap, sym, subst, Option, Some, None, is_some, is_none}
+use Rattle.std.proofs.Common.{◌≡◌, ◌∙◌, ◌⊎◌, ◌&&◌, ◌||◌, not, inl, inr, ℕ, Bool, true, false, true≢false, List, map, refl, ap, sym, subst, Option, Some, None, is_some, is_none, if◌then◌else◌}
 use Rattle.std.specs.List.{list_all}
-use Rattle.std.proofs.lemmas.Bool.{and_parts}
+use Rattle.std.proofs.lemmas.Bool.{and_parts, or_cases}
+use Rattle.std.proofs.lemmas.Bool.Decides.{Decides-eqb}
 use Rattle.wit_data.specs.declared.ids.InterfaceId.{InterfaceId}
 use Rattle.wit_data.specs.declared.ids.TypeId.{TypeId}
 use Rattle.wit_data.specs.declared.types.TypeDefKind.{TypeDefKind}
@@ -17,8 +18,8 @@ use Rattle.comp_worlds.specs.WorldContents.{interface_at}
 use Rattle.comp_worlds.specs.declared.world.ComponentWorld.{ComponentWorld}
 use Rattle.comp_links.specs.Lists.{IsNeededType}
 use Rattle.interface_needs.specs.RootNeeds.{is_lent_type, IsUsableType}
-use Rattle.interface_needs.proofs.ExportedInterfaces.{lent_needed}
-use Rattle.interface_needs.proofs.Owners.{own_or_none, of_other, at_root, same_name}
+use Rattle.interface_needs.proofs.ExportedInterfaces.{lent_needed, unlent}
+use Rattle.interface_needs.proofs.Owners.{own_or_none, of_other, owner_of, at_root, same_name}
 
 -- a type that is lent is one that a component needs of an interface that is only imported
 lent_from : (w : ComponentWorld) (t : TypeId) (other : InterfaceId) → interface_at w.resolve.types t.index ≡ Some other → is_lent_type w t.index ≡ true → IsNeededType w t
@@ -36,33 +37,38 @@ module _ (w : ComponentWorld) (ok : IsEncodable w) (id : InterfaceId) (t : TypeI
   kind = kind_at w.resolve.types n
 
   -- whether it is at home, by the interface that owns it, where that is another one
+  abbrev here : Bool
+  here =
+      if is_resource kind then is_lent_type w n && (is_some (settings.name_at w.resolve.types n) && is_some (foreign None (owner_at w.resolve.types n)))
+      else is_none (settings.name_at w.resolve.types n) || is_some (foreign None (owner_at w.resolve.types n))
+
   abbrev by_owner : Option InterfaceId → Bool
-  by_owner o = elim o [
-    | Some other ↦ is_lent_type w n && is_some (settings.name_at w.resolve.types n)
-    | None ↦ is_none (settings.name_at w.resolve.types n) || is_some (foreign None (owner_at w.resolve.types n))
-  ]
+  by_owner o = elim o [ Some other ↦ is_lent_type w n && is_some (settings.name_at w.resolve.types n) | None ↦ here ]
 
   is_home : by_owner (foreign (Some id) (owner_at w.resolve.types n)) ≡ true
   is_home =
       let test : ℕ → TypeDefKind → Bool = is_at_home w.resolve.types (is_lent_type w) id in
       let whole = sym (made_whole (each_passes test) w.resolve.types n ok.sound.back h.within) ∙ h.passes in
-      let first = and_parts (test n kind) (list_all (λ b. b) (map (value (each_passes test) w.resolve.types) (parts kind))) whole in
-      (and_parts (not (is_resource kind)) (by_owner (foreign (Some id) (owner_at w.resolve.types n))) first.0).1
+      (and_parts (test n kind) (list_all (λ b. b) (map (value (each_passes test) w.resolve.types) (parts kind))) whole).0
 
   named : is_some (settings.name_at w.resolve.types n) ≡ true
   named = ap is_some (same_name w.resolve.types n) ∙ h.named
 
   -- a type of no interface has no name
-  owned : by_owner None ≡ true → interface_at w.resolve.types n ≡ None → ⊥
+  owned : here ≡ true → interface_at w.resolve.types n ≡ None → ⊥
   owned e none =
       let root : is_some (foreign None (owner_at w.resolve.types n)) ≡ false = ap is_some (at_root w.resolve.types n ∙ none) in
-      by (is_none (settings.name_at w.resolve.types n)) refl (sym (ap (λ b. is_none (settings.name_at w.resolve.types n) || b) root) ∙ e)
+      by (is_resource kind) (is_some (foreign None (owner_at w.resolve.types n))) root e
     where
-      by : (b : Bool) → is_none (settings.name_at w.resolve.types n) ≡ b → (b || false) ≡ true → ⊥
-      by true none e = unnamed (settings.name_at w.resolve.types n) named none
-      by false none e = true≢false (sym e)
+      by : (resource owner : Bool) → owner ≡ false → (if resource then is_lent_type w n && (is_some (settings.name_at w.resolve.types n) && owner) else is_none (settings.name_at w.resolve.types n) || owner) ≡ true → ⊥
+      by true owner none e =
+          let b = and_parts (is_lent_type w n) (is_some (settings.name_at w.resolve.types n) && owner) e in
+          true≢false (sym (and_parts (is_some (settings.name_at w.resolve.types n)) owner b.1).1 ∙ none)
+      by false owner none e = elim (or_cases (is_none (settings.name_at w.resolve.types n)) owner e) [
+        | inl nameless ↦ unnamed (settings.name_at w.resolve.types n) named nameless
+        | inr has ↦ true≢false (sym has ∙ none)
+      ]
 
-  -- the type is of the interface, or a component needs it of one that is only imported
   pub usable_from : (interface_at w.resolve.types t.index ≡ Some id) ⊎ IsNeededType w t
   usable_from = by (foreign (Some id) (owner_at w.resolve.types n)) refl
     where
@@ -74,3 +80,21 @@ module _ (w : ComponentWorld) (ok : IsEncodable w) (id : InterfaceId) (t : TypeI
         | inl none ↦ absurd (owned (ap by_owner (sym is) ∙ is_home) none)
         | inr own ↦ inl own
       ]
+
+  -- one of the interface is no resource
+  pub own_values : interface_at w.resolve.types n ≡ Some id → is_resource kind ≡ false
+  own_values own =
+      by (is_resource kind) refl (ap by_owner (sym here_is) ∙ is_home)
+    where
+      here_is : foreign (Some id) (owner_at w.resolve.types n) ≡ None
+      here_is =
+          ap (foreign (Some id)) (owner_of w.resolve.types n id own)
+          ∙ ap (λ b. if b then None else Some id) ((Decides-eqb id.index id.index).1 refl)
+
+      by : (resource : Bool) → is_resource kind ≡ resource →
+          (if resource then is_lent_type w n && (is_some (settings.name_at w.resolve.types n) && is_some (foreign None (owner_at w.resolve.types n))) else is_none (settings.name_at w.resolve.types n) || is_some (foreign None (owner_at w.resolve.types n))) ≡ true →
+          resource ≡ false
+      by false is e = refl
+      by true is e =
+          let lent = (and_parts (is_lent_type w n) (is_some (settings.name_at w.resolve.types n) && is_some (foreign None (owner_at w.resolve.types n))) e).0 in
+          absurd (true≢false (sym lent ∙ unlent w ok id h.exported n here_is))

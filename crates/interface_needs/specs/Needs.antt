@@ -6,7 +6,7 @@ use Rattle.std.specs.Map.{keys_of}
 use Rattle.std.specs.Str.{bytes_eq}
 use Rattle.comp_lists.specs.Found.{found}
 use Rattle.comp_trees.specs.DefinedTrees.{TypeTree}
-use Rattle.comp_trees.specs.Inventories.{surroundings_of}
+use Rattle.comp_inventories.specs.Inventories.{surroundings_of}
 use Rattle.wit_data.specs.declared.functions.Function.{Function}
 use Rattle.wit_data.specs.declared.ids.InterfaceId.{InterfaceId}
 use Rattle.wit_data.specs.declared.ids.TypeId.{TypeId}

@@ -32,7 +32,7 @@ use Rattle.wit_data.specs.declared.functions.AbiVariant.TheVariants.{GuestImport
 use Rattle.comp_trees.specs.Trees.{Origin, Resource, ResourceAt, FunctionTree}
 use Rattle.comp_trees.specs.DefinedTrees.{TypeTree, OfValues, OfFunctions}
 use Rattle.comp_trees.specs.DefinedScopes.{Denotes}
-use Rattle.comp_trees.specs.Inventories.{TypeEntry, OfInstances, FunctionEntry, InstanceEntry, entry_tree, no_function, inventory, scope_of}
+use Rattle.comp_inventories.specs.Inventories.{TypeEntry, OfInstances, FunctionEntry, InstanceEntry, entry_tree, no_function, inventory, scope_of}
 use Rattle.world_values.specs.Items.{functions_of, root_function_at}
 use Rattle.comp_roles.specs.CoreImports.{fields_of}
 use Rattle.comp_roles.specs.CoreTypes.{called_type}
@@ -272,7 +272,7 @@ module _ {w : ComponentWorld} {earlier : List Def} {c : Scope} {s : Store} (a : 
   pub type_there : {index : ℕ} {type : FunctionTree} → IsFunctionType earlier index type → IsTypeAt c.items s index type
   type_there {index} {type} h =
       let x = held_there h.denotes in
-      record { address = x.0; at = x.1; is = x.2.present ∙ ap (λ (i : TypeItem). Some i) (item_of_functions x.0 x.2.item type x.2.denotes) }
+      record { address = x.0; at = x.1; is = x.2.present ∙ ap (λ (i : TypeItem). Some i) (item_of_functions x.2.item type x.2.denotes) }
 
   -- the type of instances of this index
   pub instance_type_there : (index : ℕ) (outer : List TypeTree) (members : List Member) → slice_get (inventory earlier).types index ≡ Some (OfInstances outer members) →

@@ -27,8 +27,8 @@ use Rattle.comp_worlds.specs.WorldContents.{items_of, imported_types}
 use Rattle.comp_worlds.specs.declared.world.ComponentWorld.{ComponentWorld}
 use Rattle.comp_trees.specs.Trees.{ImportedAt, ResourceAt}
 use Rattle.comp_trees.specs.DefinedTrees.{TypeTree, OfValues}
-use Rattle.comp_trees.specs.Inventories.{Inventory, entry_tree, no_type, trees_in, types_made, imported_type, imports_made, with_def, inventory_after, inventory, scope_of, empty_inventory}
-use Rattle.comp_trees.proofs.Inventories.{inventory-push}
+use Rattle.comp_inventories.specs.Inventories.{Inventory, entry_tree, no_type, trees_in, types_made, imported_type, imports_made, with_def, inventory_after, inventory, scope_of, empty_inventory}
+use Rattle.comp_inventories.proofs.Inventories.{inventory-push}
 use Rattle.comp_links.specs.Naming.{Naming}
 use Rattle.comp_links.specs.Lists.{ImportEntry, ImportedInterface, WorldType, RootFunction, import_entries, unless_empty, interface_entry, names_of_interface, type_of_world, Stated, stated_import, stated_imports, stated_types, described_sort}
 use Rattle.comp_links.specs.Roles.{used_functions}

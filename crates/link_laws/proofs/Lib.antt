@@ -3,6 +3,7 @@ mod Stores
 mod Kept
 pub mod Plain
 mod Given
+mod GivenTypes
 mod UserExports
 pub mod Steps
 pub mod InstanceSteps

@@ -28,20 +28,21 @@ use Rattle.comp_worlds.specs.Worlds.{IsWorld}
 use Rattle.comp_worlds.specs.declared.world.ComponentWorld.{ComponentWorld}
 use Rattle.comp_trees.specs.Trees.{FunctionTree}
 use Rattle.comp_trees.specs.DefinedTrees.{TypeTree}
-use Rattle.comp_trees.specs.Inventories.{FunctionEntry, InstanceEntry, OtherInstance, no_function, inventory}
+use Rattle.comp_inventories.specs.Inventories.{FunctionEntry, InstanceEntry, OtherInstance, no_function, argument_named, nested_exports, inventory}
 use Rattle.nested_terms.specs.Nested.{NestedImport, ImportedFunction, ImportedType, NestedExport, empty_scope, type_named, imports_after, exports_after, AreItemsRight}
 use Rattle.comp_links.specs.Targets.{Main, TargetOption, Lifted}
 use Rattle.comp_links.specs.Lists.{functions_required, types_in, types_required, type_of_world}
 use Rattle.comp_links.specs.Links.{lift_options}
 use Rattle.world_values.specs.Items.{functions_in}
 use Rattle.comp_terms.specs.Planned.{type_of_function, IsLiftFor}
-use Rattle.comp_terms.specs.Exports.{argument_named, IsImportGiven, IsArgumentIn, IsArgumentRight, InstantiatesNested, exports_in, IsRequiredLift, ExportsFunction, PassesOn, ExportsTypes, ExportsInterface}
-use Rattle.comp_runs.specs.Store.{Thing, Export, ComponentItem, ModuleInstance, Store}
+use Rattle.comp_terms.specs.Exports.{IsImportGiven, IsArgumentIn, IsArgumentRight, InstantiatesNested, exports_in, IsRequiredLift, ExportsFunction, PassesOn, ExportsTypes, ExportsInterface}
+use Rattle.comp_runs.specs.Store.{Thing, Export, TypeItem, ComponentItem, ModuleInstance, Store}
 use Rattle.comp_runs.specs.Machine.{Scope, Machine, address_at, is_of, export_in, export_of, all_some}
 use Rattle.comp_runs.specs.Running.{argument, run}
-use Rattle.instance_laws.specs.Instantiated.{IsHeldAs}
+use Rattle.instance_laws.specs.Instantiated.{IsHeldAs, FindsType}
+use Rattle.instance_laws.specs.InstanceEntries.{HasTypesOf}
 use Rattle.instance_laws.proofs.Held.{keeps_same, keeps_more, keeps_grown}
-use Rattle.nested_laws.specs.NestedRuns.{AreGiven, IsGiven, AreNestedExports, RunsNested, FindsArgument, FindsNestedType}
+use Rattle.nested_laws.specs.NestedRuns.{AreGiven, IsGiven, AreNestedExports, RunsNested, FindsArgument}
 use Rattle.nested_laws.proofs.Kept.{is_function, is_type, AreGiven-kept}
 use Rattle.nested_laws.proofs.Instance.{nested_runs}
 use Rattle.nested_laws.proofs.Exports.{front, other_space, finds_argument, finds_nested_type, address_of_argument}
@@ -51,6 +52,7 @@ use Rattle.link_laws.specs.Linking.{module_meanings}
 use Rattle.link_laws.proofs.Zips.{all_some-self, AllZip-back, mapped_some}
 use Rattle.link_laws.proofs.Stores.{IsComponentHeld, IsArgumentHeld, IsNestedInstance, IsFunctionEntry, IsInstanceThing, IsLiftedFrom, main_key, main_function, type_at_key, IsRequiredAt, IsAmong, IsTypeAmong, IsItemExport, IsKeyExport, Agrees}
 use Rattle.link_laws.proofs.Kept.{Keeps, shims_same, address_at-append, things_kept, keeps_store, keeps_component, IsPlannedUser-kept, AreKeyExports-push}
+use Rattle.link_laws.proofs.GivenTypes.{exports_given}
 use Rattle.link_laws.proofs.Given.{thing_there, address_there, held_there, function_at, lift_there, found_name, by_parts}
 use Rattle.link_laws.proofs.Steps.{machine, no_answers, quiet, Steps, filter-push, Makes, agrees_with, shims_beside, quiet_step}
 
@@ -125,6 +127,14 @@ module _ {w : ComponentWorld} {earlier : List Def} {c : Scope} {s : Store} (a : 
       let t : (x : ℕ) × (address_at spaces.Type h.argument.index c.items ≡ Some x) × IsHeldAs s.types tree x = held_there a h.denotes in
       record { export = y.export; found = y.found; is = subst (IsHeldAs s.types tree) (same_Some t.0 y.export.address (sym t.1 ∙ y.at)) t.2 }
 
+  -- its instance has the types that the inventory says
+  nested_types : {component : ℕ} {written : List Argument} (h : InstantiatesNested earlier component written) (held : List Export) (types : List TypeItem) (made : List Export) →
+      AreNestedExports types held (exports_after h.given empty_scope h.definitions) made → HasTypesOf (nested_exports (inventory earlier) component written) types made
+  nested_types {component} {written} h held types made each = record {
+    each = λ name tree named. finds_nested_type types held name (exports_after h.given empty_scope h.definitions) made tree each
+        (ap (type_named name) (sym (exports_given earlier component written h)) ∙ named);
+  }
+
   pub step_nested : (component : ℕ) (written : List Argument) → InstantiatesNested earlier component written → Steps w gen earlier c s g (defs.Item (items.Instantiate component written))
   step_nested component written h =
       let d : Def = defs.Item (items.Instantiate component written) in
@@ -166,7 +176,7 @@ module _ {w : ComponentWorld} {earlier : List Def} {c : Scope} {s : Store} (a : 
           each = subst (λ (is : List Item). AreNestedExports r.types held.0 (exports_after h.given empty_scope is) r.exports) x.2.same r.each;
         };
       })
-      (tt, tt, (record { exports = r.exports; present = slice_get-end s.instances r.exports; is = tt }, tt)) refl refl refl refl refl refl a.imports
+      (tt, tt, (record { exports = r.exports; present = slice_get-end s.instances r.exports; is = nested_types h held.0 r.types r.exports (subst (λ (is : List Item). AreNestedExports r.types held.0 (exports_after h.given empty_scope is) r.exports) x.2.same r.each) }, tt)) refl refl refl refl refl refl a.imports
 
   -- ---- exports
 
@@ -257,7 +267,7 @@ module _ {w : ComponentWorld} {earlier : List Def} {c : Scope} {s : Store} (a : 
     types_there : (ts : List (List ℕ × TypeId)) → AllByRecursion (λ t. type_named t.0 exported ≡ Some (type_of_world w t.1)) ts → AllByRecursion (IsTypeAmong w s n.exports) (map (type_at_key key) ts)
     types_there [] h = tt
     types_there (t ∷ ts) h =
-        let e : FindsNestedType s.types n.exports t.0 (type_of_world w t.1) = finds_nested_type s.types n.arguments t.0 exported n.exports (type_of_world w t.1) n.each h.0 in (
+        let e : FindsType s.types n.exports t.0 (type_of_world w t.1) = finds_nested_type s.types n.arguments t.0 exported n.exports (type_of_world w t.1) n.each h.0 in (
           record {
             address = e.export.address;
             found = e.found ∙ ap (λ (x : Export). Some x) (by_parts e.export spaces.Type t.0 e.space (found_name t.0 (filter (export_in spaces.Type) n.exports) e.export e.found));

@@ -30,8 +30,8 @@ use Rattle.comp_worlds.specs.declared.world.ComponentWorld.{ComponentWorld}
 use Rattle.comp_links.specs.Naming.{Naming}
 use Rattle.comp_links.specs.Modules.{WorldModule, user_modules}
 use Rattle.comp_links.specs.Lists.{resource_of, AreExportsApart}
-use Rattle.comp_trees.specs.Inventories.{Inventory}
-use Rattle.comp_trees.proofs.Inventories.{inventory-empty}
+use Rattle.comp_inventories.specs.Inventories.{Inventory}
+use Rattle.comp_inventories.proofs.Inventories.{inventory-empty}
 use Rattle.core_types.specs.declared.types.ValType.{ValType}
 use Rattle.core_runs.specs.Bodies.{table_shim}
 use Rattle.core_runs.specs.Store.{Generated, Answer, Now, Event, Instantiated}

@@ -183,7 +183,7 @@ module _ (w : ComponentWorld) (ok : IsWorld w) (m : Machine) where
   drop_meets : (address at : ℕ) (id : TypeId) → IsDropOf m.store at (resource_of w id) → Forwards w ok m address at drop_core → CoreMeets w m None address (ItemIsDrop m (resource_of w id))
   drop_meets address at id h same =
       forwarding_meets w ok m None address at drop_core (IntrinsicOf (intrinsics.ResourceDrop h.of)) (ItemIsDrop m (resource_of w id)) same h.is
-      (ap (λ o. elim o [ None ↦ OfOthers | Some i ↦ item_tree h.of i ]) h.held.present ∙ h.held.denotes)
+      (ap (λ o. elim o [ None ↦ OfOthers | Some i ↦ item_tree i ]) h.held.present ∙ h.held.denotes)
 
   export_meets : (address at : ℕ) (export_ref : ExportRef) (h : IsExportServed w m.store at export_ref) → Forwards w ok m address at h.is.type → CoreExportMeets w m None address export_ref
   export_meets address at export_ref h same =

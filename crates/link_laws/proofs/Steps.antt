@@ -34,10 +34,11 @@ use Rattle.comp_bytes.specs.declared.def.Item.TheVariants as items
 use Rattle.comp_bytes.specs.declared.def.Def.{Def}
 use Rattle.comp_bytes.specs.declared.def.Def.TheVariants as defs
 use Rattle.comp_worlds.specs.Worlds.{IsWorld}
-use Rattle.comp_trees.specs.Trees.{Origin, ImportedAt, DefinedAt, ResourceAt, FunctionTree, is_known}
+use Rattle.comp_trees.specs.Trees.{Origin, Resource, ImportedAt, DefinedAt, ResourceAt, FunctionTree, is_known}
 use Rattle.comp_trees.specs.DefinedTrees.{TypeTree, OfValues, OfFunctions, OfOthers, function_tree, defined_tree}
 use Rattle.comp_trees.specs.DefinedScopes.{type_tree}
-use Rattle.comp_trees.specs.Inventories.{Inventory, OfInstances, InstanceEntry, ImportedInstance, OtherInstance, entry_tree, no_type, type_of_instance, function_of_instance, instance_imported, types_made, functions_made, instances_made, imports_made, surroundings_of, inventory, scope_of}
+use Rattle.nested_terms.specs.Nested.{type_named}
+use Rattle.comp_inventories.specs.Inventories.{Inventory, OfInstances, InstanceEntry, Denoting, ImportedInstance, NestedInstance, OtherInstance, entry_tree, no_type, type_if_named, type_of_instance, function_of_instance, instance_imported, types_made, functions_made, instances_made, imports_made, surroundings_of, inventory, scope_of}
 use Rattle.comp_trees.specs.Members.{AreMembersRight}
 use Rattle.comp_terms.specs.Generated.{shims_number, fixup_number}
 use Rattle.comp_terms.specs.Terms.{IsInstanceOf, imports_in}
@@ -47,7 +48,7 @@ use Rattle.shim_runs.proofs.Exported.{shims_found}
 use Rattle.comp_roles.specs.CoreTypes.{core_type}
 use Rattle.comp_trees.specs.Flattening.{tree_signature}
 use Rattle.wit_data.specs.declared.functions.AbiVariant.TheVariants.{GuestImport, GuestImportAsync}
-use Rattle.comp_trees.proofs.Inventories.{inventory-push}
+use Rattle.comp_inventories.proofs.Inventories.{inventory-push}
 use Rattle.core_types.specs.declared.types.FuncType.{FuncType}
 use Rattle.comp_worlds.specs.declared.world.ComponentWorld.{ComponentWorld}
 use Rattle.core_types.specs.declared.types.ValType.{ValType}
@@ -60,7 +61,7 @@ use Rattle.comp_links.specs.Modules.{WorldModule}
 use Rattle.comp_roles.specs.declared.offered.ExternType.{ExternType}
 use Rattle.comp_roles.specs.declared.offered.ExternType.TheVariants as externs
 use Rattle.comp_roles.specs.declared.offered.ImportType.{ImportType}
-use Rattle.comp_terms.specs.Rules.{AliasesUser, AliasesShim, IsEntry, AreEntries, AliasesImported, HasFunctionType, HasResource, HasImportedFunction, IsOptionRight, IsLowerOptionRight, IsTypeRight}
+use Rattle.comp_terms.specs.Rules.{AliasesUser, AliasesShim, IsEntry, AreEntries, AliasesImported, AliasesNested, AliasesType as MayAliasType, HasFunctionType, HasResource, HasImportedFunction, IsOptionRight, IsLowerOptionRight, IsTypeRight}
 use Rattle.comp_runs.specs.Machine.{Scope, Machine, Outcome, Done, Trapped, Open, Stuck, with_some, address_at, is_of, export_named, all_some, resumed, with_opaque}
 use Rattle.comp_runs.specs.Instances.{matching, argument_for, type_kind, given_to, type_scope, known_function, type_item}
 use Rattle.comp_runs.specs.Signatures.{is_async, core_signature}
@@ -69,7 +70,7 @@ use Rattle.instance_laws.specs.Instantiated.{IsHeldAs}
 use Rattle.instance_laws.specs.InstanceEntries.{IsInstanceType, IsInstanceEntry, RunsImport, AliasesFunction, AliasesType}
 use Rattle.instance_laws.proofs.Held.{keeps_same, keeps_more, keeps_grown, AreHeldAs-kept}
 use Rattle.instance_laws.proofs.Members.{each_joined}
-use Rattle.instance_laws.proofs.Importing.{instance_type_made, import_runs, aliases_function, aliases_type}
+use Rattle.instance_laws.proofs.Importing.{instance_type_made, import_runs, aliases_function, aliases_type, aliases_nested_type}
 use Rattle.link_laws.specs.Composition.{GeneratedModules, at_root, item_instantiates}
 use Rattle.link_laws.specs.Linking.{module_meanings, LetsRun}
 use Rattle.link_laws.proofs.Zips.{all_some-self}
@@ -218,14 +219,14 @@ synchronous things [] (x ∷ xs) h = absurd h
 synchronous things (o ∷ os) [] h = absurd h
 
 -- a type that keeps its rule is held as what it denotes
-type_made : (scope : List TypeTree) (t : TypeDef) → IsTypeRight scope t → (m : Machine) → type_scope m ≡ scope → type_item t m ≡ Some (TreeOf (type_tree scope (DefinedAt 0) t))
-type_made scope (types.Func f) h m e =
+type_made : (scope : List TypeTree) (resource : Resource) (t : TypeDef) → IsTypeRight scope t → (m : Machine) → type_scope m ≡ scope → type_item t m ≡ Some (TreeOf (type_tree scope resource t))
+type_made scope resource (types.Func f) h m e =
     ap (λ sc. option_map (λ tree. TreeOf tree) (known_function (function_tree sc f))) e
     ∙ ap (λ b. option_map (λ tree. TreeOf tree) (if b then Some (OfFunctions (function_tree scope f)) else None)) h
-type_made scope (types.Defined t) h m e =
+type_made scope resource (types.Defined t) h m e =
     ap (λ sc. if is_known (defined_tree sc t) then Some (TreeOf (OfValues (defined_tree sc t))) else None) e
     ∙ ap (λ b. if b then Some (TreeOf (OfValues (defined_tree scope t))) else None) h
-type_made scope (types.Resource destructor) h m e = absurd h
+type_made scope resource (types.Resource destructor) h m e = absurd h
 
 -- what an option names doesn't depend on what a run changes
 held_same : (c : Scope) (s : Store) (now : Now) (o : CanonicalOption) → held (machine c s now) o ≡ held (machine c s no_answers) o
@@ -304,7 +305,26 @@ record FindsExport (w : ComponentWorld) (ds : List Def) (c : Scope) (s : Store) 
   pub is : IsAliasedItem w ds c.items s kind instance name export.address
   pub found : export_named name is.exports ≡ Some export
 
+-- the type that an alias finds in an instance
+record FindsAliasIn (earlier : List Def) (m : Machine) (instance : ℕ) (name : List ℕ) : Type 0 where
+  pub of : InstanceEntry
+  pub listed : slice_get (inventory earlier).instances instance ≡ Some of
+  pub is : AliasesType m instance name (entry_tree (type_of_instance name of))
+
+-- an alias of a type denotes something, or nothing that is known
+denotes_alone : (name : List ℕ) (e : InstanceEntry) → type_of_instance name e ≡ Denoting (entry_tree (type_of_instance name e))
+denotes_alone name (ImportedInstance number outer members) = refl
+denotes_alone name (NestedInstance exported) = by (type_named name exported)
+  where
+    by : (o : Option TypeTree) → type_if_named o ≡ Denoting (entry_tree (type_if_named o))
+    by None = refl
+    by (Some tree) = refl
+denotes_alone name OtherInstance = refl
+
 module _ {w : ComponentWorld} {earlier : List Def} {c : Scope} {s : Store} (a : Agrees w earlier c s) (g : ℕ) (gen : GeneratedModules) where
+  abbrev FindsAlias : ℕ → List ℕ → Type 0
+  FindsAlias instance name = FindsAliasIn earlier (machine c s no_answers) instance name
+
   -- the types, functions and instances that this definition makes are those of this item
   abbrev pub Makes : Def → Store → Thing → Type 0
   Makes d s' t =
@@ -386,9 +406,10 @@ module _ {w : ComponentWorld} {earlier : List Def} {c : Scope} {s : Store} (a : 
   step_type type h =
       let d : Def = defs.Item (items.Type type) in
       let t : Thing = record { space = spaces.Type; address = length s.types } in
-      let item : TypeItem = TreeOf (type_tree (scope_of earlier) (DefinedAt 0) type) in
+      let resource : Resource = DefinedAt (inventory earlier).resources in
+      let item : TypeItem = TreeOf (type_tree (scope_of earlier) resource type) in
       let s' : Store = record s { types = s.types ++ item ∷ [] } in
-      quiet_step d c.imports s' t (λ rest now. rw (type_made (scope_of earlier) type h (machine c s now) (scope_there a)) refl) (keeps_type c.items t s item)
+      quiet_step d c.imports s' t (λ rest now. rw (type_made (scope_of earlier) resource type h (machine c s now) (scope_there a)) refl) (keeps_type c.items t s item)
       (record { space = refl; is = tt }) ((record { item = item; present = slice_get-end s.types item; denotes = refl; is = tt }, tt), tt, tt) refl refl refl refl refl refl a.imports
 
   pub step_import : (name : ExternName) (kind : ℕ) → HasFunctionType earlier kind → Steps w gen earlier c s g (defs.Item (items.Import name (descriptions.Func kind)))
@@ -476,18 +497,42 @@ module _ {w : ComponentWorld} {earlier : List Def} {c : Scope} {s : Store} (a : 
       quiet_step d c.imports s t (λ rest now. ap (λ o. with_some o (λ (x : Thing). run (module_meanings w gen) rest (machine (with_thing c x c.imports) s now))) f.at) (keeps_store c.items t s)
       (record { space = refl; is = tt }) (tt, (record { function = Imported f.origin f.type; present = f.present; same = f.same ∙ ap (function_of_instance name) (sym entry) }, tt), tt) refl refl refl refl refl refl a.imports
 
-  pub step_alias_type : (instance : ℕ) (name : List ℕ) → AliasesImported earlier spaces.Type instance name → Steps w gen earlier c s g (defs.Item (items.Alias (aliases.Export exports.Type instance name)))
-  step_alias_type instance name h =
-      let d : Def = defs.Item (items.Alias (aliases.Export exports.Type instance name)) in
+  -- a type that an imported instance exports, and one that an instance of a nested component does
+  alias_of_imported : (instance : ℕ) (name : List ℕ) → AliasesImported earlier spaces.Type instance name → FindsAlias instance name
+  alias_of_imported instance name h =
       let of : InstanceEntry = ImportedInstance h.number h.outer h.members in
       let x = instance_there a instance of h.imported in
-      let entry : get_or (inventory earlier).instances instance OtherInstance ≡ of = get_or_from_slice_get (inventory earlier).instances instance of OtherInstance h.imported in
-      let f : AliasesType (machine c s no_answers) instance name (entry_tree (type_of_instance name of)) =
-      aliases_type (machine c s no_answers) instance x.0 x.2 name h.number h.outer h.members x.1 x.3 x.4 h.exported in
-      let t : Thing = record { space = spaces.Type; address = f.address } in
-      let is : IsTypeEntry s (type_of_instance name of) t = record { item = f.is.item; present = f.is.present; denotes = f.is.denotes; is = tt } in
-      quiet_step d c.imports s t (λ rest now. ap (λ o. with_some o (λ (x : Thing). run (module_meanings w gen) rest (machine (with_thing c x c.imports) s now))) f.at) (keeps_store c.items t s)
+      record {
+        of = of;
+        listed = h.imported;
+        is = aliases_type (machine c s no_answers) instance x.0 x.2 name h.number h.outer h.members x.1 x.3 x.4 h.exported;
+      }
+
+  alias_of_nested : (instance : ℕ) (name : List ℕ) → AliasesNested earlier instance name → FindsAlias instance name
+  alias_of_nested instance name h =
+      let of : InstanceEntry = NestedInstance h.exported in
+      let x = instance_there a instance of h.nested in
+      record {
+        of = of;
+        listed = h.nested;
+        is = subst (AliasesType (machine c s no_answers) instance name) (sym (ap (λ o. entry_tree (type_if_named o)) h.named))
+            (aliases_nested_type (machine c s no_answers) instance x.0 x.2 name h.exported h.tree x.1 x.3 x.4 h.named);
+      }
+
+  step_alias_found : (instance : ℕ) (name : List ℕ) → FindsAlias instance name → Steps w gen earlier c s g (defs.Item (items.Alias (aliases.Export exports.Type instance name)))
+  step_alias_found instance name f =
+      let d : Def = defs.Item (items.Alias (aliases.Export exports.Type instance name)) in
+      let entry : get_or (inventory earlier).instances instance OtherInstance ≡ f.of = get_or_from_slice_get (inventory earlier).instances instance f.of OtherInstance f.listed in
+      let t : Thing = record { space = spaces.Type; address = f.is.address } in
+      let tree = type_of_instance name f.of in
+      let denoting : type_of_instance name f.of ≡ Denoting (entry_tree tree) = denotes_alone name f.of in
+      let is : IsTypeEntry s tree t = subst (λ e. IsTypeEntry s e t) (sym denoting) (record { item = f.is.is.item; present = f.is.is.present; denotes = f.is.is.denotes; is = tt }) in
+      quiet_step d c.imports s t (λ rest now. ap (λ o. with_some o (λ (x : Thing). run (module_meanings w gen) rest (machine (with_thing c x c.imports) s now))) f.is.at) (keeps_store c.items t s)
       (record { space = refl; is = tt }) ((subst (λ e. IsTypeEntry s (type_of_instance name e) t) (sym entry) is, tt), tt, tt) refl refl refl refl refl refl a.imports
+
+  pub step_alias_type : (instance : ℕ) (name : List ℕ) → MayAliasType earlier instance name → Steps w gen earlier c s g (defs.Item (items.Alias (aliases.Export exports.Type instance name)))
+  step_alias_type instance name (inl h) = step_alias_found instance name (alias_of_imported instance name h)
+  step_alias_type instance name (inr h) = step_alias_found instance name (alias_of_nested instance name h)
 
   pub step_drop : (type : ℕ) → HasResource earlier type → Steps w gen earlier c s g (defs.Item (items.Intrinsic (intrinsics.ResourceDrop type)))
   step_drop type h =

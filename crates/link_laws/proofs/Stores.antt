@@ -25,7 +25,7 @@ use Rattle.core_types.specs.declared.types.FuncType.{FuncType}
 use Rattle.core_types.specs.declared.types.ValType.TheVariants.{I32}
 use Rattle.comp_trees.specs.Trees.{Origin, Resource, ResourceAt, FunctionTree}
 use Rattle.comp_trees.specs.DefinedTrees.{OfValues, OfFunctions, TypeTree}
-use Rattle.comp_trees.specs.Inventories.{TypeEntry, Denoting, OfInstances, FunctionEntry, InstanceEntry, entry_tree, inventory}
+use Rattle.comp_inventories.specs.Inventories.{TypeEntry, Denoting, OfInstances, FunctionEntry, InstanceEntry, entry_tree, inventory}
 use Rattle.comp_roles.specs.CoreTypes.{function_type}
 use Rattle.comp_roles.specs.declared.offered.ExternType.{ExternType}
 use Rattle.comp_roles.specs.declared.offered.ExternType.TheVariants as externs
@@ -254,7 +254,7 @@ IsEntryItem types (OfInstances outer members) item = IsInstanceType types outer 
 pub record IsTypeEntry (s : Store) (e : TypeEntry) (t : Thing) : Type 0 where
   pub item : TypeItem
   pub present : slice_get s.types t.address ≡ Some item
-  pub denotes : item_tree t.address item ≡ entry_tree e
+  pub denotes : item_tree item ≡ entry_tree e
   pub is : IsEntryItem s.types e item
 
 -- the function is what the entry of the inventory says

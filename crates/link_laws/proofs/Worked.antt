@@ -44,7 +44,7 @@ use Rattle.core_types.specs.declared.types.MemoryType.{MemoryType}
 use Rattle.comp_roles.specs.declared.offered.ExternType.{ExternType}
 use Rattle.comp_roles.specs.declared.offered.ExternType.TheVariants as externs
 use Rattle.comp_roles.specs.declared.offered.ImportType.{ImportType}
-use Rattle.comp_trees.specs.Inventories.{inventory}
+use Rattle.comp_inventories.specs.Inventories.{inventory}
 use Rattle.comp_roles.specs.CoreTypes.{function_type}
 use Rattle.core_runs.specs.Values.{I32Value}
 use Rattle.core_runs.specs.Store.{Store as CodeStore, Func, Opaque, Cell, Foreign, Answer, Gives, Traps, Event, Instantiated, Called}

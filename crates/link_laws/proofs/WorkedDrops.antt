@@ -36,7 +36,7 @@ use Rattle.comp_worlds.specs.Worlds.{IsResource, IsWorld}
 use Rattle.comp_worlds.specs.declared.world.ComponentWorld.{ComponentWorld}
 use Rattle.comp_trees.specs.Trees.{Resource, ImportedAt, ResourceAt}
 use Rattle.comp_trees.specs.DefinedTrees.{TypeTree, OfValues}
-use Rattle.comp_trees.specs.Inventories.{inventory}
+use Rattle.comp_inventories.specs.Inventories.{inventory}
 use Rattle.comp_links.specs.Lists.{resource_of}
 use Rattle.comp_links.specs.Targets.{Main, Dropped}
 use Rattle.comp_terms.specs.Terms.{IsResource as IsResourceAt, IsDropping}

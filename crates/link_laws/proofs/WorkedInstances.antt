@@ -13,7 +13,7 @@ use Rattle.comp_bytes.specs.declared.def.Def.TheVariants as defs
 use Rattle.comp_bytes.specs.declared.def.Item.TheVariants as items
 use Rattle.comp_bytes.specs.declared.space.Space.TheVariants as spaces
 use Rattle.comp_trees.specs.Trees.{Origin}
-use Rattle.comp_trees.specs.Inventories.{inventory, surroundings_of}
+use Rattle.comp_inventories.specs.Inventories.{inventory, surroundings_of}
 use Rattle.comp_trees.specs.Members.{AreMembersRight}
 use Rattle.comp_terms.specs.Rules.{AliasesImported}
 use Rattle.comp_runs.specs.Store.{CoreItem, Lowering, Function, Imported}

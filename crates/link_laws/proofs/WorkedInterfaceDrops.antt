@@ -40,7 +40,7 @@ use Rattle.comp_worlds.specs.Worlds.{IsWorld}
 use Rattle.comp_worlds.specs.declared.world.ComponentWorld.{ComponentWorld}
 use Rattle.comp_trees.specs.Trees.{Origin, Resource, ImportedAt, ResourceAt}
 use Rattle.comp_trees.specs.DefinedTrees.{TypeTree, OfValues}
-use Rattle.comp_trees.specs.Inventories.{inventory, surroundings_of}
+use Rattle.comp_inventories.specs.Inventories.{inventory, surroundings_of}
 use Rattle.comp_trees.specs.Members.{AreMembersRight}
 use Rattle.comp_links.proofs.WorkedImports.{interface_of, interface_id, type_id, import_of_interface}
 use Rattle.comp_links.specs.Targets.{Main, Dropped}
@@ -247,11 +247,11 @@ keeps_the_rules = record {
       (
         tt,
         (
-          s_aliased,
+          inl s_aliased,
           (
             record { resource = resource s; is = s_there },
             (
-              r_aliased,
+              inl r_aliased,
               (
                 record { resource = resource r; is = r_there },
                 (

@@ -42,7 +42,7 @@ use Rattle.comp_worlds.specs.Worlds.{IsWorld}
 use Rattle.comp_worlds.specs.declared.world.ComponentWorld.{ComponentWorld}
 use Rattle.comp_trees.specs.Trees.{PrimitiveOf, FunctionTree, is_known_function}
 use Rattle.comp_trees.specs.DefinedTrees.{function_tree}
-use Rattle.comp_trees.specs.Inventories.{inventory, scope_of}
+use Rattle.comp_inventories.specs.Inventories.{inventory, scope_of}
 use Rattle.comp_links.specs.Links.{lift_of}
 use Rattle.comp_links.specs.Targets.{Main, ExportRef, TargetOption, Lifted}
 use Rattle.comp_links.specs.Targets as targets

@@ -39,7 +39,7 @@ use Rattle.comp_worlds.specs.Worlds.{IsWorld}
 use Rattle.comp_worlds.specs.declared.world.ComponentWorld.{ComponentWorld}
 use Rattle.comp_trees.specs.Trees.{is_known_function}
 use Rattle.comp_trees.specs.DefinedTrees.{TypeTree, OfFunctions, OfOthers, function_tree}
-use Rattle.comp_trees.specs.Inventories.{inventory, scope_of}
+use Rattle.comp_inventories.specs.Inventories.{inventory, scope_of}
 use Rattle.comp_trees.specs.Members.{IsOfFunctions}
 use Rattle.nested_terms.specs.Nested.{empty_scope, AreItemsRight}
 use Rattle.comp_links.proofs.WorkedImports.{interface_of, interface_id, import_of_interface}

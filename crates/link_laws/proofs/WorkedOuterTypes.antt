@@ -31,7 +31,7 @@ use Rattle.comp_roles.specs.declared.imports.ImportInstance.TheVariants as insta
 use Rattle.comp_worlds.specs.Worlds.{IsWorld}
 use Rattle.comp_trees.specs.Trees.{Origin, Tree, PrimitiveOf, RecordOf, Nil, Cons, FunctionTree}
 use Rattle.comp_trees.specs.DefinedTrees.{TypeTree, OfValues, OfOthers}
-use Rattle.comp_trees.specs.Inventories.{inventory, surroundings_of}
+use Rattle.comp_inventories.specs.Inventories.{inventory, surroundings_of}
 use Rattle.comp_trees.specs.Members.{AreMembersRight}
 use Rattle.comp_links.proofs.WorkedImports.{interface_id, f, p, v, x, from_u, wit_f, f_core, f_role, core, world}
 use Rattle.comp_links.specs.Targets.{Main, OfInterface}
@@ -207,7 +207,7 @@ keeps_the_rules = record {
     (
       t_imported,
       (
-        p_aliased,
+        inl p_aliased,
         (
           record { number = 1; right = function_right },
           (

@@ -49,7 +49,7 @@ use Rattle.comp_worlds.specs.Worlds.{IsWorld}
 use Rattle.comp_worlds.specs.declared.world.ComponentWorld.{ComponentWorld}
 use Rattle.comp_trees.specs.Trees.{Origin, Resource, ImportedAt, Tree, BorrowOf, ResourceAt, ParamTree, FunctionTree}
 use Rattle.comp_trees.specs.DefinedTrees.{TypeTree, OfValues, OfOthers}
-use Rattle.comp_trees.specs.Inventories.{inventory, surroundings_of}
+use Rattle.comp_inventories.specs.Inventories.{inventory, surroundings_of}
 use Rattle.comp_trees.specs.Members.{AreMembersRight}
 use Rattle.comp_trees.specs.WitTrees.{wit_function_tree}
 use Rattle.comp_links.proofs.WorkedImports.{interface_of, interface_id, type_id, import_of_interface, f, v, from_u}
@@ -293,7 +293,7 @@ keeps_the_rules = record {
   front = list_of shared;
   names = [];
   whole = refl;
-  right = (record { number = 0; right = resource_right }, (t_imported, (r_aliased, (record { number = 1; right = shared_right }, (u_imported, (tt, (record { resource = resource 0; is = r_there }, (f_aliased, ((record { origin = f_origin; type = f_tree 0; is = f_imported }, tt), (record { each = (record { kind = refl; scoped = omega arith }, tt); apart = one_apart drop_r }, (record { each = (record { kind = refl; scoped = omega arith }, tt); apart = one_apart f }, (inl (record { of = main_module world; listed = refl; scoped = omega arith; each = (from_t_given, (from_u_given, tt)) }), tt))))))))))));
+  right = (record { number = 0; right = resource_right }, (t_imported, (inl r_aliased, (record { number = 1; right = shared_right }, (u_imported, (tt, (record { resource = resource 0; is = r_there }, (f_aliased, ((record { origin = f_origin; type = f_tree 0; is = f_imported }, tt), (record { each = (record { kind = refl; scoped = omega arith }, tt); apart = one_apart drop_r }, (record { each = (record { kind = refl; scoped = omega arith }, tt); apart = one_apart f }, (inl (record { of = main_module world; listed = refl; scoped = omega arith; each = (from_t_given, (from_u_given, tt)) }), tt))))))))))));
   marked = refl;
   named = tt;
 }

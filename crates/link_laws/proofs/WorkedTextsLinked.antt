@@ -26,7 +26,7 @@ use Rattle.comp_roles.specs.declared.offered.ExternType.TheVariants as externs
 use Rattle.comp_roles.specs.declared.imports.ImportInstance.TheVariants as instances
 use Rattle.comp_trees.specs.Trees.{PrimitiveOf, FunctionTree, is_known_function}
 use Rattle.comp_trees.specs.DefinedTrees.{function_tree}
-use Rattle.comp_trees.specs.Inventories.{inventory, scope_of}
+use Rattle.comp_inventories.specs.Inventories.{inventory, scope_of}
 use Rattle.comp_links.specs.Targets.{Main, OfRoot}
 use Rattle.comp_links.specs.Targets as targets
 use Rattle.comp_terms.specs.Generated.{IsShimOf, OfImport, target_of}

@@ -21,7 +21,7 @@ use Rattle.comp_roles.specs.declared.imports.Import.TheVariants as imports
 use Rattle.comp_roles.specs.declared.imports.ImportInstance.TheVariants as instances
 use Rattle.comp_trees.specs.Trees.{Resource, PrimitiveOf, RecordOf, is_known_function}
 use Rattle.comp_trees.specs.DefinedTrees.{TypeTree, OfValues, function_tree}
-use Rattle.comp_trees.specs.Inventories.{inventory, scope_of}
+use Rattle.comp_inventories.specs.Inventories.{inventory, scope_of}
 use Rattle.comp_links.specs.Lists.{stated_types}
 use Rattle.comp_links.specs.Targets.{Main, OfRoot, Lifted as LiftedFrom}
 use Rattle.comp_roles.specs.declared.offered.ExternType.TheVariants as externs

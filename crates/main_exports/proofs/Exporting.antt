@@ -44,7 +44,7 @@ use Rattle.wit_data.specs.Live.{named_types}
 use Rattle.nested_components.specs.Types.{IsAtHome}
 use Rattle.interface_needs.specs.RootNeeds.{interface_of_item, IsExportedInterface, is_lent_type}
 use Rattle.interface_needs.proofs.RootItems.{exported_there, exported_sound}
-use Rattle.interface_needs.proofs.ExportedInterfaces.{exported_titled, exported_ascend, exported_types_home, exported_functions_home, exported_every}
+use Rattle.interface_needs.proofs.ExportedInterfaces.{exported_titled, exported_ascend, exported_types_home, exported_functions_home, exported_every, home_later}
 use Rattle.root_imports.specs.Growing.{Grows-none, Grows-by, Grows-then}
 use Rattle.core_options.specs.Causes.{IsCause, IsCauseAmong, IsEncodedExport}
 use Rattle.core_options.specs.MainOptions.{HasLiftOptions}
@@ -222,6 +222,7 @@ module _ (w : ComponentWorld) (ok : IsEncodable w) (key : WorldKey) (id : Interf
         types = exported_types_home w ok id exported;
         functions = exported_functions_home w ok id exported;
         every = record { each = exported_every w ok id exported };
+        later = record { each = λ t within other h. home_later w ok id exported t h };
       }
 
   pub interface_functions : functions_of_key w key ≡ functions_at key entries

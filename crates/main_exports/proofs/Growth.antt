@@ -7,8 +7,8 @@ use Rattle.comp_bytes.specs.declared.def.Def.{Def}
 use Rattle.comp_bytes.specs.declared.space.Space.TheVariants as spaces
 use Rattle.comp_trees.specs.Trees.{FunctionTree}
 use Rattle.comp_trees.specs.DefinedTrees.{OfFunctions}
-use Rattle.comp_trees.specs.Inventories.{inventory}
-use Rattle.comp_trees.proofs.InventoryGrowth.{function_kept}
+use Rattle.comp_inventories.specs.Inventories.{inventory}
+use Rattle.comp_inventories.proofs.InventoryGrowth.{function_kept}
 use Rattle.comp_roles.specs.declared.metadata.FunctionKey.{FunctionKey}
 use Rattle.wit_data.specs.declared.functions.Function.{Function}
 use Rattle.wit_data.specs.declared.worlds.WorldKey.{WorldKey}

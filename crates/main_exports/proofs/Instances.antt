@@ -29,15 +29,15 @@ use Rattle.wit_data.specs.declared.ids.TypeId.{TypeId}
 use Rattle.wit_data.specs.declared.types.TypeDef.{TypeDef}
 use Rattle.wit_data.specs.declared.worlds.WorldItem.TheVariants as world_items
 use Rattle.wit_data.specs.declared.worlds.WorldKey.{WorldKey}
-use Rattle.comp_trees.specs.Inventories.{FunctionEntry, inventory, no_function as no_entry}
-use Rattle.comp_trees.proofs.Counting.{functions-counted}
-use Rattle.comp_trees.proofs.InventoryGrowth.{function_kept, scope_counted}
+use Rattle.comp_inventories.specs.Inventories.{argument_named, FunctionEntry, inventory, no_function as no_entry}
+use Rattle.comp_inventories.proofs.Counting.{functions-counted}
+use Rattle.comp_inventories.proofs.InventoryGrowth.{function_kept, scope_counted}
 use Rattle.comp_trees.specs.Trees.{Resource}
 use Rattle.comp_trees.specs.DefinedTrees.{TypeTree}
 use Rattle.nested_terms.specs.Naming.{import_names}
 use Rattle.nested_terms.specs.Nested.{NestedFunction, NestedImport, ImportedFunction, ImportedType, function_import, type_import, empty_scope, imports_after, exports_after}
 use Rattle.nested_terms.proofs.Numbering.{names_are}
-use Rattle.nested_components.specs.Functions.{no_types, functions_of as functions_among, nested_functions, exported}
+use Rattle.nested_components.specs.Functions.{functions_of as functions_among, nested_functions, exported}
 use Rattle.nested_components.specs.Types.{exported_type, IsImportOf}
 use Rattle.nested_components.specs.declared.component.NestedComponent.{NestedComponent}
 use Rattle.nested_components.specs.declared.type_import.TypeImport.{TypeImport}
@@ -47,7 +47,7 @@ use Rattle.comp_worlds.specs.WorldContents.{exported_item}
 use Rattle.comp_worlds.specs.declared.world.ComponentWorld.{ComponentWorld}
 use Rattle.comp_links.specs.Lists.{resource_of, IsTypeImport}
 use Rattle.interface_needs.proofs.Lists.{all_both}
-use Rattle.comp_terms.specs.Exports.{argument_named, IsNestedRight, IsNestedFor, IsArgumentIn, IsArgumentRight, IsFunctionGiven, IsTypeGiven, IsImportGiven, InstantiatesNested, PassesOn, ExportsInterface, exports_in}
+use Rattle.comp_terms.specs.Exports.{IsNestedRight, IsNestedFor, IsArgumentIn, IsArgumentRight, IsFunctionGiven, IsTypeGiven, IsImportGiven, InstantiatesNested, PassesOn, ExportsInterface, exports_in}
 use Rattle.comp_terms.specs.Rules.{Grows, NestedOf, nested_marked}
 use Rattle.comp_items.proofs.Kept.{Longer, denotes-kept}
 use Rattle.root_imports.specs.Growing.{Grows-by, Grows-then}
@@ -150,10 +150,10 @@ module _ (w : ComponentWorld) (key : WorldKey) (listed : List (List ℕ × TypeI
   all_types = w.resolve.types
 
   function_names : flat_map function_import c.items ≡ c.names
-  function_names = functions_named no_types empty_scope c.items ∙ (ap (map (λ (f : NestedFunction). f.argument)) n.functions ∙ imported_names origin all_types [] (functions_among entries) c.names n.named)
+  function_names = functions_named n.given empty_scope c.items ∙ (ap (map (λ (f : NestedFunction). f.argument)) n.passes.functions ∙ imported_names origin all_types [] (functions_among entries) c.names n.names)
 
   type_names_are : flat_map type_import c.items ≡ map (λ (i : TypeImport). i.name) c.types
-  type_names_are = import_types_named no_types empty_scope c.items ∙ (ap (map (λ (t : List ℕ × TypeTree). t.0)) n.types ∙ given_names origin all_types c.types)
+  type_names_are = import_types_named n.given empty_scope c.items ∙ (ap (map (λ (t : List ℕ × TypeTree). t.0)) n.passes.types ∙ given_names origin all_types c.types)
 
   module _ (ds : List Def) (arguments : List Argument) (h : AreArgumentsOf w ds key entries c arguments) where
     both_named : map (λ (a : Argument). a.name) (h.lifts ++ h.types) ≡ flat_map function_import c.items ++ flat_map type_import c.items
@@ -172,12 +172,12 @@ module _ (w : ComponentWorld) (key : WorldKey) (listed : List (List ℕ × TypeI
     finds_lifts = AllByRecursion-front (Finds (h.lifts ++ h.types)) h.lifts h.types finds
 
     -- each import is given one
-    given : AllByRecursion (IsImportGiven ds (h.lifts ++ h.types)) (imports_after no_types empty_scope c.items)
+    given : AllByRecursion (IsImportGiven ds (h.lifts ++ h.types)) (imports_after n.given empty_scope c.items)
     given =
         let all : List Argument = h.lifts ++ h.types in
-        imports_given w ds key all (imports_after no_types empty_scope c.items)
-        (subst (AllByRecursion (λ (g : NestedFunction). IsFunctionGiven ds all g.argument g.type)) (sym n.functions) (all_given w ds key all [] entries c.names h.lifts n.named h.lifted finds_lifts))
-        (subst (AllByRecursion (λ (t : List ℕ × TypeTree). IsTypeGiven ds all t.0 t.1)) (sym n.types)
+        imports_given w ds key all (imports_after n.given empty_scope c.items)
+        (subst (AllByRecursion (λ (g : NestedFunction). IsFunctionGiven ds all g.argument g.type)) (sym n.passes.functions) (all_given w ds key all [] entries c.names h.lifts n.names h.lifted finds_lifts))
+        (subst (AllByRecursion (λ (t : List ℕ × TypeTree). IsTypeGiven ds all t.0 t.1)) (sym n.passes.types)
         (types_given w ds key all c.types h.types h.given (AllByRecursion-back (Finds all) h.lifts h.types finds)))
 
     pub all_scoped : AllByRecursion (IsArgumentRight ds) arguments
@@ -188,43 +188,43 @@ module _ (w : ComponentWorld) (key : WorldKey) (listed : List (List ℕ × TypeI
     pub names_apart : IsDistinct bytes_eq (map (λ (a : Argument). a.name) arguments)
     names_apart = subst (λ as'. IsDistinct bytes_eq (map (λ (a : Argument). a.name) as')) (sym h.both) distinct
 
-    pub each_given : AllByRecursion (IsImportGiven ds arguments) (imports_after no_types empty_scope c.items)
-    each_given = subst (λ as'. AllByRecursion (IsImportGiven ds as') (imports_after no_types empty_scope c.items)) (sym h.both) given
+    pub each_given : AllByRecursion (IsImportGiven ds arguments) (imports_after n.given empty_scope c.items)
+    each_given = subst (λ as'. AllByRecursion (IsImportGiven ds as') (imports_after n.given empty_scope c.items)) (sym h.both) given
 
     -- the arguments are those of the component
     pub arguments_for : AreArgumentsFor ds c.items arguments
-    arguments_for = record { given = no_types; scoped = all_scoped; apart = names_apart; right = n.right; each = each_given }
+    arguments_for = record { given = n.given; scoped = all_scoped; apart = names_apart; right = n.passes.right; each = each_given }
 
     -- an instance that is given them is one of it
     abbrev pub instantiates : (component : ℕ) → IsAt ds spaces.Component component (defs.Component c.items) → InstantiatesNested ds component arguments
-    instantiates component made = record { definitions = c.items; given = no_types; made = made; scoped = all_scoped; apart = names_apart; right = n.right; each = each_given }
+    instantiates component made = record { definitions = c.items; given = n.given; made = made; scoped = all_scoped; apart = names_apart; right = n.passes.right; each = each_given }
 
     -- and the lifts are passed on
-    pub lifts_passed : AllByRecursion (λ (e : List ℕ × Function). e.0 ≡ e.1.name) entries → IsDistinct bytes_eq (keys_of entries) → AllByRecursion (PassesOn w ds arguments (exports_after no_types empty_scope c.items)) (functions_at key entries)
+    pub lifts_passed : AllByRecursion (λ (e : List ℕ × Function). e.0 ≡ e.1.name) entries → IsDistinct bytes_eq (keys_of entries) → AllByRecursion (PassesOn w ds arguments (exports_after n.given empty_scope c.items)) (functions_at key entries)
     lifts_passed own apart =
         let xs = exported (functions_among entries) (nested_functions origin all_types (functions_among entries) c.names) in
         let found : AreFound origin all_types (map (exported_type origin all_types) listed ++ xs) entries c.names =
-        past_types origin all_types listed xs entries c.names (exports_found origin all_types [] entries c.names n.named own apart) in
-        subst (λ as'. AllByRecursion (PassesOn w ds as' (exports_after no_types empty_scope c.items)) (functions_at key entries)) (sym h.both)
-        (subst (λ l. AllByRecursion (PassesOn w ds (h.lifts ++ h.types) l) (functions_at key entries)) (sym n.exports)
+        past_types origin all_types listed xs entries c.names (exports_found origin all_types [] entries c.names n.names own apart) in
+        subst (λ as'. AllByRecursion (PassesOn w ds as' (exports_after n.given empty_scope c.items)) (functions_at key entries)) (sym h.both)
+        (subst (λ l. AllByRecursion (PassesOn w ds (h.lifts ++ h.types) l) (functions_at key entries)) (sym n.passes.exports)
         (all_passed w ds key (h.lifts ++ h.types) (map (exported_type origin all_types) listed ++ xs) entries c.names h.lifts found h.lifted finds_lifts))
 
   -- the types that are listed are exported
-  pub types_exported : IsDistinct bytes_eq (keys_of listed) → AllByRecursion (IsTypeFound origin all_types (exports_after no_types empty_scope c.items)) listed
+  pub types_exported : IsDistinct bytes_eq (keys_of listed) → AllByRecursion (IsTypeFound origin all_types (exports_after n.given empty_scope c.items)) listed
   types_exported apart =
       let xs = exported (functions_among entries) (nested_functions origin all_types (functions_among entries) c.names) in
-      subst (λ l. AllByRecursion (IsTypeFound origin all_types l) listed) (sym n.exports) (types_found origin all_types xs listed apart)
+      subst (λ l. AllByRecursion (IsTypeFound origin all_types l) listed) (sym n.passes.exports) (types_found origin all_types xs listed apart)
 
   -- its landmark
   pub nested_marked_as : nested_mark c.items ≡ NestedOf (import_names (functions_among entries)) (map (λ (t : List ℕ × TypeId). t.0) listed ++ map (λ (f : Function). f.name) (functions_among entries))
   nested_marked_as =
       let fs = functions_among entries in
       let exports : flat_map item_export c.items ≡ map (λ (t : List ℕ × TypeId). t.0) listed ++ map (λ (f : Function). f.name) fs =
-      exports_named no_types empty_scope c.items n.right
-      ∙ (ap (map export_name) n.exports
+      exports_named n.given empty_scope c.items n.passes.right
+      ∙ (ap (map export_name) n.passes.exports
       ∙ (listed_names origin all_types listed (exported fs (nested_functions origin all_types fs c.names))
-      ∙ ap (λ l. map (λ (t : List ℕ × TypeId). t.0) listed ++ l) (exported_names origin all_types [] fs c.names n.named))) in
-      ap₂ NestedOf (function_names ∙ names_are [] fs c.names n.named) exports
+      ∙ ap (λ l. map (λ (t : List ℕ × TypeId). t.0) listed ++ l) (exported_names origin all_types [] fs c.names n.names))) in
+      ap₂ NestedOf (function_names ∙ names_are [] fs c.names n.names) exports
 
 -- it is one of an exported interface
 import_of : (w : ComponentWorld) → IsEncodable w → (key : WorldKey) (id : InterfaceId) → exported_item w key ≡ Some (world_items.Interface id) → (i : TypeImport) → IsImportOf w.resolve.types (named_types w.resolve id) (functions_of w.resolve id) i → IsTypeImport w id i.name
@@ -236,7 +236,7 @@ nested_for w ok key id is c n = record {
   key = key;
   id = id;
   item = is;
-  types = subst (AllByRecursion (IsTypeImport w id)) (sym (type_names_are w key (named_types w.resolve id) (functions_of w.resolve id) c n)) (named c.types n.own);
+  types = subst (AllByRecursion (IsTypeImport w id)) (sym (type_names_are w key (named_types w.resolve id) (functions_of w.resolve id) c n)) (named c.types n.passes.own);
   apart = n.apart;
 }
   where
@@ -258,7 +258,7 @@ exports_interface w ok key id is c n arguments ds index next h apart types_apart
   instance = made.instance;
   nested = instantiates w key (named_types w.resolve id) (functions_of w.resolve id) c n ds arguments h made.component made.made;
   types = types_exported w key (named_types w.resolve id) (functions_of w.resolve id) c n types_apart;
-  each = subst (AllByRecursion (PassesOn w ds arguments (exports_after no_types empty_scope c.items))) (sym (interface_functions w ok key id is))
+  each = subst (AllByRecursion (PassesOn w ds arguments (exports_after n.given empty_scope c.items))) (sym (interface_functions w ok key id is))
       (lifts_passed w key (named_types w.resolve id) (functions_of w.resolve id) c n ds arguments h (own_names w ok key id is) apart);
 }
 

@@ -10,7 +10,7 @@ use Rattle.comp_bytes.specs.declared.def.Item.TheVariants as items
 use Rattle.comp_bytes.proofs.ItemIndices.{in_range}
 use Rattle.comp_trees.specs.Trees.{FunctionTree}
 use Rattle.comp_trees.specs.DefinedTrees.{OfFunctions}
-use Rattle.comp_trees.specs.Inventories.{inventory}
+use Rattle.comp_inventories.specs.Inventories.{inventory}
 use Rattle.comp_roles.specs.declared.metadata.FunctionKey.{FunctionKey}
 use Rattle.wit_data.specs.declared.functions.Function.{Function}
 use Rattle.wit_data.specs.declared.ids.InterfaceId.{InterfaceId}

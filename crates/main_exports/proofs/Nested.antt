@@ -22,7 +22,7 @@ use Rattle.wit_data.specs.declared.worlds.WorldKey.{WorldKey}
 use Rattle.comp_trees.specs.Trees.{Resource}
 use Rattle.comp_trees.specs.DefinedTrees.{TypeTree, OfValues, OfFunctions}
 use Rattle.comp_trees.specs.WitTrees.{wit_tree}
-use Rattle.comp_trees.specs.Inventories.{FunctionEntry, inventory, no_function as no_entry}
+use Rattle.comp_inventories.specs.Inventories.{argument_named, FunctionEntry, inventory, no_function as no_entry}
 use Rattle.nested_terms.specs.Naming.{AreNamesAfter}
 use Rattle.nested_terms.specs.Nested.{NestedFunction, NestedScope, NestedImport, ImportedFunction, ImportedType, NestedExport, ExportedFunction, ExportedType, function_import, type_import, functions_imported, types_imported, function_named, type_named, with_item, imports_after, exports_after, AreItemsRight}
 use Rattle.nested_components.specs.Functions.{functions_of, nested_functions, exported, type_of}
@@ -30,7 +30,7 @@ use Rattle.nested_components.specs.Types.{type_given, exported_type}
 use Rattle.nested_components.specs.declared.type_import.TypeImport.{TypeImport}
 use Rattle.comp_worlds.specs.declared.world.ComponentWorld.{ComponentWorld}
 use Rattle.comp_links.specs.Lists.{resource_of}
-use Rattle.comp_terms.specs.Exports.{argument_named, IsFunctionGiven, IsTypeGiven, IsImportGiven, PassesOn}
+use Rattle.comp_terms.specs.Exports.{IsFunctionGiven, IsTypeGiven, IsImportGiven, PassesOn}
 use Rattle.interface_needs.proofs.Lists.{all_both}
 use Rattle.comp_terms.specs.Planned.{type_of_function}
 use Rattle.main_exports.specs.Exports.{functions_at, AreLiftArguments, IsTypeArgument}

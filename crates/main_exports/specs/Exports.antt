@@ -4,7 +4,7 @@ use Rattle.std.specs.List.{AllByRecursion, AllZip, IsDistinct, flat_map}
 use Rattle.std.specs.Option.{option_copied}
 use Rattle.std.specs.Str.{bytes_eq}
 use Rattle.comp_bytes.specs.ItemIndices.{IsAt}
-use Rattle.comp_bytes.specs.ScopeNames.{item_import, item_export}
+use Rattle.comp_bytes.specs.ScopeNames.{item_export}
 use Rattle.comp_bytes.specs.declared.def.Argument.{Argument}
 use Rattle.comp_bytes.specs.declared.def.Def.{Def}
 use Rattle.comp_bytes.specs.declared.def.Def.TheVariants as defs
@@ -20,14 +20,12 @@ use Rattle.wit_data.specs.declared.ids.TypeId.{TypeId}
 use Rattle.wit_data.specs.declared.functions.Function.{Function as WitFunction}
 use Rattle.wit_data.specs.declared.worlds.WorldKey.{WorldKey}
 use Rattle.comp_trees.specs.DefinedTrees.{TypeTree, OfFunctions}
-use Rattle.nested_terms.specs.Naming.{AreNames}
-use Rattle.nested_terms.specs.Nested.{function_import, functions_imported, types_imported, empty_scope, imports_after, exports_after, AreItemsRight}
-use Rattle.nested_components.specs.Functions.{no_types, functions_of as functions_among, nested_functions, exported}
-use Rattle.nested_components.specs.Types.{type_given, exported_type, IsImportOf}
+use Rattle.nested_terms.specs.Nested.{function_import, empty_scope, imports_after, AreItemsRight}
+use Rattle.nested_components.specs.Functions.{IsNestedComponent}
 use Rattle.nested_components.specs.declared.component.NestedComponent.{NestedComponent}
 use Rattle.nested_components.specs.declared.type_import.TypeImport.{TypeImport}
 use Rattle.comp_trees.specs.DefinedScopes.{Denotes}
-use Rattle.comp_trees.specs.Inventories.{inventory, scope_of}
+use Rattle.comp_inventories.specs.Inventories.{inventory, scope_of}
 use Rattle.comp_roles.specs.declared.metadata.FunctionKey.{FunctionKey}
 use Rattle.comp_worlds.specs.Encodable.{IsEncodable}
 use Rattle.comp_worlds.specs.WorldContents.{core_name_of, function_exported}
@@ -126,15 +124,8 @@ pub record IsInstantiated (ds : List Def) (definitions : List Item) (arguments :
   pub made : IsAt ds spaces.Component component (defs.Component definitions)
 
 -- the nested component of an interface that lists these types and has these functions
-pub record IsNestedOf (w : ComponentWorld) (listed : List (List ℕ × TypeId)) (entries : List (List ℕ × WitFunction)) (c : NestedComponent) : Type 0 where
-  pub named : AreNames (functions_among entries) c.names
-  pub right : AreItemsRight no_types empty_scope c.items
-  pub functions : functions_imported (imports_after no_types empty_scope c.items) ≡ nested_functions (resource_of w) w.resolve.types (functions_among entries) c.names
-  pub types : types_imported (imports_after no_types empty_scope c.items) ≡ map (type_given (resource_of w) w.resolve.types) c.types
-  pub own : AllByRecursion (IsImportOf w.resolve.types listed entries) c.types
-  pub apart : IsDistinct bytes_eq (flat_map item_import c.items)
-  pub exports : exports_after no_types empty_scope c.items ≡
-      map (exported_type (resource_of w) w.resolve.types) listed ++ exported (functions_among entries) (nested_functions (resource_of w) w.resolve.types (functions_among entries) c.names)
+abbrev pub IsNestedOf : ComponentWorld → List (List ℕ × TypeId) → List (List ℕ × WitFunction) → NestedComponent → Type 0
+IsNestedOf w listed entries c = IsNestedComponent (resource_of w) w.resolve.types listed entries c
 
 -- ---- its arguments
 

@@ -7,7 +7,7 @@ use Rattle.comp_lists.specs.Found.{found}
 use Rattle.comp_bytes.specs.declared.def.Def.{Def}
 use Rattle.comp_bytes.specs.declared.space.Space.TheVariants as spaces
 use Rattle.comp_trees.specs.Trees.{FunctionTree}
-use Rattle.comp_trees.specs.Inventories.{surroundings_of}
+use Rattle.comp_inventories.specs.Inventories.{surroundings_of}
 use Rattle.comp_links.specs.Lists.{IsOriginOf}
 use Rattle.comp_links.specs.Targets.{OfInterface}
 use Rattle.comp_terms.specs.Planned.{IsTypeOf, type_of_function}

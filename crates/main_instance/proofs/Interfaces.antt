@@ -8,7 +8,7 @@ use Rattle.comp_lists.specs.Found.{found}
 use Rattle.comp_bytes.specs.declared.def.Def.{Def}
 use Rattle.comp_bytes.specs.declared.space.Space.TheVariants as spaces
 use Rattle.comp_trees.specs.Trees.{FunctionTree}
-use Rattle.comp_trees.specs.Inventories.{surroundings_of}
+use Rattle.comp_inventories.specs.Inventories.{surroundings_of}
 use Rattle.comp_roles.specs.declared.imports.Import.{Import}
 use Rattle.comp_roles.specs.declared.imports.Import.TheVariants as imports
 use Rattle.comp_links.specs.Lists.{IsOriginOf}

@@ -1,18 +1,15 @@
 -- Types of the interface that are exported, one after the other, in ascending order.
-use Rattle.std.proofs.Common.{◌≡◌, ◌∙◌, ◌<◌, ◌≤◌, ◌==◌, ◌||◌, arith, ℕ, suc, Bool, true, false, true≢false, List, [], ◌∷◌, map, refl, ap, sym, subst, Option, Some, None, if◌then◌else◌}
+use Rattle.std.proofs.Common.{◌≡◌, ◌∙◌, ◌<◌, ◌≤◌, ◌==◌, ◌||◌, arith, ℕ, suc, Bool, true, false, true≢false, List, [], ◌∷◌, map, refl, ap, sym, subst, Some, None}
 use Rattle.std.specs.List.{AllByRecursion}
+use Rattle.std.proofs.lemmas.Bool.{or_left, or_right}
 use Rattle.std.proofs.lemmas.Bool.Decides.{Decides-eqb}
-use Rattle.wit_data.specs.declared.ids.InterfaceId.{InterfaceId}
 use Rattle.wit_data.specs.declared.ids.TypeId.{TypeId}
-use Rattle.wit_data.specs.declared.types.TypeOwner.{TypeOwner}
-use Rattle.wit_data.specs.declared.types.TypeOwner.TheVariants as owners
 use Rattle.wit_data.specs.declared.types.Type.TheVariants.{Id}
 use Rattle.wit_data.specs.declared.types.TypeDef.{TypeDef}
 use Rattle.wit_data.specs.Parts.{RefersBack}
 use Rattle.wit_data.specs.Values.{value, kind_at}
 use Rattle.comp_trees.specs.Trees.{Resource}
 use Rattle.comp_trees.specs.DefinedTrees.{TypeTree}
-use Rattle.wit_types.specs.Allowing.{foreign, IsDefinedHere}
 use Rattle.wit_types.specs.Settings.{owner_at}
 use Rattle.type_scopes.specs.Needs.{each_passes, is_at_home}
 use Rattle.type_scopes.specs.Titles.{IsTitled, AscendFrom, is_one_of}
@@ -21,11 +18,12 @@ use Rattle.foreign_types.proofs.Covering.{parts_of_own}
 use Rattle.nested_components.specs.declared.contents.Contents.{Contents}
 use Rattle.nested_components.specs.declared.stage.Stage.{Stage}
 use Rattle.nested_components.specs.declared.stage.Stage.TheVariants as stages
+use Rattle.nested_components.specs.Foreign.{HasParts}
 use Rattle.nested_components.specs.Homes.{Home, IsHome, CanExportTypes, IsExporting, IsNextOf, AreAllPassed, next_of, last_of, nested_setting}
 use Rattle.nested_components.specs.Types.{listed_ids, exported_type}
 use Rattle.nested_components.specs.Growing.{Exports, ExportsTypes}
 use Rattle.nested_components.specs.Following.{exports_none, exports_on}
-use Rattle.nested_components.proofs.AtHome.{type_defined, known_exporting}
+use Rattle.nested_components.proofs.AtHome.{own_owner, parts_defined, known_exporting}
 
 -- once some types were exported, what exports the rest exports all
 pub record AreTypesTo (given : List ℕ → TypeTree) (origin : TypeId → Resource) (home : Home) (first now : Contents) (stage : Stage) (rest : List (List ℕ × TypeId)) : Type 0 where
@@ -38,6 +36,7 @@ pub record AreTypesTo (given : List ℕ → TypeTree) (origin : TypeId → Resou
   pub titled : AllByRecursion (λ t. IsTitled home.types home.here t.1 t.0) rest
   pub types : AllByRecursion (λ t. value (each_passes (is_at_home home.types lent home.here)) home.types (Some (Id t.1)) ≡ true) rest
   pub covered : AllByRecursion (λ t. is_covered home.types home.here home.foreign (Some (Id t.1)) ≡ true) rest
+  pub listed : (n : ℕ) → is_one_of (listed_ids rest) n ≡ true → is_one_of (listed_ids home.named) n ≡ true
 
 at_least : (k : ℕ) (ids : List TypeId) (n : ℕ) → AscendFrom k ids → is_one_of ids n ≡ true → k ≤ n
 at_least k [] n a e = absurd (true≢false (sym e))
@@ -46,10 +45,6 @@ at_least k (x ∷ xs) n a e = by (n == x.index) refl (at_least (suc x.index) xs 
     by : (b : Bool) → (n == x.index) ≡ b → (is_one_of xs n ≡ true → suc x.index ≤ n) → (b || is_one_of xs n) ≡ true → k ≤ n
     by true same later e = let first = a.0 in let is = (Decides-eqb n x.index).0 same in omega (arith, first, is)
     by false same later e = let first = a.0 in let l = later e in omega (arith, first, l)
-
--- no other interface owns a type of this one
-own_owner : (here : InterfaceId) (owner : TypeOwner) → owner ≡ owners.Interface here → foreign (Some here) owner ≡ None
-own_owner here owner e = ap (foreign (Some here)) e ∙ ap (λ b. if b then None else Some here) ((Decides-eqb here.index here.index).1 refl)
 
 module _ (given : List ℕ → TypeTree) (origin : TypeId → Resource) (home : Home) (first : Contents) where
   pub types_none : (stage : Stage) → stage ≡ stages.Exporting None → CanExportTypes home → AreTypesTo given origin home first first stage home.named
@@ -63,6 +58,7 @@ module _ (given : List ℕ → TypeTree) (origin : TypeId → Resource) (home : 
     titled = can.known.titled;
     types = can.known.types;
     covered = can.covered;
+    listed = λ n e. e;
   }
 
   module _ (old : Contents) (stage : Stage) (t : List ℕ × TypeId) (rest : List (List ℕ × TypeId)) (s : AreTypesTo given origin home first old stage (t ∷ rest)) where
@@ -77,13 +73,17 @@ module _ (given : List ℕ → TypeTree) (origin : TypeId → Resource) (home : 
             by false f = s.passed n e f
             by true f = let low = at_least t.1.index (listed_ids (t ∷ rest)) n (omega arith, s.ascend.1) f in absurd (omega (arith, l, low))
 
-    -- it may be defined
-    pub next_defined : (types : List TypeDef) → home.types ≡ types → RefersBack types → IsDefinedHere (nested_setting origin home stage) (kind_at types t.1.index)
-    next_defined types same back =
-        subst (λ (ts : List TypeDef). IsDefinedHere (nested_setting origin home stage) (kind_at ts t.1.index)) same
+    pub next_listed : is_one_of (listed_ids home.named) t.1.index ≡ true
+    next_listed = s.listed t.1.index (or_left (t.1.index == t.1.index) (is_one_of (listed_ids rest) t.1.index) ((Decides-eqb t.1.index t.1.index).1 refl))
+
+    -- its parts may be defined
+    pub next_parts : (types : List TypeDef) → home.types ≡ types → RefersBack types → HasParts (nested_setting origin home stage) (kind_at types t.1.index)
+    next_parts types same back =
+        subst (λ (ts : List TypeDef). HasParts (nested_setting origin home stage) (kind_at ts t.1.index)) same
         (let refers = subst RefersBack (sym same) back in
-        type_defined origin s.lent home stage refers t.1 s.titled.0.present (known_exporting origin s.lent home s.known stage s.exporting t.1.index comes_next.none_left) s.types.0
-        (parts_of_own home.types home.here refers home.foreign t.1 s.titled.0.present (own_owner home.here (owner_at home.types t.1.index) s.titled.0.owner) s.covered.0))
+        let own = own_owner home.here (owner_at home.types t.1.index) s.titled.0.owner in
+        parts_defined origin s.lent home stage (is_at_home home.types s.lent home.here) (λ m kind e. e) refers t.1 s.titled.0.present (known_exporting origin s.lent home s.known stage s.exporting t.1.index comes_next.none_left) s.types.0
+        (parts_of_own home.types home.here refers home.foreign t.1 s.titled.0.present own s.covered.0))
 
     pub types_more : (now : Contents) (after : Stage) → after ≡ stages.Exporting (Some t.1) → Exports given old now (exported_type origin home.types t ∷ []) [] → AreTypesTo given origin home first now after rest
     types_more now after is one = record {
@@ -96,6 +96,7 @@ module _ (given : List ℕ → TypeTree) (origin : TypeId → Resource) (home : 
       titled = s.titled.1;
       types = s.types.1;
       covered = s.covered.1;
+      listed = λ n e. s.listed n (or_right (n == t.1.index) (is_one_of (listed_ids rest) n) e);
     }
       where
         below : (n : ℕ) → is_one_of (listed_ids home.named) n ≡ true → is_one_of (listed_ids rest) n ≡ false → (b : Bool) → (n == t.1.index) ≡ b → n < suc t.1.index

@@ -1,8 +1,9 @@
 -- The names of the imports of a nested component are distinct.
-use Rattle.std.proofs.Common.{◌≡◌, ◌∙◌, ◌||◌, ℕ, Bool, true, false, true≢false, List, [], ◌∷◌, ◌++◌, map, refl, ap, ap₂, sym, subst}
+use Rattle.std.proofs.Common.{◌≡◌, ◌∙◌, ◌||◌, ℕ, Bool, true, false, true≢false, List, [], ◌∷◌, ◌++◌, map, refl, ap, ap₂, sym, subst, append_assoc}
 use Rattle.std.specs.List.{AllByRecursion, IsDistinct, flat_map}
 use Rattle.std.specs.Map.{keys_of}
 use Rattle.std.specs.Str.{bytes_eq}
+use Rattle.std.proofs.lemmas.List.{map-append}
 use Rattle.std.proofs.lemmas.Slice.Eq.{bytes_eq-Decides}
 use Rattle.wit_data.specs.declared.functions.Function.{Function}
 use Rattle.wit_data.specs.declared.ids.TypeId.{TypeId}
@@ -19,7 +20,7 @@ use Rattle.nested_components.specs.declared.contents.Contents.{Contents}
 use Rattle.nested_components.specs.declared.type_import.TypeImport.{TypeImport}
 use Rattle.nested_components.specs.Functions.{functions_of, nested_functions, PassesOn}
 use Rattle.nested_components.specs.Types.{type_given}
-use Rattle.nested_components.specs.Growing.{function_entry, type_entry, types_among, ArePassedOn}
+use Rattle.nested_components.specs.Growing.{function_entry, type_entry, planned_among, met_among, all_among, ArePassedOn}
 
 taken_first : (taken more : List (List ℕ)) (name : List ℕ) → is_taken taken name ≡ true → is_taken (taken ++ more) name ≡ true
 taken_first [] more name h = absurd (true≢false (sym h))
@@ -80,6 +81,50 @@ distinct_but_one (x ∷ xs) t after h =
     let rest = distinct_but_one xs t after h.1 in
     ((other_way x t first.0, rest.0), (first.1, rest.1))
 
+all_with_one : (P : List ℕ → Type 0) (before : List (List ℕ)) (x : List ℕ) (after : List (List ℕ)) → P x → AllByRecursion P (before ++ after) → AllByRecursion P (before ++ x ∷ after)
+all_with_one P [] x after p h = (p, h)
+all_with_one P (y ∷ ys) x after p h = (h.0, all_with_one P ys x after p h.1)
+
+distinct_with_one : (before : List (List ℕ)) (t : List ℕ) (after : List (List ℕ)) → AllByRecursion (λ y. bytes_eq t y ≡ false) (before ++ after) → IsDistinct bytes_eq (before ++ after) → IsDistinct bytes_eq (before ++ t ∷ after)
+unfolding IsDistinct
+distinct_with_one [] t after others h = (others, h)
+distinct_with_one (x ∷ xs) t after others h = (all_with_one (λ y. bytes_eq x y ≡ false) xs t after (other_way t x others.0) h.0, distinct_with_one xs t after others.1 h.1)
+
+-- ---- types whose names were chosen before, and others, one among the other
+
+abbrev import_name : TypeImport → List ℕ
+import_name t = t.name
+
+abbrev names_in : List TypeImport → List (List ℕ)
+names_in ts = map import_name ts
+
+merged_all : (P : List ℕ → Type 0) (before : List (List ℕ)) (ts : List (Bool × TypeImport)) → AllByRecursion P (before ++ (names_in (planned_among ts) ++ names_in (met_among ts))) → AllByRecursion P (before ++ names_in (all_among ts))
+merged_all P before [] h = h
+merged_all P before ((true, t) ∷ ts) h =
+    let planned = names_in (planned_among ts) in
+    let met = names_in (met_among ts) in
+    let one = all_but_one P before t.name (planned ++ met) h in
+    all_with_one P before t.name (names_in (all_among ts)) one.0 (merged_all P before ts one.1)
+merged_all P before ((false, t) ∷ ts) h =
+    let planned = names_in (planned_among ts) in
+    let met = names_in (met_among ts) in
+    let one = all_but_one P (before ++ planned) t.name met (subst (AllByRecursion P) (sym (append_assoc before planned (t.name ∷ met))) h) in
+    all_with_one P before t.name (names_in (all_among ts)) one.0 (merged_all P before ts (subst (AllByRecursion P) (append_assoc before planned met) one.1))
+
+merged_apart : (before : List (List ℕ)) (ts : List (Bool × TypeImport)) → IsDistinct bytes_eq (before ++ (names_in (planned_among ts) ++ names_in (met_among ts))) → IsDistinct bytes_eq (before ++ names_in (all_among ts))
+merged_apart before [] h = h
+merged_apart before ((true, t) ∷ ts) h =
+    let planned = names_in (planned_among ts) in
+    let met = names_in (met_among ts) in
+    let one = distinct_but_one before t.name (planned ++ met) h in
+    distinct_with_one before t.name (names_in (all_among ts)) (merged_all (λ y. bytes_eq t.name y ≡ false) before ts one.0) (merged_apart before ts one.1)
+merged_apart before ((false, t) ∷ ts) h =
+    let planned = names_in (planned_among ts) in
+    let met = names_in (met_among ts) in
+    let one = distinct_but_one (before ++ planned) t.name met (subst (IsDistinct bytes_eq) (sym (append_assoc before planned (t.name ∷ met))) h) in
+    distinct_with_one before t.name (names_in (all_among ts)) (merged_all (λ y. bytes_eq t.name y ≡ false) before ts (subst (AllByRecursion (λ y. bytes_eq t.name y ≡ false)) (append_assoc before planned met) one.0))
+    (merged_apart before ts (subst (IsDistinct bytes_eq) (append_assoc before planned met) one.1))
+
 module _ (given : List ℕ → TypeTree) where
   -- the names of imports are those of functions, and those of types
   names_all : (P : List ℕ → Type 0) (s : NestedScope) (is : List Item) → AreItemsRight given s is → AllByRecursion P (flat_map function_import is ++ flat_map type_import is) → AllByRecursion P (flat_map item_import is)
@@ -136,15 +181,6 @@ taken_keys : (names : List (List ℕ)) (ts : List TypeImport) → keys_of (map f
 taken_keys [] ts = type_keys ts
 taken_keys (n ∷ ns) ts = ap (λ ms. n ∷ ms) (taken_keys ns ts)
 
-types_only : (ts : List TypeImport) → types_among (map type_entry ts) ≡ ts
-types_only [] = refl
-types_only (t ∷ ts) = ap (λ us. t ∷ us) (types_only ts)
-
--- the types among the names are those that were imported
-pub types_taken : (names : List (List ℕ)) (ts : List TypeImport) → types_among (map function_entry names ++ map type_entry ts) ≡ ts
-types_taken [] ts = types_only ts
-types_taken (n ∷ ns) ts = types_taken ns ts
-
 arguments_named : (origin : TypeId → Resource) (types : List TypeDef) (taken : List (List ℕ)) (fs : List Function) (names : List (List ℕ)) → AreNamesAfter taken fs names → map (λ (f : NestedFunction). f.argument) (nested_functions origin types fs names) ≡ names
 arguments_named origin types taken [] [] h = refl
 arguments_named origin types taken (f ∷ fs) (n ∷ ns) h = ap (λ ms. n ∷ ms) (arguments_named origin types (taken ++ n ∷ []) fs ns h.1)
@@ -162,11 +198,14 @@ module _ (given : List ℕ → TypeTree) (origin : TypeId → Resource) (all : L
   pub passed_imports : AreNames (functions_of entries) names → IsDistinct bytes_eq (keys_of c.taken) → IsDistinct bytes_eq (flat_map item_import c.items)
   passed_imports chosen apart =
       let functions = function_names given empty_scope c.items ∙ (ap (map (λ (f : NestedFunction). f.argument)) p.passes.functions ∙ arguments_named origin all [] (functions_of entries) names chosen) in
-      let types = type_names given empty_scope c.items ∙ (ap (map (λ (t : List ℕ × TypeTree). t.0)) p.passes.types ∙ given_names origin all p.imports) in
+      let types = type_names given empty_scope c.items ∙ (ap (map (λ (t : List ℕ × TypeTree). t.0)) p.passes.types ∙ given_names origin all (all_among p.imports)) in
+      let planned = planned_among p.imports in
+      let met = met_among p.imports in
+      let keys : keys_of c.taken ≡ names ++ (names_in planned ++ names_in met) = ap keys_of p.taken ∙ (taken_keys names (planned ++ met) ∙ ap (λ ns. names ++ ns) (map-append import_name planned met)) in
       imports_apart given empty_scope c.items p.passes.right
-      (subst (λ ns. IsDistinct bytes_eq ns) (sym (ap₂ (λ ns ms. ns ++ ms) functions types)) (subst (λ ns. IsDistinct bytes_eq ns) (ap keys_of p.taken ∙ taken_keys names p.imports) apart))
+      (subst (λ ns. IsDistinct bytes_eq ns) (sym (ap₂ (λ ns ms. ns ++ ms) functions types)) (merged_apart names p.imports (subst (λ ns. IsDistinct bytes_eq ns) keys apart)))
 
-  pub passed_all : (types : List TypeImport) (out : List Item) → types ≡ types_among c.taken → out ≡ c.items → PassesOn given origin all named entries gs types out
+  pub passed_all : (types : List TypeImport) (out : List Item) → types ≡ c.types → out ≡ c.items → PassesOn given origin all named entries gs types out
   passed_all types out are is =
-      subst (λ ts. PassesOn given origin all named entries gs ts out) (sym (are ∙ (ap types_among p.taken ∙ types_taken names p.imports)))
-      (subst (λ os. PassesOn given origin all named entries gs p.imports os) (sym is) p.passes)
+      subst (λ ts. PassesOn given origin all named entries gs ts out) (sym (are ∙ p.typed))
+      (subst (λ os. PassesOn given origin all named entries gs (all_among p.imports) os) (sym is) p.passes)

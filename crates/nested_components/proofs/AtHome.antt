@@ -6,6 +6,7 @@ use Rattle.std.specs.Map.{keys_of}
 use Rattle.std.specs.Str.{bytes_eq}
 use Rattle.std.specs.Cmp.{IsEquivalence}
 use Rattle.std.specs.Cmp.Rules.{comparing}
+use Rattle.std.proofs.lemmas.Bool.{and_parts}
 use Rattle.std.proofs.lemmas.Bool.Decides.{Decides-eqb}
 use Rattle.std.proofs.lemmas.List.Folds.{list_all-map}
 use Rattle.std.proofs.lemmas.Map.Views.{lookup-from_Contains}
@@ -27,7 +28,7 @@ use Rattle.wit_data.specs.Values.{Making, kind_at, value, values, part_value, pa
 use Rattle.wit_data.proofs.Values.{made_whole, parts_below}
 use Rattle.comp_trees.specs.Trees.{Resource}
 use Rattle.wit_types.specs.Settings.{Setting, owner_at, name_at}
-use Rattle.wit_types.specs.Allowing.{foreign, is_resource, may_define, may_make, may_have, is_allowed, allows_function, IsDefinedHere}
+use Rattle.wit_types.specs.Allowing.{foreign, is_resource, may_define, may_make, may_have, is_allowed, allows_function}
 use Rattle.wit_types.proofs.Permitting.{allowed_of_id}
 use Rattle.type_scopes.specs.Needs.{each_passes, function_passes, is_at_home}
 use Rattle.type_scopes.specs.Titles.{is_one_of}
@@ -35,9 +36,10 @@ use Rattle.foreign_types.specs.Foreign.{is_covered, is_parts_covered, is_functio
 use Rattle.foreign_types.proofs.Covering.{listed_other, parts_of_own}
 use Rattle.nested_components.specs.declared.stage.Stage.{Stage}
 use Rattle.nested_components.specs.declared.stage.Stage.TheVariants as stages
+use Rattle.nested_components.specs.Foreign.{HasParts}
 use Rattle.nested_components.specs.Functions.{functions_of}
 use Rattle.nested_components.specs.Homes.{Home, IsHome, next_of, last_of, is_passed, is_met, is_listed, may_own_named, nested_setting, IsExporting}
-use Rattle.nested_components.specs.Types.{listed_ids}
+use Rattle.nested_components.specs.Types.{listed_ids, is_home_before}
 use Rattle.nested_components.proofs.OneType.{met_foreign}
 
 bytes_laws : IsEquivalence bytes_eq
@@ -69,54 +71,91 @@ is_owner here (owners.Interface i) e some = by (here.index == i.index) refl e
     by true same e = ap (λ (n : ℕ). owners.Interface (record { index = n })) (sym ((Decides-eqb here.index i.index).0 same))
     by false same e = cc
 
-module _ (origin : TypeId → Resource) (lent : ℕ → Bool) (home : Home) (stage : Stage) where
+-- no other interface owns a type of this one
+pub own_owner : (here : InterfaceId) (owner : TypeOwner) → owner ≡ owners.Interface here → foreign (Some here) owner ≡ None
+own_owner here owner e = ap (foreign (Some here)) e ∙ ap (λ b. if b then None else Some here) ((Decides-eqb here.index here.index).1 refl)
+
+some_of : {X : Type 0} (o : Option X) → is_some o ≡ true → (x : X) × (o ≡ Some x)
+some_of None e = absurd (true≢false (sym e))
+some_of (Some x) e = (x, refl)
+
+-- types at home that pass a test, too
+module _ (origin : TypeId → Resource) (lent : ℕ → Bool) (home : Home) (stage : Stage) (test : ℕ → TypeDefKind → Bool) (at_home : (n : ℕ) (k : TypeDefKind) → test n k ≡ true → is_at_home home.types lent home.here n k ≡ true) where
   abbrev s : Setting
   s = nested_setting origin home stage
 
   abbrev types : List TypeDef
   types = home.types
 
-  abbrev test : Making Bool
-  test = each_passes (is_at_home types lent home.here)
+  abbrev making : Making Bool
+  making = each_passes test
 
   abbrev covers : Option Ty → Bool
   covers p = is_covered types home.here home.foreign p
 
-  -- a type of the interface is in the tables, or it may be defined
+  -- a type of the interface that passes is in the tables, or it is one of values and may be defined
   abbrev pub IsKnown : ℕ → Type 0
-  IsKnown n = owner_at types n ≡ owners.Interface home.here → (name : List ℕ) → name_at types n ≡ Some name → (is_met stage home (record { index = n }) || may_own_named (Some name) stage home n) ≡ true
+  IsKnown n =
+      test n (kind_at types n) ≡ true → owner_at types n ≡ owners.Interface home.here → (name : List ℕ) → name_at types n ≡ Some name → (is_met stage home (record { index = n }) || (not (is_resource (kind_at types n)) && may_own_named (Some name) stage home n)) ≡ true
 
   -- so are all below this number
   abbrev pub AreKnown : ℕ → Type 0
   AreKnown k = (n : ℕ) → n < k → IsKnown n
 
-  owned : (n : ℕ) → IsKnown n → is_met stage home (record { index = n }) ≡ false → foreign (Some home.here) (owner_at types n) ≡ None → (o : Option (List ℕ)) → name_at types n ≡ o → (is_none o || is_some (foreign None (owner_at types n))) ≡ true →
-      may_own_named o stage home n ≡ true
-  owned n known unmet own None e h = refl
-  owned n known unmet own (Some name) e h =
-      subst (λ b. (b || may_own_named (Some name) stage home n) ≡ true) unmet (known (is_owner home.here (owner_at types n) own h) name e)
+  -- what is known of a type that no other interface owns
+  abbrev values_home : ℕ → Bool
+  values_home n = is_none (name_at types n) || is_some (foreign None (owner_at types n))
 
-  -- what is known of a type at home that no other interface owns
-  titled_own : (n : ℕ) (k : TypeDefKind) → is_at_home types lent home.here n k ≡ true → foreign (Some home.here) (owner_at types n) ≡ None → (not (is_resource k) ≡ true) × ((is_none (name_at types n) || is_some (foreign None (owner_at types n))) ≡ true)
-  titled_own n k e own =
-      let other : Option InterfaceId → Bool = λ o. elim o [ Some other ↦ lent n && is_some (name_at types n) | None ↦ is_none (name_at types n) || is_some (foreign None (owner_at types n)) ] in
-      let a = both (not (is_resource k)) (other (foreign (Some home.here) (owner_at types n))) e in
-      (a.0, ap other (sym own) ∙ a.1)
+  abbrev resource_home : ℕ → Bool
+  resource_home n = lent n && (is_some (name_at types n) && is_some (foreign None (owner_at types n)))
 
-  -- a type at home that no other interface owns may be made of its parts
-  made : (n : ℕ) (k : TypeDefKind) (bs : List Bool) → IsKnown n → is_at_home types lent home.here n k ≡ true → foreign (Some home.here) (owner_at types n) ≡ None → list_all (λ b. b) bs ≡ true → may_have s n k bs ≡ true
-  made n k bs known e own all = by (is_met stage home (record { index = n })) refl
+  own_home : (n : ℕ) (k : TypeDefKind) → test n k ≡ true → foreign (Some home.here) (owner_at types n) ≡ None → (if is_resource k then resource_home n else values_home n) ≡ true
+  own_home n k e own =
+      let by : Option InterfaceId → Bool = λ o. elim o [ Some other ↦ lent n && is_some (name_at types n) | None ↦ if is_resource k then resource_home n else values_home n ] in
+      ap by (sym own) ∙ at_home n k e
+
+  module _ (n : ℕ) (known : IsKnown n) (e : test n (kind_at types n) ≡ true) (unmet : is_met stage home (record { index = n }) ≡ false) (own : foreign (Some home.here) (owner_at types n) ≡ None) where
+    -- where it is in no table, it is one of values
+    unmet_values : is_resource (kind_at types n) ≡ false
+    unmet_values = by (is_resource (kind_at types n)) refl
+      where
+        by : (r : Bool) → is_resource (kind_at types n) ≡ r → r ≡ false
+        by false is = refl
+        by true is =
+            let all = and_parts (lent n) (is_some (name_at types n) && is_some (foreign None (owner_at types n))) (subst (λ r. (if r then resource_home n else values_home n) ≡ true) is (own_home n (kind_at types n) e own)) in
+            let two = and_parts (is_some (name_at types n)) (is_some (foreign None (owner_at types n))) all.1 in
+            let name = some_of (name_at types n) two.0 in
+            let there = known e (is_owner home.here (owner_at types n) own two.1) name.0 name.1 in
+            absurd (true≢false (sym (subst (λ r. (false || (not r && may_own_named (Some name.0) stage home n)) ≡ true) is
+            (subst (λ m. (m || (not (is_resource (kind_at types n)) && may_own_named (Some name.0) stage home n)) ≡ true) unmet there))))
+
+    unmet_home : values_home n ≡ true
+    unmet_home = subst (λ r. (if r then resource_home n else values_home n) ≡ true) unmet_values (own_home n (kind_at types n) e own)
+
+    -- and may be defined
+    owned : (o : Option (List ℕ)) → name_at types n ≡ o → (is_none o || is_some (foreign None (owner_at types n))) ≡ true → may_own_named o stage home n ≡ true
+    owned None title h = refl
+    owned (Some name) title h =
+        (and_parts (not (is_resource (kind_at types n))) (may_own_named (Some name) stage home n)
+        (subst (λ m. (m || (not (is_resource (kind_at types n)) && may_own_named (Some name) stage home n)) ≡ true) unmet (known e (is_owner home.here (owner_at types n) own h) name title))).1
+
+  -- a type that passes, and that no other interface owns, may be made of its parts
+  made : (n : ℕ) (bs : List Bool) → IsKnown n → test n (kind_at types n) ≡ true → foreign (Some home.here) (owner_at types n) ≡ None → list_all (λ b. b) bs ≡ true → may_have s n (kind_at types n) bs ≡ true
+  made n bs known e own all = by (is_met stage home (record { index = n })) refl
     where
+      k : TypeDefKind
+      k = kind_at types n
+
       by : (b : Bool) → is_met stage home (record { index = n }) ≡ b → (if b then true else may_make s n k bs (foreign (Some home.here) (owner_at types n))) ≡ true
       by true met = refl
       by false unmet =
-          let a = titled_own n k e own in
+          let values : not (is_resource k) ≡ true = ap not (unmet_values n known e unmet own) in
           ap (may_make s n k bs) own
-          ∙ (ap (λ (may : Bool). may && may_define s n k bs) (owned n known unmet own (name_at types n) refl a.1) ∙ of_parts s n k bs a.0 all)
+          ∙ (ap (λ (may : Bool). may && may_define s n k bs) (owned n known e unmet own (name_at types n) refl (unmet_home n known e unmet own)) ∙ of_parts s n k bs values all)
 
   module _ (back : RefersBack types) where
     abbrev passes : Option Ty → Bool
-    passes p = value test types p
+    passes p = value making types p
 
     -- the types below this number that pass and are covered may be encoded
     abbrev AreAllowed : ℕ → Type 0
@@ -124,8 +163,8 @@ module _ (origin : TypeId → Resource) (lent : ℕ → Bool) (home : Home) (sta
 
     -- a type that passes, and its parts
     whole : (id : TypeId) → id.index < length types → passes (Some (Id id)) ≡ true →
-        (is_at_home types lent home.here id.index (kind_at types id.index) ≡ true) × (list_all (λ b. b) (part_values test types id.index) ≡ true)
-    whole id l e = both (is_at_home types lent home.here id.index (kind_at types id.index)) (list_all (λ b. b) (part_values test types id.index)) (sym (made_whole test types id.index back l) ∙ e)
+        (test id.index (kind_at types id.index) ≡ true) × (list_all (λ b. b) (part_values making types id.index) ≡ true)
+    whole id l e = both (test id.index (kind_at types id.index)) (list_all (λ b. b) (part_values making types id.index)) (sym (made_whole making types id.index back l) ∙ e)
 
     each_part : (n : ℕ) → AreAllowed n → (p : Option Ty) → IsBelow n p → passes p ≡ true → covers p ≡ true → is_allowed s p ≡ true
     unfolding is_allowed
@@ -133,10 +172,10 @@ module _ (origin : TypeId → Resource) (lent : ℕ → Bool) (home : Home) (sta
     each_part n go (Some (Primitive p)) l e c = refl
     each_part n go (Some (Id j)) l e c = go j l e c
 
-    each_parts : (n : ℕ) → AreAllowed n → (ps : List (Option Ty)) → AllByRecursion (IsBelow n) ps → list_all (λ b. b) (map (part_value test (values test types)) ps) ≡ true → list_all covers ps ≡ true → list_all (is_allowed s) ps ≡ true
+    each_parts : (n : ℕ) → AreAllowed n → (ps : List (Option Ty)) → AllByRecursion (IsBelow n) ps → list_all (λ b. b) (map (part_value making (values making types)) ps) ≡ true → list_all covers ps ≡ true → list_all (is_allowed s) ps ≡ true
     each_parts n go [] l e c = refl
     each_parts n go (p ∷ ps) l e c =
-        let b = both (passes p) (list_all (λ b. b) (map (part_value test (values test types)) ps)) e in
+        let b = both (passes p) (list_all (λ b. b) (map (part_value making (values making types)) ps)) e in
         let d = both (covers p) (list_all covers ps) c in
         rw (each_part n go p l.0 b.0 d.0, each_parts n go ps l.1 b.1 d.1) refl
 
@@ -156,31 +195,26 @@ module _ (origin : TypeId → Resource) (lent : ℕ → Bool) (home : Home) (sta
         by None owner =
             let w = whole id within e in
             let inside = each_parts id.index go (parts kind) (parts_below types id.index back within) w.1 (parts_of_own types home.here back home.foreign id within owner c) in
-            allowed_of_id s id back within ∙ made id.index kind (map (is_allowed s) (parts kind)) known w.0 owner (list_all-map (λ b. b) (is_allowed s) (parts kind) ∙ inside)
+            allowed_of_id s id back within ∙ made id.index (map (is_allowed s) (parts kind)) known w.0 owner (list_all-map (λ b. b) (is_allowed s) (parts kind) ∙ inside)
 
     below : (k bound : ℕ) → k ≤ length types → AreKnown k → (id : TypeId) → id.index < bound → id.index < k → passes (Some (Id id)) ≡ true → covers (Some (Id id)) ≡ true → is_allowed s (Some (Id id)) ≡ true
     below k zero most known id l m e c = absurd (omega (arith, l))
     below k (suc bound) most known id l m e c = step id (omega (arith, most, m)) (known id.index m) (λ j n q d. below k bound most known j (omega (arith, l, n)) (omega (arith, n, m)) q d) e c
 
-    -- a type at home may be made, once those of the interface below it are known, and those of others that are met in it were imported
-    pub type_defined : (id : TypeId) → id.index < length types → AreKnown id.index → passes (Some (Id id)) ≡ true → is_parts_covered types home.here home.foreign id.index ≡ true → IsDefinedHere s (kind_at types id.index)
-    type_defined id within known e c =
+    -- the parts of a type at home may be made, once those of the interface below it are known, and those of others that are met in it were
+    -- imported
+    pub parts_defined : (id : TypeId) → id.index < length types → AreKnown id.index → passes (Some (Id id)) ≡ true → is_parts_covered types home.here home.foreign id.index ≡ true → HasParts s (kind_at types id.index)
+    parts_defined id within known e c =
         let w = whole id within e in
-        let other : Bool = elim (foreign (Some home.here) (owner_at types id.index)) [
-          | Some other ↦ lent id.index && is_some (name_at types id.index)
-          | None ↦ is_none (name_at types id.index) || is_some (foreign None (owner_at types id.index))
-        ] in
-        record {
-          values = not_true (is_resource (kind_at types id.index)) (both (not (is_resource (kind_at types id.index))) other w.0).0;
-          allowed = each_parts id.index (λ j n q d. below id.index id.index (omega (arith, within)) known j n n q d) (parts (kind_at types id.index)) (parts_below types id.index back within) w.1 c;
-        }
+        record { allowed = each_parts id.index (λ j n q d. below id.index id.index (omega (arith, within)) known j n n q d) (parts (kind_at types id.index)) (parts_below types id.index back within) w.1 c }
 
     -- a type of another interface that is at home has a name
     pub foreign_named : (id : TypeId) (other : InterfaceId) → id.index < length types → passes (Some (Id id)) ≡ true → foreign (Some home.here) (owner_at types id.index) ≡ Some other → is_some (name_at types id.index) ≡ true
     foreign_named id other within e owner =
-        let by : Option InterfaceId → Bool = λ o. elim o [ Some other ↦ lent id.index && is_some (name_at types id.index) | None ↦ is_none (name_at types id.index) || is_some (foreign None (owner_at types id.index)) ] in
-        let a = both (not (is_resource (kind_at types id.index))) (by (foreign (Some home.here) (owner_at types id.index))) (whole id within e).0 in
-        (both (lent id.index) (is_some (name_at types id.index)) (ap by (sym owner) ∙ a.1)).1
+        let n = id.index in
+        let k = kind_at types n in
+        let by : Option InterfaceId → Bool = λ o. elim o [ Some other ↦ lent n && is_some (name_at types n) | None ↦ if is_resource k then resource_home n else values_home n ] in
+        (both (lent n) (is_some (name_at types n)) (ap by (sym owner) ∙ at_home n k (whole id within e).0)).1
 
     part_allowed : AreKnown (length types) → (p : Option Ty) → IsBelow (length types) p → passes p ≡ true → covers p ≡ true → is_allowed s p ≡ true
     part_allowed known p l e c = each_part (length types) (λ j n q d. below (length types) (length types) (omega arith) known j n n q d) p l e c
@@ -193,7 +227,7 @@ module _ (origin : TypeId → Resource) (lent : ℕ → Bool) (home : Home) (sta
         let d = both (covers (Some p.ty)) (list_all (λ (q : Param). covers (Some q.ty)) ps) c in
         rw (part_allowed known (Some p.ty) l.0 b.0 d.0, params_allowed known ps l.1 b.1 d.1) refl
 
-    function_allowed : AreKnown (length types) → (r : Resolve) → r.types ≡ types → (f : Function) → HasFunction r f → function_passes (is_at_home types lent home.here) types f ≡ true → is_function_covered types home.here home.foreign f ≡ true →
+    function_allowed : AreKnown (length types) → (r : Resolve) → r.types ≡ types → (f : Function) → HasFunction r f → function_passes test types f ≡ true → is_function_covered types home.here home.foreign f ≡ true →
         allows_function s f ≡ true
     function_allowed known r same f has e c =
         let params = subst (λ ts. AllByRecursion (λ (p : Param). IsBelow (length ts) (Some p.ty)) f.params) same has.params in
@@ -202,7 +236,7 @@ module _ (origin : TypeId → Resource) (lent : ℕ → Bool) (home : Home) (sta
         let d = both (list_all (λ (p : Param). covers (Some p.ty)) f.params) (covers f.result) c in
         rw (params_allowed known f.params params b.0 d.0, part_allowed known f.result result b.1 d.1) refl
 
-    pub functions_allowed : AreKnown (length types) → (r : Resolve) → r.types ≡ types → (es : List (List ℕ × Function)) → AllByRecursion (λ e. HasFunction r e.1) es → AllByRecursion (λ e. function_passes (is_at_home types lent home.here) types e.1 ≡ true) es →
+    pub functions_allowed : AreKnown (length types) → (r : Resolve) → r.types ≡ types → (es : List (List ℕ × Function)) → AllByRecursion (λ e. HasFunction r e.1) es → AllByRecursion (λ e. function_passes test types e.1 ≡ true) es →
         AllByRecursion (λ e. is_function_covered types home.here home.foreign e.1 ≡ true) es → AllByRecursion (λ f. allows_function s f ≡ true) (functions_of es)
     functions_allowed known r same [] has h c = tt
     functions_allowed known r same (e ∷ es) has h c = (function_allowed known r same e.1 has.0 h.0 c.0, functions_allowed known r same es has.1 h.1 c.1)
@@ -231,21 +265,67 @@ or_first : (a b : Bool) → a ≡ true → (a || b) ≡ true
 or_first true b h = refl
 or_first false b h = absurd (true≢false (sym h))
 
-module _ (origin : TypeId → Resource) (lent : ℕ → Bool) (home : Home) (known : IsHome lent home) where
-  -- while types are imported, each that is listed may be defined
-  pub known_importing : (stage : Stage) → stage ≡ stages.Importing → IsDistinct bytes_eq (keys_of home.named) → (k : ℕ) → AreKnown origin lent home stage k
-  known_importing stage importing apart k n l owner name title =
-      let id : TypeId = record { index = n } in
-      let found = lookup-from_Contains bytes_laws name id home.named apart (known.every.each n (within_owned home.here home.types n owner) owner name title) in
-      subst (λ (q : Stage). (is_met q home id || may_own_named (Some name) q home n) ≡ true) (sym importing)
-      (or_second (is_one_of home.foreign n) (is_listed home.named name n) (ap (λ (o : Option TypeId). elim o [ None ↦ false | Some i ↦ i.index == n ]) found ∙ (Decides-eqb n n).1 refl))
+-- a type of which the interface may be made before its resources were imported is at home
+pub home_before : (types : List TypeDef) (lent : ℕ → Bool) (here : InterfaceId) (n : ℕ) (k : TypeDefKind) → is_home_before types lent here n k ≡ true → is_at_home types lent here n k ≡ true
+home_before types lent here n k e = (both (is_at_home types lent here n k) (not (is_resource k && is_none (foreign (Some here) (owner_at types n)))) e).0
 
-  -- while there are exports, each is in the tables that was passed
-  pub known_exporting : (stage : Stage) → IsExporting stage → (k : ℕ) → ((n : ℕ) → n < k → is_one_of (listed_ids home.named) n ≡ true → n < next_of (last_of stage)) → AreKnown origin lent home stage k
-  known_exporting stage exporting k passed n l owner name title =
+no_own : (r own : Bool) → not (r && own) ≡ true → own ≡ true → r ≡ false
+no_own false own e is = refl
+no_own true true e is = absurd (true≢false (sym e))
+no_own true false e is = absurd (true≢false (sym is))
+
+module _ (origin : TypeId → Resource) (lent : ℕ → Bool) (home : Home) (known : IsHome lent home) where
+  abbrev first_test : ℕ → TypeDefKind → Bool
+  first_test = is_home_before home.types lent home.here
+
+  abbrev whole_test : ℕ → TypeDefKind → Bool
+  whole_test = is_at_home home.types lent home.here
+
+  -- while types are imported, each type of values that is listed may be defined
+  found_owned : IsDistinct bytes_eq (keys_of home.named) → (n : ℕ) → owner_at home.types n ≡ owners.Interface home.here → (name : List ℕ) → name_at home.types n ≡ Some name → is_listed home.named name n ≡ true
+  found_owned apart n owner name title =
+      let found = lookup-from_Contains bytes_laws name (record { index = n }) home.named apart (known.every.each n (within_owned home.here home.types n owner) owner name title) in
+      ap (λ (o : Option TypeId). elim o [ None ↦ false | Some i ↦ i.index == n ]) found ∙ (Decides-eqb n n).1 refl
+
+  one_listed : (n : ℕ) → owner_at home.types n ≡ owners.Interface home.here → (name : List ℕ) → name_at home.types n ≡ Some name → is_one_of (listed_ids home.named) n ≡ true
+  one_listed n owner name title =
       let id : TypeId = record { index = n } in
       let c = known.every.each n (within_owned home.here home.types n owner) owner name title in
-      let there = one_of_listed home.named (name, id) (name, id) c.0 c.1 c.2 in
+      one_of_listed home.named (name, id) (name, id) c.0 c.1 c.2
+
+  defined_importing : IsDistinct bytes_eq (keys_of home.named) → (n : ℕ) → is_resource (kind_at home.types n) ≡ false → owner_at home.types n ≡ owners.Interface home.here → (name : List ℕ) → name_at home.types n ≡ Some name →
+      (is_met stages.Importing home (record { index = n }) || (not (is_resource (kind_at home.types n)) && may_own_named (Some name) stages.Importing home n)) ≡ true
+  defined_importing apart n values owner name title =
+      or_second (is_met stages.Importing home (record { index = n })) (not (is_resource (kind_at home.types n)) && is_listed home.named name n)
+      (rw (values, found_owned apart n owner name title) refl)
+
+  -- while those of other interfaces are imported, no resource of the interface is met
+  pub known_first : (stage : Stage) → stage ≡ stages.Importing → IsDistinct bytes_eq (keys_of home.named) → (k : ℕ) → AreKnown origin lent home stage first_test (home_before home.types lent home.here) k
+  known_first stage importing apart k n l e owner name title =
+      let kind = kind_at home.types n in
+      let other = is_none (foreign (Some home.here) (owner_at home.types n)) in
+      let values = no_own (is_resource kind) other (both (is_at_home home.types lent home.here n kind) (not (is_resource kind && other)) e).1 (ap is_none (own_owner home.here (owner_at home.types n) owner)) in
+      subst (λ (q : Stage). (is_met q home (record { index = n }) || (not (is_resource kind) && may_own_named (Some name) q home n)) ≡ true) (sym importing) (defined_importing apart n values owner name title)
+
+  -- while functions are, each is in the tables
+  pub known_importing : (stage : Stage) → stage ≡ stages.Importing → IsDistinct bytes_eq (keys_of home.named) → ((n : ℕ) → is_one_of (listed_ids home.named) n ≡ true → is_resource (kind_at home.types n) ≡ true → is_one_of home.resources n ≡ true) → (k : ℕ) →
+      AreKnown origin lent home stage whole_test (λ m kind e. e) k
+  known_importing stage importing apart imported k n l e owner name title =
+      let kind = kind_at home.types n in
+      subst (λ (q : Stage). (is_met q home (record { index = n }) || (not (is_resource kind) && may_own_named (Some name) q home n)) ≡ true) (sym importing) (by (is_resource kind) refl)
+    where
+      by : (r : Bool) → is_resource (kind_at home.types n) ≡ r → (is_met stages.Importing home (record { index = n }) || (not (is_resource (kind_at home.types n)) && may_own_named (Some name) stages.Importing home n)) ≡ true
+      by false values = defined_importing apart n values owner name title
+      by true resource =
+          or_first (is_met stages.Importing home (record { index = n })) (not (is_resource (kind_at home.types n)) && may_own_named (Some name) stages.Importing home n)
+          (or_second (is_one_of home.foreign n) (is_one_of home.resources n) (imported n (one_listed n owner name title) resource))
+
+  -- while there are exports, each is in the tables that was passed
+  pub known_exporting : (stage : Stage) → IsExporting stage → (k : ℕ) → ((n : ℕ) → n < k → is_one_of (listed_ids home.named) n ≡ true → n < next_of (last_of stage)) → AreKnown origin lent home stage whole_test (λ m kind e. e) k
+  known_exporting stage exporting k passed n l e owner name title =
+      let id : TypeId = record { index = n } in
+      let there = one_listed n owner name title in
       let before = subst (λ (q : Stage). n < next_of (last_of q)) exporting.same (passed n l there) in
-      subst (λ (q : Stage). (is_met q home id || may_own_named (Some name) q home n) ≡ true) (sym exporting.same)
-      (or_first (is_one_of home.foreign n || is_passed home exporting.last id) false (or_second (is_one_of home.foreign n) (is_passed home exporting.last id) (rw (lt-ltb n (next_of exporting.last) before, there) refl)))
+      subst (λ (q : Stage). (is_met q home id || (not (is_resource (kind_at home.types n)) && may_own_named (Some name) q home n)) ≡ true) (sym exporting.same)
+      (or_first (is_one_of home.foreign n || is_passed home exporting.last id) (not (is_resource (kind_at home.types n)) && false)
+      (or_second (is_one_of home.foreign n) (is_passed home exporting.last id) (rw (lt-ltb n (next_of exporting.last) before, there) refl)))

@@ -58,9 +58,11 @@ module _ (given : List ℕ → TypeTree) (origin : TypeId → Resource) (home : 
       let i = items.Import (plain h.imports.free) (descriptions.TypeEqual index) in
       let t : TypeImport = record { name = h.imports.free; id = h.id } in
       record {
-        more = t ∷ [];
-        staged = subst (λ s. MayImport s (t ∷ [])) (sym importing) tt;
+        more = (false, t) ∷ [];
+        staged = subst (λ s. MayImport s ((false, t) ∷ [])) (sym importing) tt;
+        chosen = refl;
         taken = h.imports.taken;
+        types = h.imports.types;
         own = (
           record {
             text = name.name;

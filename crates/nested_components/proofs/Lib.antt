@@ -11,8 +11,11 @@ pub mod AllTypes
 pub mod AtHome
 pub mod Copying
 pub mod ForeignTypes
+pub mod Planned
+pub mod OwnResources
 pub mod Keeping
 pub mod Whole
 mod WorkedFunctions
 mod WorkedTypes
+mod WorkedResources
 pub mod Apart

@@ -22,7 +22,7 @@ use Rattle.nested_components.specs.declared.stage.Stage.TheVariants as stages
 use Rattle.nested_components.specs.Functions.{type_of}
 use Rattle.nested_components.specs.Types.{type_given}
 use Rattle.nested_components.specs.Homes.{Home, IsExporting, nested_setting}
-use Rattle.nested_components.specs.Growing.{scope_of, plain, AreTablesRight, ItemsGrow, type_entry, Grows, Exports, ExportsOne, function_at, IsTypedAt}
+use Rattle.nested_components.specs.Growing.{scope_of, plain, AreTablesRight, ItemsGrow, type_entry, met_among, all_among, Grows, Exports, ExportsOne, function_at, IsTypedAt}
 use Rattle.nested_components.specs.Following.{exports_on, grows_on, staged_none}
 use Rattle.nested_components.proofs.Scoping.{scope_more}
 
@@ -42,7 +42,9 @@ module _ (given : List ℕ → TypeTree) (origin : TypeId → Resource) (home : 
       record {
         more = [];
         staged = staged_none stage;
+        chosen = refl;
         taken = ap (λ (c : Contents). c.taken) is ∙ sym (append-nil mid.taken);
+        types = ap (λ (c : Contents). c.types) is ∙ sym (append-nil mid.types);
         own = tt;
         items = record {
           more = i ∷ [];
@@ -63,8 +65,9 @@ module _ (given : List ℕ → TypeTree) (origin : TypeId → Resource) (home : 
 none_imported : (given : List ℕ → TypeTree) (origin : TypeId → Resource) (home : Home) (last : Option TypeId) (old new : Contents) → Grows given origin home (stages.Exporting last) old new [] → Exports given old new [] []
 none_imported given origin home last old new g =
     record {
-      taken = g.taken ∙ (ap (λ ts. old.taken ++ map type_entry ts) g.staged ∙ append-nil old.taken);
-      items = subst (λ ts. ItemsGrow given old.items new.items [] (map (type_given origin home.types) ts) [] []) g.staged g.items;
+      taken = g.taken ∙ (ap (λ ts. old.taken ++ map type_entry (met_among ts)) g.staged ∙ append-nil old.taken);
+      types = g.types ∙ (ap (λ ts. old.types ++ all_among ts) g.staged ∙ append-nil old.types);
+      items = subst (λ ts. ItemsGrow given old.items new.items [] (map (type_given origin home.types) (all_among ts)) [] []) g.staged g.items;
     }
 
 pub quiet : (given : List ℕ → TypeTree) (origin : TypeId → Resource) (home : Home) (stage : Stage) (old new : Contents) → IsExporting stage → Grows given origin home stage old new [] → Exports given old new [] []
@@ -87,6 +90,7 @@ module _ (given : List ℕ → TypeTree) (origin : TypeId → Resource) (types :
       let type = subst (λ (gs : List NestedFunction). (get_or gs index no_function).type ≡ type_of origin types f) (sym functions_same) typed.typed in
       record {
         taken = ap (λ (c : Contents). c.taken) is;
+        types = ap (λ (c : Contents). c.types) is;
         items = record {
           more = i ∷ [];
           grown = grown;

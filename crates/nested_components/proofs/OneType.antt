@@ -1,5 +1,5 @@
 -- A type of the interface that is exported behind its definition.
-use Rattle.std.proofs.Common.{◌≡◌, ◌∙◌, ◌<◌, ◌==◌, ◌&&◌, ◌||◌, inl, inr, arith, ℕ, suc, Bool, true, false, true≢false, List, [], ◌∷◌, ◌++◌, refl, ap, ap₂, sym, subst, get_or, nat_lt, lt-ltb, ltb-true, Some, None}
+use Rattle.std.proofs.Common.{◌≡◌, ◌∙◌, ◌<◌, ◌==◌, ◌&&◌, inl, inr, arith, ℕ, suc, Bool, true, false, true≢false, List, [], ◌∷◌, ◌++◌, refl, ap, ap₂, sym, subst, get_or, nat_lt, lt-ltb, ltb-true, Some, None}
 use Rattle.std.proofs.lemmas.Bool.{or_left, or_right, or_cases}
 use Rattle.std.proofs.lemmas.Bool.Decides.{Decides-eqb}
 use Rattle.comp_lists.proofs.Lists.{AllByRecursion-weaker}
@@ -55,6 +55,7 @@ module _ (given : List ℕ → TypeTree) (origin : TypeId → Resource) (mid new
   type_exported name named =
       record {
         taken = ap (λ (c : Contents). c.taken) is;
+        types = ap (λ (c : Contents). c.types) is;
         items = record {
           more = export ∷ [];
           grown = grown;
@@ -86,7 +87,7 @@ met_before home stage j exporting listed before =
 
 -- a type of another interface that was imported is in the tables
 pub met_foreign : (home : Home) (stage : Stage) (j : TypeId) → is_one_of home.foreign j.index ≡ true → is_met stage home j ≡ true
-met_foreign home stages.Importing j e = e
+met_foreign home stages.Importing j e = or_left (is_one_of home.foreign j.index) (is_one_of home.resources j.index) e
 met_foreign home (stages.Exporting last) j e = or_left (is_one_of home.foreign j.index) (is_passed home last j) e
 
 pub right_passed : (given : List ℕ → TypeTree) (origin : TypeId → Resource) (home : Home) (stage : Stage) (id : TypeId) (is : List Item) (maps : TypeEncodingMaps) → IsExporting stage → IsNextOf home stage id → HasIndex maps id →

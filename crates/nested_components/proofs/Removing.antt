@@ -1,12 +1,16 @@
 -- An entry that was added last is removed.
-use Rattle.std.proofs.Common.{◌≡◌, ◌∙◌, ◌+◌, ◌-◌, ◌<◌, arith, ℕ, suc, Bool, true, false, not, List, [], ◌∷◌, ◌++◌, length, take, refl, ap, Some, None, cond, nat_lt, lt-ltb, position, slice_set, slice_index_or, swap_remove}
+use Rattle.std.proofs.Common.{◌≡◌, ◌∙◌, ◌+◌, ◌-◌, ◌<◌, arith, ℕ, suc, Bool, true, false, not, List, [], ◌∷◌, ◌++◌, length, take, refl, ap, subst, sym, Option, Some, None, cond, nat_lt, lt-ltb, position, slice_set, slice_index_or, swap_remove}
 use Rattle.std.specs.List.{position_or_len}
 use Rattle.std.specs.Map.{keys_of, lookup}
 use Rattle.std.specs.Str.{bytes_eq}
 use Rattle.std.proofs.lemmas.List.{length-append}
 use Rattle.std.proofs.lemmas.Slice.Eq.{bytes_eq-Decides}
+use Rattle.wit_data.specs.declared.ids.TypeId.{TypeId}
+use Rattle.comp_bytes.specs.declared.def.Item.{Item}
 use Rattle.indexmap.specs.IndexMap.{swap_remove_entry}
 use Rattle.indexmap.proofs.MapLemmas.{swap_remove_entry-found}
+use Rattle.nested_components.specs.declared.contents.Contents.{Contents}
+use Rattle.nested_components.specs.declared.type_import.TypeImport.{TypeImport}
 
 last_is_left : {X : Type 0} (xs : List X) (x y : X) → take (length xs) (slice_set (xs ++ x ∷ []) (length xs) y) ≡ xs
 last_is_left [] x y = refl
@@ -41,3 +45,10 @@ module _ {X : Type 0} (name : List ℕ) (x : X) where
 
   pub last_removed : (es : List (List ℕ × X)) → lookup (bytes_eq name) es ≡ None → swap_remove_entry (bytes_eq name) (es ++ (name, x) ∷ []) ≡ es
   last_removed es none = swap_remove_entry-found (bytes_eq name) (es ++ (name, x) ∷ []) (length es) (name, x) (is_last es none) ∙ last_swapped es (name, x) (name, x)
+
+-- all is as it was
+pub put_back : (old : Contents) (is : List Item) (ts : List TypeImport) (taken : List (List ℕ × Option TypeId)) → is ≡ old.items → ts ≡ old.types → taken ≡ old.taken → record { items = is; taken = taken; types = ts } ≡ old
+put_back old is ts taken a b c =
+    subst (λ (xs : List Item). record { items = xs; taken = taken; types = ts } ≡ old) (sym a)
+    (subst (λ (us : List TypeImport). record { items = old.items; taken = taken; types = us } ≡ old) (sym b)
+    (subst (λ (es : List (List ℕ × Option TypeId)). record { items = old.items; taken = es; types = old.types } ≡ old) (sym c) refl))

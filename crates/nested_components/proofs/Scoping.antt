@@ -80,9 +80,9 @@ module _ (given : List ℕ → TypeTree) where
       made = ap (λ (s : NestedScope). s.functions) (scope_more old new (items.Type t) is);
     }
 
-  pub type_grown : (origin : TypeId → Resource) (home : Home) (stage : Stage) (old new : Contents) (t : TypeDef) (r : Result ℕ BuildFault) → new.taken ≡ old.taken → IsItemRight given (scope_of given old.items) (items.Type t) →
+  pub type_grown : (origin : TypeId → Resource) (home : Home) (stage : Stage) (old new : Contents) (t : TypeDef) (r : Result ℕ BuildFault) → new.taken ≡ old.taken → new.types ≡ old.types → IsItemRight given (scope_of given old.items) (items.Type t) →
       OnOk r (new.items ≡ old.items ++ items.Type t ∷ []) → OnErr r (new.items ≡ old.items) → Grows given origin home stage old new []
-  type_grown origin home stage old new t (Ok i) kept right is same =
-      record { more = []; staged = staged_none stage; taken = kept ∙ sym (append-nil old.taken); own = tt; items = grown_by old.items new.items t right is }
-  type_grown origin home stage old new t (Err e) kept right is same =
-      record { more = []; staged = staged_none stage; taken = kept ∙ sym (append-nil old.taken); own = tt; items = subst (λ now. ItemsGrow given old.items now [] [] [] []) (sym same) (items_none given old.items) }
+  type_grown origin home stage old new t (Ok i) kept still right is same =
+      record { more = []; staged = staged_none stage; chosen = refl; taken = kept ∙ sym (append-nil old.taken); types = still ∙ sym (append-nil old.types); own = tt; items = grown_by old.items new.items t right is }
+  type_grown origin home stage old new t (Err e) kept still right is same =
+      record { more = []; staged = staged_none stage; chosen = refl; taken = kept ∙ sym (append-nil old.taken); types = still ∙ sym (append-nil old.types); own = tt; items = subst (λ now. ItemsGrow given old.items now [] [] [] []) (sym same) (items_none given old.items) }

@@ -1,7 +1,8 @@
 -- A worked example: an interface that lists one type, a stream, which its function takes; and one whose function takes a type of
 -- another interface.
-use Rattle.std.proofs.Common.{◌≡◌, ◌<◌, ◌==◌, ◌&&◌, arith, ℕ, zero, suc, Bool, true, false, List, [], ◌∷◌, refl, ap, Some, None}
-use Rattle.std.specs.Prelude.{codes, Contains}
+use Rattle.std.proofs.Common.{◌≡◌, ◌<◌, ◌==◌, ◌&&◌, arith, ℕ, zero, suc, Bool, true, false, true≢false, sym, List, [], ◌∷◌, refl, ap, Some, None}
+use Rattle.std.specs.List.{IsDistinct}
+use Rattle.std.specs.Prelude.{codes, Contains, IsSome}
 use Rattle.std.proofs.lemmas.Option.{same_Some}
 use Rattle.wit_data.specs.declared.functions.Function.{Function}
 use Rattle.wit_data.specs.declared.functions.FunctionKind.TheVariants as function_kinds
@@ -14,6 +15,7 @@ use Rattle.wit_data.specs.declared.types.TypeOwner.TheVariants as owners
 use Rattle.wit_data.specs.Values.{value, values_from}
 use Rattle.comp_trees.specs.Trees.{Resource, StreamOf, Absent}
 use Rattle.comp_trees.specs.DefinedTrees.{OfValues}
+use Rattle.wit_types.specs.Allowing.{foreign}
 use Rattle.wit_types.specs.Settings.{owner_at, name_at}
 use Rattle.type_scopes.specs.Needs.{each_passes, function_passes, is_at_home}
 use Rattle.foreign_types.specs.Foreign.{AreForeignTypes}
@@ -39,6 +41,13 @@ each_listed : (n : ℕ) → n < 1 → owner_at types n ≡ owners.Interface here
 each_listed zero l o name e = (0, omega arith, ap (λ (x : List ℕ). (x, t)) (same_Some (codes "t") name e))
 each_listed (suc n) l o name e = absurd (omega (arith, l))
 
+none_other : (id : TypeId) → id.index < 1 → IsSome (foreign (Some here) (owner_at types id.index)) → ⊥
+none_other id l other = by id.index l other
+  where
+    by : (n : ℕ) → n < 1 → IsSome (foreign (Some here) (owner_at types n)) → ⊥
+    by zero l other = true≢false (sym other)
+    by (suc n) l other = omega (arith, l)
+
 stream_at_home : IsAtHome types here named ((codes "f", f) ∷ [])
 unfolding values_from
 stream_at_home = record {
@@ -48,6 +57,7 @@ stream_at_home = record {
   types = (refl, tt);
   functions = (refl, tt);
   every = record { each = each_listed };
+  later = record { each = λ id l other h. absurd (none_other id l other) };
 }
 
 stream_given : (origin : TypeId → Resource) → type_given origin types (record { name = codes "import-type-t"; id = t }) ≡ (codes "import-type-t", OfValues (StreamOf Absent))
@@ -69,9 +79,10 @@ lent = refl
 
 -- it is imported before the function, and behind nothing
 foreign_type : AreForeignTypes types (record { index = 1 }) [] ((codes "f", f) ∷ []) (t ∷ [])
-unfolding values_from
+unfolding values_from IsDistinct
 foreign_type = record {
   ready = (record { within = omega arith; other = here; owner = refl; parts = refl }, tt);
+  once = (tt, tt);
   types_covered = tt;
   functions_covered = (refl, tt);
   reached = (record { each = λ test types_pass functions_pass. and_first (value (each_passes test) types (Some (Id t))) functions_pass.0 }, tt);

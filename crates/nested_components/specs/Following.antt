@@ -1,5 +1,5 @@
 -- What was built, and what was built behind it: growth adds up.
-use Rattle.std.specs.Prelude.{ℕ, ◌≡◌, List, [], ◌∷◌, ◌++◌, map}
+use Rattle.std.specs.Prelude.{ℕ, ◌≡◌, Bool, true, false, List, [], ◌∷◌, ◌++◌, map}
 use Rattle.std.specs.List.{AllByRecursion}
 use Rattle.std.proofs.Common.{inl, inr, refl, sym, ap, ap₂, subst, ◌∙◌, append_assoc, append-nil}
 use Rattle.std.proofs.lemmas.List.{map-append}
@@ -15,7 +15,7 @@ use Rattle.nested_components.specs.declared.stage.Stage.TheVariants as stages
 use Rattle.nested_components.specs.declared.type_import.TypeImport.{TypeImport}
 use Rattle.nested_components.specs.Homes.{Home, with_foreign, MayImport}
 use Rattle.nested_components.specs.Types.{type_given}
-use Rattle.nested_components.specs.Growing.{scope_of, ItemsGrow, type_entry, IsImportIn, Grows, Exports}
+use Rattle.nested_components.specs.Growing.{scope_of, ItemsGrow, type_entry, planned_among, met_among, all_among, IsImportIn, GrowsBy, Grows, Exports}
 
 functions_append : (xs ys : List NestedImport) → functions_imported (xs ++ ys) ≡ functions_imported xs ++ functions_imported ys
 functions_append [] ys = refl
@@ -31,13 +31,26 @@ all_append : {X : Type 0} (P : X → Type 0) (xs ys : List X) → AllByRecursion
 all_append P [] ys a b = b
 all_append P (x ∷ xs) ys a b = (a.0, all_append P xs ys a.1 b)
 
-staged_on : (stage : Stage) (xs ys : List TypeImport) → MayImport stage xs → MayImport stage ys → MayImport stage (xs ++ ys)
+staged_on : (stage : Stage) (xs ys : List (Bool × TypeImport)) → MayImport stage xs → MayImport stage ys → MayImport stage (xs ++ ys)
 staged_on stages.Importing xs ys a b = tt
 staged_on (stages.Exporting last) xs ys a b = ap₂ (λ p q. p ++ q) a b
 
 pub staged_none : (stage : Stage) → MayImport stage []
 staged_none stages.Importing = tt
 staged_none (stages.Exporting last) = refl
+
+planned_append : (xs ys : List (Bool × TypeImport)) → planned_among (xs ++ ys) ≡ planned_among xs ++ planned_among ys
+planned_append [] ys = refl
+planned_append ((true, t) ∷ xs) ys = ap (λ ts. t ∷ ts) (planned_append xs ys)
+planned_append ((false, t) ∷ xs) ys = planned_append xs ys
+
+met_append : (xs ys : List (Bool × TypeImport)) → met_among (xs ++ ys) ≡ met_among xs ++ met_among ys
+met_append [] ys = refl
+met_append ((true, t) ∷ xs) ys = met_append xs ys
+met_append ((false, t) ∷ xs) ys = ap (λ ts. t ∷ ts) (met_append xs ys)
+
+all_among_append : (xs ys : List (Bool × TypeImport)) → all_among (xs ++ ys) ≡ all_among xs ++ all_among ys
+all_among_append xs ys = map-append (λ (t : Bool × TypeImport). t.1) xs ys
 
 module _ (given : List ℕ → TypeTree) where
   pub scope_append : (s : NestedScope) (is more : List Item) → scope_after given s (is ++ more) ≡ scope_after given (scope_after given s is) more
@@ -94,32 +107,41 @@ module _ (given : List ℕ → TypeTree) where
   -- ---- exports
 
   pub exports_none : (c : Contents) → Exports given c c [] []
-  exports_none c = record { taken = refl; items = items_none c.items }
+  exports_none c = record { taken = refl; types = refl; items = items_none c.items }
 
   pub exports_on : (a b c : Contents) (e d : List NestedExport) (f g : List NestedFunction) → Exports given a b e f → Exports given b c d g → Exports given a c (e ++ d) (f ++ g)
-  exports_on a b c e d f g x y = record { taken = y.taken ∙ x.taken; items = items_on a.items b.items c.items [] [] [] [] e d f g x.items y.items }
+  exports_on a b c e d f g x y = record { taken = y.taken ∙ x.taken; types = y.types ∙ x.types; items = items_on a.items b.items c.items [] [] [] [] e d f g x.items y.items }
 
   -- ---- imports
 
   module _ (origin : TypeId → Resource) where
     pub grows_none : (home : Home) (stage : Stage) (c : Contents) → Grows given origin home stage c c []
-    grows_none home stage c = record { more = []; staged = staged_none stage; taken = sym (append-nil c.taken); own = tt; items = items_none c.items }
+    grows_none home stage c = record { more = []; staged = staged_none stage; chosen = refl; taken = sym (append-nil c.taken); types = sym (append-nil c.types); own = tt; items = items_none c.items }
 
-    pub grows_on : (home : Home) (stage : Stage) (a b c : Contents) (f g : List NestedFunction) → Grows given origin home stage a b f → Grows given origin home stage b c g → Grows given origin home stage a c (f ++ g)
-    grows_on home stage a b c f g x y =
+    pub grows_by_on : (home : Home) (stage : Stage) (p q : List TypeImport) (a b c : Contents) (f g : List NestedFunction) → GrowsBy given origin home stage p a b f → GrowsBy given origin home stage q b c g → GrowsBy given origin home stage (p ++ q) a c (f ++ g)
+    grows_by_on home stage p q a b c f g x y =
         let tree = type_given origin home.types in
+        let met = map type_entry (met_among x.more) in
+        let later = map type_entry (met_among y.more) in
+        let both : all_among (x.more ++ y.more) ≡ all_among x.more ++ all_among y.more = all_among_append x.more y.more in
         record {
           more = x.more ++ y.more;
           staged = staged_on stage x.more y.more x.staged y.staged;
-          taken = y.taken ∙ (ap (λ ts. ts ++ map type_entry y.more) x.taken ∙ (append_assoc a.taken (map type_entry x.more) (map type_entry y.more) ∙ ap (λ ts. a.taken ++ ts) (sym (map-append type_entry x.more y.more))));
-          own = all_append _ x.more y.more x.own y.own;
-          items = subst (λ ts. ItemsGrow given a.items c.items (f ++ g) ts [] (f ++ g)) (sym (map-append tree x.more y.more))
-              (items_on a.items b.items c.items f g (map tree x.more) (map tree y.more) [] [] f g x.items y.items);
+          chosen = planned_append x.more y.more ∙ ap₂ (λ ts us. ts ++ us) x.chosen y.chosen;
+          taken = y.taken ∙ (ap (λ ts. ts ++ later) x.taken ∙ (append_assoc a.taken met later
+              ∙ ap (λ ts. a.taken ++ ts) (sym (ap (map type_entry) (met_append x.more y.more) ∙ map-append type_entry (met_among x.more) (met_among y.more)))));
+          types = y.types ∙ (ap (λ ts. ts ++ all_among y.more) x.types ∙ (append_assoc a.types (all_among x.more) (all_among y.more) ∙ ap (λ ts. a.types ++ ts) (sym both)));
+          own = subst (AllByRecursion (IsImportIn home)) (sym both) (all_append _ (all_among x.more) (all_among y.more) x.own y.own);
+          items = subst (λ ts. ItemsGrow given a.items c.items (f ++ g) ts [] (f ++ g)) (sym (ap (map tree) both ∙ map-append tree (all_among x.more) (all_among y.more)))
+              (items_on a.items b.items c.items f g (map tree (all_among x.more)) (map tree (all_among y.more)) [] [] f g x.items y.items);
         }
 
+    pub grows_on : (home : Home) (stage : Stage) (a b c : Contents) (f g : List NestedFunction) → Grows given origin home stage a b f → Grows given origin home stage b c g → Grows given origin home stage a c (f ++ g)
+    grows_on home stage a b c f g x y = grows_by_on home stage [] [] a b c f g x y
+
     -- of an interface for which more types of others were imported
-    pub grows_later : (home : Home) (ids : List TypeId) (stage : Stage) (a b : Contents) (f : List NestedFunction) → Grows given origin home stage a b f → Grows given origin (with_foreign home ids) stage a b f
-    grows_later home ids stage a b f g = record { more = g.more; staged = g.staged; taken = g.taken; own = each g.more g.own; items = g.items }
+    pub grows_later : (home : Home) (ids : List TypeId) (stage : Stage) (p : List TypeImport) (a b : Contents) (f : List NestedFunction) → GrowsBy given origin home stage p a b f → GrowsBy given origin (with_foreign home ids) stage p a b f
+    grows_later home ids stage p a b f g = record { more = g.more; staged = g.staged; chosen = g.chosen; taken = g.taken; types = g.types; own = each (all_among g.more) g.own; items = g.items }
       where
         one : (t : TypeImport) → IsImportIn home t → IsImportIn (with_foreign home ids) t
         one t h = record {

@@ -1,24 +1,26 @@
 -- How the items of a nested component grow, with the names that its imports take (component model, explainer: index spaces; binary:
 -- type indices).
-use Rattle.std.specs.Prelude.{ℕ, ◌≡◌, ◌<◌, ◌⊎◌, length, map, get_or, List, [], ◌∷◌, ◌++◌, Option, Some, None, Contains}
+use Rattle.std.specs.Prelude.{ℕ, ◌≡◌, ◌<◌, ◌⊎◌, length, map, get_or, Bool, true, false, List, [], ◌∷◌, ◌++◌, Option, Some, None, Contains}
 use Rattle.std.specs.List.{AllByRecursion}
 use Rattle.std.specs.Map.{keys_of, lookup}
 use Rattle.std.specs.Str.{bytes_eq}
 use Rattle.wit_data.specs.declared.ids.TypeId.{TypeId}
 use Rattle.wit_data.specs.declared.types.TypeDef.{TypeDef}
 use Rattle.wit_data.specs.declared.functions.Function.{Function}
+use Rattle.comp_bytes.specs.declared.types.Description.{Description}
 use Rattle.comp_bytes.specs.declared.types.Description.TheVariants as descriptions
 use Rattle.comp_bytes.specs.declared.types.ExternName.{ExternName}
 use Rattle.comp_bytes.specs.declared.def.Item.{Item}
 use Rattle.comp_bytes.specs.declared.def.Item.TheVariants as items
 use Rattle.comp_trees.specs.Trees.{Resource}
 use Rattle.comp_trees.specs.DefinedTrees.{TypeTree}
+use Rattle.comp_trees.specs.DefinedScopes.{Denotes}
 use Rattle.wit_types.specs.declared.maps.TypeEncodingMaps.{TypeEncodingMaps}
 use Rattle.wit_types.specs.Maps.{Faithful}
 use Rattle.wit_types.specs.Settings.{name_at}
 use Rattle.type_scopes.specs.Exports.{any_index}
 use Rattle.nested_terms.specs.Naming.{type_import_name, numbered, IsFirstFree}
-use Rattle.nested_terms.specs.Nested.{NestedScope, NestedFunction, NestedExport, ExportedFunction, empty_scope, no_function, scope_after, functions_imported, types_imported, imports_after, exports_after, AreItemsRight}
+use Rattle.nested_terms.specs.Nested.{NestedScope, NestedFunction, NestedExport, IsOfResource, ExportedFunction, empty_scope, no_function, scope_after, functions_imported, types_imported, imports_after, exports_after, AreItemsRight}
 use Rattle.nested_components.specs.declared.contents.Contents.{Contents}
 use Rattle.nested_components.specs.declared.stage.Stage.{Stage}
 use Rattle.nested_components.specs.declared.stage.Stage.TheVariants as stages
@@ -49,7 +51,7 @@ pub record ItemsGrow (given : List ℕ → TypeTree) (old new : List Item) (impo
   pub exported : exports_after given (scope_of given old) more ≡ exports
   pub made : (scope_of given new).functions ≡ (scope_of given old).functions ++ functions
 
--- ---- the names that are taken: those of functions, and those of the types that were imported
+-- ---- the names that are taken: those of functions, those that were chosen for types, and those of the types that were met
 
 abbrev pub function_entry : List ℕ → List ℕ × Option TypeId
 function_entry name = (name, None)
@@ -57,13 +59,22 @@ function_entry name = (name, None)
 abbrev pub type_entry : TypeImport → List ℕ × Option TypeId
 type_entry t = (t.name, Some t.id)
 
--- the types that were imported
-abbrev pub types_among : List (List ℕ × Option TypeId) → List TypeImport
-types_among [] = []
-types_among ((name, None) ∷ es) = types_among es
-types_among ((name, Some id) ∷ es) = record { name = name; id = id } ∷ types_among es
-
 -- ---- imports
+
+-- The types that are imported, one after the other, with whether the name of each was chosen before: those of which it was, the
+-- others, which were met, and all.
+abbrev pub planned_among : List (Bool × TypeImport) → List TypeImport
+planned_among [] = []
+planned_among ((true, t) ∷ ts) = t ∷ planned_among ts
+planned_among ((false, t) ∷ ts) = planned_among ts
+
+abbrev pub met_among : List (Bool × TypeImport) → List TypeImport
+met_among [] = []
+met_among ((true, t) ∷ ts) = met_among ts
+met_among ((false, t) ∷ ts) = t ∷ met_among ts
+
+abbrev pub all_among : List (Bool × TypeImport) → List TypeImport
+all_among ts = map (λ t. t.1) ts
 
 -- the import is one of a type that is listed under a name, or of a type of another interface that has the name; its own name is made
 -- of that
@@ -73,20 +84,48 @@ pub record IsImportIn (home : Home) (t : TypeImport) : Type 0 where
   pub count : ℕ
   pub same : t.name ≡ numbered count (type_import_name text)
 
--- functions are imported, and types of the interface or of others, each under a name that was free
-pub record Grows (given : List ℕ → TypeTree) (origin : TypeId → Resource) (home : Home) (stage : Stage) (old new : Contents) (functions : List NestedFunction) : Type 0 where
-  pub more : List TypeImport
+-- functions are imported, and types of the interface or of others: these, whose names were chosen before, and such as are met, each
+-- under a name that was free
+pub record GrowsBy (given : List ℕ → TypeTree) (origin : TypeId → Resource) (home : Home) (stage : Stage) (planned : List TypeImport) (old new : Contents) (functions : List NestedFunction) : Type 0 where
+  pub more : List (Bool × TypeImport)
   pub staged : MayImport stage more
-  pub taken : new.taken ≡ old.taken ++ map type_entry more
-  pub own : AllByRecursion (IsImportIn home) more
-  pub items : ItemsGrow given old.items new.items functions (map (type_given origin home.types) more) [] functions
+  pub chosen : planned_among more ≡ planned
+  pub taken : new.taken ≡ old.taken ++ map type_entry (met_among more)
+  pub types : new.types ≡ old.types ++ all_among more
+  pub own : AllByRecursion (IsImportIn home) (all_among more)
+  pub items : ItemsGrow given old.items new.items functions (map (type_given origin home.types) (all_among more)) [] functions
+
+-- of no type the name was chosen before
+abbrev pub Grows : (List ℕ → TypeTree) → (TypeId → Resource) → Home → Stage → Contents → Contents → List NestedFunction → Type 0
+Grows given origin home stage old new functions = GrowsBy given origin home stage [] old new functions
+
+-- how a type is imported: as equal to the one with an index, or as a resource
+abbrev pub type_bound : Option ℕ → Description
+type_bound (Some index) = descriptions.TypeEqual index
+type_bound None = descriptions.SubResource
+
+-- the import of a type under a name
+abbrev pub type_item : List ℕ → Option ℕ → Item
+type_item name equal = items.Import (plain name) (type_bound equal)
+
+-- a type is imported under a name that was chosen before
+pub record ImportsPlanned (old new : Contents) (t : TypeImport) (equal : Option ℕ) : Type 0 where
+  pub taken : new.taken ≡ old.taken
+  pub types : new.types ≡ old.types ++ t ∷ []
+  pub items : new.items ≡ old.items ++ type_item t.name equal ∷ []
+
+-- what is imported under a name is this type: the one with the index is, or the resource is that is given for the name
+abbrev pub IsBoundRight : (List ℕ → TypeTree) → NestedScope → List ℕ → TypeTree → Option ℕ → Type 0
+IsBoundRight given s name tree (Some index) = Denotes s.types index tree
+IsBoundRight given s name tree None = (given name ≡ tree) × IsOfResource tree
 
 -- a type is imported as equal to the one with an index
 pub record ImportsType (old new : Contents) (text : List ℕ) (id : TypeId) (index : ℕ) : Type 0 where
   pub free : List ℕ
   pub is_free : IsFirstFree (keys_of old.taken) (type_import_name text) free
   pub taken : new.taken ≡ old.taken ++ (free, Some id) ∷ []
-  pub items : new.items ≡ old.items ++ items.Import (plain free) (descriptions.TypeEqual index) ∷ []
+  pub types : new.types ≡ old.types ++ record { name = free; id = id } ∷ []
+  pub items : new.items ≡ old.items ++ type_item free (Some index) ∷ []
 
 -- and it is the type that is listed under a name
 pub record ImportsNamed (home : Home) (old new : Contents) (text : List ℕ) (index : ℕ) : Type 0 where
@@ -103,6 +142,7 @@ AreTablesKept given origin home is maps = AreTablesRight given origin home (stag
 -- types and functions are exported, and nothing is imported
 pub record Exports (given : List ℕ → TypeTree) (old new : Contents) (exports : List NestedExport) (functions : List NestedFunction) : Type 0 where
   pub taken : new.taken ≡ old.taken
+  pub types : new.types ≡ old.types
   pub items : ItemsGrow given old.items new.items [] [] exports functions
 
 -- the types are exported that are listed
@@ -129,6 +169,7 @@ pub record IsTypedAt (origin : TypeId → Resource) (types : List TypeDef) (s : 
 
 -- the items that pass these functions and the listed types on, with the names that their imports take
 pub record ArePassedOn (given : List ℕ → TypeTree) (origin : TypeId → Resource) (types : List TypeDef) (named : List (List ℕ × TypeId)) (entries : List (List ℕ × Function)) (names : List (List ℕ)) (c : Contents) : Type 0 where
-  pub imports : List TypeImport
-  pub passes : PassesOn given origin types named entries (nested_functions origin types (functions_of entries) names) imports c.items
-  pub taken : c.taken ≡ map function_entry names ++ map type_entry imports
+  pub imports : List (Bool × TypeImport)
+  pub passes : PassesOn given origin types named entries (nested_functions origin types (functions_of entries) names) (all_among imports) c.items
+  pub taken : c.taken ≡ map function_entry names ++ map type_entry (planned_among imports ++ met_among imports)
+  pub typed : c.types ≡ all_among imports

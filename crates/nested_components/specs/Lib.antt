@@ -6,5 +6,7 @@ pub mod Foreign
 pub mod Counts
 pub mod Tables
 pub mod Growing
+pub mod Planning
+pub mod Resources
 pub mod Beginning
 pub mod Following

@@ -3,19 +3,20 @@
 ghost use Rattle.std.specs.Prelude.{◌≡◌, ◌∷◌, [], OnOk};
 ghost use Rattle.std.specs.Map.{lookup};
 ghost use Rattle.std.specs.Str.{bytes_eq};
-ghost use Rattle.nested_components.specs.Homes.{new_home, with_foreign};
+ghost use Rattle.nested_components.specs.Homes.{new_home, with_foreign, with_resources};
 
 use comp_lists::{Keyed, Seq, Text};
 use std::alloc::{AllocError, Global};
 use std::marker::Model;
 use wit_data::{InterfaceId, Resolve, TypeId};
 
-/// An interface, the types that it lists, and those of other interfaces that were imported for it.
+/// An interface, the types that it lists, and those of other interfaces and the resources of its own that were imported for it.
 pub struct OwnTypes<'a> {
     resolve: &'a Resolve,
     interface: InterfaceId,
     types: &'a Keyed<Text, TypeId>,
     foreign: Seq<TypeId>,
+    resources: Seq<TypeId>,
 }
 
 impl<'a> Drop for OwnTypes<'a> {
@@ -25,6 +26,7 @@ impl<'a> Drop for OwnTypes<'a> {
             interface: _,
             types: _,
             foreign: _,
+            resources: _,
         } = self;
     }
 }
@@ -34,11 +36,11 @@ impl<'a> Model for OwnTypes<'a> {
 
     ghost Value = { Home };
 
-    ghost view = { λ o. record { types = o.resolve.now.types; here = o.interface; named = o.types.now; foreign = o.foreign } };
+    ghost view = { λ o. record { types = o.resolve.now.types; here = o.interface; named = o.types.now; foreign = o.foreign; resources = o.resources } };
 }
 
 impl<'a> OwnTypes<'a> {
-    /// The types that an interface of the resolve lists. None of others was imported.
+    /// The types that an interface of the resolve lists. None was imported.
     pub fn new(
         alloc: Global,
         resolve: &'a Resolve,
@@ -52,6 +54,7 @@ impl<'a> OwnTypes<'a> {
             interface,
             types,
             foreign: Seq::new(alloc),
+            resources: Seq::new(alloc),
         }
     }
 
@@ -60,6 +63,14 @@ impl<'a> OwnTypes<'a> {
         ensures { OnOk result (self.new ≡ with_foreign self.old (id ∷ [])) }
     {
         self.foreign.push(id)?;
+        Ok(())
+    }
+
+    /// A resource of the interface was imported.
+    pub fn add_resource(&mut self, id: TypeId) -> Result<(), AllocError>
+        ensures { OnOk result (self.new ≡ with_resources self.old (id ∷ [])) }
+    {
+        self.resources.push(id)?;
         Ok(())
     }
 

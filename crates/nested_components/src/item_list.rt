@@ -6,6 +6,7 @@ ghost use Rattle.comp_bytes.specs.declared.types.Description.TheVariants as desc
 ghost use Rattle.comp_bytes.specs.declared.def.Item.TheVariants as items;
 ghost use Rattle.wit_types.specs.Denoting.{IsCause};
 ghost use Rattle.nested_components.specs.Counts.{makes_type, types_in, is_full};
+ghost use Rattle.nested_components.specs.Growing.{type_bound};
 
 use byte_encoding::{BuildFault, next_count};
 use comp_bytes::{Description, ExternName, Item, Sort, TypeDef};
@@ -76,15 +77,27 @@ impl ItemList {
         self.add(Item::Type(ty))
     }
 
-    /// Imports a type as equal to the one with an index, and returns the index of the import.
-    pub(crate) fn import_type(&mut self, name: ExternName, ty: u32) -> Result<u32, BuildFault>
+    /// Imports a type, as equal to the one with an index, or as a resource, and returns the index of the import.
+    pub(crate) fn import_type(
+        &mut self,
+        name: ExternName,
+        equal: Option<u32>,
+    ) -> Result<u32, BuildFault>
         ensures index { IfOk result (λ index. index ≡ types_in self.old) }
-        ensures ok { OnOk result (self.new ≡ self.old ++ items.Import name (descriptions.TypeEqual ty) ∷ []) }
+        ensures ok { OnOk result (self.new ≡ self.old ++ items.Import name (type_bound equal) ∷ []) }
         ensures err { OnErr result (self.new ≡ self.old) }
         ensures cause { IfErr result (IsCause is_full self.new) }
     {
-        let description = Description::TypeEqual(ty);
-        self.add(Item::Import { name, description })
+        match equal {
+            Some(ty) => self.add(Item::Import {
+                name,
+                description: Description::TypeEqual(ty),
+            }),
+            None => self.add(Item::Import {
+                name,
+                description: Description::SubResource,
+            }),
+        }
     }
 
     /// Exports the type with an index, and returns the index of the export.

@@ -15,23 +15,26 @@ ghost use Rattle.wit_types.specs.Denoting.{Makes, MayMake, IsCause, exported_or}
 ghost use Rattle.wit_types.specs.Maps.{no_maps};
 ghost use Rattle.type_scopes.specs.Exports.{any_index};
 ghost use Rattle.nested_components.specs.declared.stage.Stage.TheVariants as stages;
-ghost use Rattle.nested_components.specs.Homes.{nested_setting, with_foreign};
+ghost use Rattle.nested_components.specs.Homes.{nested_setting, with_foreign, with_resources};
 ghost use Rattle.nested_components.specs.Tables.{types_alone};
 ghost use Rattle.nested_components.specs.Counts.{types_in, is_full};
-ghost use Rattle.nested_components.specs.Growing.{scope_of, plain, Grows, ImportsType, ImportsNamed};
+ghost use Rattle.nested_components.specs.Growing.{scope_of, plain, Grows, ImportsPlanned, ImportsNamed};
 ghost use Rattle.nested_components.specs.Following.{grows_none, grows_follow};
 
 use crate::contents::Contents;
 use crate::home::OwnTypes;
+use crate::imported_types::ImportedTypes;
 use crate::item_list::ItemList;
 use crate::placement::Placement;
 use crate::stage::Stage;
 use crate::tables::copy_type_tables;
+use crate::type_import::TypeImport;
 use byte_encoding::BuildFault;
 use comp_bytes::{DefinedType, ExternName, FuncTypeDef, TypeDef};
 use comp_lists::{Keyed, Text};
 use std::alloc::{AllocError, Global};
 use std::marker::PhantomData;
+use std::mem;
 use wit_data::{InterfaceId, TypeId};
 use wit_types::{TypeEncodingMaps, ValtypeEncoder};
 
@@ -68,7 +71,7 @@ impl<'a, P: Placement> NestedEncoder<'a, P> {
     ) -> NestedEncoder<'a, P>
         ensures home { result.home ≡ home.entry }
         ensures stage { result.stage ≡ stages.Importing }
-        ensures contents { result.contents ≡ record { items = []; taken = taken } }
+        ensures contents { result.contents ≡ record { items = []; taken = taken; types = [] } }
         ensures maps { result.maps ≡ no_maps }
     {
         NestedEncoder {
@@ -78,6 +81,7 @@ impl<'a, P: Placement> NestedEncoder<'a, P> {
             contents: Contents {
                 items: ItemList::new(alloc),
                 taken,
+                types: ImportedTypes::new(alloc),
             },
             maps: TypeEncodingMaps::new(alloc),
             placement: PhantomData,
@@ -91,21 +95,21 @@ impl<'a, P: Placement> NestedEncoder<'a, P> {
         copy_type_tables(self.alloc, &self.maps)
     }
 
-    /// Imports a type of another interface, of this name, as equal to the one with an index, and returns the index of the import.
+    /// Imports a type under the name that was chosen for it, as equal to the one with an index, or as a resource, and returns the
+    /// index of the import.
     pub(crate) fn add_type_import(
         &mut self,
-        text: &Text,
-        id: TypeId,
-        ty: u32,
+        import: &TypeImport,
+        equal: Option<u32>,
     ) -> Result<u32, BuildFault>
         ensures home { self.new.home ≡ self.old.home }
         ensures stage { self.new.stage ≡ self.old.stage }
         ensures maps { self.new.maps ≡ self.old.maps }
-        ensures imported { OnOk result (ImportsType self.old.contents self.new.contents text.now id ty) }
+        ensures imported { OnOk result (ImportsPlanned self.old.contents self.new.contents import.now equal) }
         ensures index { IfOk result (λ index. index ≡ types_in self.old.contents.items) }
         ensures cause { IfErr result (IsCause is_full self.new.contents.items) }
     {
-        self.contents.import_type(self.alloc, text, id, ty)
+        self.contents.import_planned(self.alloc, import, equal)
     }
 
     /// A type of another interface was imported, and recorded.
@@ -115,13 +119,22 @@ impl<'a, P: Placement> NestedEncoder<'a, P> {
         self.home.add_foreign(id)
     }
 
+    /// A resource of the interface was imported, and recorded.
+    pub(crate) fn pass_resource(&mut self, id: TypeId) -> Result<(), AllocError>
+        ensures { OnOk result (self.new ≡ record self.old { home = with_resources self.old.home (id ∷ []) }) }
+    {
+        self.home.add_resource(id)
+    }
+
     /// All was imported. The tables are those that there were when types of other interfaces had been imported: what is exported is
-    /// made of these, and of types that are defined anew.
-    pub(crate) fn begin_exports(&mut self, tables: TypeEncodingMaps)
-        ensures { self.new ≡ record self.old { stage = stages.Exporting None; maps = tables } }
+    /// made of these, and of types that are defined anew. It returns the tables that there are, which have the resources of the
+    /// interface.
+    pub(crate) fn begin_exports(&mut self, tables: TypeEncodingMaps) -> TypeEncodingMaps
+        ensures begun { self.new ≡ record self.old { stage = stages.Exporting None; maps = tables } }
+        ensures maps { result ≡ self.old.maps }
     {
         self.stage = Stage::Exporting(None);
-        self.maps = tables;
+        mem::replace(&mut self.maps, tables)
     }
 
     /// A type was exported, and those that are listed before it.

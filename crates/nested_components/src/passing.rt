@@ -34,6 +34,8 @@ pub(crate) fn import_functions<P: Placement>(
     requires right { AreTablesRight P.given P.origin encoder.old.home encoder.old.stage encoder.old.contents.items encoder.old.maps }
     ensures grows { OnOk result (Grows P.given P.origin encoder.old.home encoder.old.stage encoder.old.contents encoder.new.contents (nested_functions P.origin encoder.old.home.types (functions_of functions.now) names.now)) }
     ensures home { OnOk result (encoder.new.home ≡ encoder.old.home) }
+    ensures stage { OnOk result (encoder.new.stage ≡ encoder.old.stage) }
+    ensures right { OnOk result (AreTablesRight P.given P.origin encoder.old.home encoder.old.stage encoder.new.contents.items encoder.new.maps) }
     ensures cause { IfErr result (IsCause is_full encoder.new.contents.items) }
 {
     let mut rest = names;

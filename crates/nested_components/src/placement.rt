@@ -19,10 +19,10 @@ pub trait Placement {
 
 impl Placement for Brand {
     ghost use Rattle.comp_trees.specs.Trees.{DefinedAt};
-    ghost use Rattle.nested_components.specs.Functions.{no_types};
+    ghost use Rattle.comp_trees.specs.DefinedTrees.{OfOthers};
 
     /// No type is given, and a resource is known by its number.
-    ghost given = { no_types };
+    ghost given = { λ name. OfOthers };
 
     ghost origin = { λ id. DefinedAt id.index };
 }

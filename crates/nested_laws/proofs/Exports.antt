@@ -12,8 +12,8 @@ use Rattle.comp_trees.specs.DefinedTrees.{TypeTree}
 use Rattle.nested_terms.specs.Nested.{NestedFunction, NestedExport, ExportedFunction, ExportedType, function_named, type_named}
 use Rattle.comp_runs.specs.Store.{Export, TypeItem}
 use Rattle.comp_runs.specs.Machine.{export_in, export_of}
-use Rattle.instance_laws.specs.Instantiated.{IsHeldAs}
-use Rattle.nested_laws.specs.NestedRuns.{IsArgument, AreNestedExports, is_function_named, FindsArgument, FindsNestedType}
+use Rattle.instance_laws.specs.Instantiated.{IsHeldAs, FindsType}
+use Rattle.nested_laws.specs.NestedRuns.{IsArgument, AreNestedExports, is_function_named, FindsArgument}
 
 -- ---- an export at the front
 
@@ -34,8 +34,8 @@ module _ (types : List TypeItem) (arguments : List Export) (name : List ℕ) whe
       FindsArgument arguments (e ∷ es) name argument
   later_function e es argument same h = record { export = h.export; found = same ∙ h.found; space = h.space; is = h.is }
 
-  later_type : (e : Export) (es : List Export) (tree : TypeTree) → export_of spaces.Type name (e ∷ es) ≡ export_of spaces.Type name es → FindsNestedType types es name tree →
-      FindsNestedType types (e ∷ es) name tree
+  later_type : (e : Export) (es : List Export) (tree : TypeTree) → export_of spaces.Type name (e ∷ es) ≡ export_of spaces.Type name es → FindsType types es name tree →
+      FindsType types (e ∷ es) name tree
   later_type e es tree same h = record { export = h.export; found = same ∙ h.found; space = h.space; is = h.is }
 
   -- The first function that is exported under a name is found by the name, and is the argument that it is said to be.
@@ -62,7 +62,7 @@ module _ (types : List TypeItem) (arguments : List Export) (name : List ℕ) whe
       by rest false p l = later_function e es function.argument (at_front false p) (rest l)
 
   -- and so is the first type
-  pub finds_nested_type : (xs : List NestedExport) (es : List Export) (tree : TypeTree) → AreNestedExports types arguments xs es → type_named name xs ≡ Some tree → FindsNestedType types es name tree
+  pub finds_nested_type : (xs : List NestedExport) (es : List Export) (tree : TypeTree) → AreNestedExports types arguments xs es → type_named name xs ≡ Some tree → FindsType types es name tree
   finds_nested_type [] es tree h k = absurd (none-some tree k)
   finds_nested_type (x ∷ xs) [] tree h k = absurd h
   finds_nested_type (ExportedFunction n f ∷ xs) (e ∷ es) tree h k =
@@ -73,8 +73,8 @@ module _ (types : List TypeItem) (arguments : List Export) (name : List ℕ) whe
       at_front : (b : Bool) → bytes_eq name n ≡ b → export_of spaces.Type name (e ∷ es) ≡ cond b (Some e) (export_of spaces.Type name es)
       at_front b p = front spaces.Type name e es b (in_space spaces.Type spaces.Type e true h.0.space refl) (ap (bytes_eq name) h.0.named ∙ p)
 
-      by : (type_named name xs ≡ Some tree → FindsNestedType types es name tree) → (b : Bool) → bytes_eq name n ≡ b →
-          (if b then Some t else type_named name xs) ≡ Some tree → FindsNestedType types (e ∷ es) name tree
+      by : (type_named name xs ≡ Some tree → FindsType types es name tree) → (b : Bool) → bytes_eq name n ≡ b →
+          (if b then Some t else type_named name xs) ≡ Some tree → FindsType types (e ∷ es) name tree
       by rest true p l = record {
         export = e;
         found = at_front true p;

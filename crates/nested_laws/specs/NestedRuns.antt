@@ -124,15 +124,9 @@ abbrev pub is_function_named : List ℕ → NestedExport → Bool
 is_function_named name (ExportedFunction n function) = bytes_eq name n
 is_function_named name (ExportedType n tree) = false
 
--- an export of a function is found by its name, and is the argument of another name; and an export of a type is found
+-- an export of a function is found by its name, and is the argument of another name
 pub record FindsArgument (arguments exports : List Export) (name argument : List ℕ) : Type 0 where
   pub export : Export
   pub found : export_of spaces.Func name exports ≡ Some export
   pub space : export.space ≡ spaces.Func
   pub is : IsArgument arguments argument export.address
-
-pub record FindsNestedType (types : List TypeItem) (exports : List Export) (name : List ℕ) (tree : TypeTree) : Type 0 where
-  pub export : Export
-  pub found : export_of spaces.Type name exports ≡ Some export
-  pub space : export.space ≡ spaces.Type
-  pub is : IsHeldAs types tree export.address

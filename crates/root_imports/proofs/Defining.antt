@@ -10,9 +10,9 @@ use Rattle.comp_bytes.specs.declared.space.Space.TheVariants as spaces
 use Rattle.comp_builder.specs.Built.{Built, Adds}
 use Rattle.comp_trees.specs.DefinedTrees.{TypeTree, OfOthers}
 use Rattle.comp_trees.specs.DefinedScopes.{Denotes}
-use Rattle.comp_trees.specs.Inventories.{Inventory, TypeEntry, entry_tree, types_made, inventory, scope_of}
-use Rattle.comp_trees.proofs.Inventories.{inventory-push}
-use Rattle.comp_trees.proofs.InventoryGrowth.{scope_counted}
+use Rattle.comp_inventories.specs.Inventories.{Inventory, TypeEntry, entry_tree, types_made, inventory, scope_of}
+use Rattle.comp_inventories.proofs.Inventories.{inventory-push}
+use Rattle.comp_inventories.proofs.InventoryGrowth.{scope_counted}
 use Rattle.comp_worlds.specs.declared.world.ComponentWorld.{ComponentWorld}
 use Rattle.comp_terms.specs.Rules.{IsRight, landmarks, Grows}
 use Rattle.comp_items.proofs.Extending.{extends_adds}

@@ -1,12 +1,12 @@
 -- Types that instances of imported interfaces export, each as it is found by its interface.
-use Rattle.std.proofs.Common.{zero, suc, ◌||◌, ◌≡◌, ◌∙◌, ◌<◌, ◌==◌, sym, subst, refl, ℕ, Bool, true, false, true≢false, cond, List, [], ◌∷◌, Option, Some, None, is_some, length, IsSome}
+use Rattle.std.proofs.Common.{inl, zero, suc, ◌||◌, ◌≡◌, ◌∙◌, ◌<◌, ◌==◌, sym, subst, refl, ℕ, Bool, true, false, true≢false, cond, List, [], ◌∷◌, Option, Some, None, is_some, length, IsSome}
 use Rattle.std.specs.List.{AllByRecursion, list_any}
 use Rattle.std.specs.Map.{lookup}
 use Rattle.std.proofs.lemmas.Option.{none-some, same_Some}
 use Rattle.std.proofs.lemmas.Bool.Decides.{Decides-eqb}
 use Rattle.comp_bytes.specs.declared.def.Def.{Def}
 use Rattle.comp_bytes.specs.declared.space.Space.TheVariants as spaces
-use Rattle.comp_trees.specs.Inventories.{surroundings_of}
+use Rattle.comp_inventories.specs.Inventories.{surroundings_of}
 use Rattle.comp_trees.specs.Members.{exports_name, member_trees, type_exported}
 use Rattle.wit_data.specs.contracts.ids.InterfaceIdPartialEq.TheImpl as same_id
 use Rattle.wit_data.specs.declared.ids.InterfaceId.{InterfaceId}
@@ -18,7 +18,7 @@ use Rattle.type_scopes.specs.Titles.{is_one_of}
 use Rattle.comp_worlds.specs.WorldContents.{name_at}
 use Rattle.comp_worlds.specs.declared.world.ComponentWorld.{ComponentWorld}
 use Rattle.comp_links.specs.Lists.{needed_types, resource_of, type_of_world}
-use Rattle.comp_terms.specs.Rules.{AliasesImported}
+use Rattle.comp_terms.specs.Rules.{AliasesType}
 use Rattle.root_imports.specs.Interfaces.{FindsInterfaces, IsInterfaceImport}
 
 -- ---- what is found
@@ -88,15 +88,15 @@ module _ {w : ComponentWorld} {ds : List Def} {id : InterfaceId} {instance : ℕ
       by None e = absurd (none-some h.type.name e)
       by (Some name) e = refl
 
-  pub type_aliased : (name : List ℕ) → name_at w.resolve.types t.index ≡ Some name → AliasesImported ds spaces.Type instance name
+  pub type_aliased : (name : List ℕ) → name_at w.resolve.types t.index ≡ Some name → AliasesType ds instance name
   type_aliased name named =
-      record {
+      inl (record {
         number = h.import.number;
         outer = h.import.outer;
         members = h.import.members;
         imported = h.import.imported;
         exported = subst (λ n. list_any (exports_name spaces.Type n) h.import.members ≡ true) (same_Some h.type.name name (sym type_named ∙ named)) h.type.there;
-      }
+      })
 
   pub type_tree : (name : List ℕ) → name_at w.resolve.types t.index ≡ Some name →
       type_exported (surroundings_of h.import.number h.import.outer) (member_trees (surroundings_of h.import.number h.import.outer) [] h.import.members) name h.import.members ≡ type_of_world w t

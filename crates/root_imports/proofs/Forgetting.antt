@@ -15,7 +15,7 @@ use Rattle.comp_lists.proofs.Lists.{AllByRecursion-push, AllByRecursion-weaker}
 use Rattle.comp_bytes.specs.declared.def.Def.{Def}
 use Rattle.comp_trees.specs.DefinedScopes.{Denotes}
 use Rattle.comp_trees.specs.DefinedTrees.{OfValues}
-use Rattle.comp_trees.specs.Inventories.{scope_of}
+use Rattle.comp_inventories.specs.Inventories.{scope_of}
 use Rattle.comp_trees.specs.WitTrees.{kind_tree}
 use Rattle.wit_data.specs.contracts.ids.TypeIdEq.TheImpl.Laws.{laws-law as id_laws}
 use Rattle.wit_data.specs.contracts.ids.TypeIdPartialEq.TheImpl as same_id

@@ -9,8 +9,8 @@ use Rattle.wit_types.specs.Allowing.{foreign}
 use Rattle.comp_trees.specs.DefinedTrees.{TypeTree}
 use Rattle.comp_lists.proofs.Lists.{AllByRecursion-weaker}
 use Rattle.comp_builder.specs.Built.{Built}
-use Rattle.comp_trees.specs.Inventories.{scope_of}
-use Rattle.comp_trees.proofs.InventoryGrowth.{scope_grows}
+use Rattle.comp_inventories.specs.Inventories.{scope_of}
+use Rattle.comp_inventories.proofs.InventoryGrowth.{scope_grows}
 use Rattle.comp_worlds.specs.declared.world.ComponentWorld.{ComponentWorld}
 use Rattle.wit_types.specs.Denoting.{Longer as LongerScope}
 use Rattle.wit_types.specs.declared.maps.TypeEncodingMaps.{TypeEncodingMaps}

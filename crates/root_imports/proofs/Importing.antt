@@ -15,8 +15,8 @@ use Rattle.comp_bytes.specs.declared.def.Item.TheVariants as items
 use Rattle.comp_bytes.specs.declared.def.Def.{Def}
 use Rattle.comp_bytes.specs.declared.def.Def.TheVariants as defs
 use Rattle.comp_builder.specs.Built.{Built}
-use Rattle.comp_trees.specs.Inventories.{Inventory, with_def, inventory_after, inventory}
-use Rattle.comp_trees.proofs.Inventories.{inventory-append}
+use Rattle.comp_inventories.specs.Inventories.{Inventory, with_def, inventory_after, inventory}
+use Rattle.comp_inventories.proofs.Inventories.{inventory-append}
 use Rattle.wit_data.specs.Keys.{is_same_key}
 use Rattle.wit_data.specs.declared.ids.TypeId.{TypeId}
 use Rattle.wit_data.specs.declared.worlds.WorldKey.{WorldKey}

@@ -6,7 +6,7 @@ use Rattle.std.proofs.lemmas.Bool.Decides.{Decides-eqb}
 use Rattle.std.proofs.lemmas.Map.Views.{Contains-from_any}
 use Rattle.comp_lists.proofs.Lists.{AllByRecursion-weaker}
 use Rattle.comp_bytes.specs.declared.def.Def.{Def}
-use Rattle.comp_trees.specs.Inventories.{scope_of}
+use Rattle.comp_inventories.specs.Inventories.{scope_of}
 use Rattle.wit_data.specs.declared.ids.TypeId.{TypeId}
 use Rattle.wit_types.specs.Maps.{HasIndex}
 use Rattle.wit_types.specs.Settings.{tree_in}

@@ -9,7 +9,7 @@ use Rattle.comp_bytes.specs.declared.def.Def.{Def}
 use Rattle.comp_trees.specs.Trees.{FunctionTree}
 use Rattle.comp_trees.specs.DefinedTrees.{TypeTree, OfFunctions}
 use Rattle.comp_trees.specs.Members.{Surroundings, member_trees, exports_name, function_exported}
-use Rattle.comp_trees.specs.Inventories.{ImportedInstance, surroundings_of, inventory}
+use Rattle.comp_inventories.specs.Inventories.{ImportedInstance, surroundings_of, inventory}
 use Rattle.wit_data.specs.contracts.ids.InterfaceIdPartialEq.TheImpl as same_id
 use Rattle.wit_data.specs.declared.functions.Function.{Function}
 use Rattle.wit_data.specs.declared.ids.InterfaceId.{InterfaceId}

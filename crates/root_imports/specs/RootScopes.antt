@@ -8,7 +8,7 @@ use Rattle.comp_bytes.specs.declared.space.Space.TheVariants as spaces
 use Rattle.comp_bytes.specs.declared.def.Def.{Def}
 use Rattle.comp_builder.specs.Built.{Built}
 use Rattle.comp_trees.specs.Trees.{ImportedAt}
-use Rattle.comp_trees.specs.Inventories.{scope_of}
+use Rattle.comp_inventories.specs.Inventories.{scope_of}
 use Rattle.std.specs.Map.{lookup}
 use Rattle.wit_data.specs.contracts.ids.TypeIdPartialEq.TheImpl as same_id
 use Rattle.wit_data.specs.contracts.types.TypeDefKindPartialEq.TheImpl as same_kind

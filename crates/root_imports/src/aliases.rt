@@ -2,7 +2,7 @@
 
 ghost use Rattle.std.specs.Prelude.{◌≡◌, ◌<◌, length, true, IfErr, IsSome, Some};
 ghost use Rattle.std.specs.Map.{lookup};
-ghost use Rattle.comp_trees.specs.Inventories.{scope_of};
+ghost use Rattle.comp_inventories.specs.Inventories.{scope_of};
 ghost use Rattle.type_scopes.specs.Titles.{is_one_of};
 ghost use Rattle.wit_types.specs.Denoting.{Makes, IsCause};
 ghost use Rattle.comp_links.specs.Lists.{needed_types, type_of_world};

@@ -5,7 +5,7 @@ ghost use Rattle.std.specs.List.{AllByRecursion, IsDistinct};
 ghost use Rattle.std.specs.Map.{keys_of};
 ghost use Rattle.comp_links.specs.Lists.{type_of_world};
 ghost use Rattle.comp_trees.specs.DefinedScopes.{Denotes};
-ghost use Rattle.comp_trees.specs.Inventories.{scope_of};
+ghost use Rattle.comp_inventories.specs.Inventories.{scope_of};
 ghost use Rattle.comp_worlds.specs.Encodable.{IsEncodable};
 ghost use Rattle.interface_needs.specs.RootNeeds.{IsExportedInterface, IsUsableType};
 ghost use Rattle.wit_data.specs.Live.{named_types};

@@ -8,7 +8,7 @@ ghost use Rattle.comp_bytes.specs.declared.types.TypeDef.TheVariants as definiti
 ghost use Rattle.comp_builder.specs.Built.{nothing_built};
 ghost use Rattle.comp_trees.specs.Trees.{ResourceAt, is_known, is_known_function};
 ghost use Rattle.comp_trees.specs.DefinedTrees.{OfValues, OfFunctions, OfOthers, defined_tree, function_tree};
-ghost use Rattle.comp_trees.specs.Inventories.{scope_of};
+ghost use Rattle.comp_inventories.specs.Inventories.{scope_of};
 ghost use Rattle.wit_data.specs.declared.types.Type.TheVariants.{Id};
 ghost use Rattle.wit_data.specs.Sound.{HasFunction};
 ghost use Rattle.wit_types.specs.Settings.{tree_in};

@@ -19,7 +19,7 @@ ghost use Rattle.wit_data.specs.Values.{kind_at};
 ghost use Rattle.wit_types.specs.Maps.{no_maps};
 ghost use Rattle.wit_types.specs.Allowing.{is_resource};
 ghost use Rattle.comp_trees.specs.DefinedScopes.{Denotes};
-ghost use Rattle.comp_trees.specs.Inventories.{scope_of};
+ghost use Rattle.comp_inventories.specs.Inventories.{scope_of};
 ghost use Rattle.root_imports.specs.Interfaces.{AreInstancesKnown};
 ghost use Rattle.root_imports.specs.RootScopes.{next_of, AreTablesRight, ArePassed, IsRefusal, RootGrows};
 

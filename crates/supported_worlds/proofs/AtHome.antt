@@ -1,5 +1,5 @@
 -- The table of the homes of types: an interface may be made of a type just where the type stays in it.
-use Rattle.std.proofs.Common.{arith, ◌≡◌, ◌<◌, ◌+◌, ◌==◌, ℕ, zero, suc, Bool, true, false, not, ◌&&◌, ◌||◌, List, [], ◌∷◌, ◌++◌, length, get_or, map, drop, take, take_all, Option, Some, None, refl, sym, ap, ap₂, subst, ◌∙◌}
+use Rattle.std.proofs.Common.{arith, ◌≡◌, ◌<◌, ◌+◌, ◌==◌, ℕ, zero, suc, Bool, true, false, true≢false, not, ◌&&◌, ◌||◌, List, [], ◌∷◌, ◌++◌, length, get_or, map, drop, take, take_all, Option, Some, None, refl, sym, ap, ap₂, subst, ◌∙◌}
 use Rattle.std.specs.Prelude.{slice_get, is_none, is_some, if◌then◌else◌}
 use Rattle.std.specs.List.{list_all}
 use Rattle.std.specs.Option.{option_and_then}
@@ -21,7 +21,7 @@ use Rattle.wit_data.proofs.Values.{kind_there}
 use Rattle.wit_data.proofs.Meeting.{drop_next, drop_all}
 use Rattle.comp_worlds.specs.Encodable.{is_resource_kind, is_lent, is_of_interface, staying_in, stays_in}
 use Rattle.comp_worlds.specs.WorldContents.{interface_of_owner, interface_at, name_at}
-use Rattle.supported_worlds.specs.Homes.{fits, home_at, is_own, AreJoined, IsOwnHome, IsHomeOfParts, IsNextHome, AreHomes}
+use Rattle.supported_worlds.specs.Homes.{fits, home_at, is_owned, is_unowned, is_own, AreJoined, IsOwnedHome, IsUnownedHome, IsOwnHome, IsHomeOfParts, IsNextHome, AreHomes}
 use Rattle.supported_worlds.specs.Lent.{lends, AreLent}
 use Rattle.supported_worlds.specs.Placed.{is_resource}
 use Rattle.supported_worlds.specs.declared.homes.Home.{Home}
@@ -105,53 +105,54 @@ parts_end all n ps home h e = subst (λ (xs : List (Option Ty)). IsHomeOfParts a
 
 -- ---- the home of a type, whatever its parts are
 
-module _ (lent : InterfaceId → Bool) where
-  -- whether a type of this owner and this name may be used in an interface
-  abbrev of_owner : InterfaceId → Option InterfaceId → Option (List ℕ) → Bool
-  of_owner here owner name = elim owner [ Some id ↦ here.index == id.index || (lent id && is_some name) | None ↦ is_none name ]
+-- of one that belongs to an interface
+module _ (lent : Bool) (id : InterfaceId) (t : TypeDef) where
+  pub lent_type : (b : Bool) → b ≡ (lent && is_some t.name) → b ≡ true → IsOwnedHome lent id t homes.Anywhere
+  lent_type b is holds = record {
+    each = λ here.
+        let own : Bool = here.index == id.index && not (is_resource_kind t.kind) in
+        sym (or_true own) ∙ ap (λ (c : Bool). own || c) (sym holds ∙ is);
+  }
 
-  pub of_resource : (t : TypeDef) (resource : Bool) → resource ≡ is_resource t → resource ≡ true → IsOwnHome lent t homes.Nowhere
-  of_resource t resource is holds = record { each = λ here. ap (λ b. not b && of_owner here (interface_of_owner t.owner) t.name) (sym holds ∙ is) }
+  pub own_resource : (b resource : Bool) → b ≡ (lent && is_some t.name) → b ≡ false → resource ≡ is_resource t → resource ≡ true → IsOwnedHome lent id t homes.Nowhere
+  own_resource b resource is lacks kind holds = record {
+    each = λ here.
+        and_false (here.index == id.index)
+        ∙ or_false (here.index == id.index && false)
+        ∙ ap₂ (λ (r : Bool) (c : Bool). here.index == id.index && not r || c) (sym holds ∙ kind) (sym lacks ∙ is);
+  }
 
-  -- a type of values
-  module _ (t : TypeDef) (resource : Bool) (is : resource ≡ is_resource t) (lacks : resource ≡ false) where
-    by_owner : (here : InterfaceId) → is_own lent here t ≡ of_owner here (interface_of_owner t.owner) t.name
-    by_owner here = ap (λ b. not b && of_owner here (interface_of_owner t.owner) t.name) (sym is ∙ lacks)
+  pub own_values : (b resource : Bool) → b ≡ (lent && is_some t.name) → b ≡ false → resource ≡ is_resource t → resource ≡ false → IsOwnedHome lent id t (homes.Interface id)
+  own_values b resource is lacks kind holds = record {
+    each = λ here.
+        and_true (here.index == id.index)
+        ∙ or_false (here.index == id.index && true)
+        ∙ ap₂ (λ (r : Bool) (c : Bool). here.index == id.index && not r || c) (sym holds ∙ kind) (sym lacks ∙ is);
+  }
 
-    by_parts : (here : InterfaceId) (owner : Option InterfaceId) (name : Option (List ℕ)) → interface_of_owner t.owner ≡ owner → t.name ≡ name → is_own lent here t ≡ of_owner here owner name
-    by_parts here owner name owned named = by_owner here ∙ ap₂ (of_owner here) owned named
+-- of one that belongs to none
+pub unowned : (t : TypeDef) (b : Bool) (home : Home) → b ≡ is_unowned t → ((here : InterfaceId) → fits here home ≡ b) → IsUnownedHome t home
+unowned t b home is all = record { each = λ here. all here ∙ is }
 
-    pub of_interface : (id : InterfaceId) (name : List ℕ) (home : Home) → t.owner ≡ owners.Interface id → t.name ≡ Some name → home ≡ (if lent id then homes.Anywhere else homes.Interface id) → IsOwnHome lent t home
-    of_interface id name home owner named made = record {
-      each = λ here.
-          ap (fits here) made
-          ∙ by here (lent id)
-          ∙ sym (by_parts here (Some id) (Some name) (ap interface_of_owner owner) named);
-    }
-      where
-        by : (here : InterfaceId) (b : Bool) → fits here (if b then homes.Anywhere else homes.Interface id) ≡ (here.index == id.index || (b && true))
-        by here true = sym (or_true (here.index == id.index))
-        by here false = or_false (here.index == id.index)
+module _ (lent : InterfaceId → Bool) (t : TypeDef) where
+  -- whether an interface may be made of a type of this owner
+  abbrev of_owner : InterfaceId → Option InterfaceId → Bool
+  of_owner here owner = elim owner [ Some id ↦ is_owned (lent id) here id t | None ↦ is_unowned t ]
 
-    pub nameless : (id : InterfaceId) → t.owner ≡ owners.Interface id → t.name ≡ None → IsOwnHome lent t (homes.Interface id)
-    nameless id owner named = record {
-      each = λ here.
-          or_false (here.index == id.index)
-          ∙ ap (λ b. here.index == id.index || b) (and_false (lent id))
-          ∙ sym (by_parts here (Some id) None (ap interface_of_owner owner) named);
-    }
+  pub of_interface : (id : InterfaceId) (home : Home) → t.owner ≡ owners.Interface id → IsOwnedHome (lent id) id t home → IsOwnHome lent t home
+  of_interface id home owner h = record { each = λ here. h.each here ∙ sym (ap (of_owner here) (ap interface_of_owner owner)) }
 
-    pub of_world : (name : List ℕ) → interface_of_owner t.owner ≡ None → t.name ≡ Some name → IsOwnHome lent t homes.Nowhere
-    of_world name owner named = record { each = λ here. sym (by_parts here None (Some name) owner named) }
-
-    pub unnamed : interface_of_owner t.owner ≡ None → t.name ≡ None → IsOwnHome lent t homes.Anywhere
-    unnamed owner named = record { each = λ here. sym (by_parts here None None owner named) }
+  pub of_none : (home : Home) → interface_of_owner t.owner ≡ None → IsUnownedHome t home → IsOwnHome lent t home
+  of_none home owner h = record { each = λ here. h.each here ∙ sym (ap (of_owner here) owner) }
 
 -- ---- the next type
 
+abbrev owned_as : (InterfaceId → Bool) → InterfaceId → TypeDefKind → Option InterfaceId → Option (List ℕ) → Bool
+owned_as lent here kind owner name = elim owner [ Some id ↦ here.index == id.index && not (is_resource_kind kind) || (lent id && is_some name) | None ↦ is_none name && not (is_resource_kind kind) ]
+
 own_at : (types : List TypeDef) (lent : InterfaceId → Bool) (n : ℕ) (d : TypeDef) (here : InterfaceId) → n < length types → is_own lent here (get_or types n d) ≡ is_of_interface types lent here n (kind_at types n)
 own_at types lent n d here l =
-    ap (λ (o : Option TypeDef). not (is_resource_kind (get_or types n d).kind) && of_owner lent here (option_and_then (λ t. interface_of_owner t.owner) o) (option_and_then (λ t. t.name) o)) (sym (slice_get-get_or types n d l))
+    ap (λ (o : Option TypeDef). owned_as lent here (get_or types n d).kind (option_and_then (λ t. interface_of_owner t.owner) o) (option_and_then (λ t. t.name) o)) (sym (slice_get-get_or types n d l))
     ∙ ap (λ k. is_of_interface types lent here n k) (kind_there types n d l)
 
 pub next_home_is : (types : List TypeDef) (lent : InterfaceId → Bool) (all : List Home) (n : ℕ) (d : TypeDef) (own part home : Home) → n < length types → IsOwnHome lent (get_or types n d) own → IsHomeOfParts all (parts (kind_at types n)) part → AreJoined own part home → IsNextHome types lent all n home
@@ -225,11 +226,11 @@ homes_end types lent n all h e =
 
 module _ (types : List TypeDef) (one other : InterfaceId → Bool) (same : (id : InterfaceId) → one id ≡ other id) (here : InterfaceId) where
   same_of : (n : ℕ) (k : TypeDefKind) → is_of_interface types one here n k ≡ is_of_interface types other here n k
-  same_of n k = ap (λ b. not (is_resource_kind k) && b) (by (interface_at types n))
+  same_of n k = by (interface_at types n)
     where
-      by : (o : Option InterfaceId) → of_owner one here o (name_at types n) ≡ of_owner other here o (name_at types n)
+      by : (o : Option InterfaceId) → owned_as one here k o (name_at types n) ≡ owned_as other here k o (name_at types n)
       by None = refl
-      by (Some id) = ap (λ b. here.index == id.index || (b && is_some (name_at types n))) (same id)
+      by (Some id) = ap (λ b. here.index == id.index && not (is_resource_kind k) || (b && is_some (name_at types n))) (same id)
 
   same_part : (bs : List Bool) (p : Option Ty) → part_value (staying_in types one here) bs p ≡ part_value (staying_in types other here) bs p
   same_part bs None = refl

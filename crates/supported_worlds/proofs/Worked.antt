@@ -325,6 +325,11 @@ used_type_is_exported : order_left_out (resolve_of (of_two (kinds.Stream None)) 
 unfolding values_from
 used_type_is_exported = refl
 
+-- also where the type is a resource
+used_resource_is_exported : order_left_out (resolve_of (of_two kinds.Resource) first_and_second) (importing_and_exporting (another_interface ∷ []) (an_interface ∷ [])) ≡ None
+unfolding values_from
+used_resource_is_exported = refl
+
 -- not where that interface is exported too, whatever the order, or exported alone
 type_of_an_exported_interface_is_reported : order_left_out (resolve_of (of_two (kinds.Stream None)) first_and_second) (importing_and_exporting (another_interface ∷ []) (an_interface ∷ another_interface ∷ [])) ≡ Some (codes "interface")
 unfolding values_from
@@ -333,11 +338,6 @@ type_of_an_exported_interface_is_reported = refl
 type_of_an_earlier_export_is_reported : order_left_out (resolve_of (of_two (kinds.Stream None)) first_and_second) (importing_and_exporting [] (another_interface ∷ an_interface ∷ [])) ≡ Some (codes "interface")
 unfolding values_from
 type_of_an_earlier_export_is_reported = refl
-
--- nor where the type is a resource
-used_resource_is_reported : order_left_out (resolve_of (of_two kinds.Resource) first_and_second) (importing_and_exporting (another_interface ∷ []) (an_interface ∷ [])) ≡ Some (codes "interface")
-unfolding values_from
-used_resource_is_reported = refl
 
 -- nor are its types listed in another order
 own_types_in_another_order_are_reported : order_left_out

@@ -32,9 +32,22 @@ is_at_home all here p = fits here (home_at all p)
 pub record AreJoined (one other home : Home) : Type 0 where
   pub each : (here : InterfaceId) → fits here home ≡ (fits here one && fits here other)
 
--- the home of a type, whatever its parts are; exported interfaces may use the types of those interfaces that are lent
+-- the home of a type, whatever its parts are: of one that belongs to an interface, where exported interfaces may use its types if it
+-- is lent; of one that belongs to none; and of any type
+abbrev pub is_owned : Bool → InterfaceId → InterfaceId → TypeDef → Bool
+is_owned lent here id t = here.index == id.index && not (is_resource_kind t.kind) || (lent && is_some t.name)
+
+abbrev pub is_unowned : TypeDef → Bool
+is_unowned t = is_none t.name && not (is_resource_kind t.kind)
+
 abbrev pub is_own : (InterfaceId → Bool) → InterfaceId → TypeDef → Bool
-is_own lent here t = not (is_resource_kind t.kind) && elim (interface_of_owner t.owner) [ Some id ↦ here.index == id.index || (lent id && is_some t.name) | None ↦ is_none t.name ]
+is_own lent here t = elim (interface_of_owner t.owner) [ Some id ↦ is_owned (lent id) here id t | None ↦ is_unowned t ]
+
+pub record IsOwnedHome (lent : Bool) (id : InterfaceId) (t : TypeDef) (home : Home) : Type 0 where
+  pub each : (here : InterfaceId) → fits here home ≡ is_owned lent here id t
+
+pub record IsUnownedHome (t : TypeDef) (home : Home) : Type 0 where
+  pub each : (here : InterfaceId) → fits here home ≡ is_unowned t
 
 pub record IsOwnHome (lent : InterfaceId → Bool) (t : TypeDef) (home : Home) : Type 0 where
   pub each : (here : InterfaceId) → fits here home ≡ is_own lent here t

@@ -3,14 +3,13 @@
 //! The table is made once for a world, from the first type on, since types name earlier types alone. Whether an exported interface
 //! is made of types that are at home in it is then one look-up a type that it names.
 
-ghost use Rattle.std.specs.Prelude.{◌≡◌, ◌<◌, Some, length, IfOk, if◌then◌else◌};
+ghost use Rattle.std.specs.Prelude.{◌≡◌, ◌<◌, ◌&&◌, Some, is_some, length, IfOk};
 ghost use Rattle.std.specs.List.{list_all};
 ghost use Rattle.wit_data.specs.Parts.{parts, RefersBack};
 ghost use Rattle.wit_data.specs.Values.{kind_at};
 ghost use Rattle.comp_worlds.specs.Encodable.{is_lent};
-ghost use Rattle.supported_worlds.specs.Homes.{fits, home_at, is_at_home, AreJoined, IsOwnHome, IsHomeOfParts, IsNextHome, AreHomes};
+ghost use Rattle.supported_worlds.specs.Homes.{fits, home_at, is_at_home, is_unowned, AreJoined, IsOwnedHome, IsUnownedHome, IsOwnHome, IsHomeOfParts, IsNextHome, AreHomes};
 ghost use Rattle.supported_worlds.specs.Lent.{lends};
-ghost use Rattle.supported_worlds.specs.declared.homes.Home.TheVariants as homes;
 
 use crate::lent::{Lent, lends, lent_interfaces};
 use crate::resources::is_resource;
@@ -20,11 +19,12 @@ use wit_data::{InterfaceId, Type, TypeDef, TypeOwner, World, part_count_of, part
 /// Which exported interfaces may be made of a type.
 #[derive(Clone, Copy)]
 pub(crate) enum Home {
-    /// Any: the type has no name and belongs to no interface, or it has one and belongs to an interface that is only imported.
+    /// Any: the type is one of values that has no name and belongs to no interface, or it has a name and belongs to an interface that
+    /// is only imported.
     Anywhere,
     /// This one, to which the type belongs, or a part of it.
     Interface(InterfaceId),
-    /// None: a resource, a type of the world, or one with parts of two interfaces.
+    /// None: a resource of an exported interface, a type of the world, or one with parts of two interfaces.
     Nowhere,
 }
 
@@ -101,30 +101,55 @@ fn home_of_parts(types: &[TypeDef], homes: &[Home], id: usize) -> Home
     all
 }
 
-/// The home of a type of values that belongs to an interface under a name.
-fn home_of_named(lent: &Lent, id: InterfaceId) -> Home
-    ensures { result ≡ (if lends lent.now id then homes.Anywhere else homes.Interface id) }
+/// Whether other interfaces may use a type that belongs to this one.
+fn is_lent_type(lent: &Lent, id: InterfaceId, def: &TypeDef) -> bool
+    ensures { result ≡ (lends lent.now id && is_some def.now.name) }
 {
-    if lends(lent, id) {
+    lends(lent, id) && def.name.is_some()
+}
+
+/// The home of a type that belongs to an interface.
+#[tactic(auto, using(crate::proofs::AtHome::lent_type, crate::proofs::AtHome::own_resource, crate::proofs::AtHome::own_values))]
+fn home_of_owned(lent: &Lent, id: InterfaceId, def: &TypeDef) -> Home
+    ensures { IsOwnedHome (lends lent.now id) id def.now result }
+{
+    if is_lent_type(lent, id, def) {
+        return Home::Anywhere;
+    }
+    if is_resource(def) {
+        return Home::Nowhere;
+    }
+    Home::Interface(id)
+}
+
+/// Whether any interface may be made of a type that belongs to none: it has no name and is no resource.
+fn is_unowned(def: &TypeDef) -> bool
+    ensures { result ≡ is_unowned def.now }
+{
+    def.name.is_none() && !is_resource(def)
+}
+
+/// The home of a type that belongs to no interface.
+#[tactic(auto, using(crate::proofs::AtHome::unowned))]
+fn home_of_unowned(def: &TypeDef) -> Home
+    ensures { IsUnownedHome def.now result }
+{
+    if is_unowned(def) {
         Home::Anywhere
     } else {
-        Home::Interface(id)
+        Home::Nowhere
     }
 }
 
 /// The home of a type, whatever its parts are.
-#[tactic(auto, using(crate::proofs::AtHome::of_resource, crate::proofs::AtHome::of_interface, crate::proofs::AtHome::nameless, crate::proofs::AtHome::of_world, crate::proofs::AtHome::unnamed))]
+#[tactic(auto, using(crate::proofs::AtHome::of_interface, crate::proofs::AtHome::of_none))]
 fn own_home(lent: &Lent, def: &TypeDef) -> Home
     ensures { IsOwnHome (lends lent.now) def.now result }
 {
-    if is_resource(def) {
-        return Home::Nowhere;
-    }
-    match (def.owner, &def.name) {
-        (TypeOwner::Interface(id), Some(_)) => home_of_named(lent, id),
-        (TypeOwner::Interface(id), None) => Home::Interface(id),
-        (_, Some(_)) => Home::Nowhere,
-        (_, None) => Home::Anywhere,
+    match def.owner {
+        TypeOwner::Interface(id) => home_of_owned(lent, id, def),
+        TypeOwner::World(_) => home_of_unowned(def),
+        TypeOwner::None => home_of_unowned(def),
     }
 }
 

@@ -6,16 +6,15 @@
 //! synchronous functions, imported types and resources, main alone, core imports of main with the role
 //! of such a function or of a resource's drop, and core exports with the role of such a function, of its
 //! post-return, of a memory or of a realloc. An exported interface may use, beside its own types, the
-//! named types of interfaces that the world imports and doesn't export too. Left out are exported
-//! interfaces that use other types or resources, and all else that is not named here. It is refused by the
-//! name of its kind (`specs/LeftOut.antt` and `specs/Kinds.antt` are the tables, `specs/Placed.antt`
+//! named types and the resources of interfaces that the world imports and doesn't export too. Left out are
+//! exported interfaces that have resources or use types of other exported ones, and all else that is not
+//! named here. It is refused by the name of its kind (`specs/LeftOut.antt` and `specs/Kinds.antt` are the tables, `specs/Placed.antt`
 //! says in which order a world imports what, and of what types an exported interface is made,
 //! `specs/Naming.antt` which names exported interfaces have, `specs/Causes.antt` when a refusal is
 //! right).
 //!
 //! Every world that is returned satisfies `comp_worlds`' `IsEncodable` and `HasTables`. What must be known of the parts for
-//! that is `specs/Guarantees.antt`; that no key occurs twice follows from the tables themselves. When the
-//! encoder can build more, only this crate changes.
+//! that is `specs/Guarantees.antt`; that no key occurs twice follows from the tables themselves.
 //!
 //! In reading order: `kinds` (the names of roles' kinds), `places` (the places of interfaces and of
 //! types in the order of the imports), `lent` (of which interfaces exported ones may use types), `homes`

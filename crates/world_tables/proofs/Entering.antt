@@ -70,7 +70,7 @@ module _ {K X : Type 0} (eq : K → K → Bool) (laws : IsEquivalence eq) where
       by true h = there (eq q k) refl h
       by false h = pushed (eq q) table k v
 
-  in_all : (table es : List (K × X)) (q : K) → is_some (lookup (eq q) (with_all eq table es)) ≡ (is_some (lookup (eq q) table) || is_some (lookup (eq q) es))
+  pub in_all : (table es : List (K × X)) (q : K) → is_some (lookup (eq q) (with_all eq table es)) ≡ (is_some (lookup (eq q) table) || is_some (lookup (eq q) es))
   in_all table [] q = or_false (is_some (lookup (eq q) table))
   in_all table (e ∷ es) q =
       in_all (with_first eq table e.0 e.1) es q

@@ -1,20 +1,19 @@
 //! The live types of imported interfaces, and the exported interfaces that exported ones name.
 
-ghost use Rattle.std.specs.Prelude.{◌≡◌, [], nat_eq, ◌==◌, ◌&&◌, not, is_some, length, map, filter, get_or, false, Some, if◌then◌else◌, IfOk, OnOk};
+ghost use Rattle.std.specs.Prelude.{◌≡◌, [], ◌==◌, ◌&&◌, not, length, map, filter, get_or, false, IfOk, OnOk};
 ghost use Rattle.std.specs.List.{flat_map, AllByRecursion};
-ghost use Rattle.std.specs.Map.{lookup};
-ghost use Rattle.wit_data.specs.Live.{is_live, named_types};
-ghost use Rattle.wit_data.specs.Sound.{IsSound, HasInterface, HasItem, HasEntry, HasType};
+ghost use Rattle.wit_data.specs.Live.{named_types};
+ghost use Rattle.wit_data.specs.Sound.{IsSound, HasInterface, HasItem, HasEntry};
 ghost use Rattle.world_values.specs.Tables.{with_all};
-ghost use Rattle.world_values.specs.Mentions.{same_interface, interface_in, interfaces_of, live_entry, owner_in, owners_from, names_interface, used_entry, exports_used};
+ghost use Rattle.world_values.specs.Mentions.{same_interface, interface_in, interfaces_of, live_entry, names_interface, used_entry, exports_used};
+ghost use Rattle.world_tables.specs.Placing.{ArePlaces};
 
+use crate::meeting::owners_among;
 use crate::mentions::{interface_of, interface_types};
+use crate::places::{Places, at_places, places_among, places_of};
 use comp_lists::{Keyed, Seq};
 use std::alloc::{AllocError, Global};
-use wit_data::{
-    InterfaceId, Resolve, Type, TypeDef, TypeId, TypeOwner, World, WorldItem, WorldKey, live_marks,
-    marked_of,
-};
+use wit_data::{InterfaceId, Resolve, TypeId, World, WorldItem, WorldKey, marked_of};
 
 /// The types of an interface that are marked.
 fn live_in(
@@ -98,97 +97,23 @@ fn interfaces_of(
     Ok(list)
 }
 
-/// Adds the interface to which a type belongs, if it belongs to one.
-fn add_owner(owners: &mut Keyed<usize, ()>, owner: TypeOwner) -> Result<(), AllocError>
-    ensures { OnOk result (owners.new ≡ with_all nat_eq owners.old (owner_in owner)) }
-{
-    match owner {
-        TypeOwner::Interface(id) => owners.insert_if_absent(id.index, ()),
-        TypeOwner::World(_) | TypeOwner::None => Ok(()),
-    }
-}
-
-/// Adds the interface to which a type belongs, if the type is marked.
-fn add_marked(
-    owners: &mut Keyed<usize, ()>,
-    is_marked: bool,
-    owner: TypeOwner,
-) -> Result<(), AllocError>
-    ensures { OnOk result (owners.new ≡ with_all nat_eq owners.old (if is_marked then owner_in owner else [])) }
-{
-    if is_marked {
-        add_owner(owners, owner)
-    } else {
-        Ok(())
-    }
-}
-
-/// The interfaces to which marked types belong.
-#[tactic(auto, using(crate::proofs::Reaching::owner_step))]
-fn owners_of(
-    alloc: Global,
-    types: &[TypeDef],
-    marks: &[bool],
-) -> Result<Keyed<usize, ()>, AllocError>
-    requires { length marks.now ≡ length types.now }
-    ensures { IfOk result (λ t. t ≡ with_all nat_eq [] (owners_from (λ n. get_or marks.now n false) 0 types.now)) }
-{
-    let mut owners = Keyed::new(alloc);
-    for n in 0..types.len() {
-        add_marked(&mut owners, marks[n], types[n].owner)?;
-    }
-    Ok(owners)
-}
-
-/// The interfaces among the owners, except for this one.
-fn owning(
-    alloc: Global,
-    id: InterfaceId,
-    owners: &Keyed<usize, ()>,
-    all: &[InterfaceId],
-) -> Result<Vec<InterfaceId>, AllocError>
-    ensures { IfOk result (λ v. v.items ≡ filter (λ other. is_some (lookup (λ n. other.index == n) owners.now) && not (other.index == id.index)) all.now) }
-{
-    let mut list = Vec::new(alloc);
-    for other in all {
-        if owners.contains_key(&other.index) && other.index != id.index {
-            list.push(*other)?;
-        }
-    }
-    Ok(list)
-}
-
-/// The interfaces to which the types belong that are reached from the given ones.
-#[tactic(auto, using(crate::proofs::Reaching::owners_are))]
-fn owners_among(
-    alloc: Global,
-    resolve: &Resolve,
-    given: &[Type],
-) -> Result<Keyed<usize, ()>, AllocError>
-    requires sound { IsSound resolve.now }
-    requires all_present { AllByRecursion (λ t. HasType resolve.now (Some t)) given.now }
-    ensures { IfOk result (λ t. t ≡ with_all nat_eq [] (owners_from (is_live resolve.now.types given.now) 0 resolve.now.types)) }
-{
-    let marks = live_marks(alloc, resolve.types.as_slice(), given)?;
-    let owners = owners_of(alloc, resolve.types.as_slice(), marks.as_slice())?;
-    Ok(owners)
-}
-
-/// The exported interfaces that an exported one names.
-#[tactic(auto, using(crate::proofs::Reaching::named_are))]
+/// The exported interfaces that an exported one names, except for itself.
 fn named_by(
     alloc: Global,
     resolve: &Resolve,
     id: InterfaceId,
     all: &[InterfaceId],
+    places: &Places,
 ) -> Result<Vec<InterfaceId>, AllocError>
     requires sound { IsSound resolve.now }
     requires present { HasInterface resolve.now id }
+    requires placed { ArePlaces all.now places.now }
     ensures { IfOk result (λ v. v.items ≡ filter (λ other. names_interface resolve.now id other && not (other.index == id.index)) all.now) }
 {
     let given = interface_types(alloc, resolve, id)?;
-    let owners = owners_among(alloc, resolve, given.as_slice())?;
-    let named = owning(alloc, id, &owners, all)?;
+    let owners = owners_among(alloc, resolve.types.as_slice(), given.as_slice())?;
+    let found = places_among(alloc, places, id, &owners)?;
+    let named = at_places(alloc, all, &found)?;
     Ok(named)
 }
 
@@ -198,16 +123,18 @@ fn add_used(
     table: &mut Keyed<InterfaceId, Seq<InterfaceId>>,
     resolve: &Resolve,
     all: &[InterfaceId],
+    places: &Places,
     item: &WorldItem,
 ) -> Result<(), AllocError>
     requires sound { IsSound resolve.now }
     requires present { HasItem resolve.now item.now }
+    requires placed { ArePlaces all.now places.now }
     ensures { OnOk result (table.new ≡ with_all same_interface table.old (used_entry resolve.now all.now item.now)) }
 {
     let WorldItem::Interface(id) = item else {
         return Ok(());
     };
-    let named = named_by(alloc, resolve, *id, all)?;
+    let named = named_by(alloc, resolve, *id, all, places)?;
     table.insert_if_absent(*id, Seq::from_vec(named))
 }
 
@@ -217,21 +144,24 @@ fn used_among(
     alloc: Global,
     resolve: &Resolve,
     all: &[InterfaceId],
+    places: &Places,
     entries: &Keyed<WorldKey, WorldItem>,
 ) -> Result<Keyed<InterfaceId, Seq<InterfaceId>>, AllocError>
     requires sound { IsSound resolve.now }
     requires all_present { AllByRecursion (HasEntry resolve.now) entries.now }
+    requires placed { ArePlaces all.now places.now }
     ensures { IfOk result (λ t. t ≡ with_all same_interface [] (flat_map (λ e. used_entry resolve.now all.now e.1) entries.now)) }
 {
     let mut table = Keyed::new(alloc);
     for (_, item) in entries.iter() {
-        add_used(alloc, &mut table, resolve, all, item)?;
+        add_used(alloc, &mut table, resolve, all, places, item)?;
     }
     Ok(table)
 }
 
-/// For each exported interface, the other exported ones that it names. Each takes time linear in the number of
-/// types and of their parts.
+/// For each exported interface, the other exported ones that it names. Each takes time linear in the number of what its
+/// functions and types name, of the types that these reach, and of their parts, and, up to a logarithm, of the interfaces
+/// that it names.
 pub(crate) fn exports_used(
     alloc: Global,
     resolve: &Resolve,
@@ -242,5 +172,6 @@ pub(crate) fn exports_used(
     ensures { IfOk result (λ t. t ≡ exports_used resolve.now world.now) }
 {
     let all = interfaces_of(alloc, &world.exports)?;
-    used_among(alloc, resolve, all.as_slice(), &world.exports)
+    let places = places_of(alloc, all.as_slice())?;
+    used_among(alloc, resolve, all.as_slice(), &places, &world.exports)
 }

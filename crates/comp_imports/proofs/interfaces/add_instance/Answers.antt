@@ -8,7 +8,7 @@ use Rattle.comp_bytes.specs.declared.space.Sort.TheVariants as sorts
 use Rattle.comp_bytes.specs.declared.types.Description.TheVariants as descriptions
 use Rattle.comp_bytes.specs.declared.types.ExternName.{ExternName}
 use Rattle.comp_builder.specs.Built.{Built}
-use Rattle.comp_trees.specs.Inventories.{scope_of}
+use Rattle.comp_inventories.specs.Inventories.{scope_of}
 use Rattle.comp_links.specs.Lists.{names_of_interface}
 use Rattle.comp_terms.specs.Rules.{Grows, Imported, InstanceTypeOf}
 use Rattle.root_imports.specs.Growing.{Grows-by, Grows-then}

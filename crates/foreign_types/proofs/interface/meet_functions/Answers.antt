@@ -1,11 +1,11 @@
-use Rattle.std.proofs.Common.{◌≡◌, ◌∙◌, ℕ, List, ◌∷◌, sym, subst, true}
+use Rattle.std.proofs.Common.{◌≡◌, ◌∙◌, ℕ, List, sym, subst, true}
 use Rattle.std.specs.List.{AllByRecursion}
 use Rattle.wit_data.specs.declared.functions.Function.{Function}
 use Rattle.wit_data.specs.Sound.{HasFunction}
 use Rattle.foreign_types.specs.Foreign.{is_function_covered}
 use Rattle.foreign_types.specs.Walking.{FunctionPasses}
 use Rattle.foreign_types.proofs.Covering.{function_more}
-use Rattle.foreign_types.proofs.Walking.{EntriesTo, entries_none, entries_more, entries_all}
+use Rattle.foreign_types.proofs.Walking.{EntriesTo, entries_none, entries_more}
 use Rattle.foreign_types.proofs.interface.meet_functions.Goals as goal
 
 pub loop-function-init : goal.loop-function-init

@@ -1,10 +1,10 @@
-use Rattle.std.proofs.Common.{◌≡◌, ◌∙◌, ◌<◌, ℕ, List, ◌∷◌, length, sym, subst, true, Some}
+use Rattle.std.proofs.Common.{◌≡◌, ◌∙◌, ◌<◌, ℕ, List, length, sym, subst, true, Some}
 use Rattle.std.specs.List.{AllByRecursion}
 use Rattle.wit_data.specs.declared.ids.TypeId.{TypeId}
 use Rattle.wit_data.specs.declared.types.Type.TheVariants.{Id}
 use Rattle.foreign_types.specs.Foreign.{is_covered, type_passes}
 use Rattle.foreign_types.proofs.Covering.{covered_more}
-use Rattle.foreign_types.proofs.Walking.{EntriesTo, entries_none, entries_more, entries_all}
+use Rattle.foreign_types.proofs.Walking.{EntriesTo, entries_none, entries_more}
 use Rattle.foreign_types.proofs.interface.meet_listed.Goals as goal
 
 pub loop-id-init : goal.loop-id-init

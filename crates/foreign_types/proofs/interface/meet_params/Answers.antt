@@ -1,4 +1,4 @@
-use Rattle.std.proofs.Common.{◌≡◌, ◌∙◌, ◌<◌, ◌≤◌, arith, [], length, get_or, ap, Some}
+use Rattle.std.proofs.Common.{◌<◌, ◌≤◌, arith, [], length, get_or, ap, Some}
 use Rattle.wit_data.specs.declared.functions.Param.{Param}
 use Rattle.wit_data.specs.declared.types.Type.TheVariants.{Id}
 use Rattle.foreign_types.proofs.Walking.{same_at, met_none, met_more, met_all}

@@ -1,9 +1,8 @@
-use Rattle.std.proofs.Common.{◌≡◌, ◌∙◌, ◌<◌, ◌≤◌, ◌+◌, arith, List, refl, ap, sym, subst, length, true, Some, None}
-use Rattle.wit_data.specs.declared.types.Type.{«Type» as Ty}
+use Rattle.std.proofs.Common.{◌∙◌, ◌<◌, ◌≤◌, arith, refl, length, Some, None}
 use Rattle.wit_data.specs.declared.types.Type.TheVariants.{Id}
 use Rattle.wit_data.specs.Parts.{parts}
 use Rattle.wit_data.specs.Values.{kind_at}
-use Rattle.foreign_types.specs.Walking.{Passes, PartsPass}
+use Rattle.foreign_types.specs.Walking.{Passes}
 use Rattle.foreign_types.proofs.Walking.{lists_none, covered_before, walk_entered, walk_listed, covered_listed, lists_listed, covered_kept, lists_kept, owned_by, met_none, met_more, met_all}
 use Rattle.foreign_types.proofs.meeting.+meeting.Goals as goal
 
@@ -19,31 +18,34 @@ meet_type-returns-then-contains_key-clause-covered t c = covered_before c.args.t
 pub meet_type-returns-then-contains_key-clause-lists : goal.meet_type-returns-then-contains_key-clause-lists
 meet_type-returns-then-contains_key-clause-lists t c = lists_none c.args.types.now c.args.walk.now.listed (Passes c.args.types.now (Some (Id c.args.id)))
 
-pub meet_type-returns-clause-right : goal.meet_type-returns-clause-right
-meet_type-returns-clause-right t c =
-    let mid = c.enter_type.new.walk in
-    walk_entered c.args.types.now c.args.here mid (record mid { entered = c.insert_if_absent.new.self }) c.args.id c.in_ok-enter_type.ensures.right c.in_ok-enter_type.ensures.covered refl c.in_ok-insert_if_absent.ensures.ok
-
 pub enter_type-returns-in_ok-push-in-Some-clause-right : goal.enter_type-returns-in_ok-push-in-Some-clause-right
 enter_type-returns-in_ok-push-in-Some-clause-right t c =
     let mid = c.meet_parts.new.walk in
     let of = c.in_ok-meet_parts.ensures in
-    walk_listed c.args.types.now c.args.here c.requires.back mid (record mid { listed = c.push.new.self }) c.args.id c.in-Some.field-0 of.right c.requires.present
-    (owned_by c.args.types.now c.args.here c.args.id c.owner_of.result c.foreign.result c.owner_of.ensures c.foreign.ensures ∙ c.in-Some.is) of.covered c.in_ok-push-in-Some.ensures.ok refl
+    walk_listed c.args.types.now c.args.here c.requires.back mid (record mid { listed = c.push.new.self; entered = c.insert_if_absent.new.self }) c.args.id c.in-Some.field-0 of.right c.requires.present
+    (owned_by c.args.types.now c.args.here c.args.id c.owner_of.result c.foreign.result c.owner_of.ensures c.foreign.ensures ∙ c.in-Some.is) of.covered c.in_ok-push-in-Some.ensures.ok
+    c.args.walk.now c.requires.unmet c.requires.right.known of.lists c.in_ok-insert_if_absent.ensures.ok
 
 pub enter_type-returns-in_ok-push-in-Some-clause-covered : goal.enter_type-returns-in_ok-push-in-Some-clause-covered
 enter_type-returns-in_ok-push-in-Some-clause-covered t c =
     let mid = c.meet_parts.new.walk in
     let of = c.in_ok-meet_parts.ensures in
-    covered_listed c.args.types.now c.args.here c.requires.back mid (record mid { listed = c.push.new.self }) c.args.id c.in-Some.field-0 of.right c.requires.present
+    covered_listed c.args.types.now c.args.here c.requires.back mid (record mid { listed = c.push.new.self; entered = c.insert_if_absent.new.self }) c.args.id c.in-Some.field-0 of.right c.requires.present
     (owned_by c.args.types.now c.args.here c.args.id c.owner_of.result c.foreign.result c.owner_of.ensures c.foreign.ensures ∙ c.in-Some.is) of.covered c.in_ok-push-in-Some.ensures.ok
 
 pub enter_type-returns-in_ok-push-in-Some-clause-lists : goal.enter_type-returns-in_ok-push-in-Some-clause-lists
 enter_type-returns-in_ok-push-in-Some-clause-lists t c =
     let mid = c.meet_parts.new.walk in
     let of = c.in_ok-meet_parts.ensures in
-    lists_listed c.args.types.now c.args.here c.requires.back mid (record mid { listed = c.push.new.self }) c.args.id c.in-Some.field-0 of.right c.requires.present
+    lists_listed c.args.types.now c.args.here c.requires.back mid (record mid { listed = c.push.new.self; entered = c.insert_if_absent.new.self }) c.args.id c.in-Some.field-0 of.right c.requires.present
     (owned_by c.args.types.now c.args.here c.args.id c.owner_of.result c.foreign.result c.owner_of.ensures c.foreign.ensures ∙ c.in-Some.is) of.covered c.in_ok-push-in-Some.ensures.ok c.args.walk.now.listed of.lists
+
+pub enter_type-returns-in-None-clause-right : goal.enter_type-returns-in-None-clause-right
+enter_type-returns-in-None-clause-right t c =
+    let mid = c.meet_parts.new.walk in
+    let of = c.in_ok-meet_parts.ensures in
+    let covered = covered_kept c.args.types.now c.args.here c.requires.back mid c.args.id c.requires.present (owned_by c.args.types.now c.args.here c.args.id c.owner_of.result c.foreign.result c.owner_of.ensures c.foreign.ensures ∙ c.in-None.is) of.covered in
+    walk_entered c.args.types.now c.args.here mid (record mid { entered = c.insert_if_absent.new.self }) c.args.id of.right covered refl c.in_ok-insert_if_absent.ensures.ok
 
 pub enter_type-returns-in-None-clause-covered : goal.enter_type-returns-in-None-clause-covered
 enter_type-returns-in-None-clause-covered t c =

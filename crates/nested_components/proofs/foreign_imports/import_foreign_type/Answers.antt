@@ -10,4 +10,4 @@ returns-clause-right g c =
     let m = c.record_foreign_type.new.encoder in
     let of = c.in_ok-record_foreign_type.ensures in
     subst (λ x. AreTablesRight given origin x.home x.stage x.contents.items x.maps) (sym c.in_ok-pass_foreign.ensures)
-    (right_imported given origin m.home m.stage c.args.id m.contents.items m.maps (of.stage ∙ c.requires.stage) of.recorded of.right)
+    (right_imported given origin m.home m.stage c.args.import.now.id m.contents.items m.maps (of.stage ∙ c.requires.stage) of.recorded of.right)

@@ -6,7 +6,7 @@ use Rattle.wit_data.specs.Sound.{HasFunction}
 use Rattle.wit_types.specs.Allowing.{allows_function}
 use Rattle.nested_components.specs.Functions.{functions_of}
 use Rattle.nested_components.specs.Homes.{nested_setting}
-use Rattle.nested_components.proofs.AllFunctions.{AreImportedTo, imported_more, imported_named}
+use Rattle.nested_components.proofs.AllFunctions.{AreImportedTo, imported_more, imported_all, imported_named}
 use Rattle.nested_components.proofs.OneFunction.{tables_as}
 use Rattle.nested_components.proofs.passing.import_functions.Goals as goal
 
@@ -51,3 +51,14 @@ returns-in_default-clause-grows g c =
     let names = c.args.names.now in
     imported_named given origin e.home e.stage e.contents now rest all names
     (subst (λ (ns : List (List ℕ)). AreImportedTo given origin e.home e.stage e.contents now rest all ns names) (nil_from_length c.loop-function.rest.now c.in_default.ensures.cases) c.loop-function.invariant.2.so_far)
+
+pub returns-clause-grows : goal.returns-clause-grows
+returns-clause-grows g c =
+    let given = g.P.Placement.given in
+    let origin = g.P.Placement.origin in
+    let e = c.args.encoder.now in
+    let now = c.loop-function.encoder.contents in
+    let all = functions_of c.args.functions.now in
+    let names = c.args.names.now in
+    imported_all given origin e.home e.stage e.contents now all c.loop-function.rest.now names
+    (subst (λ (es : List (List ℕ × Function)). AreImportedTo given origin e.home e.stage e.contents now (functions_of es) all c.loop-function.rest.now names) c.in-None.ensures.steps.0 c.loop-function.invariant.2.so_far)

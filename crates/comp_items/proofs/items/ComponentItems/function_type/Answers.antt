@@ -4,7 +4,7 @@ use Rattle.comp_bytes.specs.declared.types.TypeDef.TheVariants as types
 use Rattle.comp_bytes.specs.declared.def.Item.TheVariants as items
 use Rattle.comp_bytes.specs.declared.def.Def.TheVariants as defs
 use Rattle.comp_trees.specs.DefinedTrees.{OfFunctions, function_tree}
-use Rattle.comp_trees.specs.Inventories.{Denoting, scope_of}
+use Rattle.comp_inventories.specs.Inventories.{Denoting, scope_of}
 use Rattle.comp_items.proofs.Kept.{added_type}
 use Rattle.comp_items.proofs.items.ComponentItems.function_type.Goals as goal
 

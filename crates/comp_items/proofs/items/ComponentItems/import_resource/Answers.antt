@@ -5,7 +5,7 @@ use Rattle.comp_bytes.specs.declared.def.Item.TheVariants as items
 use Rattle.comp_bytes.specs.declared.def.Def.TheVariants as defs
 use Rattle.comp_trees.specs.Trees.{ResourceAt, ImportedAt}
 use Rattle.comp_trees.specs.DefinedTrees.{OfValues}
-use Rattle.comp_trees.specs.Inventories.{Denoting}
+use Rattle.comp_inventories.specs.Inventories.{Denoting}
 use Rattle.comp_terms.specs.Terms.{imports_in}
 use Rattle.comp_items.proofs.Kept.{added_type}
 use Rattle.comp_items.proofs.items.ComponentItems.import_resource.Goals as goal

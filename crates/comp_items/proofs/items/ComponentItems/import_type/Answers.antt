@@ -4,8 +4,8 @@ use Rattle.comp_bytes.specs.declared.types.Description.TheVariants as descriptio
 use Rattle.comp_bytes.specs.declared.def.Item.TheVariants as items
 use Rattle.comp_bytes.specs.declared.def.Def.TheVariants as defs
 use Rattle.comp_trees.specs.DefinedScopes.{Denotes}
-use Rattle.comp_trees.proofs.InventoryGrowth.{entry_at}
-use Rattle.comp_trees.specs.Inventories.{inventory, no_type, scope_of}
+use Rattle.comp_inventories.proofs.InventoryGrowth.{entry_at}
+use Rattle.comp_inventories.specs.Inventories.{inventory, no_type, scope_of}
 use Rattle.comp_items.proofs.Kept.{added_type}
 use Rattle.comp_items.proofs.items.ComponentItems.import_type.Goals as goal
 

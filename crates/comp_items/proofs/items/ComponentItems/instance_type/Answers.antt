@@ -2,7 +2,7 @@ use Rattle.std.proofs.Common.{refl}
 use Rattle.comp_bytes.specs.declared.def.Item.TheVariants as items
 use Rattle.comp_bytes.specs.declared.def.Def.TheVariants as defs
 use Rattle.comp_builder.specs.Optional.{option_now}
-use Rattle.comp_trees.specs.Inventories.{OfInstances, scope_of}
+use Rattle.comp_inventories.specs.Inventories.{OfInstances, scope_of}
 use Rattle.comp_items.proofs.Entries.{added_type_entry}
 use Rattle.comp_items.proofs.items.ComponentItems.instance_type.Goals as goal
 

@@ -18,7 +18,6 @@ use Rattle.comp_terms.specs.Rules.{Exported, Grows, Landmark, export_marked}
 use Rattle.core_options.specs.Causes.{IsCauseAmong, IsEncodedExport}
 use Rattle.core_options.specs.MainOptions.{HasLiftOptions}
 use Rattle.core_options.proofs.OptionTerms.{refused_with}
-use Rattle.nested_components.specs.Functions.{no_types}
 use Rattle.nested_components.specs.Types.{IsAtHome}
 use Rattle.root_imports.specs.Growing.{Grows-then}
 use Rattle.world_values.specs.Items.{functions_of}
@@ -83,7 +82,7 @@ nested_instance-requires-clause-present c =
     subst (λ x. HasKey x.now.resolve c.args.key.now) (sym c.in_ok-arguments.ensures.kept.world) (key_sound c.args.root.now.world.now c.requires.exports.valid c.args.key.now c.requires.required)
 
 pub nested_instance-requires-clause-nested : goal.nested_instance-requires-clause-nested
-nested_instance-requires-clause-nested c = subst IsNestedRight (sym c.into_items.ensures) (record { given = no_types; right = c.in_ok-nested.ensures.nested.right })
+nested_instance-requires-clause-nested c = subst IsNestedRight (sym c.into_items.ensures) (record { given = c.in_ok-nested.ensures.nested.given; right = c.in_ok-nested.ensures.nested.passes.right })
 
 pub nested_instance-requires-clause-of : goal.nested_instance-requires-clause-of
 nested_instance-requires-clause-of c =

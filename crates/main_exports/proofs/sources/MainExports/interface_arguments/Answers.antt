@@ -15,13 +15,13 @@ use Rattle.main_exports.proofs.TypeArguments.{usable_imports}
 use Rattle.main_exports.proofs.sources.MainExports.interface_arguments.Goals as goal
 
 pub lift_arguments-requires-clause-imports : goal.lift_arguments-requires-clause-imports
-lift_arguments-requires-clause-imports c = ap (λ (l : List (List ℕ)). length l) c.as_slice-names.ensures ∙ names_counted [] c.args.functions.now c.args.nested.now.names c.requires.nested.named
+lift_arguments-requires-clause-imports c = ap (λ (l : List (List ℕ)). length l) c.as_slice-names.ensures ∙ names_counted [] c.args.functions.now c.args.nested.now.names c.requires.nested.names
 
 pub type_arguments-requires-clause-usable : goal.type_arguments-requires-clause-usable
 type_arguments-requires-clause-usable c =
     let w = c.args.root.now.world.now in
     let id = c.args.id in
-    let own = subst (λ (es : List (List ℕ × Function)). AllByRecursion (IsImportOf w.resolve.types (named_types w.resolve id) es) c.args.nested.now.types) c.requires.all c.requires.nested.own in
+    let own = subst (λ (es : List (List ℕ × Function)). AllByRecursion (IsImportOf w.resolve.types (named_types w.resolve id) es) c.args.nested.now.types) c.requires.all c.requires.nested.passes.own in
     subst (λ x. AreTypesUsable x.now id c.as_slice.result.now) (sym c.in_ok-arguments.ensures.kept.world)
     (subst (λ (l : List TypeImport). AreTypesUsable w id l) (sym c.as_slice.ensures) (usable_imports w c.requires.exports.valid c.args.key.now id c.requires.item c.args.nested.now.types own))
 

@@ -12,5 +12,5 @@ returns-clause-follows g c =
     let e = c.args.self.now in (
       refl,
       refl,
-      type_grown g.P.Placement.given g.P.Placement.origin e.home e.stage e.contents (record e.contents { items = c.add_type.new.self }) (types.Func c.args.ty) c.add_type.result refl c.requires.known c.add_type.ensures.ok c.add_type.ensures.err,
+      type_grown g.P.Placement.given g.P.Placement.origin e.home e.stage e.contents (record e.contents { items = c.add_type.new.self }) (types.Func c.args.ty) c.add_type.result refl refl c.requires.known c.add_type.ensures.ok c.add_type.ensures.err,
     )

@@ -1,6 +1,6 @@
 use Rattle.std.proofs.Common.{ap, subst, Some, None}
 use Rattle.comp_bytes.specs.declared.types.ComponentValType.{ComponentValType}
-use Rattle.comp_trees.specs.Inventories.{scope_of}
+use Rattle.comp_inventories.specs.Inventories.{scope_of}
 use Rattle.wit_data.specs.declared.types.Type.TheVariants.{Id}
 use Rattle.wit_types.specs.Maps.{IsNamedValue}
 use Rattle.root_imports.specs.Interfaces.{AreInstancesKnown}

@@ -1,5 +1,5 @@
 use Rattle.std.proofs.Common.{ap, None}
-use Rattle.comp_trees.specs.Inventories.{scope_of}
+use Rattle.comp_inventories.specs.Inventories.{scope_of}
 use Rattle.root_imports.specs.Interfaces.{AreInstancesKnown}
 use Rattle.root_imports.proofs.Growth.{other_interface, tables_in}
 use Rattle.root_imports.proofs.Allowing.{root_allows}

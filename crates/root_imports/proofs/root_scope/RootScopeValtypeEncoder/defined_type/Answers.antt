@@ -4,7 +4,7 @@ use Rattle.comp_bytes.specs.declared.types.TypeDef.TheVariants as types
 use Rattle.comp_bytes.specs.declared.def.Item.TheVariants as items
 use Rattle.comp_bytes.specs.declared.def.Def.TheVariants as defs
 use Rattle.comp_trees.specs.DefinedTrees.{OfValues, defined_tree}
-use Rattle.comp_trees.specs.Inventories.{scope_of}
+use Rattle.comp_inventories.specs.Inventories.{scope_of}
 use Rattle.root_imports.proofs.Defining.{makes_added, root_added}
 use Rattle.root_imports.proofs.root_scope.RootScopeValtypeEncoder.defined_type.Goals as goal
 

@@ -1,7 +1,7 @@
 use Rattle.std.proofs.Common.{◌≡◌, None, Some, subst, rules}
 use Rattle.std.specs.Map.{lookup}
 use Rattle.comp_trees.specs.DefinedScopes.{Denotes}
-use Rattle.comp_trees.specs.Inventories.{scope_of}
+use Rattle.comp_inventories.specs.Inventories.{scope_of}
 use Rattle.comp_links.specs.Lists.{resource_of}
 use Rattle.comp_terms.specs.Terms.{IsResource}
 use Rattle.comp_worlds.specs.WorldContents.{interface_at}

@@ -9,7 +9,7 @@ use Rattle.comp_bytes.specs.declared.space.Sort.TheVariants as sorts
 use Rattle.comp_builder.specs.Built.{Built}
 use Rattle.comp_trees.specs.DefinedScopes.{Denotes}
 use Rattle.comp_trees.specs.DefinedTrees.{OfOthers}
-use Rattle.comp_trees.specs.Inventories.{scope_of}
+use Rattle.comp_inventories.specs.Inventories.{scope_of}
 use Rattle.comp_items.specs.Items.{Extends}
 use Rattle.comp_items.proofs.Extending.{extends_adds, extends_then}
 use Rattle.comp_links.specs.Lists.{root_type, WorldType, import_entries, type_of_world}

@@ -1,0 +1,4 @@
+pub mod Inventories
+pub mod Counting
+pub mod InventoryGrowth
+pub mod Components
