@@ -10,10 +10,13 @@ use Rattle.world_values.specs.Items.{functions_of, root_function_at}
 use Rattle.comp_worlds.specs.Lookups.{resolved_realloc}
 use Rattle.comp_worlds.specs.WorldContents.{items_of, function_exported, core_name_of}
 use Rattle.wit_data.specs.declared.functions.AbiVariant.TheVariants.{GuestExport}
+use Rattle.wit_data.specs.declared.ids.TypeId.{TypeId}
 use Rattle.wit_data.specs.declared.worlds.WorldKey.{WorldKey}
 use Rattle.wit_data.specs.declared.worlds.WorldKey.TheVariants as keys
 use Rattle.comp_options.specs.Options.{needs, import_set, export_set}
+use Rattle.comp_roles.specs.FunctionExports.{is_dtor}
 use Rattle.comp_roles.specs.Functions.{of_function}
+use Rattle.comp_roles.specs.Lookups.{first_export}
 use Rattle.comp_roles.specs.Reallocs.{is_import_realloc, is_export_realloc, realloc_for}
 use Rattle.comp_roles.specs.declared.imports.Import.{Import}
 use Rattle.comp_roles.specs.declared.imports.Import.TheVariants as imports
@@ -72,6 +75,10 @@ lift_realloc w = realloc_for is_export_realloc w.main.exports.exports
 
 abbrev pub post_return_of : ComponentWorld → WorldKey → List ℕ → Option (List ℕ)
 post_return_of w key name = of_function key name (post_returns w.main.exports.exports)
+
+-- the destructor of a resource, by the name of main's first export with that role
+abbrev pub destructor_of : ComponentWorld → TypeId → Option (List ℕ)
+destructor_of w id = first_export (is_dtor id) w.main.exports.exports
 
 abbrev pub export_of : UserModule → List ℕ → ExportRef
 export_of m name = record { of = m; name = name }

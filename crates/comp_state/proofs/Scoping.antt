@@ -1,6 +1,6 @@
 -- A list that keeps the rules names earlier items, each by its index and space.
 use Rattle.comp_links.specs.Naming.{Naming}
-use Rattle.std.proofs.Common.{ℕ, ◌<◌, length, List, [], ◌∷◌, ◌++◌, sym, subst, append-nil, Some, None, inl, inr}
+use Rattle.std.proofs.Common.{ℕ, ◌<◌, length, List, [], ◌∷◌, ◌++◌, sym, subst, append-nil, Option, Some, None, inl, inr}
 use Rattle.std.specs.List.{AllByRecursion, AllZip, flat_map}
 use Rattle.std.proofs.lemmas.List.{length-map}
 use Rattle.std.proofs.lemmas.Option.{slice_get_within}
@@ -31,6 +31,7 @@ use Rattle.comp_bytes.specs.declared.def.Item.TheVariants as items
 use Rattle.comp_roles.specs.declared.imports.ImportInstance.{ImportInstance}
 use Rattle.comp_worlds.specs.declared.world.ComponentWorld.{ComponentWorld}
 use Rattle.comp_links.specs.Targets.{UserModule}
+use Rattle.comp_links.specs.Links.{destructor_of}
 use Rattle.comp_terms.specs.Exports.{IsArgumentIn, IsArgumentRight}
 use Rattle.comp_terms.specs.Planned.{IsArgumentFor}
 use Rattle.comp_inventories.specs.Inventories as inventories
@@ -41,7 +42,7 @@ use Rattle.comp_trees.proofs.KnownScopes.{known_defined, known_function_names}
 use Rattle.comp_trees.proofs.MemberScopes.{members_scoped}
 use Rattle.comp_items.proofs.Kept.{function_in_range}
 use Rattle.comp_state.proofs.Nesting.{nested_scoped}
-use Rattle.comp_terms.specs.Rules.{AliasesImported, AliasesType, ImportsInterface, InstantiatesModule, IsOptionRight, IsLowerOptionRight, IsTypeRight, IsIntrinsicRight, IsRight, RightAfter, IsEntry, IsBuilt}
+use Rattle.comp_terms.specs.Rules.{AliasesImported, AliasesType, ImportsInterface, InstantiatesModule, IsOptionRight, IsLowerOptionRight, IsTypeRight, IsDestructorRight, IsIntrinsicRight, IsRight, RightAfter, IsEntry, IsBuilt}
 
 abbrev Within : List Def → Reference → Type 0
 Within earlier = InScope (scope_of space_of earlier ∷ [])
@@ -101,6 +102,13 @@ type_within earlier (types.Func f) h = known_function_names (Within earlier) (in
 type_within earlier (types.Defined t) h = known_defined (Within earlier) (inventories.scope_of earlier) (type_named earlier) t h
 type_within earlier (types.Resource destructor) h = absurd h
 
+-- the destructor of a resource is a core function of the list
+destructor_within : (w : ComponentWorld) (earlier : List Def) (destructor : Option ℕ) (name : Option (List ℕ)) → IsDestructorRight w earlier destructor name → AllByRecursion (Within earlier) (type_references (types.Resource destructor))
+destructor_within w earlier None None h = tt
+destructor_within w earlier (Some index) (Some name) h = (in_range h.is.made, tt)
+destructor_within w earlier None (Some name) h = absurd h
+destructor_within w earlier (Some index) None h = absurd h
+
 intrinsic_within : (earlier : List Def) (i : Intrinsic) → IsIntrinsicRight earlier i → AllByRecursion (Within earlier) (intrinsic_references i)
 intrinsic_within earlier (intrinsics.ResourceDrop type) h = (type_named earlier type h.is.denotes.within, tt)
 intrinsic_within earlier i h = absurd h
@@ -133,7 +141,9 @@ within w earlier (defs.Item (items.Alias (aliases.Export exports.Instance instan
 within w earlier (defs.Item (items.Alias (aliases.CoreExport kind instance name))) (inl h) = ((in_range h.is.made, tt), tt)
 within w earlier (defs.Item (items.Alias (aliases.CoreExport kind instance name))) (inr h) = ((in_range h.is.made, tt), tt)
 within w earlier (defs.Item (items.Alias (aliases.Outer count index))) h = absurd h
-within w earlier (defs.Item (items.Type t)) h = (type_within earlier t h, tt)
+within w earlier (defs.Item (items.Type (types.Func f))) h = (type_within earlier (types.Func f) h, tt)
+within w earlier (defs.Item (items.Type (types.Defined t))) h = (type_within earlier (types.Defined t) h, tt)
+within w earlier (defs.Item (items.Type (types.Resource destructor))) h = (destructor_within w earlier destructor (destructor_of w h.id) h.destructed, tt)
 within w earlier (defs.Item (items.InstanceType t)) h = (tt, members_scoped (surroundings_of h.number (inventories.scope_of earlier)) (scope_of space_of earlier) (scope_counted earlier) t.members h.right)
 within w earlier (defs.Item (items.Lift core options kind)) h = ((h.0, options_within earlier options (type_at kind) h.1 (type_named earlier kind h.2.is.denotes.within, tt)), tt)
 within w earlier (defs.Item (items.Lower function options)) h = ((function_in_range h.0.is, lower_within earlier options h.1), tt)

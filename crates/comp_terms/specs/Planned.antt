@@ -30,7 +30,7 @@ use Rattle.comp_links.specs.Links.{link_of}
 use Rattle.comp_links.specs.Roles.{IsEncodedImport}
 use Rattle.shim_plan.specs.declared.shims.Shim.{Shim}
 use Rattle.world_shims.specs.WorldShims.{shims_of}
-use Rattle.comp_terms.specs.Generated.{shims_number, IsShimOf, Purpose, target_of, HasPurpose}
+use Rattle.comp_terms.specs.Generated.{shims_number, IsShimOf, IsShimOfDestructor, Purpose, target_of, HasPurpose}
 use Rattle.comp_terms.specs.Terms.{CoreExport, TermOption, Term, IsExported, IsLifting, Is}
 use Rattle.comp_terms.specs.Terms as terms
 
@@ -85,6 +85,14 @@ pub record IsShimFor (w : ComponentWorld) (ds : List Def) (space : Space) (index
   pub listed : slice_get (shims_of w) place ≡ Some shim
   pub stands_for : IsShimOf w shim role
   pub in_space : space ≡ spaces.CoreFunc
+  pub is : IsExported ds index (record { of = shims_number w; kind = kinds.Func; name = decimal place })
+
+-- the core function of this index is a shim that stands for the destructor that main exports under this name
+pub record IsDestructorFor (w : ComponentWorld) (ds : List Def) (index : ℕ) (name : List ℕ) : Type 0 where
+  pub place : ℕ
+  pub shim : Shim
+  pub listed : slice_get (shims_of w) place ≡ Some shim
+  pub stands_for : IsShimOfDestructor w shim name
   pub is : IsExported ds index (record { of = shims_number w; kind = kinds.Func; name = decimal place })
 
 -- the item of this index is what an import of this role is given: what the link table says, or a shim that stands for it

@@ -52,11 +52,12 @@ use Rattle.comp_links.specs.Roles.{is_used}
 use Rattle.comp_links.specs.Targets.{Main}
 use Rattle.comp_links.specs.Modules.{WorldModule, user_modules}
 use Rattle.comp_links.specs.Naming.{Naming}
-use Rattle.comp_links.specs.Lists.{ImportEntry, ImportedInterface, WorldType, RootFunction, import_entries, names_of_interface, type_of_world, Stated, root_function, root_type, described_sort, stated_import, stated_export, functions_of_interface, nested_export_names, AreNames}
+use Rattle.comp_links.specs.Lists.{ImportEntry, ImportedInterface, WorldType, RootFunction, import_entries, names_of_interface, type_of_world, Stated, root_function, root_type, described_sort, stated_import, stated_export, functions_of_interface, nested_export_names, own_resources, AreNames}
+use Rattle.comp_links.specs.Links.{destructor_of}
 use Rattle.comp_terms.specs.Terms.{InstanceOf as InstanceTerm, imports_in, IsFunctionType, IsResource, IsImportedFunction, Is}
 use Rattle.world_shims.specs.WorldShims.{shims_of}
 use Rattle.comp_terms.specs.Generated.{shims_number, fixup_number, GeneratedBytes, MayBeGenerated}
-use Rattle.comp_terms.specs.Planned.{IsArgumentFor, AreFillsFor}
+use Rattle.comp_terms.specs.Planned.{IsArgumentFor, AreFillsFor, IsDestructorFor}
 use Rattle.comp_terms.specs.Exports.{IsNestedRight, IsNestedFor, InstantiatesNested, ExportsFunction, ExportsInterface}
 
 -- ---- landmarks
@@ -230,11 +231,23 @@ IsDescriptionRight w earlier name (descriptions.TypeEqual index) = (index < leng
 IsDescriptionRight w earlier name descriptions.SubResource = ImportsType w earlier name (resource_here earlier)
 IsDescriptionRight w earlier name (descriptions.Instance index) = ImportsInterface w earlier index
 
--- a type of values or functions whose parts are types of values
+-- a type of values or functions whose parts are types of values; a resource has a rule of its own
 abbrev pub IsTypeRight : List TypeTree → TypeDef → Type 0
 IsTypeRight scope (types.Func f) = is_known_function (function_tree scope f) ≡ true
 IsTypeRight scope (types.Defined t) = is_known (defined_tree scope t) ≡ true
 IsTypeRight scope (types.Resource destructor) = ⊥
+
+-- the destructor of a resource that the component defines is a shim for the one that main exports, where it does
+abbrev pub IsDestructorRight : ComponentWorld → List Def → Option ℕ → Option (List ℕ) → Type 0
+IsDestructorRight w earlier None None = Unit {0}
+IsDestructorRight w earlier (Some index) (Some name) = IsDestructorFor w earlier index name
+IsDestructorRight w earlier destructor name = ⊥
+
+-- the next resource that the component defines
+pub record DefinesResource (w : ComponentWorld) (earlier : List Def) (destructor : Option ℕ) : Type 0 where
+  pub id : TypeId
+  pub next : slice_get (own_resources w) (inventory earlier).resources ≡ Some id
+  pub destructed : IsDestructorRight w earlier destructor (destructor_of w id)
 
 -- a type of instances: its members are right in an import of some number
 pub record IsInstanceTypeRight (earlier : List Def) (members : List Member) : Type 0 where
@@ -272,6 +285,7 @@ IsItemRight w earlier (items.CoreInstantiate number arguments) = InstantiatesMod
 IsItemRight w earlier (items.CoreExports entries) = AreEntries earlier entries
 IsItemRight w earlier (items.Instantiate component arguments) = InstantiatesNested earlier component arguments
 IsItemRight w earlier (items.Alias a) = IsAliasRight w earlier a
+IsItemRight w earlier (items.Type (types.Resource destructor)) = DefinesResource w earlier destructor
 IsItemRight w earlier (items.Type t) = IsTypeRight (scope_of earlier) t
 IsItemRight w earlier (items.InstanceType t) = IsInstanceTypeRight earlier t.members
 IsItemRight w earlier (items.Lift core options kind) = (core < items_in spaces.CoreFunc earlier) × AllByRecursion (IsOptionRight earlier) options × HasFunctionType earlier kind

@@ -1,5 +1,5 @@
 -- What types denote, at their addresses.
-use Rattle.std.proofs.Common.{◌≡◌, ◌∙◌, ℕ, zero, suc, ◌<◌, List, [], ◌∷◌, ◌++◌, length, append-nil, map, filter, get_or, refl, sym, ap, ap₂, subst, Some, None, arith}
+use Rattle.std.proofs.Common.{◌≡◌, ◌∙◌, ℕ, zero, suc, ◌<◌, ◌+◌, zero-add, List, [], ◌∷◌, ◌++◌, length, append-nil, map, filter, get_or, refl, sym, ap, ap₂, subst, Some, None, arith}
 use Rattle.std.proofs.lemmas.Option.{get_or_from_slice_get}
 use Rattle.std.proofs.lemmas.List.Elements.{filter-append}
 use Rattle.std.specs.List.{slice_get, AllZip, AllByRecursion}
@@ -10,7 +10,7 @@ use Rattle.comp_bytes.specs.declared.space.Space.TheVariants as spaces
 use Rattle.comp_trees.specs.Trees.{FunctionTree}
 use Rattle.comp_trees.specs.DefinedTrees.{TypeTree, OfFunctions, OfOthers}
 use Rattle.comp_inventories.specs.Inventories.{TypeEntry, Inventory, entry_tree, trees_in}
-use Rattle.comp_runs.specs.Store.{Thing, Export, Function, Imported, TypeItem, TreeOf, ImportedResource, OwnResource, InstanceTypeOf, item_tree, tree_held}
+use Rattle.comp_runs.specs.Store.{Thing, Export, Function, Imported, TypeItem, TreeOf, ImportedResource, OwnResource, InstanceTypeOf, item_tree, own_resources, tree_held}
 use Rattle.comp_runs.specs.Machine.{Machine, is_of, address_at}
 use Rattle.comp_runs.specs.Instances.{type_scope}
 use Rattle.instance_laws.specs.Instantiated.{IsHeldAs, IsThingHeldAs, AreHeldAs, IsScopeOf, MemberExport, IsItemOf, IsExportedAs}
@@ -126,6 +126,17 @@ AreHeldAs-beside types trees items address h =
 -- a new type
 pub new_held : (types : List TypeItem) (item : TypeItem) (tree : TypeTree) → item_tree item ≡ tree → IsHeldAs (types ++ item ∷ []) tree (length types)
 new_held types item tree e = record { item = item; present = slice_get-end types item; denotes = e }
+
+-- ---- resources that are defined
+
+pub own_resources-append : (old more : List TypeItem) → own_resources (old ++ more) ≡ own_resources old + own_resources more
+own_resources-append [] more = sym (zero-add (own_resources more))
+own_resources-append (OwnResource number destructor ∷ old) more = let rest = own_resources-append old more in omega (arith, rest)
+own_resources-append (item ∷ old) more = own_resources-append old more
+
+-- where none is among these types, and none among those that follow, there is none
+pub none_twice : (more others : List TypeItem) → own_resources more ≡ 0 → own_resources others ≡ 0 → own_resources (more ++ others) ≡ 0
+none_twice more others none no_other = own_resources-append more others ∙ ap₂ (λ m n. m + n) none no_other
 
 -- ---- the type of an index
 

@@ -45,6 +45,7 @@ import_runs origin outer all index item m at is right =
       more_types = r.more_types;
       more_functions = r.more_functions;
       types_grew = r.types_grew;
+      none_defined = r.none_defined;
       functions_grew = r.functions_grew;
       is = record { right = right; each = r.each };
       runs = λ now next.

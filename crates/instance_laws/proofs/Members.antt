@@ -17,11 +17,11 @@ use Rattle.comp_trees.specs.Trees.{Origin, ImportedAt, ResourceAt, is_known, is_
 use Rattle.comp_trees.specs.DefinedTrees.{TypeTree, OfValues, OfFunctions, OfOthers, function_tree, defined_tree}
 use Rattle.comp_trees.specs.Members.{IsOfFunctions, IsMemberRight, AreMembersRight, with_member, member_trees}
 use Rattle.comp_inventories.specs.Inventories.{surroundings_of}
-use Rattle.comp_runs.specs.Store.{Thing, Export, Function, Imported, TypeItem, TreeOf, ImportedResource}
+use Rattle.comp_runs.specs.Store.{Thing, Export, Function, Imported, TypeItem, TreeOf, ImportedResource, own_resources}
 use Rattle.comp_runs.specs.Machine.{Machine, Next, new_instance}
 use Rattle.comp_runs.specs.Instances.{type_scope, known_function, type_item, each_member}
 use Rattle.instance_laws.specs.Instantiated.{IsHeldAs, AreHeldAs, IsScopeOf, MemberExport, exports_of_member, member_exports, IsExportedAs, Grown, grown, with_now, RunMembers, RunsInstanceType}
-use Rattle.instance_laws.proofs.Held.{trees_of_held, keeps_more, keeps_grown, AreHeldAs-kept, exports_kept, AreHeldAs-push, AreHeldAs-beside, new_held, IsTypeThere, type_there, index_of_functions, item_of_functions}
+use Rattle.instance_laws.proofs.Held.{trees_of_held, keeps_more, keeps_grown, AreHeldAs-kept, exports_kept, AreHeldAs-push, AreHeldAs-beside, new_held, none_twice, IsTypeThere, type_there, index_of_functions, item_of_functions}
 
 -- one member runs, and the rest is run from this machine
 pub record RunsMember (number : ℕ) (outer scope : List TypeTree) (x : Member) (m : Machine) : Type 0 where
@@ -33,8 +33,8 @@ module _ (number : ℕ) {outer scope : List TypeTree} {m : Machine} (a : IsScope
   scoped = trees_of_held m.store.types scope m.scope.items a.held
 
   -- the machine with a type that is made
-  abbrev type_growth : (item : TypeItem) (tree : TypeTree) → IsHeldAs (m.store.types ++ item ∷ []) tree (length m.store.types) → Grown number (scope ++ tree ∷ []) [] m
-  type_growth item tree h = record {
+  abbrev type_growth : (item : TypeItem) (tree : TypeTree) → own_resources (item ∷ []) ≡ 0 → IsHeldAs (m.store.types ++ item ∷ []) tree (length m.store.types) → Grown number (scope ++ tree ∷ []) [] m
+  type_growth item tree none h = record {
     items = m.scope.items ++ record { space = spaces.Type; address = length m.store.types } ∷ [];
     types = m.store.types ++ item ∷ [];
     functions = m.store.functions;
@@ -43,6 +43,7 @@ module _ (number : ℕ) {outer scope : List TypeTree} {m : Machine} (a : IsScope
     more_functions = [];
     more_exports = [];
     types_grew = refl;
+    none_defined = none;
     functions_grew = sym (append-nil m.store.functions);
     exports_grew = sym (append-nil m.scope.exports);
     held = AreHeldAs-push (m.store.types ++ item ∷ []) scope m.scope.items tree (length m.store.types) (AreHeldAs-kept (keeps_more m.store.types (item ∷ [])) scope m.scope.items a.held) h;
@@ -55,7 +56,7 @@ module _ (number : ℕ) {outer scope : List TypeTree} {m : Machine} (a : IsScope
       let e : type_item (types.Func f) m ≡ Some (TreeOf tree) =
       ap (λ sc. option_map (λ tree. TreeOf tree) (known_function (function_tree sc f))) scoped
       ∙ ap (λ b. option_map (λ tree. TreeOf tree) (if b then Some tree else None)) h in
-      record { growth = type_growth (TreeOf tree) tree (new_held m.store.types (TreeOf tree) tree refl); runs = λ now rest next. rw e refl }
+      record { growth = type_growth (TreeOf tree) tree refl (new_held m.store.types (TreeOf tree) tree refl); runs = λ now rest next. rw e refl }
 
   member_value_type : (t : DefinedType) → is_known (defined_tree scope t) ≡ true → RunsMember number outer scope (members.Type (types.Defined t)) m
   member_value_type t h =
@@ -63,7 +64,7 @@ module _ (number : ℕ) {outer scope : List TypeTree} {m : Machine} (a : IsScope
       let e : type_item (types.Defined t) m ≡ Some (TreeOf tree) =
       ap (λ sc. if is_known (defined_tree sc t) then Some (TreeOf (OfValues (defined_tree sc t))) else None) scoped
       ∙ ap (λ b. if b then Some (TreeOf tree) else None) h in
-      record { growth = type_growth (TreeOf tree) tree (new_held m.store.types (TreeOf tree) tree refl); runs = λ now rest next. rw e refl }
+      record { growth = type_growth (TreeOf tree) tree refl (new_held m.store.types (TreeOf tree) tree refl); runs = λ now rest next. rw e refl }
 
   -- a type that is one of an outer scope
   member_outer : (index : ℕ) → index < length outer → RunsMember number outer scope (members.Alias (aliases.Outer 1 index)) m
@@ -79,6 +80,7 @@ module _ (number : ℕ) {outer scope : List TypeTree} {m : Machine} (a : IsScope
           more_functions = [];
           more_exports = [];
           types_grew = sym (append-nil m.store.types);
+          none_defined = refl;
           functions_grew = sym (append-nil m.store.functions);
           exports_grew = sym (append-nil m.scope.exports);
           held = AreHeldAs-push m.store.types scope m.scope.items (get_or outer index OfOthers) x.address a.held x.is;
@@ -102,6 +104,7 @@ module _ (number : ℕ) {outer scope : List TypeTree} {m : Machine} (a : IsScope
           more_functions = [];
           more_exports = e ∷ [];
           types_grew = sym (append-nil m.store.types);
+          none_defined = refl;
           functions_grew = sym (append-nil m.store.functions);
           exports_grew = refl;
           held = AreHeldAs-push m.store.types scope m.scope.items (get_or scope index OfOthers) x.address a.held x.is;
@@ -128,6 +131,7 @@ module _ (number : ℕ) {outer scope : List TypeTree} {m : Machine} (a : IsScope
           more_functions = [];
           more_exports = e ∷ [];
           types_grew = refl;
+          none_defined = refl;
           functions_grew = sym (append-nil m.store.functions);
           exports_grew = refl;
           held = AreHeldAs-push (m.store.types ++ item ∷ []) scope m.scope.items tree (length m.store.types) (AreHeldAs-kept (keeps_more m.store.types (item ∷ [])) scope m.scope.items a.held) h;
@@ -153,6 +157,7 @@ module _ (number : ℕ) {outer scope : List TypeTree} {m : Machine} (a : IsScope
           more_functions = function ∷ [];
           more_exports = e ∷ [];
           types_grew = sym (append-nil m.store.types);
+          none_defined = refl;
           functions_grew = refl;
           exports_grew = refl;
           held = AreHeldAs-beside m.store.types scope m.scope.items (length m.store.functions) a.held;
@@ -213,6 +218,7 @@ grown_twice number trees trees' first second m g k = record {
   more_functions = g.more_functions ++ k.more_functions;
   more_exports = g.more_exports ++ k.more_exports;
   types_grew = grew_twice m.store.types g.types k.types g.more_types k.more_types g.types_grew k.types_grew;
+  none_defined = none_twice g.more_types k.more_types g.none_defined k.none_defined;
   functions_grew = grew_twice m.store.functions g.functions k.functions g.more_functions k.more_functions g.functions_grew k.functions_grew;
   exports_grew = grew_twice m.scope.exports g.exports k.exports g.more_exports k.more_exports g.exports_grew k.exports_grew;
   held = k.held;
@@ -229,6 +235,7 @@ not_grown number trees m h = record {
   more_functions = [];
   more_exports = [];
   types_grew = sym (append-nil m.store.types);
+  none_defined = refl;
   functions_grew = sym (append-nil m.store.functions);
   exports_grew = sym (append-nil m.scope.exports);
   held = h;
@@ -265,6 +272,7 @@ instance_runs origin outer all next_out further m outer_held h =
       more_types = g.more_types;
       more_functions = g.more_functions;
       types_grew = g.types_grew;
+      none_defined = g.none_defined;
       functions_grew = g.functions_grew;
       each = subst (λ es. AllZip (IsExportedAs origin.number g.types g.functions) (member_exports (surroundings_of origin.number outer) [] all) es) (sym g.exports_grew) g.each;
       runs = λ now next. r.runs now (λ inner. next (length inner.store.instances) (with_instance_of inner));

@@ -12,7 +12,7 @@ use Rattle.comp_trees.specs.DefinedTrees.{TypeTree, OfFunctions}
 use Rattle.comp_trees.specs.Members.{AreMembersRight}
 use Rattle.comp_inventories.specs.Inventories.{FunctionEntry, InstanceEntry, ImportedInstance, NestedInstance, OtherInstance, surroundings_of}
 use Rattle.nested_terms.specs.Nested.{NestedExport, type_named}
-use Rattle.comp_runs.specs.Store.{Thing, Export, Function, Imported, TypeItem, InstanceTypeOf}
+use Rattle.comp_runs.specs.Store.{Thing, Export, Function, Imported, TypeItem, InstanceTypeOf, own_resources}
 use Rattle.comp_runs.specs.Machine.{Machine, Next}
 use Rattle.comp_runs.specs.Instances.{aliased, described, instance_of_type}
 use Rattle.instance_laws.specs.Instantiated.{IsHeldAs, AreHeldAs, member_exports, IsExportedAs, with_now, with_instance, FindsType}
@@ -39,7 +39,7 @@ IsInstanceEntry types functions (ImportedInstance number outer all) exports = Is
 IsInstanceEntry types functions (NestedInstance exported) exports = HasTypesOf exported types exports
 IsInstanceEntry types functions OtherInstance exports = Unit {0}
 
--- an import of the type with this index runs: there is one instance more, and what was at an address is there
+-- an import of the type with this index runs: there is one instance more, no resource is defined, and what was at an address is there
 pub record RunsImport (origin : Origin) (outer : List TypeTree) (all : List Member) (index : ℕ) (m : Machine) : Type 0 where
   pub types : List TypeItem
   pub functions : List Function
@@ -47,6 +47,7 @@ pub record RunsImport (origin : Origin) (outer : List TypeTree) (all : List Memb
   pub more_types : List TypeItem
   pub more_functions : List Function
   pub types_grew : types ≡ m.store.types ++ more_types
+  pub none_defined : own_resources more_types ≡ 0
   pub functions_grew : functions ≡ m.store.functions ++ more_functions
   pub is : IsImportedInstance origin.number outer all types functions exports
   pub runs : (now : Now) (next : ℕ → Next) → described instance_of_type origin (descriptions.Instance index) (with_now m now) next ≡ next (length m.store.instances) (with_instance (with_now m now) types functions exports)

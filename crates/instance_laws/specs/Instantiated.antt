@@ -15,7 +15,7 @@ use Rattle.comp_trees.specs.Trees.{Origin, FunctionTree}
 use Rattle.comp_trees.specs.DefinedTrees.{TypeTree, OfFunctions, OfOthers}
 use Rattle.comp_trees.specs.Members.{Surroundings, member_tree, with_member, member_trees}
 use Rattle.comp_inventories.specs.Inventories.{surroundings_of}
-use Rattle.comp_runs.specs.Store.{Thing, Export, Function, Imported, TypeItem, InstanceTypeOf, item_tree}
+use Rattle.comp_runs.specs.Store.{Thing, Export, Function, Imported, TypeItem, InstanceTypeOf, item_tree, own_resources}
 use Rattle.comp_runs.specs.Machine.{Machine, Next, is_of, export_of, new_instance}
 use Rattle.comp_runs.specs.Instances.{type_scope, each_member, instance_of_type}
 
@@ -79,7 +79,7 @@ pub record IsExportedAs (number : ℕ) (types : List TypeItem) (functions : List
   pub is : IsItemOf number types functions x.space x.name x.tree e.address
 
 -- The machine has more: `trees` is what the types of its scope denote then, and `exported` what was exported. What was at
--- an address is there.
+-- an address is there, and no resource is defined.
 pub record Grown (number : ℕ) (trees : List TypeTree) (exported : List MemberExport) (m : Machine) : Type 0 where
   pub items : List Thing
   pub types : List TypeItem
@@ -89,6 +89,7 @@ pub record Grown (number : ℕ) (trees : List TypeTree) (exported : List MemberE
   pub more_functions : List Function
   pub more_exports : List Export
   pub types_grew : types ≡ m.store.types ++ more_types
+  pub none_defined : own_resources more_types ≡ 0
   pub functions_grew : functions ≡ m.store.functions ++ more_functions
   pub exports_grew : exports ≡ m.scope.exports ++ more_exports
   pub held : AreHeldAs types trees items
@@ -123,6 +124,7 @@ pub record RunsInstanceType (origin : Origin) (outer : List TypeTree) (all : Lis
   pub more_types : List TypeItem
   pub more_functions : List Function
   pub types_grew : types ≡ m.store.types ++ more_types
+  pub none_defined : own_resources more_types ≡ 0
   pub functions_grew : functions ≡ m.store.functions ++ more_functions
   pub each : AllZip (IsExportedAs origin.number types functions) (member_exports (surroundings_of origin.number outer) [] all) exports
   pub runs : (now : Now) (next : ℕ → Next) → instance_of_type origin (InstanceTypeOf all around) (with_now m now) next ≡ next (length m.store.instances) (with_instance (with_now m now) types functions exports)

@@ -63,7 +63,7 @@ use Rattle.link_laws.specs.Composition.{at_root, item_instantiates}
 use Rattle.comp_terms.specs.Generated.{shims_number, role_of_kind, Purpose, OfImport, OfDestructor, target_of, HasPurpose}
 use Rattle.comp_terms.specs.Terms.{CoreExport, TermOption, Term, Is, IsFunctionType, IsResource, IsImportedFunction, IsInstanceOf, IsExported, IsOption, IsLowering, IsDropping, IsLifting}
 use Rattle.comp_terms.specs.Terms as terms
-use Rattle.comp_terms.specs.Planned.{IsExportFor, IsMemoryFor, IsOptionFor, IsTypeOf, IsTermFor, IsItemFor, IsGivenFor, IsLiftFor, IsEntryFor, IsArgumentFor}
+use Rattle.comp_terms.specs.Planned.{IsExportFor, IsMemoryFor, IsOptionFor, IsTypeOf, IsTermFor, IsItemFor, IsDestructorFor, IsGivenFor, IsLiftFor, IsEntryFor, IsArgumentFor}
 use Rattle.comp_terms.specs.Rules.{IsOfKind}
 use Rattle.comp_runs.specs.Machine.{Scope, Machine, address_at, is_of, all_some, export_named, export_in, export_of}
 use Rattle.comp_runs.specs.Instances.{type_space, of_kind, matching, given_to, type_at}
@@ -75,7 +75,7 @@ use Rattle.instance_laws.proofs.Held.{trees_of_held, held_of_entries, IsTypeTher
 use Rattle.link_laws.proofs.Zips.{AllZip-filter, AllZip-back, mapped_some, filter-both, all_some-zip, found-zip, found-each}
 use Rattle.comp_worlds.proofs.Roles.{bound_some}
 use Rattle.link_laws.proofs.Plain.{IsFunctionImport, lowered_type, same_signature-refl, function_type_in, only_main_is, fields_right}
-use Rattle.link_laws.proofs.Stores.{IsOpaqueOf, IsInstance, IsUserItem, IsUserExport, IsUserInstance, IsNamedEntry, IsInlineInstance, ShimsAt, AreModuleExports, IsModuleInstance, NamesUser, IsLoweredItem, IsTypeAt, IsDropItem, IsLiftedItem, IsAliasedItem, DefIs, Means, makes, IsTypeEntry, entry_of, IsFunctionEntry, IsInstanceThing, IsLoweredFor, IsDropOf, IsExportServed, IsServedAs, IsShimGivenAt, IsShimGiven, Serves, MayHaveShims, main_module, IsPlanned, IsMainExport, IsFirstMemory, IsOptionFunction, IsHeldOption, IsOptionHeld, IsCoreExportAt, IsLiftedFrom, Agrees}
+use Rattle.link_laws.proofs.Stores.{IsOpaqueOf, IsInstance, IsUserItem, IsUserExport, IsUserInstance, IsNamedEntry, IsInlineInstance, ShimsAt, AreModuleExports, IsModuleInstance, NamesUser, IsLoweredItem, IsTypeAt, IsDropItem, IsLiftedItem, IsAliasedItem, DefIs, Means, makes, IsTypeEntry, entry_of, IsFunctionEntry, IsInstanceThing, IsLoweredFor, IsDropOf, IsExportServed, IsServedAs, IsShimGivenAt, IsShimGiven, Serves, MayHaveShims, main_module, IsPlanned, IsMainExport, IsFirstMemory, IsOptionFunction, IsHeldOption, IsOptionHeld, IsCoreExportAt, IsLiftedFrom, IsDestructorAt, IsDestructorGiven, Agrees}
 
 makes-space : (space : Space) (d : Def) → is_space space (space_of d) ≡ true → makes d ≡ true
 makes-space space d e = by (space_of d) e
@@ -584,6 +584,14 @@ module _ {w : ComponentWorld} {earlier : List Def} {c : Scope} {s : Store} (a : 
       let x = shim_exported within h.is in
       let given : IsShimGivenAt w x.2 x.0 role = record { place = h.place; shim = h.shim; listed = h.listed; stands_for = h.stands_for; is = x.4 } in
       (func_kind kind h.in_space, x.0, x.1, inr (subst (λ o. IsShimGiven w o x.0 role) (sym x.3) given))
+
+  -- so has a shim that stands for a destructor
+  pub destructor_shim : (index : ℕ) (name : List ℕ) → IsDestructorFor w earlier index name → (x : ℕ) × (address_at spaces.CoreFunc index c.items ≡ Some x) × IsDestructorGiven w a.shims x name
+  destructor_shim index name h =
+      let within : h.place < length (shims_of w) = slice_get_within (shims_of w) h.place h.shim h.listed in
+      let x = shim_exported within h.is in
+      let given : IsDestructorAt w x.2 x.0 name = record { place = h.place; shim = h.shim; listed = h.listed; stands_for = h.stands_for; is = x.4 } in
+      (x.0, x.1, subst (λ o. IsDestructorGiven w o x.0 name) (sym x.3) given)
 
   -- the entries of an inline instance, as they were put into the store
   fields_there : (es : List CoreInlineExport) (xs : List Export) (fs : List (List ℕ × Import)) → IsWorld w → AllByRecursion (λ f. IsImportRole w f.1) fs → AllZip (IsEntryFor w Main earlier) es fs → AllZip (IsNamedEntry c.items) es xs →

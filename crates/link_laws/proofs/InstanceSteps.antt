@@ -13,6 +13,7 @@ use Rattle.comp_bytes.specs.declared.def.Item.TheVariants as items
 use Rattle.comp_bytes.specs.declared.def.Def.{Def}
 use Rattle.comp_bytes.specs.declared.def.Def.TheVariants as defs
 use Rattle.comp_worlds.specs.Worlds.{IsWorld}
+use Rattle.comp_inventories.specs.Inventories.{inventory}
 use Rattle.comp_terms.specs.Generated.{shims_number, fixup_number, target_of}
 use Rattle.world_shims.specs.WorldShims.{shims_of, type_of_shim, sections_of_shims, sections_of_fixup}
 use Rattle.shim_runs.specs.ShimRuns.{instance_exports, with_shims, ShimsRun, IsActual, CanFix, with_slots, fixup_arguments, FixupRun}
@@ -42,11 +43,11 @@ use Rattle.std.proofs.lemmas.List.Elements.{filter_map-append, Contains-append_l
 use Rattle.link_laws.specs.Composition.{GeneratedModules, generated_sections, at_root, item_instantiates}
 use Rattle.link_laws.specs.Linking.{module_meanings}
 use Rattle.link_laws.proofs.Zips.{all_some-each}
-use Rattle.link_laws.proofs.Stores.{IsOpaqueOf, ShimsAt, IsModuleInstance, IsInlineInstance, IsFilledWith, AreFilled, AreShims, IsServedAs, IsNamedEntry, ExportsShims, MayHaveShims, main_module, IsPlanned, IsPlannedUser, NumberedFrom, Agrees}
+use Rattle.link_laws.proofs.Stores.{IsOpaqueOf, ShimsAt, IsModuleInstance, IsInlineInstance, IsFilledWith, AreFilled, AreShims, IsServedAs, IsNamedEntry, ExportsShims, MayHaveShims, main_module, IsPlanned, IsPlannedUser, NumberedFrom, AreResources, Agrees}
 use Rattle.link_laws.proofs.Given.{thing_there, purpose_there, purpose_opaque, not_shims, of_shims, module_there, IsOffered, address_there, arguments_there, given_there}
 use Rattle.link_laws.proofs.Plain.{only, nothing_in, IsFunctionImport, function_imports, only_main, listed_main}
 use Rattle.link_laws.proofs.UserExports.{Exports, Alike, all_exports, all_alike, same_exports, each_export}
-use Rattle.link_laws.proofs.Kept.{IsFilledWith-kept, ShimsKept, shims_same, MayHaveShims-kept, Keeps, things_kept, IsPlannedUser-kept, AreKeyExports-kept}
+use Rattle.link_laws.proofs.Kept.{IsFilledWith-kept, ShimsKept, shims_same, MayHaveShims-kept, Keeps, things_kept, IsPlannedUser-kept, AreKeyExports-kept, AreResources-kept}
 
 -- ---- generated modules
 
@@ -215,7 +216,8 @@ module _ {w : ComponentWorld} {earlier : List Def} {c : Scope} {s : Store} (a : 
             there
             (sym (append-nil (map (λ (e : Export). e.name) c.exports)))
             (AreKeyExports-kept w k w.main_exports c.exports a.lifted)
-            a.imports,
+            a.imports
+            (subst (λ l. AreResources w a.shims l (inventory earlier).resources) (sym (ap (λ (m : Machine). m.store.types) more.same)) a.resources),
       ) in
       subst (λ n. Steps w gen earlier c s g (defs.Item (items.CoreInstantiate n arguments))) (sym of_main.0) steps
 
@@ -282,7 +284,8 @@ module _ {w : ComponentWorld} {earlier : List Def} {c : Scope} {s : Store} (a : 
             are
             (sym (append-nil (map (λ (e : Export). e.name) c.exports)))
             (AreKeyExports-kept w k w.main_exports c.exports a.lifted)
-            a.imports,
+            a.imports
+            (AreResources-kept w a.shims (Some at) new s.types (inventory earlier).resources a.resources),
       )
 
   -- ---- the fixup
@@ -445,7 +448,8 @@ module _ {w : ComponentWorld} {earlier : List Def} {c : Scope} {s : Store} (a : 
             (subst (MayHaveShims w s' (numbers ++ fixup_number w ∷ [])) (sym found.1) are)
             (sym (append-nil (map (λ (e : Export). e.name) c.exports)))
             (AreKeyExports-kept w k w.main_exports c.exports a.lifted)
-            a.imports,
+            a.imports
+            a.resources,
       )
 
   -- ---- any of these

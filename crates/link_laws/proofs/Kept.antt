@@ -1,5 +1,5 @@
 -- What is kept while a run goes on: what there is stays where it is.
-use Rattle.std.proofs.Common.{None, ◌≡◌, inl, inr, ℕ, Option, List, [], ◌∷◌, ◌++◌, length, map, filter, refl, sym, subst, ap, Some}
+use Rattle.std.proofs.Common.{None, ◌≡◌, ◌+◌, arith, zero, suc, inl, inr, ℕ, Option, List, [], ◌∷◌, ◌++◌, length, map, filter, refl, sym, subst, ap, Some}
 use Rattle.std.proofs.lemmas.List.Elements.{filter-append, Contains-append_left}
 use Rattle.std.proofs.lemmas.Option.{none-some, same_Some}
 use Rattle.std.specs.Prelude.{Contains}
@@ -33,15 +33,15 @@ use Rattle.comp_worlds.specs.declared.world.ComponentWorld.{ComponentWorld}
 use Rattle.comp_links.specs.Targets.{Main, ExportRef, TargetOption, Target, Lowered, ExportOf, Dropped}
 use Rattle.comp_links.specs.Targets as targets
 use Rattle.comp_links.specs.Lists.{resource_of, RequiredFunction, functions_required, RequiredType, types_required, type_of_world}
-use Rattle.comp_links.specs.Links.{link_of}
+use Rattle.comp_links.specs.Links.{link_of, destructor_of}
 use Rattle.shim_plan.specs.declared.shims.Shim.{Shim}
 use Rattle.world_shims.specs.WorldShims.{shims_of}
 use Rattle.comp_terms.specs.Generated.{shims_number, fixup_number, target_of}
 use Rattle.core_runs.specs.Store.{Opaque}
 use Rattle.core_runs.specs.Instances.{empty_table}
-use Rattle.comp_runs.specs.Store.{Thing, Export, HeldOption, HeldMemory, HeldRealloc, HeldPostReturn, HeldCallback, CoreItem, Function, Imported, Lifting, TypeItem, TreeOf, ModuleInstance, Store, ComponentItem}
+use Rattle.comp_runs.specs.Store.{Thing, Export, HeldOption, HeldMemory, HeldRealloc, HeldPostReturn, HeldCallback, CoreItem, Function, Imported, Lifting, TypeItem, TreeOf, OwnResource, own_resources as resources_among, ModuleInstance, Store, ComponentItem}
 use Rattle.comp_runs.specs.Machine.{address_at, is_of, with_opaque}
-use Rattle.instance_laws.proofs.Held.{KeepsEntries, keeps_same, keeps_more, IsHeldAs-kept}
+use Rattle.instance_laws.proofs.Held.{KeepsEntries, keeps_same, keeps_more, IsHeldAs-kept, own_resources-append}
 use Rattle.instance_laws.proofs.Importing.{IsInstanceType-kept, IsInstanceEntry-kept}
 use Rattle.shim_runs.proofs.Placed.{shims_kept}
 use Rattle.nested_terms.specs.Nested.{empty_scope, imports_after, exports_after}
@@ -49,8 +49,8 @@ use Rattle.nested_laws.proofs.Kept.{AreGiven-kept, AreNestedExports-kept}
 use Rattle.wit_data.specs.declared.worlds.WorldKey.{WorldKey}
 use Rattle.wit_data.specs.declared.worlds.WorldItem.{WorldItem}
 use Rattle.wit_data.specs.declared.worlds.WorldItem.TheVariants as world_items
-use Rattle.link_laws.proofs.Zips.{mapped_some}
-use Rattle.link_laws.proofs.Stores.{IsOpaqueOf, IsUserItem, IsUserExport, IsInstance, ShimsAt, AreShimExports, AreModuleExports, IsModuleInstance, IsNamedEntry, IsTypeAt, IsHeldOption, IsArgumentHeld, ItemIs, DefIs, Means, IsEntryItem, IsTypeEntry, IsFunctionEntry, IsInstanceThing, IsMainExport, IsFirstMemory, IsOptionFunction, IsOptionHeld, IsLoweringOf, IsServedAs, IsShimGiven, Serves, IsPlanned, IsPlannedUser, IsFilledWith, AreFilled, ExportsShims, AreShims, MayHaveShims, IsLiftedFrom, main_key, main_function, IsRequiredAt, IsAmong, IsTypeAmong, IsItemExport, IsKeyExport, AreKeyExports}
+use Rattle.link_laws.proofs.Zips.{mapped_some, AllByRecursion-join}
+use Rattle.link_laws.proofs.Stores.{IsOpaqueOf, IsUserItem, IsUserExport, IsInstance, ShimsAt, AreShimExports, AreModuleExports, IsModuleInstance, IsNamedEntry, IsTypeAt, IsHeldOption, IsArgumentHeld, ItemIs, DefIs, Means, IsEntryItem, IsTypeEntry, IsFunctionEntry, IsInstanceThing, IsMainExport, IsFirstMemory, IsOptionFunction, IsOptionHeld, IsLoweringOf, IsServedAs, IsShimGiven, Serves, IsPlanned, IsPlannedUser, IsFilledWith, AreFilled, ExportsShims, AreShims, MayHaveShims, IsLiftedFrom, main_key, main_function, IsRequiredAt, IsAmong, IsTypeAmong, IsItemExport, IsKeyExport, AreKeyExports, IsDestructorGiven, IsDestroyedBy, IsOwnResource, IsOwnIfDefined, AreResources}
 
 -- every entry of the old scope and store is unchanged in the new ones
 pub record Keeps (a b : List Thing) (s t : Store) : Type 0 where
@@ -195,6 +195,50 @@ shims_same (Some at) = refl
 IsShimGiven-kept : (w : ComponentWorld) (old new : Option ShimsAt) → ShimsKept old new → (address : ℕ) (role : Import) → IsShimGiven w old address role → IsShimGiven w new address role
 IsShimGiven-kept w None new same address role h = absurd h
 IsShimGiven-kept w (Some at) new same address role h = subst (λ o. IsShimGiven w o address role) (sym same) h
+
+-- so are the shims that stand for destructors
+IsDestroyedBy-kept : (w : ComponentWorld) (old new : Option ShimsAt) → ShimsKept old new → (destructor : Option ℕ) (name : Option (List ℕ)) → IsDestroyedBy w old destructor name → IsDestroyedBy w new destructor name
+IsDestroyedBy-kept w old new same None None h = tt
+IsDestroyedBy-kept w None new same (Some address) (Some name) h = absurd h
+IsDestroyedBy-kept w (Some at) new same (Some address) (Some name) h = subst (λ o. IsDestructorGiven w o address name) (sym same) h
+IsDestroyedBy-kept w old new same None (Some name) h = absurd h
+IsDestroyedBy-kept w old new same (Some address) None h = absurd h
+
+IsOwnIfDefined-kept : (w : ComponentWorld) (old new : Option ShimsAt) → ShimsKept old new → (item : TypeItem) → IsOwnIfDefined w old item → IsOwnIfDefined w new item
+IsOwnIfDefined-kept w old new same (OwnResource number destructor) h = record { id = h.id; is = h.is; destroyed = IsDestroyedBy-kept w old new same destructor (destructor_of w h.id) h.destroyed }
+IsOwnIfDefined-kept w old new same item h = tt
+
+pub AreResources-kept : (w : ComponentWorld) (old new : Option ShimsAt) → ShimsKept old new → (types : List TypeItem) (count : ℕ) → AreResources w old types count → AreResources w new types count
+AreResources-kept w old new same types count h = record { counted = h.counted; each = AllByRecursion-weaker (IsOwnIfDefined-kept w old new same) types h.each }
+
+-- types that define no resource
+none_own : (w : ComponentWorld) (shims : Option ShimsAt) (types : List TypeItem) → resources_among types ≡ 0 → AllByRecursion (IsOwnIfDefined w shims) types
+none_own w shims [] none = tt
+none_own w shims (OwnResource number destructor ∷ types) none = let no : suc (resources_among types) ≡ 0 = none in absurd (omega (arith, no))
+none_own w shims (item ∷ types) none = (tt, none_own w shims types none)
+
+-- so no type is one
+pub none_at : (types : List TypeItem) → resources_among types ≡ 0 → (address number : ℕ) (destructor : Option ℕ) → slice_get types address ≡ Some (OwnResource number destructor) → ⊥
+none_at [] none address number destructor e = none-some (OwnResource number destructor) e
+none_at (OwnResource other by ∷ types) none address number destructor e = let no : suc (resources_among types) ≡ 0 = none in absurd (omega (arith, no))
+none_at (item ∷ types) none zero number destructor e = cc
+none_at (item ∷ types) none (suc n) number destructor e = none_at types none n number destructor e
+
+-- with such types the resources are the same
+pub AreResources-more : (w : ComponentWorld) (shims : Option ShimsAt) (types more : List TypeItem) (count : ℕ) → AreResources w shims types count → resources_among more ≡ 0 → AreResources w shims (types ++ more) count
+AreResources-more w shims types more count h none =
+    let all : resources_among (types ++ more) ≡ resources_among types + resources_among more = own_resources-append types more in
+    let counted = h.counted in
+    record { counted = omega (arith, all, counted, none); each = AllByRecursion-join (IsOwnIfDefined w shims) types more h.each (none_own w shims more none) }
+
+-- one resource more
+pub AreResources-push : (w : ComponentWorld) (shims : Option ShimsAt) (types : List TypeItem) (number : ℕ) (destructor : Option ℕ) (count : ℕ) → AreResources w shims types count → IsOwnResource w shims number destructor →
+    AreResources w shims (types ++ OwnResource number destructor ∷ []) (suc count)
+AreResources-push w shims types number destructor count h own =
+    let item : TypeItem = OwnResource number destructor in
+    let all : resources_among (types ++ item ∷ []) ≡ resources_among types + 1 = own_resources-append types (item ∷ []) in
+    let counted = h.counted in
+    record { counted = omega (arith, all, counted); each = AllByRecursion-join (IsOwnIfDefined w shims) types (item ∷ []) h.each (own, tt) }
 
 shim_exports-kept : (w : ComponentWorld) (old new : Option ShimsAt) → ShimsKept old new → (number : ℕ) (exports : List Export) → AreShimExports w old number exports → AreShimExports w new number exports
 shim_exports-kept w None new same number exports h = absurd h

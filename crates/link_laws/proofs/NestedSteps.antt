@@ -50,8 +50,8 @@ use Rattle.nested_laws.proofs.SameExports.{same_exports}
 use Rattle.link_laws.specs.Composition.{GeneratedModules}
 use Rattle.link_laws.specs.Linking.{module_meanings}
 use Rattle.link_laws.proofs.Zips.{all_some-self, AllZip-back, mapped_some}
-use Rattle.link_laws.proofs.Stores.{IsComponentHeld, IsArgumentHeld, IsNestedInstance, IsFunctionEntry, IsInstanceThing, IsLiftedFrom, main_key, main_function, type_at_key, IsRequiredAt, IsAmong, IsTypeAmong, IsItemExport, IsKeyExport, Agrees}
-use Rattle.link_laws.proofs.Kept.{Keeps, shims_same, address_at-append, things_kept, keeps_store, keeps_component, IsPlannedUser-kept, AreKeyExports-push}
+use Rattle.link_laws.proofs.Stores.{IsComponentHeld, IsArgumentHeld, IsNestedInstance, IsFunctionEntry, IsInstanceThing, IsLiftedFrom, main_key, main_function, type_at_key, IsRequiredAt, IsAmong, IsTypeAmong, IsItemExport, IsKeyExport, AreResources, Agrees}
+use Rattle.link_laws.proofs.Kept.{Keeps, shims_same, address_at-append, things_kept, keeps_store, keeps_component, IsPlannedUser-kept, AreKeyExports-push, AreResources-more}
 use Rattle.link_laws.proofs.GivenTypes.{exports_given}
 use Rattle.link_laws.proofs.Given.{thing_there, address_there, held_there, function_at, lift_there, found_name, by_parts}
 use Rattle.link_laws.proofs.Steps.{machine, no_answers, quiet, Steps, filter-push, Makes, agrees_with, shims_beside, quiet_step}
@@ -102,7 +102,7 @@ module _ {w : ComponentWorld} {earlier : List Def} {c : Scope} {s : Store} (a : 
       let component : ComponentItem = record { definitions = inner; around = c.items ∷ c.around } in
       let s' : Store = record s { components = s.components ++ component ∷ [] } in
       quiet_step a g gen d c.imports s' t (λ rest now. refl) (keeps_component c.items t s component)
-      (record { space = refl; is = record { component = component; present = slice_get-end s.components component; same = refl } }) (tt, tt, tt) refl refl refl refl refl refl a.imports
+      (record { space = refl; is = record { component = component; present = slice_get-end s.components component; same = refl } }) (tt, tt, tt) refl refl refl refl refl refl a.imports a.resources
 
   -- ---- an instance of a nested component
 
@@ -177,6 +177,7 @@ module _ {w : ComponentWorld} {earlier : List Def} {c : Scope} {s : Store} (a : 
         };
       })
       (tt, tt, (record { exports = r.exports; present = slice_get-end s.instances r.exports; is = nested_types h held.0 r.types r.exports (subst (λ (is : List Item). AreNestedExports r.types held.0 (exports_after h.given empty_scope is) r.exports) x.2.same r.each) }, tt)) refl refl refl refl refl refl a.imports
+      (subst (λ l. AreResources w a.shims l (inventory earlier).resources) (sym r.types_grew) (AreResources-more w a.shims s.types r.more_types (inventory earlier).resources a.resources r.none_defined))
 
   -- ---- exports
 
@@ -205,7 +206,8 @@ module _ {w : ComponentWorld} {earlier : List Def} {c : Scope} {s : Store} (a : 
             (shims_beside a g gen k [] refl refl refl)
             (map-append (λ (e : Export). e.name) c.exports (x ∷ []))
             (AreKeyExports-push w s w.main_exports c.exports key x a.lifted (ap (slice_get w.main_exports) counted ∙ next) is)
-            a.imports,
+            a.imports
+            a.resources,
       )
 
   -- the lift of a required function

@@ -49,7 +49,7 @@ use Rattle.link_laws.proofs.InstanceSteps.{IsGenerated, generated_for, step_inst
 use Rattle.link_laws.proofs.Steps.{no_modules, machine, IsNow, IsGood, users_among, users_in, asks, events_of, seen_by, Steps, step_type, step_instance_type, step_import, step_import_type, step_import_resource, step_import_instance, step_alias_function, step_alias_type, step_lower, step_drop, step_lift, step_inline_instance, step_alias, step_module, step_custom}
 use Rattle.link_laws.proofs.Marks.{bytes_listed, numbers_listed, root_imports, root_modules, root_instances, root_exports, root_export_names, no_customs}
 use Rattle.link_laws.proofs.ImportedTypes.{types_served}
-use Rattle.link_laws.proofs.Served.{FilledAtEnd, users_served, each_provided, each_type_provided}
+use Rattle.link_laws.proofs.Served.{FilledAtEnd, users_served, resource_defined, each_provided, each_type_provided}
 use Rattle.link_laws.proofs.NestedSteps.{step_component, step_nested, step_export_function, step_export_instance}
 
 -- a generated module is instantiated only where it is one of these
@@ -166,7 +166,7 @@ no_calls : (w : ComponentWorld) → IsWorld w → start_calls w ≡ []
 no_calls w ok = ap (initialization (task_hook w)) (no_initialize w w.main.exports.exports ok.main.export_roles)
 
 start : (w : ComponentWorld) → Agrees w [] (fresh_machine []).scope (fresh_machine []).store
-start w = record { shims = None; with_shims = λ yes. nothing_in (shims_number w) yes; means = tt; types = subst (λ (v : Inventory). AllZip (IsTypeEntry (fresh_machine []).store) v.types []) (sym inventory-empty) tt; functions = subst (λ (v : Inventory). AllZip (IsFunctionEntry (fresh_machine []).store) v.functions []) (sym inventory-empty) tt; instances = subst (λ (v : Inventory). AllZip (IsInstanceThing (fresh_machine []).store) v.instances []) (sym inventory-empty) tt; modules = refl; instantiated = refl; served = tt; exports = refl; lifted = tt; imports = sym (ap (λ (v : Inventory). v.imports) inventory-empty) }
+start w = record { shims = None; with_shims = λ yes. nothing_in (shims_number w) yes; means = tt; types = subst (λ (v : Inventory). AllZip (IsTypeEntry (fresh_machine []).store) v.types []) (sym inventory-empty) tt; functions = subst (λ (v : Inventory). AllZip (IsFunctionEntry (fresh_machine []).store) v.functions []) (sym inventory-empty) tt; instances = subst (λ (v : Inventory). AllZip (IsInstanceThing (fresh_machine []).store) v.instances []) (sym inventory-empty) tt; resources = record { counted = sym (ap (λ (v : Inventory). v.resources) inventory-empty); each = tt }; modules = refl; instantiated = refl; served = tt; exports = refl; lifted = tt; imports = sym (ap (λ (v : Inventory). v.imports) inventory-empty) }
 
 -- where the shims are made, they are filled at the end
 filled_at_end : (w : ComponentWorld) (m : Machine) (o : Option GeneratedBytes) (shims : Option ShimsAt) → (numbers : List ℕ) → numbers ≡ numbers_listed w o → MayHaveShims w m.store numbers shims → (ok : IsWorld w) → FilledAtEnd w ok m shims
@@ -177,13 +177,15 @@ filled_at_end w m (Some b) (Some at) numbers same h ok = (h.made, h.filled (subs
 -- the end of a run is linked
 linked_at_end : (n : Naming) (w : ComponentWorld) (ds : List Def) (m : Machine) → IsWorld w → AreExportsApart n w → (built : IsBuilt n w ds) → Agrees w ds m.scope m.store → m.now.events ≡ Instantiated 0 ∷ [] → IsLinked n w (modules_of w built.generated built.are_generated) m
 linked_at_end n w ds m ok apart built a events =
+    let filled : FilledAtEnd w ok m a.shims = filled_at_end w m built.generated a.shims (flat_map (at_root item_instantiates) ds) (root_instances n w ds built) a.with_shims ok in
     record {
       origins = resource_of w;
       start_events = [];
       instances = a.instantiated ∙ (root_instances n w ds built ∙ order_is w ok built.generated built.are_generated);
-      imports = users_served w ok m a.shims (filled_at_end w m built.generated a.shims (flat_map (at_root item_instantiates) ds) (root_instances n w ds built) a.with_shims ok) a.served;
+      imports = users_served w ok m a.shims filled a.served;
       exports = each_provided n w ok apart m (a.exports ∙ root_export_names n w ds built) a.lifted;
       types = each_type_provided n w ok apart m (a.exports ∙ root_export_names n w ds built) a.lifted;
+      resources = λ address number destructor present. resource_defined w ok m a.shims filled address number destructor present a.resources;
       events = events ∙ sym (ap (λ (us : List WorldModule). map (λ n. Instantiated n) (numbers_from 0 (length us)) ++ []) (only_main w ok));
       started = rw (no_calls w ok) tt;
     }

@@ -1,5 +1,5 @@
 -- What was planned for the imports and exports of main meets the link table.
-use Rattle.std.proofs.Common.{◌≡◌, ◌∙◌, inl, inr, ◌+◌, ◌<◌, ◌^◌, arith, length, IsTrue, ℕ, Bool, false, zero, suc, true, List, [], ◌∷◌, map, refl, sym, ap, subst, Option, Some, None, is_some, if◌then◌else◌}
+use Rattle.std.proofs.Common.{◌≡◌, ◌∙◌, ◌++◌, inl, inr, ◌+◌, ◌<◌, ◌^◌, arith, length, IsTrue, ℕ, Bool, false, zero, suc, true, List, [], ◌∷◌, map, refl, sym, ap, subst, Option, Some, None, is_some, if◌then◌else◌}
 use Rattle.std.proofs.lemmas.Option.{none-some, same_Some, slice_get_within, slice_get-map}
 use Rattle.std.proofs.lemmas.Slice.Eq.{bytes_eq-Decides}
 use Rattle.std.specs.Str.{bytes_eq}
@@ -37,8 +37,8 @@ use Rattle.comp_trees.specs.Trees.{FunctionTree}
 use Rattle.comp_trees.specs.DefinedTrees.{OfOthers}
 use Rattle.comp_links.specs.Targets.{Main, ExportRef, WorldFunction, TargetOption, Target, Lowered, ExportOf, Dropped, Lifted}
 use Rattle.comp_links.specs.Targets as targets
-use Rattle.comp_links.specs.Links.{lift_options, link_of}
-use Rattle.comp_terms.specs.Generated.{Purpose, OfImport, target_of, HasPurpose}
+use Rattle.comp_links.specs.Links.{lift_options, link_of, destructor_of}
+use Rattle.comp_terms.specs.Generated.{Purpose, OfImport, OfDestructor, target_of, HasPurpose}
 use Rattle.shim_plan.specs.declared.shims.Shim.{Shim}
 use Rattle.world_shims.specs.WorldShims.{shims_of, type_of_shim}
 use Rattle.shim_runs.specs.ShimRuns.{IsShimAt, AreShimsFrom}
@@ -46,17 +46,17 @@ use Rattle.shim_runs.proofs.Acting.{filled_shims_forward}
 use Rattle.shim_runs.proofs.Placed.{shim_at}
 use Rattle.comp_links.specs.Modules.{WorldModule, user_modules}
 use Rattle.comp_links.specs.Naming.{Naming, plain_name, name_of}
-use Rattle.comp_links.specs.Lists.{component_types, resource_of, functions_required, required_functions, types_in, types_required, required_types, type_of_world, AreExportsApart}
+use Rattle.comp_links.specs.Lists.{component_types, own_resources, resource_of, functions_required, required_functions, types_in, types_required, required_types, type_of_world, AreExportsApart}
 use Rattle.comp_runs.specs.Signatures.{core_signature}
-use Rattle.comp_runs.specs.Store.{Thing, Export, HeldOption, HeldEncoding, HeldMemory, HeldRealloc, HeldPostReturn, HeldAsync, HeldCallback, CoreItem, Lowering, IntrinsicOf, ExportedBy, Imported, item_tree, ModuleInstance, Store}
+use Rattle.comp_runs.specs.Store.{Thing, Export, HeldOption, HeldEncoding, HeldMemory, HeldRealloc, HeldPostReturn, HeldAsync, HeldCallback, CoreItem, Lowering, IntrinsicOf, ExportedBy, Imported, TypeItem, OwnResource, item_tree, ModuleInstance, Store}
 use Rattle.comp_runs.specs.Machine.{Machine, export_in, export_of}
 use Rattle.nested_laws.proofs.Kept.{is_function}
 use Rattle.nested_laws.proofs.Exports.{front, other_space}
 use Rattle.link_laws.specs.Meeting.{CoreMeets, CoreExportMeets, task_hook, hooks_round, MemoryMeets, IsMainMemory, MeetsOption, ItemIsExport, ItemIsLowering, ItemIsDrop, Meets, MeetsIn, entry_kind, IsExportOf}
 use Rattle.instance_laws.proofs.Held.{tree_of_held}
-use Rattle.link_laws.specs.Linking.{IsServed, AreServed, UsersServed, IsProvided, IsTypeProvided, exports_at}
+use Rattle.link_laws.specs.Linking.{IsServed, AreServed, UsersServed, IsProvided, IsTypeProvided, DestructorMeets, IsDefined, exports_at}
 use Rattle.link_laws.proofs.Zips.{AllByRecursion-join, each_at}
-use Rattle.link_laws.proofs.Stores.{IsOpaqueOf, IsInstance, ShimsAt, drop_core, IsLoweredFor, IsDropOf, IsExportServed, IsServedAs, Serves, IsFilledWith, AreFilled, main_module, IsPlanned, IsPlannedUser, IsMainExport, IsFirstMemory, IsOptionFunction, IsOptionHeld, main_key, main_function, IsRequiredAt, IsFunctionExport, IsAmong, IsInterfaceExport, IsItemExport, IsKeyExport, AreKeyExports, type_at_key, IsTypeAmong}
+use Rattle.link_laws.proofs.Stores.{IsOpaqueOf, IsInstance, ShimsAt, drop_core, IsLoweredFor, IsDropOf, IsExportServed, IsServedAs, Serves, IsFilledWith, AreFilled, main_module, IsPlanned, IsPlannedUser, IsMainExport, IsFirstMemory, IsOptionFunction, IsOptionHeld, main_key, main_function, IsRequiredAt, IsFunctionExport, IsAmong, IsInterfaceExport, IsItemExport, IsKeyExport, AreKeyExports, type_at_key, IsTypeAmong, IsDestroyedBy, IsOwnResource, IsOwnIfDefined, AreResources}
 use Rattle.link_laws.proofs.Given.{by_parts, purpose_opaque, one_purpose}
 use Rattle.link_laws.proofs.Plain.{listed_main, no_hook, no_memory_imported, function_key}
 use Rattle.comp_worlds.specs.WorldContents.{exported_item}
@@ -185,9 +185,9 @@ module _ (w : ComponentWorld) (ok : IsWorld w) (m : Machine) where
       forwarding_meets w ok m None address at drop_core (IntrinsicOf (intrinsics.ResourceDrop h.of)) (ItemIsDrop m (resource_of w id)) same h.is
       (ap (λ o. elim o [ None ↦ OfOthers | Some i ↦ item_tree i ]) h.held.present ∙ h.held.denotes)
 
-  export_meets : (address at : ℕ) (export_ref : ExportRef) (h : IsExportServed w m.store at export_ref) → Forwards w ok m address at h.is.type → CoreExportMeets w m None address export_ref
-  export_meets address at export_ref h same =
-      forwarding_meets w ok m None address at h.is.type (ExportedBy h.is.user export_ref.name) (ItemIsExport w m export_ref) same h.is.is (is_export w ok m h.is.user export_ref h.of h.is.of)
+  export_meets : (kind : Option Bracketed) (address at : ℕ) (export_ref : ExportRef) (h : IsExportServed w m.store at export_ref) → Forwards w ok m address at h.is.type → CoreExportMeets w m kind address export_ref
+  export_meets kind address at export_ref h same =
+      forwarding_meets w ok m kind address at h.is.type (ExportedBy h.is.user export_ref.name) (ItemIsExport w m export_ref) same h.is.is (is_export w ok m h.is.user export_ref h.of h.is.of)
 
   -- a function meets what another one is, where it forwards to that
   function_meets_as : (t : Thing) (at : ℕ) (target : Target) → t.space ≡ spaces.CoreFunc → ((type : FuncType) (item : CoreItem) → IsOpaqueOf m.store at type item → Forwards w ok m t.address at type) → IsServedAs w m.store at target → Meets w m (resource_of w) t target
@@ -199,7 +199,7 @@ module _ (w : ComponentWorld) (ok : IsWorld w) (m : Machine) where
       (drop_meets t.address at id h (same drop_core (IntrinsicOf (intrinsics.ResourceDrop h.of)) h.is))
   function_meets_as t at (ExportOf export_ref) space same h =
       subst (λ space. MeetsIn w m (resource_of w) space t.address (ExportOf export_ref)) (sym space)
-      (export_meets t.address at export_ref h (same h.is.type (ExportedBy h.is.user export_ref.name) h.is.is))
+      (export_meets None t.address at export_ref h (same h.is.type (ExportedBy h.is.user export_ref.name) h.is.is))
   function_meets_as t at target space same h = absurd h
 
   -- the shims are filled at the end
@@ -207,16 +207,20 @@ module _ (w : ComponentWorld) (ok : IsWorld w) (m : Machine) where
   FilledAtEnd None = Unit {0}
   FilledAtEnd (Some at) = AreShimsFrom m.store.code at.table 0 at.address (shims_of w) × AreFilled w m.store at.table × (length (shims_of w) < 2 ^ 32)
 
-  -- what a shim forwards to is what it stands for: for an import what that is to be given, for a destructor main's export
-  pub shim_meets : (t : Thing) (at : ShimsAt) (place : ℕ) (shim : Shim) (p : Purpose) → t.space ≡ spaces.CoreFunc → FilledAtEnd (Some at) → slice_get (shims_of w) place ≡ Some shim → HasPurpose w shim p → t.address ≡ at.address + place →
-      Meets w m (resource_of w) t (target_of w p)
-  shim_meets t at place shim p space filled listed stands is =
+  -- A shim forwards to what it stands for: for an import what that is to be given, for a destructor main's export.
+  record ForwardsFor (address : ℕ) (target : Target) : Type 0 where
+    function : ℕ
+    serves : IsServedAs w m.store function target
+    same : (type : FuncType) (item : CoreItem) → IsOpaqueOf m.store function type item → Forwards w ok m address function type
+
+  shim_forwards : (address : ℕ) (at : ShimsAt) (place : ℕ) (shim : Shim) (p : Purpose) → FilledAtEnd (Some at) → slice_get (shims_of w) place ≡ Some shim → HasPurpose w shim p → address ≡ at.address + place → ForwardsFor address (target_of w p)
+  shim_forwards address at place shim p filled listed stands is =
       let shims : List Shim = shims_of w in
       let f = AllZip-at (IsFilledWith w m.store) shims filled.1.functions place shim filled.1.each listed in
       let same : f.2.purpose ≡ p = one_purpose w shim f.2.purpose p f.2.stands_for stands in
       let serves : IsServedAs w m.store f.0 (target_of w p) = subst (λ q. IsServedAs w m.store f.0 (target_of w q)) same f.2.serves in
       let place_is : 0 + place ≡ place = omega arith in
-      let shim_there : IsShimAt m.store.code at.table t.address place (type_of_shim shim) =
+      let shim_there : IsShimAt m.store.code at.table address place (type_of_shim shim) =
       subst (λ n. IsShimAt m.store.code at.table n place (type_of_shim shim)) (sym is)
       (subst (λ n. IsShimAt m.store.code at.table (at.address + place) n (type_of_shim shim)) place_is (shim_at m.store.code at.table 0 at.address shims place shim filled.0 listed)) in
       let slot : slice_get (map (λ f. Some f) filled.1.functions) place ≡ Some (Some f.0) = slice_get-map (λ f. Some f) filled.1.functions place ∙ ap (option_map (λ f. Some f)) f.1 in
@@ -224,12 +228,44 @@ module _ (w : ComponentWorld) (ok : IsWorld w) (m : Machine) where
       let room = filled.2 in
       let small : place < 2 ^ 32 = omega (arith, within, room) in
       let own : (item : CoreItem) × IsOpaqueOf m.store f.0 (type_of_shim shim) item = purpose_opaque w m.store f.0 shim p stands serves in
-      function_meets_as t f.0 (target_of w p) space
-      (λ type item o.
-      let typed : type_of_shim shim ≡ type = one_type m.store f.0 (type_of_shim shim) type own.0 item own.1 o in
-      subst (Forwards w ok m t.address f.0) typed
-      (λ arguments now fits. filled_shims_forward m.store.code at.table t.address place (type_of_shim shim) (map (λ f. Some f) filled.1.functions) f.0 own.1.what 0 shim_there filled.1.slots slot own.1.present small arguments now fits))
-      serves
+      record {
+        function = f.0;
+        serves = serves;
+        same = λ type item o.
+            let typed : type_of_shim shim ≡ type = one_type m.store f.0 (type_of_shim shim) type own.0 item own.1 o in
+            subst (Forwards w ok m address f.0) typed
+            (λ arguments now fits. filled_shims_forward m.store.code at.table address place (type_of_shim shim) (map (λ f. Some f) filled.1.functions) f.0 own.1.what 0 shim_there filled.1.slots slot own.1.present small arguments now fits);
+      }
+
+  shim_meets : (t : Thing) (at : ShimsAt) (place : ℕ) (shim : Shim) (p : Purpose) → t.space ≡ spaces.CoreFunc → FilledAtEnd (Some at) → slice_get (shims_of w) place ≡ Some shim → HasPurpose w shim p → t.address ≡ at.address + place →
+      Meets w m (resource_of w) t (target_of w p)
+  shim_meets t at place shim p space filled listed stands is =
+      let x : ForwardsFor t.address (target_of w p) = shim_forwards t.address at place shim p filled listed stands is in
+      function_meets_as t x.function (target_of w p) space x.same x.serves
+
+  -- ---- the resources that the component defines
+
+  destructor_meets : (shims : Option ShimsAt) → FilledAtEnd shims → (destructor : Option ℕ) (name : Option (List ℕ)) → IsDestroyedBy w shims destructor name → DestructorMeets w m destructor name
+  destructor_meets shims filled None None h = tt
+  destructor_meets None filled (Some address) (Some name) h = absurd h
+  destructor_meets (Some at) filled (Some address) (Some name) h =
+      let x : ForwardsFor address (ExportOf (record { of = Main; name = name })) = shim_forwards address at h.place h.shim (OfDestructor name) filled h.listed h.stands_for h.is in
+      export_meets (Some brackets.Destructor) address x.function (record { of = Main; name = name }) x.serves (x.same x.serves.is.type (ExportedBy x.serves.is.user name) x.serves.is.is)
+  destructor_meets shims filled None (Some name) h = absurd h
+  destructor_meets shims filled (Some address) None h = absurd h
+
+  -- each is one of the world's, with its destructor
+  pub resource_defined : (shims : Option ShimsAt) → FilledAtEnd shims → (address number : ℕ) (destructor : Option ℕ) → slice_get m.store.types address ≡ Some (OwnResource number destructor) → {count : ℕ} → AreResources w shims m.store.types count → IsDefined w m number destructor
+  resource_defined shims filled address number destructor present all =
+      let own : IsOwnResource w shims number destructor = among m.store.types address all.each present in
+      record { id = own.id; is = own.is; destroyed = destructor_meets shims filled destructor (destructor_of w own.id) own.destroyed }
+    where
+      among : (types : List TypeItem) (n : ℕ) → AllByRecursion (IsOwnIfDefined w shims) types → slice_get types n ≡ Some (OwnResource number destructor) → IsOwnResource w shims number destructor
+      among [] n h e = absurd (none-some (OwnResource number destructor) e)
+      among (x ∷ types) zero h e = subst (IsOwnIfDefined w shims) (same_Some x (OwnResource number destructor) e) h.0
+      among (x ∷ types) (suc n) h e = among types n h.1 e
+
+  -- ---- what main is given
 
   serves_meets : (shims : Option ShimsAt) → FilledAtEnd shims → (t : Thing) (role : Import) → t.space ≡ spaces.CoreFunc → Serves w shims m.store t.address role → Meets w m (resource_of w) t (link_of w Main role)
   serves_meets shims filled t role space (inl h) = function_meets_as t t.address (link_of w Main role) space (λ type item o. forwards_itself w ok m t.address type item o) h
@@ -246,7 +282,7 @@ module _ (w : ComponentWorld) (ok : IsWorld w) (m : Machine) where
 
   -- each import of main is served
   pub users_served : (shims : Option ShimsAt) → FilledAtEnd shims → AllByRecursion (IsPlannedUser w shims m.store) m.store.module_instances → UsersServed w m (resource_of w)
-  users_served shims filled all = record { resources = same_resources (component_types w); each = λ instance i of present listed. instance_served shims filled i of listed (at_index m.store.module_instances instance i all present) }
+  users_served shims filled all = record { resources = same_resources (component_types w ++ own_resources w); each = λ instance i of present listed. instance_served shims filled i of listed (at_index m.store.module_instances instance i all present) }
     where
       same_resources : (ts : List TypeId) → AllByRecursion (λ id. resource_of w id ≡ resource_of w id) ts
       same_resources [] = tt

@@ -23,6 +23,7 @@ use Rattle.comp_runs.specs.Store.{Lowering, ModuleInstance}
 use Rattle.comp_runs.specs.Machine.{Machine}
 use Rattle.link_laws.specs.Meeting.{CoreMeets, ItemIsLowering, IsImport, Meets}
 use Rattle.link_laws.specs.Linking.{outcome, AreServed, IsServed, IsLinked}
+use Rattle.link_laws.proofs.Kept.{none_at}
 use Rattle.link_laws.proofs.Worked.{plain_core}
 use Rattle.link_laws.proofs.Worked.{machine_of, root_import, core_function, h}
 use Rattle.link_laws.proofs.Stores.{main_module}
@@ -104,6 +105,7 @@ module _ (number : ℕ) (rest : List Answer) where
     imports = record { resources = tt; each = served };
     exports = tt;
     types = tt;
+    resources = λ address number destructor present. absurd (none_at m.store.types refl address number destructor present);
     events = refl;
     started = tt;
   }

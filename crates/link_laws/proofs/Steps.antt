@@ -38,7 +38,7 @@ use Rattle.comp_trees.specs.Trees.{Origin, Resource, ImportedAt, DefinedAt, Reso
 use Rattle.comp_trees.specs.DefinedTrees.{TypeTree, OfValues, OfFunctions, OfOthers, function_tree, defined_tree}
 use Rattle.comp_trees.specs.DefinedScopes.{type_tree}
 use Rattle.nested_terms.specs.Nested.{type_named}
-use Rattle.comp_inventories.specs.Inventories.{Inventory, OfInstances, InstanceEntry, Denoting, ImportedInstance, NestedInstance, OtherInstance, entry_tree, no_type, type_if_named, type_of_instance, function_of_instance, instance_imported, types_made, functions_made, instances_made, imports_made, surroundings_of, inventory, scope_of}
+use Rattle.comp_inventories.specs.Inventories.{Inventory, OfInstances, InstanceEntry, Denoting, ImportedInstance, NestedInstance, OtherInstance, entry_tree, no_type, type_if_named, type_of_instance, function_of_instance, instance_imported, types_made, functions_made, instances_made, imports_made, resources_made, surroundings_of, inventory, scope_of}
 use Rattle.comp_trees.specs.Members.{AreMembersRight}
 use Rattle.comp_terms.specs.Generated.{shims_number, fixup_number}
 use Rattle.comp_terms.specs.Terms.{IsInstanceOf, imports_in}
@@ -56,12 +56,14 @@ use Rattle.core_runs.specs.Values.{Value}
 use Rattle.core_types.specs.declared.types.ValType.TheVariants.{I32}
 use Rattle.core_runs.specs.Store.{Opaque, Answer, Gives, Traps, Event, Instantiated, Now, Cell, Foreign}
 use Rattle.core_runs.specs.Execution.{answered, seen, renewed}
-use Rattle.comp_runs.specs.Store.{Thing, Export, HeldOption, HeldEncoding, HeldMemory, HeldRealloc, HeldPostReturn, HeldAsync, HeldCallback, CoreItem, Lowering, IntrinsicOf, Function, Imported, Lifting, TypeItem, TreeOf, ImportedResource, InstanceTypeOf, ModuleInstance, Store}
+use Rattle.comp_runs.specs.Store.{Thing, Export, HeldOption, HeldEncoding, HeldMemory, HeldRealloc, HeldPostReturn, HeldAsync, HeldCallback, CoreItem, Lowering, IntrinsicOf, Function, Imported, Lifting, TypeItem, TreeOf, ImportedResource, OwnResource, own_resources as resources_among, InstanceTypeOf, ModuleInstance, Store}
 use Rattle.comp_links.specs.Modules.{WorldModule}
+use Rattle.comp_links.specs.Lists.{own_resources}
+use Rattle.comp_links.specs.Links.{destructor_of}
 use Rattle.comp_roles.specs.declared.offered.ExternType.{ExternType}
 use Rattle.comp_roles.specs.declared.offered.ExternType.TheVariants as externs
 use Rattle.comp_roles.specs.declared.offered.ImportType.{ImportType}
-use Rattle.comp_terms.specs.Rules.{AliasesUser, AliasesShim, IsEntry, AreEntries, AliasesImported, AliasesNested, AliasesType as MayAliasType, HasFunctionType, HasResource, HasImportedFunction, IsOptionRight, IsLowerOptionRight, IsTypeRight}
+use Rattle.comp_terms.specs.Rules.{AliasesUser, AliasesShim, IsEntry, AreEntries, AliasesImported, AliasesNested, AliasesType as MayAliasType, HasFunctionType, HasResource, HasImportedFunction, IsOptionRight, IsLowerOptionRight, IsTypeRight, IsDestructorRight, DefinesResource, IsItemRight}
 use Rattle.comp_runs.specs.Machine.{Scope, Machine, Outcome, Done, Trapped, Open, Stuck, with_some, address_at, is_of, export_named, all_some, resumed, with_opaque}
 use Rattle.comp_runs.specs.Instances.{matching, argument_for, type_kind, given_to, type_scope, known_function, type_item}
 use Rattle.comp_runs.specs.Signatures.{is_async, core_signature}
@@ -74,10 +76,10 @@ use Rattle.instance_laws.proofs.Importing.{instance_type_made, import_runs, alia
 use Rattle.link_laws.specs.Composition.{GeneratedModules, at_root, item_instantiates}
 use Rattle.link_laws.specs.Linking.{module_meanings, LetsRun}
 use Rattle.link_laws.proofs.Zips.{all_some-self}
-use Rattle.link_laws.proofs.Stores.{IsOpaqueOf, IsUserItem, IsUserExport, IsUserInstance, ShimsAt, IsModuleInstance, IsNamedEntry, ExportsShims, MayHaveShims, IsTypeAt, drop_core, Means, makes, IsTypeEntry, entry_of, IsFunctionEntry, IsInstanceThing, main_module, IsPlannedUser, IsAliasedItem, IsHeldOption, NumberedFrom, Agrees, AreKeyExports}
-use Rattle.link_laws.proofs.Given.{of_shims, module_there, address_there, all_held, scope_there, entry_there, held_there, type_there, instance_type_there, instance_there, imported_there, user_there, space_of_kind, offered_there}
+use Rattle.link_laws.proofs.Stores.{IsOpaqueOf, IsUserItem, IsUserExport, IsUserInstance, ShimsAt, IsModuleInstance, IsNamedEntry, ExportsShims, MayHaveShims, IsTypeAt, drop_core, Means, makes, IsTypeEntry, entry_of, IsFunctionEntry, IsInstanceThing, main_module, IsPlannedUser, IsAliasedItem, IsHeldOption, NumberedFrom, Agrees, AreKeyExports, IsDestroyedBy, IsOwnResource, AreResources}
+use Rattle.link_laws.proofs.Given.{of_shims, module_there, address_there, all_held, scope_there, entry_there, held_there, type_there, instance_type_there, instance_there, imported_there, user_there, space_of_kind, offered_there, destructor_shim}
 use Rattle.link_laws.proofs.Plain.{only, IsFunctionImport, listed_main}
-use Rattle.link_laws.proofs.Kept.{ShimsKept, shims_same, MayHaveShims-kept, keeps_all, IsHeldOption-kept, Keeps, address_at-append, things_kept, keeps_store, keeps_type, keeps_function, keeps_opaque, keeps_core_instance, keeps_module, Means-kept, IsTypeEntry-kept, IsFunctionEntry-kept, IsInstanceThing-kept, IsPlannedUser-kept, AreKeyExports-kept}
+use Rattle.link_laws.proofs.Kept.{ShimsKept, shims_same, MayHaveShims-kept, keeps_all, IsHeldOption-kept, Keeps, address_at-append, things_kept, keeps_store, keeps_type, keeps_function, keeps_opaque, keeps_core_instance, keeps_module, Means-kept, IsTypeEntry-kept, IsFunctionEntry-kept, IsInstanceThing-kept, IsPlannedUser-kept, AreKeyExports-kept, AreResources-more, AreResources-push}
 
 -- a list without generated modules
 abbrev pub no_modules : GeneratedModules
@@ -321,6 +323,12 @@ denotes_alone name (NestedInstance exported) = by (type_named name exported)
     by (Some tree) = refl
 denotes_alone name OtherInstance = refl
 
+-- the type of a resource that is defined, with the address of its destructor
+record HoldsResource (w : ComponentWorld) (shims : Option ShimsAt) (c : Scope) (s : Store) (destructor : Option ℕ) (name : Option (List ℕ)) : Type 0 where
+  pub held : Option ℕ
+  pub made : (now : Now) → type_item (types.Resource destructor) (machine c s now) ≡ Some (OwnResource (resources_among s.types) held)
+  pub destroyed : IsDestroyedBy w shims held name
+
 module _ {w : ComponentWorld} {earlier : List Def} {c : Scope} {s : Store} (a : Agrees w earlier c s) (g : ℕ) (gen : GeneratedModules) where
   abbrev FindsAlias : ℕ → List ℕ → Type 0
   FindsAlias instance name = FindsAliasIn earlier (machine c s no_answers) instance name
@@ -337,8 +345,8 @@ module _ {w : ComponentWorld} {earlier : List Def} {c : Scope} {s : Store} (a : 
       Means w shims (earlier ++ d ∷ []) c'.items s' d t → Makes d s' t → NumberedFrom 0 (filter (is_of spaces.CoreModule) c'.items) (length s'.core_modules) →
       map (λ (u : ModuleInstance). u.module_number) s'.module_instances ≡ map (λ (u : ModuleInstance). u.module_number) s.module_instances ++ at_root item_instantiates d →
       AllByRecursion (IsPlannedUser w shims s') s'.module_instances → MayHaveShims w s' (flat_map (at_root item_instantiates) earlier ++ at_root item_instantiates d) shims → map (λ (e : Export). e.name) c'.exports ≡ map (λ (e : Export). e.name) c.exports ++ def_export d → AreKeyExports w s' w.main_exports c'.exports →
-      c'.imports ≡ imports_made (inventory earlier) d → Agrees w (earlier ++ d ∷ []) c' s'
-  agrees_with d c' s' t shims same grew keeps means made modules instantiated served with_shims exports lifted imports =
+      c'.imports ≡ imports_made (inventory earlier) d → AreResources w shims s'.types (resources_made (inventory earlier) d) → Agrees w (earlier ++ d ∷ []) c' s'
+  agrees_with d c' s' t shims same grew keeps means made modules instantiated served with_shims exports lifted imports resources =
       let before : List Def = filter makes earlier in
       let old : Inventory = inventory earlier in
       let Meaning : Def → Thing → Type 0 = Means w shims (earlier ++ d ∷ []) c'.items s' in
@@ -360,6 +368,7 @@ module _ {w : ComponentWorld} {earlier : List Def} {c : Scope} {s : Store} (a : 
             (subst (λ ts. AllZip (IsFunctionEntry s') (old.functions ++ functions_made old d) ts) (sym (of spaces.Func)) more_functions);
         instances = subst (λ (v : Inventory). AllZip (IsInstanceThing s') v.instances (filter (is_of spaces.Instance) c'.items)) (sym (inventory-push earlier d))
             (subst (λ ts. AllZip (IsInstanceThing s') (old.instances ++ instances_made old d) ts) (sym (of spaces.Instance)) more_instances);
+        resources = subst (λ (v : Inventory). AreResources w shims s'.types v.resources) (sym (inventory-push earlier d)) resources;
         modules = modules;
         instantiated = instantiated ∙ (ap (λ l. l ++ at_root item_instantiates d) a.instantiated ∙ sym (flat-push (at_root item_instantiates) earlier d));
         served = served;
@@ -386,8 +395,8 @@ module _ {w : ComponentWorld} {earlier : List Def} {c : Scope} {s : Store} (a : 
   -- been this many imports after it.
   pub quiet_step : (d : Def) (count : ℕ) (s' : Store) (t : Thing) → ((rest : List Def) (now : Now) → run (module_meanings w gen) (d ∷ rest) (machine c s now) ≡ run (module_meanings w gen) rest (machine (with_thing c t count) s' now)) →
       Keeps c.items (c.items ++ t ∷ []) s s' → Means w a.shims (earlier ++ d ∷ []) (c.items ++ t ∷ []) s' d t → Makes d s' t → is_of spaces.CoreModule t ≡ false → s'.core_modules ≡ s.core_modules → s'.module_instances ≡ s.module_instances →
-      s'.code.tables ≡ s.code.tables → at_root item_instantiates d ≡ [] → def_export d ≡ [] → count ≡ imports_made (inventory earlier) d → Steps w gen earlier c s g d
-  quiet_step d count s' t same keeps means made other modules users tables none no_export imports = (
+      s'.code.tables ≡ s.code.tables → at_root item_instantiates d ≡ [] → def_export d ≡ [] → count ≡ imports_made (inventory earlier) d → AreResources w a.shims s'.types (resources_made (inventory earlier) d) → Steps w gen earlier c s g d
+  quiet_step d count s' t same keeps means made other modules users tables none no_export imports resources = (
     with_thing c t count,
     s',
     g,
@@ -399,11 +408,13 @@ module _ {w : ComponentWorld} {earlier : List Def} {c : Scope} {s : Store} (a : 
         (shims_beside keeps (at_root item_instantiates d) none users tables)
         (rw no_export (sym (append-nil (map (λ (e : Export). e.name) c.exports))))
         (AreKeyExports-kept w keeps w.main_exports c.exports a.lifted)
-        imports,
+        imports
+        resources,
   )
 
-  pub step_type : (t : TypeDef) → IsTypeRight (scope_of earlier) t → Steps w gen earlier c s g (defs.Item (items.Type t))
-  step_type type h =
+  -- the step of a type of values or functions
+  step_type_made : (type : TypeDef) → IsTypeRight (scope_of earlier) type → resources_made (inventory earlier) (defs.Item (items.Type type)) ≡ (inventory earlier).resources → Steps w gen earlier c s g (defs.Item (items.Type type))
+  step_type_made type h none =
       let d : Def = defs.Item (items.Type type) in
       let t : Thing = record { space = spaces.Type; address = length s.types } in
       let resource : Resource = DefinedAt (inventory earlier).resources in
@@ -411,6 +422,34 @@ module _ {w : ComponentWorld} {earlier : List Def} {c : Scope} {s : Store} (a : 
       let s' : Store = record s { types = s.types ++ item ∷ [] } in
       quiet_step d c.imports s' t (λ rest now. rw (type_made (scope_of earlier) resource type h (machine c s now) (scope_there a)) refl) (keeps_type c.items t s item)
       (record { space = refl; is = tt }) ((record { item = item; present = slice_get-end s.types item; denotes = refl; is = tt }, tt), tt, tt) refl refl refl refl refl refl a.imports
+      (subst (AreResources w a.shims (s.types ++ item ∷ [])) (sym none) (AreResources-more w a.shims s.types (item ∷ []) (inventory earlier).resources a.resources refl))
+
+  -- a resource is held with the address of its destructor, where it has one
+  resource_held : (destructor : Option ℕ) (name : Option (List ℕ)) → IsDestructorRight w earlier destructor name → HoldsResource w a.shims c s destructor name
+  resource_held None None h = record { held = None; made = λ now. refl; destroyed = tt }
+  resource_held (Some index) (Some name) h =
+      let x = destructor_shim a index name h in
+      record { held = Some x.0; made = λ now. ap (option_map (λ (n : ℕ). OwnResource (resources_among s.types) (Some n))) x.1; destroyed = x.2 }
+  resource_held None (Some name) h = absurd h
+  resource_held (Some index) None h = absurd h
+
+  step_resource : (destructor : Option ℕ) → DefinesResource w earlier destructor → Steps w gen earlier c s g (defs.Item (items.Type (types.Resource destructor)))
+  step_resource destructor h =
+      let d : Def = defs.Item (items.Type (types.Resource destructor)) in
+      let t : Thing = record { space = spaces.Type; address = length s.types } in
+      let number : ℕ = resources_among s.types in
+      let x : HoldsResource w a.shims c s destructor (destructor_of w h.id) = resource_held destructor (destructor_of w h.id) h.destructed in
+      let item : TypeItem = OwnResource number x.held in
+      let s' : Store = record s { types = s.types ++ item ∷ [] } in
+      let own : IsOwnResource w a.shims number x.held = record { id = h.id; is = ap (slice_get (own_resources w)) a.resources.counted ∙ h.next; destroyed = x.destroyed } in
+      quiet_step d c.imports s' t (λ rest now. rw (x.made now) refl) (keeps_type c.items t s item)
+      (record { space = refl; is = tt }) ((record { item = item; present = slice_get-end s.types item; denotes = ap (λ n. OfValues (ResourceAt (DefinedAt n))) a.resources.counted; is = tt }, tt), tt, tt) refl refl refl refl refl refl a.imports
+      (AreResources-push w a.shims s.types number x.held (inventory earlier).resources a.resources own)
+
+  pub step_type : (t : TypeDef) → IsItemRight w earlier (items.Type t) → Steps w gen earlier c s g (defs.Item (items.Type t))
+  step_type (types.Func f) h = step_type_made (types.Func f) h refl
+  step_type (types.Defined t) h = step_type_made (types.Defined t) h refl
+  step_type (types.Resource destructor) h = step_resource destructor h
 
   pub step_import : (name : ExternName) (kind : ℕ) → HasFunctionType earlier kind → Steps w gen earlier c s g (defs.Item (items.Import name (descriptions.Func kind)))
   step_import name kind h =
@@ -422,7 +461,7 @@ module _ {w : ComponentWorld} {earlier : List Def} {c : Scope} {s : Store} (a : 
       let entry : entry_of f ≡ record { origin = Some (record { number = (inventory earlier).imports; inner = None }); type = get_or (scope_of earlier) kind OfOthers } =
       ap₂ (λ n tree. record { origin = Some (record { number = n; inner = None }); type = tree }) a.imports (sym h.is.denotes.tree) in
       quiet_step d (suc c.imports) s' t (λ rest now. rw (y.at, y.is) refl) (keeps_function c.items t s f)
-      (record { space = refl; is = tt }) (tt, (record { function = f; present = slice_get-end s.functions f; same = entry }, tt), tt) refl refl refl refl refl refl (ap suc a.imports)
+      (record { space = refl; is = tt }) (tt, (record { function = f; present = slice_get-end s.functions f; same = entry }, tt), tt) refl refl refl refl refl refl (ap suc a.imports) a.resources
 
   -- a type that equals another is that one
   pub step_import_type : (name : ExternName) (index : ℕ) → index < length (scope_of earlier) → Steps w gen earlier c s g (defs.Item (items.Import name (descriptions.TypeEqual index)))
@@ -433,7 +472,7 @@ module _ {w : ComponentWorld} {earlier : List Def} {c : Scope} {s : Store} (a : 
       let at : address_at spaces.Type index c.items ≡ Some x.2.address = ap (option_map (λ (t : Thing). t.address)) x.3 in
       let entry : get_or (inventory earlier).types index no_type ≡ x.0 = get_or_from_slice_get (inventory earlier).types index x.0 no_type x.1 in
       quiet_step d (suc c.imports) s t (λ rest now. rw at refl) (keeps_store c.items t s)
-      (record { space = refl; is = tt }) ((subst (λ e. IsTypeEntry s e t) (sym entry) (record { item = x.4.item; present = x.4.present; denotes = x.4.denotes; is = x.4.is }), tt), tt, tt) refl refl refl refl refl refl (ap suc a.imports)
+      (record { space = refl; is = tt }) ((subst (λ e. IsTypeEntry s e t) (sym entry) (record { item = x.4.item; present = x.4.present; denotes = x.4.denotes; is = x.4.is }), tt), tt, tt) refl refl refl refl refl refl (ap suc a.imports) a.resources
 
   -- a resource is a new type, known by the number of the import
   pub step_import_resource : (name : ExternName) → Steps w gen earlier c s g (defs.Item (items.Import name descriptions.SubResource))
@@ -443,7 +482,7 @@ module _ {w : ComponentWorld} {earlier : List Def} {c : Scope} {s : Store} (a : 
       let item : TypeItem = ImportedResource (record { number = c.imports; inner = None }) in
       let s' : Store = record s { types = s.types ++ item ∷ [] } in
       quiet_step d (suc c.imports) s' t (λ rest now. refl) (keeps_type c.items t s item)
-      (record { space = refl; is = tt }) ((record { item = item; present = slice_get-end s.types item; denotes = ap (λ n. OfValues (ResourceAt (ImportedAt (record { number = n; inner = None })))) a.imports; is = tt }, tt), tt, tt) refl refl refl refl refl refl (ap suc a.imports)
+      (record { space = refl; is = tt }) ((record { item = item; present = slice_get-end s.types item; denotes = ap (λ n. OfValues (ResourceAt (ImportedAt (record { number = n; inner = None })))) a.imports; is = tt }, tt), tt, tt) refl refl refl refl refl refl (ap suc a.imports) (AreResources-more w a.shims s.types (item ∷ []) (inventory earlier).resources a.resources refl)
 
   -- a type of instances has the members that the inventory says
   pub step_instance_type : (type : InstanceTypeDef) → Steps w gen earlier c s g (defs.Item (items.InstanceType type))
@@ -455,7 +494,7 @@ module _ {w : ComponentWorld} {earlier : List Def} {c : Scope} {s : Store} (a : 
       let is : IsInstanceType s'.types (scope_of earlier) type.members item =
       instance_type_made s'.types (inventory earlier) type.members c.items c.around (AreHeldAs-kept (keeps_more s.types (item ∷ [])) (scope_of earlier) c.items (all_held a)) in
       quiet_step d c.imports s' t (λ rest now. refl) (keeps_type c.items t s item)
-      (record { space = refl; is = tt }) ((record { item = item; present = slice_get-end s.types item; denotes = refl; is = is }, tt), tt, tt) refl refl refl refl refl refl a.imports
+      (record { space = refl; is = tt }) ((record { item = item; present = slice_get-end s.types item; denotes = refl; is = is }, tt), tt, tt) refl refl refl refl refl refl a.imports (AreResources-more w a.shims s.types (item ∷ []) (inventory earlier).resources a.resources refl)
 
   -- An import of a type of instances makes types and functions, and one item: the instance.
   pub step_import_instance : (name : ExternName) (index : ℕ) (outer : List TypeTree) (members : List Member) → slice_get (inventory earlier).types index ≡ Some (OfInstances outer members) → AreMembersRight (surroundings_of (imports_in earlier) outer) [] members →
@@ -482,7 +521,7 @@ module _ {w : ComponentWorld} {earlier : List Def} {c : Scope} {s : Store} (a : 
       let entry : ImportedInstance c.imports outer members ≡ instance_imported (inventory earlier).imports (get_or (inventory earlier).types index no_type) =
       ap₂ (λ n e. instance_imported n e) a.imports (sym (get_or_from_slice_get (inventory earlier).types index (OfInstances outer members) no_type h)) in
       quiet_step d (suc c.imports) s' t (λ rest now. r.runs now (λ address after. run (module_meanings w gen) rest after)) k
-      (record { space = refl; is = tt }) (tt, tt, (record { exports = r.exports; present = slice_get-end s.instances r.exports; is = subst (λ e. IsInstanceEntry r.types r.functions e r.exports) entry r.is }, tt)) refl refl refl refl refl refl (ap suc a.imports)
+      (record { space = refl; is = tt }) (tt, tt, (record { exports = r.exports; present = slice_get-end s.instances r.exports; is = subst (λ e. IsInstanceEntry r.types r.functions e r.exports) entry r.is }, tt)) refl refl refl refl refl refl (ap suc a.imports) (subst (λ l. AreResources w a.shims l (inventory earlier).resources) (sym r.types_grew) (AreResources-more w a.shims s.types r.more_types (inventory earlier).resources a.resources r.none_defined))
 
   -- an alias of what an imported instance exports is that item
   pub step_alias_function : (instance : ℕ) (name : List ℕ) → AliasesImported earlier spaces.Func instance name → Steps w gen earlier c s g (defs.Item (items.Alias (aliases.Export exports.Func instance name)))
@@ -495,7 +534,7 @@ module _ {w : ComponentWorld} {earlier : List Def} {c : Scope} {s : Store} (a : 
       aliases_function (machine c s no_answers) instance x.0 x.2 name h.number h.outer h.members x.1 x.3 x.4 h.exported in
       let t : Thing = record { space = spaces.Func; address = f.address } in
       quiet_step d c.imports s t (λ rest now. ap (λ o. with_some o (λ (x : Thing). run (module_meanings w gen) rest (machine (with_thing c x c.imports) s now))) f.at) (keeps_store c.items t s)
-      (record { space = refl; is = tt }) (tt, (record { function = Imported f.origin f.type; present = f.present; same = f.same ∙ ap (function_of_instance name) (sym entry) }, tt), tt) refl refl refl refl refl refl a.imports
+      (record { space = refl; is = tt }) (tt, (record { function = Imported f.origin f.type; present = f.present; same = f.same ∙ ap (function_of_instance name) (sym entry) }, tt), tt) refl refl refl refl refl refl a.imports a.resources
 
   -- a type that an imported instance exports, and one that an instance of a nested component does
   alias_of_imported : (instance : ℕ) (name : List ℕ) → AliasesImported earlier spaces.Type instance name → FindsAlias instance name
@@ -528,7 +567,7 @@ module _ {w : ComponentWorld} {earlier : List Def} {c : Scope} {s : Store} (a : 
       let denoting : type_of_instance name f.of ≡ Denoting (entry_tree tree) = denotes_alone name f.of in
       let is : IsTypeEntry s tree t = subst (λ e. IsTypeEntry s e t) (sym denoting) (record { item = f.is.is.item; present = f.is.is.present; denotes = f.is.is.denotes; is = tt }) in
       quiet_step d c.imports s t (λ rest now. ap (λ o. with_some o (λ (x : Thing). run (module_meanings w gen) rest (machine (with_thing c x c.imports) s now))) f.is.at) (keeps_store c.items t s)
-      (record { space = refl; is = tt }) ((subst (λ e. IsTypeEntry s (type_of_instance name e) t) (sym entry) is, tt), tt, tt) refl refl refl refl refl refl a.imports
+      (record { space = refl; is = tt }) ((subst (λ e. IsTypeEntry s (type_of_instance name e) t) (sym entry) is, tt), tt, tt) refl refl refl refl refl refl a.imports a.resources
 
   pub step_alias_type : (instance : ℕ) (name : List ℕ) → MayAliasType earlier instance name → Steps w gen earlier c s g (defs.Item (items.Alias (aliases.Export exports.Type instance name)))
   step_alias_type instance name (inl h) = step_alias_found instance name (alias_of_imported instance name h)
@@ -543,7 +582,7 @@ module _ {w : ComponentWorld} {earlier : List Def} {c : Scope} {s : Store} (a : 
       let s' : Store = with_opaque item drop_core s in
       quiet_step d c.imports s' t (λ rest now. rw x.1 refl) (keeps_opaque c.items t s item drop_core)
       (record { space = refl; is = record { of = x.0; at = address_at-append c.items (t ∷ []) spaces.Type type x.0 x.1; is = opaque_there item drop_core s } })
-      (tt, tt, tt) refl refl refl refl refl refl a.imports
+      (tt, tt, tt) refl refl refl refl refl refl a.imports a.resources
 
   -- an option that names an earlier item has its address
   option_addressed : (o : CanonicalOption) → IsOptionRight earlier o → (x : HeldOption) × (held (machine c s no_answers) o ≡ Some x) × IsHeldOption c.items o x
@@ -594,7 +633,7 @@ module _ {w : ComponentWorld} {earlier : List Def} {c : Scope} {s : Store} (a : 
           is = opaque_there item type s;
         };
       })
-      (tt, tt, tt) refl refl refl refl refl refl a.imports
+      (tt, tt, tt) refl refl refl refl refl refl a.imports a.resources
 
   pub step_lift : (core : ℕ) (written : List CanonicalOption) (kind : ℕ) → core < items_in spaces.CoreFunc earlier → AllByRecursion (IsOptionRight earlier) written → HasFunctionType earlier kind → Steps w gen earlier c s g (defs.Item (items.Lift core written kind))
   step_lift core written kind l right h =
@@ -621,7 +660,7 @@ module _ {w : ComponentWorld} {earlier : List Def} {c : Scope} {s : Store} (a : 
           is = slice_get-end s.functions f;
         };
       })
-      (tt, (record { function = f; present = slice_get-end s.functions f; same = ap (λ tree. record { origin = None; type = tree }) (sym h.is.denotes.tree) }, tt), tt) refl refl refl refl refl refl a.imports
+      (tt, (record { function = f; present = slice_get-end s.functions f; same = ap (λ tree. record { origin = None; type = tree }) (sym h.is.denotes.tree) }, tt), tt) refl refl refl refl refl refl a.imports a.resources
 
   pub step_inline_instance : (entries : List CoreInlineExport) → AreEntries earlier entries → Steps w gen earlier c s g (defs.Item (items.CoreExports entries))
   step_inline_instance entries h =
@@ -643,7 +682,7 @@ module _ {w : ComponentWorld} {earlier : List Def} {c : Scope} {s : Store} (a : 
           each = AllZip-weaker (λ e x n. record { named = n.named; space = n.space; at = address_at-append c.items (t ∷ []) (kind_space e.kind) e.index x.address n.at }) entries found.0 found.2;
         };
       })
-      (tt, tt, tt) refl refl refl refl refl refl a.imports
+      (tt, tt, tt) refl refl refl refl refl refl a.imports a.resources
 
   -- what an alias of an export of main finds
   user_found : IsWorld w → (kind : ExportKind) (instance : ℕ) (name : List ℕ) → AliasesUser w earlier kind instance name → FindsExport w earlier c s kind instance name
@@ -701,13 +740,13 @@ module _ {w : ComponentWorld} {earlier : List Def} {c : Scope} {s : Store} (a : 
       let f : FindsExport w earlier c s kinds.Func instance name = alias_found ok kinds.Func instance name h in
       let t : Thing = record { space = spaces.CoreFunc; address = f.export.address } in
       quiet_step d c.imports s t (λ rest now. rw (f.is.at, f.is.present, f.found, f.space) refl) (keeps_store c.items t s)
-      (record { space = refl; is = aliased_item kinds.Func instance name f d t }) (tt, tt, tt) refl refl refl refl refl refl a.imports
+      (record { space = refl; is = aliased_item kinds.Func instance name f d t }) (tt, tt, tt) refl refl refl refl refl refl a.imports a.resources
   step_alias ok kinds.Memory instance name h =
       let d : Def = defs.Item (items.Alias (aliases.CoreExport kinds.Memory instance name)) in
       let f : FindsExport w earlier c s kinds.Memory instance name = alias_found ok kinds.Memory instance name h in
       let t : Thing = record { space = spaces.CoreMemory; address = f.export.address } in
       quiet_step d c.imports s t (λ rest now. rw (f.is.at, f.is.present, f.found, f.space) refl) (keeps_store c.items t s)
-      (record { space = refl; is = aliased_item kinds.Memory instance name f d t }) (tt, tt, tt) refl refl refl refl refl refl a.imports
+      (record { space = refl; is = aliased_item kinds.Memory instance name f d t }) (tt, tt, tt) refl refl refl refl refl refl a.imports a.resources
   step_alias ok kinds.Table instance name (inl h) = absurd h.of_kind
   step_alias ok kinds.Table instance name (inr h) = let no = h.function in cc
   step_alias ok kinds.Global instance name (inl h) = absurd h.of_kind
@@ -730,7 +769,8 @@ module _ {w : ComponentWorld} {earlier : List Def} {c : Scope} {s : Store} (a : 
             (shims_beside k [] refl refl refl)
             (sym (append-nil (map (λ (e : Export). e.name) c.exports)))
             (AreKeyExports-kept w k w.main_exports c.exports a.lifted)
-            a.imports,
+            a.imports
+            a.resources,
       )
 
   pub step_custom : (name contents : List ℕ) → Steps w gen earlier c s g (defs.Item (items.Custom name contents))
@@ -752,6 +792,7 @@ module _ {w : ComponentWorld} {earlier : List Def} {c : Scope} {s : Store} (a : 
               (subst (λ es. AllZip (IsFunctionEntry s) es (filter (is_of spaces.Func) c.items)) (sym (append-nil old.functions)) a.functions);
           instances = subst (λ (v : Inventory). AllZip (IsInstanceThing s) v.instances (filter (is_of spaces.Instance) c.items)) (sym (inventory-push earlier d))
               (subst (λ es. AllZip (IsInstanceThing s) es (filter (is_of spaces.Instance) c.items)) (sym (append-nil old.instances)) a.instances);
+          resources = subst (λ (v : Inventory). AreResources w a.shims s.types v.resources) (sym (inventory-push earlier d)) a.resources;
           modules = a.modules;
           instantiated = a.instantiated ∙ sym (flat-push (at_root item_instantiates) earlier d ∙ append-nil (flat_map (at_root item_instantiates) earlier));
           served = a.served;

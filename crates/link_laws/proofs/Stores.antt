@@ -36,18 +36,18 @@ use Rattle.comp_worlds.specs.declared.world.ComponentWorld.{ComponentWorld}
 use Rattle.comp_links.specs.Targets.{Main, ExportRef, WorldFunction, TargetOption, Target, Lowered, ExportOf, Dropped}
 use Rattle.comp_links.specs.Targets as targets
 use Rattle.comp_links.specs.Modules.{WorldModule}
-use Rattle.comp_links.specs.Lists.{IsOriginOf, resource_of, RequiredKey, RequiredFunction, functions_required, RequiredType, types_required, type_of_world}
-use Rattle.comp_links.specs.Links.{lift_options, link_of, link_at}
+use Rattle.comp_links.specs.Lists.{IsOriginOf, resource_of, RequiredKey, RequiredFunction, functions_required, RequiredType, types_required, type_of_world, own_resources}
+use Rattle.comp_links.specs.Links.{lift_options, link_of, link_at, destructor_of}
 use Rattle.shim_plan.specs.declared.shims.Shim.{Shim}
 use Rattle.world_shims.specs.WorldShims.{shims_of}
 use Rattle.shim_runs.specs.ShimRuns.{AreShimsFrom, instance_exports}
-use Rattle.comp_terms.specs.Generated.{shims_number, fixup_number, IsShimOf, Purpose, target_of, HasPurpose}
+use Rattle.comp_terms.specs.Generated.{shims_number, fixup_number, IsShimOf, IsShimOfDestructor, Purpose, target_of, HasPurpose}
 use Rattle.comp_terms.specs.Terms.{CoreExport, IsInstanceOf, imports_in}
 use Rattle.comp_terms.specs.Planned.{IsTypeOf, type_of_function}
 use Rattle.comp_terms.specs.Rules.{IsOfKind}
 use Rattle.core_runs.specs.Store.{Opaque}
 use Rattle.core_runs.specs.Instances.{empty_table}
-use Rattle.comp_runs.specs.Store.{Thing, Export, HeldOption, HeldEncoding, HeldMemory, HeldRealloc, HeldPostReturn, HeldAsync, HeldCallback, CoreItem, Lowering, IntrinsicOf, ExportedBy, Function, Imported, Lifting, TypeItem, TreeOf, item_tree, ModuleInstance, Store, ComponentItem}
+use Rattle.comp_runs.specs.Store.{Thing, Export, HeldOption, HeldEncoding, HeldMemory, HeldRealloc, HeldPostReturn, HeldAsync, HeldCallback, CoreItem, Lowering, IntrinsicOf, ExportedBy, Function, Imported, Lifting, TypeItem, TreeOf, OwnResource, item_tree, own_resources as resources_among, ModuleInstance, Store, ComponentItem}
 use Rattle.comp_runs.specs.Instances.{type_space}
 use Rattle.comp_runs.specs.Machine.{Scope, address_at, is_of, export_named, export_of}
 use Rattle.comp_runs.specs.Signatures.{core_signature}
@@ -490,6 +490,41 @@ AreKeyExports w s keys [] = Unit {0}
 AreKeyExports w s [] (e ∷ es) = ⊥
 AreKeyExports w s (key ∷ keys) (e ∷ es) = IsKeyExport w s key e × AreKeyExports w s keys es
 
+-- ---- resources that the component defines
+
+-- the core function is a shim that stands for the destructor that main exports under this name
+pub record IsDestructorAt (w : ComponentWorld) (at : ShimsAt) (address : ℕ) (name : List ℕ) : Type 0 where
+  pub place : ℕ
+  pub shim : Shim
+  pub listed : slice_get (shims_of w) place ≡ Some shim
+  pub stands_for : IsShimOfDestructor w shim name
+  pub is : address ≡ at.address + place
+
+abbrev pub IsDestructorGiven : ComponentWorld → Option ShimsAt → ℕ → List ℕ → Type 0
+IsDestructorGiven w None address name = ⊥
+IsDestructorGiven w (Some at) address name = IsDestructorAt w at address name
+
+-- it is one where main exports one
+abbrev pub IsDestroyedBy : ComponentWorld → Option ShimsAt → Option ℕ → Option (List ℕ) → Type 0
+IsDestroyedBy w shims None None = Unit {0}
+IsDestroyedBy w shims (Some address) (Some name) = IsDestructorGiven w shims address name
+IsDestroyedBy w shims destructor name = ⊥
+
+-- a resource of the component's own, by its number
+pub record IsOwnResource (w : ComponentWorld) (shims : Option ShimsAt) (number : ℕ) (destructor : Option ℕ) : Type 0 where
+  pub id : TypeId
+  pub is : slice_get (own_resources w) number ≡ Some id
+  pub destroyed : IsDestroyedBy w shims destructor (destructor_of w id)
+
+abbrev pub IsOwnIfDefined : ComponentWorld → Option ShimsAt → TypeItem → Type 0
+IsOwnIfDefined w shims (OwnResource number destructor) = IsOwnResource w shims number destructor
+IsOwnIfDefined w shims item = Unit {0}
+
+-- this many are defined, and each is one
+pub record AreResources (w : ComponentWorld) (shims : Option ShimsAt) (types : List TypeItem) (count : ℕ) : Type 0 where
+  pub counted : resources_among types ≡ count
+  pub each : AllByRecursion (IsOwnIfDefined w shims) types
+
 -- ---- the run so far
 
 -- the items of this kind have consecutive addresses from this number on
@@ -504,6 +539,7 @@ pub record Agrees (w : ComponentWorld) (earlier : List Def) (c : Scope) (s : Sto
   pub types : AllZip (IsTypeEntry s) (inventory earlier).types (filter (is_of spaces.Type) c.items)
   pub functions : AllZip (IsFunctionEntry s) (inventory earlier).functions (filter (is_of spaces.Func) c.items)
   pub instances : AllZip (IsInstanceThing s) (inventory earlier).instances (filter (is_of spaces.Instance) c.items)
+  pub resources : AreResources w shims s.types (inventory earlier).resources
   pub modules : NumberedFrom 0 (filter (is_of spaces.CoreModule) c.items) (length s.core_modules)
   pub instantiated : map (λ (u : ModuleInstance). u.module_number) s.module_instances ≡ flat_map (at_root item_instantiates) earlier
   pub served : AllByRecursion (IsPlannedUser w shims s) s.module_instances

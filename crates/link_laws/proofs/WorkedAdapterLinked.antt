@@ -21,6 +21,7 @@ use Rattle.comp_links.specs.Targets.{Main, ExportRef, ExportOf, MainMemory, Lift
 use Rattle.comp_links.specs.Modules.{WorldModule, adapter_module, user_modules, IsModule}
 use Rattle.comp_bytes.specs.ItemIndices.{in_space}
 use Rattle.comp_runs.specs.Instances.{type_scope}
+use Rattle.link_laws.proofs.Kept.{none_at}
 use Rattle.link_laws.proofs.ImportedTypes.{none_imported}
 use Rattle.comp_bytes.specs.declared.space.Space.TheVariants as spaces
 use Rattle.comp_runs.specs.Store.{ExportedBy, ModuleInstance}
@@ -176,6 +177,7 @@ module _ (number number' : ℕ) (rest : List Answer) where
     imports = record { resources = tt; each = served };
     exports = (g_provided, tt);
     types = tt;
+    resources = λ address number destructor present. absurd (none_at m.store.types refl address number destructor present);
     events = refl;
     started = tt;
   }

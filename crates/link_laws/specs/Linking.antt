@@ -9,6 +9,7 @@ use Rattle.comp_bytes.specs.declared.def.Item.TheVariants as items
 use Rattle.comp_bytes.specs.declared.def.Def.{Def}
 use Rattle.comp_bytes.specs.declared.def.Def.TheVariants as defs
 use Rattle.core_types.specs.declared.types.ValType.{ValType}
+use Rattle.core_runs.specs.declared.bracket.Bracketed.TheVariants as brackets
 use Rattle.core_runs.specs.declared.bracket.TaskHook.{TaskHook}
 use Rattle.core_runs.specs.declared.bracket.TaskHook.TheVariants.{InitializeStart, InitializeFinish}
 use Rattle.core_runs.specs.Hooks.{hook_number}
@@ -32,13 +33,13 @@ use Rattle.comp_trees.specs.WitTrees.{wit_function_tree}
 use Rattle.comp_links.specs.Targets.{Main, ExportRef, Target, Lifted}
 use Rattle.comp_links.specs.Naming.{Naming, name_of}
 use Rattle.comp_links.specs.Modules.{WorldModule, user_modules}
-use Rattle.comp_links.specs.Lists.{RequiredFunction, required_functions, RequiredType, required_types, component_types, resource_of, type_of_world, stated_types}
-use Rattle.comp_links.specs.Links.{link_at, lift_of}
-use Rattle.comp_runs.specs.Store.{Thing, Export, CoreItem, tree_held, ModuleInstance}
+use Rattle.comp_links.specs.Lists.{RequiredFunction, required_functions, RequiredType, required_types, component_types, own_resources, resource_of, type_of_world, stated_types}
+use Rattle.comp_links.specs.Links.{link_at, lift_of, destructor_of}
+use Rattle.comp_runs.specs.Store.{Thing, Export, CoreItem, OwnResource, tree_held, ModuleInstance}
 use Rattle.comp_runs.specs.Machine.{Machine, Outcome, Done, Trapped, Open, Stuck, export_of}
 use Rattle.comp_runs.specs.Instances.{ModuleMeaning, OfUser, OfGenerated, type_scope}
 use Rattle.comp_runs.specs.Running.{run, fresh_machine}
-use Rattle.link_laws.specs.Meeting.{KeepsReferences, ItemIsExport, IsLift, Meets, task_hook}
+use Rattle.link_laws.specs.Meeting.{KeepsReferences, ItemIsExport, CoreExportMeets, IsLift, Meets, task_hook}
 use Rattle.link_laws.specs.Composition.{GeneratedModules, generated_sections, numbers_from, number_after, instance_order, at_root, item_instantiates}
 
 -- ---- how a list runs
@@ -102,9 +103,10 @@ pub record IsServed (w : ComponentWorld) (m : Machine) (origins : TypeId → Res
 abbrev pub AreServed : ComponentWorld → Machine → (TypeId → Resource) → WorldModule → ModuleInstance → Type 0
 AreServed w m origins of i = AllZip (IsServed w m origins of) i.given of.found.imported
 
--- each instance of a user module, where the types that the component imports are the resources that are imported for them
+-- each instance of a user module, where the types that the component imports, and the resources that it defines, are what they are
+-- in the world
 pub record UsersServed (w : ComponentWorld) (m : Machine) (origins : TypeId → Resource) : Type 0 where
-  pub resources : AllByRecursion (λ id. origins id ≡ resource_of w id) (component_types w)
+  pub resources : AllByRecursion (λ id. origins id ≡ resource_of w id) (component_types w ++ own_resources w)
   pub each : (instance : ℕ) (i : ModuleInstance) (of : WorldModule) → slice_get m.store.module_instances instance ≡ Some i → slice_get (user_modules w) i.module_number ≡ Some of → AreServed w m origins of i
 
 -- ---- exports
@@ -135,6 +137,20 @@ pub record IsTypeProvided (n : Naming) (w : ComponentWorld) (m : Machine) (r : R
   pub provided : option_and_then (export_of spaces.Type r.name) (exports_at w m (name_of n w.resolve r.key).name (exported_item w r.key)) ≡ Some (record { space = spaces.Type; name = r.name; address = address })
   pub denotes : tree_held m.store.types address ≡ type_of_world w r.id
 
+-- ---- resources
+
+-- a call of the destructor of a resource is one of main's export of this name, where there is one
+abbrev pub DestructorMeets : ComponentWorld → Machine → Option ℕ → Option (List ℕ) → Type 0
+DestructorMeets w m None None = Unit {0}
+DestructorMeets w m (Some core) (Some name) = CoreExportMeets w m (Some brackets.Destructor) core (record { of = Main; name = name })
+DestructorMeets w m destructor name = ⊥
+
+-- the resource that is defined with this number is that of the world, with its destructor
+pub record IsDefined (w : ComponentWorld) (m : Machine) (number : ℕ) (destructor : Option ℕ) : Type 0 where
+  pub id : TypeId
+  pub is : slice_get (own_resources w) number ≡ Some id
+  pub destroyed : DestructorMeets w m destructor (destructor_of w id)
+
 -- ---- the end of a run
 
 -- an event is this call
@@ -145,7 +161,8 @@ MakesCall w m (Called address arguments) call =
 MakesCall w m event call = ⊥
 
 -- At the end: each module has one instance, in order; each import is served, and each required function and type is
--- provided; and what was seen from outside is the instantiation of each user module, and then the start calls.
+-- provided; each resource that is defined is one of the world's; and what was seen from outside is the instantiation of each user
+-- module, and then the start calls.
 pub record IsLinked (n : Naming) (w : ComponentWorld) (g : GeneratedModules) (m : Machine) : Type 0 where
   pub origins : TypeId → Resource
   pub start_events : List Event
@@ -153,6 +170,7 @@ pub record IsLinked (n : Naming) (w : ComponentWorld) (g : GeneratedModules) (m 
   pub imports : UsersServed w m origins
   pub exports : AllByRecursion (IsProvided n w m origins) (required_functions w)
   pub types : AllByRecursion (IsTypeProvided n w m) (required_types w)
+  pub resources : (address number : ℕ) (destructor : Option ℕ) → slice_get m.store.types address ≡ Some (OwnResource number destructor) → IsDefined w m number destructor
   pub events : m.now.events ≡ map (λ n. Instantiated n) (numbers_from 0 (length (user_modules w))) ++ start_events
   pub started : AllZip (MakesCall w m) start_events (start_calls w)
 

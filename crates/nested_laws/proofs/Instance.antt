@@ -8,7 +8,7 @@ use Rattle.comp_runs.specs.Store.{Export, ComponentItem}
 use Rattle.comp_runs.specs.Machine.{Machine, new_instance}
 use Rattle.comp_runs.specs.Instances.{ModuleMeaning}
 use Rattle.comp_runs.specs.Running.{items_run, met_by_argument, made_by_none}
-use Rattle.instance_laws.proofs.Held.{keeps_grown}
+use Rattle.instance_laws.proofs.Held.{keeps_grown, none_twice}
 use Rattle.instance_laws.proofs.Members.{each_joined}
 use Rattle.nested_laws.specs.NestedRuns.{IsGiven, AreGiven, IsNestedExport, AreNestedExports, IsNestedScope, GrownNested, grown_nested, RunsItem, RunsItems, RunsNested}
 use Rattle.nested_laws.proofs.Kept.{AreGiven-kept, AreNestedExports-kept}
@@ -34,6 +34,7 @@ module _ (arguments : List Export) where
     more_types = g.more_types ++ k.more_types;
     more_exports = g.more_exports ++ k.more_exports;
     types_grew = grew_twice m.store.types g.types k.types g.more_types k.more_types g.types_grew k.types_grew;
+    none_defined = none_twice g.more_types k.more_types g.none_defined k.none_defined;
     exports_grew = grew_twice m.scope.exports g.exports k.exports g.more_exports k.more_exports g.exports_grew k.exports_grew;
     held = k.held;
     functions = k.functions;
@@ -49,6 +50,7 @@ module _ (arguments : List Export) where
     more_types = [];
     more_exports = [];
     types_grew = sym (append-nil m.store.types);
+    none_defined = refl;
     exports_grew = sym (append-nil m.scope.exports);
     held = a.types;
     functions = a.functions;
@@ -90,6 +92,7 @@ nested_runs modules given component arguments m h g =
       exports = grown.exports;
       more_types = grown.more_types;
       types_grew = grown.types_grew;
+      none_defined = grown.none_defined;
       each = subst (λ es. AreNestedExports grown.types arguments (exports_after given empty_scope component.definitions) es) (sym grown.exports_grew) grown.each;
       runs = λ now next. r.runs now (λ inner. next (with_instance_of inner));
     }

@@ -13,7 +13,7 @@ use Rattle.comp_bytes.specs.declared.def.Item.TheVariants as items
 use Rattle.comp_trees.specs.Trees.{is_known, is_known_function}
 use Rattle.comp_trees.specs.DefinedTrees.{TypeTree, OfValues, OfFunctions, OfOthers, function_tree, defined_tree}
 use Rattle.nested_terms.specs.Nested.{NestedFunction, NestedScope, no_function, import_made, NestedExport, ExportedFunction, ExportedType, IsItemRight}
-use Rattle.comp_runs.specs.Store.{Export, TypeItem, TreeOf}
+use Rattle.comp_runs.specs.Store.{Export, TypeItem, TreeOf, own_resources}
 use Rattle.comp_runs.specs.Machine.{Machine, with_some, with_item}
 use Rattle.comp_runs.specs.Instances.{ModuleMeaning, type_scope, known_function, type_item}
 use Rattle.instance_laws.specs.Instantiated.{IsHeldAs, with_now}
@@ -26,15 +26,16 @@ module _ (modules : List ModuleMeaning) (given : List ℕ → TypeTree) (argumen
   scoped = trees_of_held m.store.types s.types m.scope.items a.types
 
   -- the machine with a type that is made, and with a type or a function that is there already
-  abbrev type_growth : (item : TypeItem) (tree : TypeTree) → IsHeldAs (m.store.types ++ item ∷ []) tree (length m.store.types) →
+  abbrev type_growth : (item : TypeItem) (tree : TypeTree) → own_resources (item ∷ []) ≡ 0 → IsHeldAs (m.store.types ++ item ∷ []) tree (length m.store.types) →
       GrownNested arguments (record { types = s.types ++ tree ∷ []; functions = s.functions ++ [] }) [] m
-  type_growth item tree h = record {
+  type_growth item tree none h = record {
     items = m.scope.items ++ record { space = spaces.Type; address = length m.store.types } ∷ [];
     types = m.store.types ++ item ∷ [];
     exports = m.scope.exports;
     more_types = item ∷ [];
     more_exports = [];
     types_grew = refl;
+    none_defined = none;
     exports_grew = sym (append-nil m.scope.exports);
     held = AreHeldAs-push (m.store.types ++ item ∷ []) s.types m.scope.items tree (length m.store.types) (AreHeldAs-kept (keeps_more m.store.types (item ∷ [])) s.types m.scope.items a.types) h;
     functions = AreArguments-beside arguments s.functions m.scope.items (length m.store.types) a.functions;
@@ -49,6 +50,7 @@ module _ (modules : List ModuleMeaning) (given : List ℕ → TypeTree) (argumen
     more_types = [];
     more_exports = [];
     types_grew = sym (append-nil m.store.types);
+    none_defined = refl;
     exports_grew = sym (append-nil m.scope.exports);
     held = AreHeldAs-push m.store.types s.types m.scope.items tree address a.types h;
     functions = AreArguments-beside arguments s.functions m.scope.items address a.functions;
@@ -64,6 +66,7 @@ module _ (modules : List ModuleMeaning) (given : List ℕ → TypeTree) (argumen
     more_types = [];
     more_exports = [];
     types_grew = sym (append-nil m.store.types);
+    none_defined = refl;
     exports_grew = sym (append-nil m.scope.exports);
     held = types_beside m.store.types s.types m.scope.items address a.types;
     functions = AreArguments-push arguments s.functions m.scope.items function address a.functions h;
@@ -79,6 +82,7 @@ module _ (modules : List ModuleMeaning) (given : List ℕ → TypeTree) (argumen
     more_types = g.more_types;
     more_exports = e ∷ [];
     types_grew = g.types_grew;
+    none_defined = g.none_defined;
     exports_grew = refl;
     held = g.held;
     functions = g.functions;
@@ -91,7 +95,7 @@ module _ (modules : List ModuleMeaning) (given : List ℕ → TypeTree) (argumen
       let e : type_item (types.Func f) m ≡ Some (TreeOf tree) =
       ap (λ sc. option_map (λ tree. TreeOf tree) (known_function (function_tree sc f))) scoped
       ∙ ap (λ b. option_map (λ tree. TreeOf tree) (if b then Some tree else None)) h in
-      record { growth = type_growth (TreeOf tree) tree (new_held m.store.types (TreeOf tree) tree refl); runs = λ now next. rw e refl }
+      record { growth = type_growth (TreeOf tree) tree refl (new_held m.store.types (TreeOf tree) tree refl); runs = λ now next. rw e refl }
 
   value_type : (t : DefinedType) → is_known (defined_tree s.types t) ≡ true → RunsItem modules given arguments s (items.Type (types.Defined t)) m
   value_type t h =
@@ -99,7 +103,7 @@ module _ (modules : List ModuleMeaning) (given : List ℕ → TypeTree) (argumen
       let e : type_item (types.Defined t) m ≡ Some (TreeOf tree) =
       ap (λ sc. if is_known (defined_tree sc t) then Some (TreeOf (OfValues (defined_tree sc t))) else None) scoped
       ∙ ap (λ b. if b then Some (TreeOf tree) else None) h in
-      record { growth = type_growth (TreeOf tree) tree (new_held m.store.types (TreeOf tree) tree refl); runs = λ now next. rw e refl }
+      record { growth = type_growth (TreeOf tree) tree refl (new_held m.store.types (TreeOf tree) tree refl); runs = λ now next. rw e refl }
 
   -- an import of a function is the argument of its name
   function_import : (name : ExternName) (kind : ℕ) → GivesFunction arguments name.name → RunsItem modules given arguments s (items.Import name (descriptions.Func kind)) m

@@ -9,7 +9,7 @@ use Rattle.comp_bytes.specs.declared.def.Item.{Item}
 use Rattle.core_runs.specs.Store.{Now}
 use Rattle.comp_trees.specs.DefinedTrees.{TypeTree}
 use Rattle.nested_terms.specs.Nested.{NestedFunction, NestedScope, NestedImport, ImportedFunction, ImportedType, NestedExport, ExportedFunction, ExportedType, empty_scope, with_item, scope_after, export_made, exports_after}
-use Rattle.comp_runs.specs.Store.{Thing, Export, TypeItem, ComponentItem}
+use Rattle.comp_runs.specs.Store.{Thing, Export, TypeItem, own_resources, ComponentItem}
 use Rattle.comp_runs.specs.Machine.{Machine, Next, is_of, export_of, new_instance}
 use Rattle.comp_runs.specs.Instances.{ModuleMeaning}
 use Rattle.comp_runs.specs.Running.{item_effect, items_run, met_by_argument, made_by_none, instantiate_component}
@@ -77,7 +77,7 @@ pub record IsNestedScope (arguments : List Export) (s : NestedScope) (m : Machin
   pub functions : AreArguments arguments s.functions m.scope.items
 
 -- The machine has more: the types and functions of its scope are those of `s` then, and `exported` was exported. What was at
--- an address is there.
+-- an address is there, and no resource is defined.
 pub record GrownNested (arguments : List Export) (s : NestedScope) (exported : List NestedExport) (m : Machine) : Type 0 where
   pub items : List Thing
   pub types : List TypeItem
@@ -85,6 +85,7 @@ pub record GrownNested (arguments : List Export) (s : NestedScope) (exported : L
   pub more_types : List TypeItem
   pub more_exports : List Export
   pub types_grew : types ≡ m.store.types ++ more_types
+  pub none_defined : own_resources more_types ≡ 0
   pub exports_grew : exports ≡ m.scope.exports ++ more_exports
   pub held : AreHeldAs types s.types items
   pub functions : AreArguments arguments s.functions items
@@ -108,12 +109,13 @@ abbrev pub with_nested : Machine → List TypeItem → List Export → Machine
 with_nested m types exports = new_instance exports (record m { store = record m.store { types = types } })
 
 -- A nested component runs with these arguments: there is one instance more, with the exports that its items say. Beside it the
--- store has nothing new but types.
+-- store has nothing new but types, none of which is a resource that is defined.
 pub record RunsNested (modules : List ModuleMeaning) (given : List ℕ → TypeTree) (component : ComponentItem) (arguments : List Export) (m : Machine) : Type 0 where
   pub types : List TypeItem
   pub exports : List Export
   pub more_types : List TypeItem
   pub types_grew : types ≡ m.store.types ++ more_types
+  pub none_defined : own_resources more_types ≡ 0
   pub each : AreNestedExports types arguments (exports_after given empty_scope component.definitions) exports
   pub runs : (now : Now) (next : Next) → instantiate_component modules component arguments (with_now m now) next ≡ next (with_nested (with_now m now) types exports)
 
