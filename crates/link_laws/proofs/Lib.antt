@@ -38,3 +38,4 @@ mod OtherTextOptions
 mod WorkedNested
 mod CrossedNested
 mod WorkedNestedTypes
+mod WorkedOwnResource
