@@ -39,3 +39,4 @@ mod WorkedNested
 mod CrossedNested
 mod WorkedNestedTypes
 mod WorkedOwnResource
+mod CrossedDestructors

@@ -88,21 +88,21 @@ use Rattle.link_laws.proofs.WorkedTexts.{all_below}
 
 -- ---- the world
 
-abbrev r : List ℕ
+abbrev pub r : List ℕ
 r = codes "r"
 
-abbrev d : List ℕ
+abbrev pub d : List ℕ
 d = codes "d"
 
-abbrev key : WorldKey
+abbrev pub key : WorldKey
 key = keys.Interface (interface_id 0)
 
 -- the name of the interface
-abbrev name : List ℕ
+abbrev pub name : List ℕ
 name = codes "a:b/i"
 
 -- the core type of a destructor
-abbrev dtor_core : FuncType
+abbrev pub dtor_core : FuncType
 dtor_core = function_type (I32 ∷ []) []
 
 -- a module that exports d, of a number and no result
@@ -313,6 +313,15 @@ first_resource destructor h = same_resource h.id h.next
 
 pub without_destructor_not_right : DefinesResource world (ds 4) None → ⊥
 without_destructor_not_right h = subst (λ id. IsDestructorRight world (ds 4) None (destructor_of world id)) (sym (first_resource None h)) h.destructed
+
+-- nor is a second resource, with whatever destructor
+second_resource : (id : TypeId) → slice_get (own_resources world) 1 ≡ Some id → ⊥
+unfolding values_from
+second_resource id e = none-some id e
+
+pub second_not_right : (destructor : Option ℕ) → DefinesResource world (ds 5) destructor → ⊥
+unfolding inventory
+second_not_right destructor h = second_resource h.id h.next
 
 -- ---- the list keeps the rules
 
