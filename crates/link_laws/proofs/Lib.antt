@@ -38,3 +38,5 @@ mod OtherTextOptions
 mod WorkedNested
 mod CrossedNested
 mod WorkedNestedTypes
+mod WorkedOwnResource
+mod CrossedDestructors

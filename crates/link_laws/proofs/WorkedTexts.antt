@@ -169,7 +169,7 @@ fixup_made = refl
 abbrev pub generated : GeneratedModules
 generated = record { shims = Some table_shim; fixup = Some table_fixup }
 
-all_below : (counts : List ℕ) → list_all (λ n. ltb n (2 ^ 32)) counts ≡ true → Fits counts
+pub all_below : (counts : List ℕ) → list_all (λ n. ltb n (2 ^ 32)) counts ≡ true → Fits counts
 all_below [] h = tt
 all_below (n ∷ ns) h =
     let both : (ltb n (2 ^ 32) ≡ true) × (list_all (λ m. ltb m (2 ^ 32)) ns ≡ true) = and_parts (ltb n (2 ^ 32)) (list_all (λ m. ltb m (2 ^ 32)) ns) h in
