@@ -91,19 +91,44 @@ def types_of_another_interface(count):
 
 
 def interfaces_that_use_a_type(count):
+    """An imported one."""
+    return using_interfaces(count, "imports")
+
+
+def interfaces_that_use_an_exported_type(count):
+    return using_interfaces(count, "exports")
+
+
+def using_interfaces(count, side):
+    """Each exports a function that takes a type of another one, which is among the `imports` or the `exports`."""
+    used = {"imports": [], "exports": [], side: [{"interface": 0}]}
     names = [f"i{n}" for n in range(count)]
     first = {"id": "a:b/t", "types": [{"name": "t", "type": {"record": [["s", "string"]]}}], "functions": []}
     function = {"name": "f", "params": [["a", {"ref": [0, "t"]}]]}
     record = {
         **IMPORTED,
         "interfaces": [first, *({"id": f"a:b/{name}", "types": [], "functions": [function]} for name in names)],
-        "imports": [{"interface": 0}, *IMPORTED["imports"]],
-        "exports": [{"interface": n + 1} for n in range(count)],
+        "imports": used["imports"] + IMPORTED["imports"],
+        "exports": used["exports"] + [{"interface": n + 1} for n in range(count)],
         "core-exports": MEMORY + [{"field": f"a:b/{name}#f", "role": ["interface-func", n + 1, "f", "sync"]} for n, name in enumerate(names)],
     }
     interfaces = "interface t { record t { s: string } }\n" + "".join(f"interface {name} {{ use t.{{t}}; f: func(a: t); }}\n" for name in names)
-    world = "import t;\n" + IMPORT + "".join(f"export {name};\n" for name in names)
+    world = f"{side[:-1]} t;\n" + IMPORT + "".join(f"export {name};\n" for name in names)
     return exporting([f"a:b/{name}#f" for name in names]), record, world, interfaces
+
+
+def resources_of_an_interface(count):
+    """Each has a destructor, and the module drops its handles."""
+    names = [f"r{n}" for n in range(count)]
+    record = {
+        "interfaces": [{"id": "a:b/i", "types": [{"name": name, "type": {"resource": True}} for name in names], "functions": []}],
+        "exports": [{"interface": 0}],
+        "core-imports": [{"module": "[export]a:b/i", "field": f"[resource-drop]{name}", "role": ["exported-drop", 0, name]} for name in names],
+        "core-exports": [{"field": f"a:b/i#[dtor]{name}", "role": ["dtor", 0, name]} for name in names],
+    }
+    core = with_memory([("[export]a:b/i", f"[resource-drop]{name}") for name in names], b"\1" + I32, b"\0", [f"a:b/i#[dtor]{name}" for name in names])
+    resources = "".join(f"resource {name};\n" for name in names)
+    return core, record, "export i;", f"interface i {{\n{resources}}}\n"
 
 
 table(
@@ -115,5 +140,7 @@ table(
         types_of_an_interface,
         types_of_another_interface,
         interfaces_that_use_a_type,
+        interfaces_that_use_an_exported_type,
+        resources_of_an_interface,
     ],
 )

@@ -26,16 +26,21 @@ def imports_of(fields):
     return section(2, number(len(fields)) + b"".join(text(name) + text(field) + b"\0\0" for name, field in fields))
 
 
-def module(record, imports=(), params=b"\0", results=b"\0", exports=()):
-    """A core module that imports these fields as functions of these parameters and results, and exports the first of them
-    under these names, with its record."""
+def core_module(imports=(), params=b"\0", results=b"\0", exports=()):
+    """A core module, without a record, that imports these fields as functions of these parameters and results, and exports the first
+    of them under these names."""
     names = b"".join(text(name) + b"\0\0" for name in exports)
     core = PREAMBLE + section(1, b"\1\x60" + params + results) + imports_of(imports)
-    return with_record(core + (section(7, number(len(exports)) + names) if exports else b""), record)
+    return core + (section(7, number(len(exports)) + names) if exports else b"")
+
+
+def module(record, *core):
+    """The same with its record."""
+    return with_record(core_module(*core), record)
 
 
 def with_memory(imports, params, results=b"\0", exports=()):
-    """A core module, without a record, like `module`'s, that has a memory and an allocating function too: its exports `memory` and
+    """A core module, without a record, like `core_module`'s, that has a memory and an allocating function too: its exports `memory` and
     `cabi_realloc`."""
     names = b"".join(text(name) + b"\0\0" for name in exports)
     own = text("memory") + b"\2\0" + text("cabi_realloc") + b"\0" + number(len(imports))

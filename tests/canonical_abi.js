@@ -1,5 +1,6 @@
-// Calls between JavaScript and core functions, by the Canonical ABI: synchronous, of numbers, strings in UTF-8, lists and
-// records. A type is the name of a primitive one, `{ list: type }` or `{ record: [{ name, type }] }`, the type of a function
+// Calls between JavaScript and core functions, by the Canonical ABI: synchronous, of numbers, strings in UTF-8, lists,
+// records, and handles of resources that the component defines. A type is the name of a primitive one, `{ list: type }`,
+// `{ record: [{ name, type }] }`, `{ own: resource }` or `{ borrow: resource }`, the type of a function
 // `{ params: [{ name, type }], result: type or null }`. `options` are those of one call: `memory`, `realloc`, `postReturn`.
 'use strict';
 
@@ -7,25 +8,26 @@ const NUMBERS = {
   s8: 'Int8', u8: 'Uint8', s16: 'Int16', u16: 'Uint16', s32: 'Int32', u32: 'Uint32', s64: 'BigInt64', u64: 'BigUint64',
   f32: 'Float32', f64: 'Float64',
 };
+const isHandle = type => type.own !== undefined || type.borrow !== undefined;
 const MOST_PARAMETERS = 16;
 const MOST_RESULTS = 1;
 const roundUp = (at, alignment) => Math.ceil(at / alignment) * alignment;
 
 const alignmentOf = type => {
   if (NUMBERS[type] !== undefined) return Number(type.slice(1)) / 8;
-  if (type === 'string' || type.list !== undefined) return 4;
+  if (type === 'string' || type.list !== undefined || isHandle(type)) return 4;
   if (type.record !== undefined) return Math.max(...type.record.map(field => alignmentOf(field.type)));
   throw new Error(`no values of the type ${JSON.stringify(type)} are passed here`);
 };
 const sizeOf = type => {
-  if (NUMBERS[type] !== undefined) return alignmentOf(type);
+  if (NUMBERS[type] !== undefined || isHandle(type)) return alignmentOf(type);
   if (type === 'string' || type.list !== undefined) return 8;
   const end = type.record.reduce((at, field) => roundUp(at, alignmentOf(field.type)) + sizeOf(field.type), 0);
   return roundUp(end, alignmentOf(type));
 };
 // the number of core values that one is, outside memory
 const flatCount = type => {
-  if (NUMBERS[type] !== undefined) return 1;
+  if (NUMBERS[type] !== undefined || isHandle(type)) return 1;
   if (type === 'string' || type.list !== undefined) return 2;
   return type.record.reduce((count, field) => count + flatCount(field.type), 0);
 };
@@ -63,6 +65,7 @@ const read = (options, type, at) => {
   if (type.record !== undefined) {
     return Object.fromEntries(placed(type, at).map(field => [field.name, read(options, field.type, field.at)]));
   }
+  if (isHandle(type)) return lift(options, type, [viewOf(options).getUint32(at, true)]);
   return lift(options, type, [viewOf(options).getUint32(at, true), viewOf(options).getUint32(at + 4, true)]);
 };
 // A value from the first of these core values, which it takes off.
@@ -75,6 +78,7 @@ const lift = (options, type, values) => {
   if (type.record !== undefined) {
     return Object.fromEntries(type.record.map(field => [field.name, lift(options, field.type, values)]));
   }
+  if (type.own !== undefined) return { of: type.own, represents: type.own.removed(values.shift()) };
   const [address, length] = [values.shift() >>> 0, values.shift() >>> 0];
   return type === 'string' ? readText(options, address, length) : readList(options, type.list, address, length);
 };
@@ -96,11 +100,22 @@ const write = (options, type, at, value) => {
     placed(type, at).forEach(field => write(options, field.type, field.at, value[field.name]));
   } else lower(options, type, value).forEach((word, i) => viewOf(options).setUint32(at + 4 * i, word, true));
 };
+// A handle outside is an object with its resource and what represents it. One that is given up gets a number in the component; of
+// one that is lent the component gets what represents it, since the resource is its own.
+const lowerHandle = (type, handle) => {
+  if (handle.of !== (type.own ?? type.borrow)) throw new Error('a handle of another resource');
+  if (handle.represents === null) throw new Error('a handle that was given up');
+  if (type.borrow !== undefined) return handle.represents;
+  const number = type.own.added(handle.represents);
+  handle.represents = null;
+  return number;
+};
 // The core values of a value.
 const lower = (options, type, value) => {
   if (NUMBERS[type] !== undefined) return [value];
   if (type === 'string') return writtenText(options, value);
   if (type.list !== undefined) return writtenList(options, type.list, value);
+  if (isHandle(type)) return [lowerHandle(type, value)];
   return type.record.flatMap(field => lower(options, field.type, value[field.name]));
 };
 

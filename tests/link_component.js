@@ -2,6 +2,34 @@
 'use strict';
 const { lifted, lowered } = require('./canonical_abi.js');
 
+// A resource that a component defines: the handles that the component has, by their numbers, each with what it represents, and the
+// destructor, a core function, if there is one.
+class Resource {
+  constructor(destructor) {
+    this.destructor = destructor;
+    this.handles = [];
+  }
+
+  added(represents) {
+    return this.handles.push(represents) - 1;
+  }
+
+  represented(number) {
+    if (this.handles[number] === undefined) throw new Error(`there is no handle ${number}`);
+    return this.handles[number];
+  }
+
+  removed(number) {
+    const represents = this.represented(number);
+    delete this.handles[number];
+    return represents;
+  }
+
+  destroyed(represents) {
+    if (this.destructor !== null) this.destructor(represents);
+  }
+}
+
 // The type that a definition or a use of one means, with no indices in it.
 const resolved = (type, types) => {
   const fields = list => list.map(field => ({ name: field.name, type: resolved(field.type, types) }));
@@ -9,6 +37,8 @@ const resolved = (type, types) => {
   if (typeof type === 'number') return types[type];
   if (type.list !== undefined) return { list: resolved(type.list, types) };
   if (type.record !== undefined) return { record: fields(type.record) };
+  if (type.own !== undefined) return { own: types[type.own] };
+  if (type.borrow !== undefined) return { borrow: types[type.borrow] };
   if (type.params !== undefined) return { params: fields(type.params), result: resolved(type.result, types) };
   if (type.members !== undefined) return instanceType(type.members, types);
   throw new Error(`the type ${JSON.stringify(type)} isn't linked here`);
@@ -96,6 +126,14 @@ const linked = (definitions, outside, seen = () => {}) => {
       const { type, call } = items.func[func];
       core.func.push(lowered(call, named(options), type));
       lowerings.add(core.func[core.func.length - 1]);
+    },
+    'resource-new': ({ type }) => core.func.push(represents => items.type[type].added(represents)),
+    'resource-rep': ({ type }) => core.func.push(number => items.type[type].represented(number)),
+    'resource-drop': ({ type }) => core.func.push(number => items.type[type].destroyed(items.type[type].removed(number))),
+    type: definition => {
+      const { destructor } = definition.type;
+      if (destructor === undefined) steps.type(definition);
+      else items.type.push(new Resource(destructor === null ? null : core.func[destructor]));
     },
     lift: ({ func, options, type }) =>
       items.func.push({ type: items.type[type], call: lifted(core.func[func], named(options), items.type[type]) }),

@@ -80,13 +80,21 @@ const resultType = from => {
   from.expect(0);
   return null;
 };
+// A resource that the component defines: it is represented by an i32, and may have a destructor.
+const resourceType = from => {
+  from.expect(0x7f);
+  return { destructor: from.byte() === 0 ? null : from.number() };
+};
 const definedType = from => {
   const form = from.byte();
   if (TYPES.has(form)) return TYPES.get(form);
   if (form === 0x72) return { record: from.list(field) };
+  if (form === 0x69) return { own: from.number() };
+  if (form === 0x68) return { borrow: from.number() };
   if (form === 0x70) return { list: valueType(from) };
   if (form === 0x40) return { params: from.list(field), result: resultType(from) };
   if (form === 0x42) return { members: from.list(member) };
+  if (form === 0x3f) return resourceType(from);
   throw new Error(`a type of the form ${form} isn't read`);
 };
 
@@ -101,7 +109,8 @@ const alias = from => {
 };
 const description = from => {
   const sort = from.among(SORTS, 'sort');
-  if (sort === 'type') from.expect(0);
+  // a type is equal to another one, or a new resource
+  if (sort === 'type' && from.byte() === 1) return { sort, index: null };
   return { sort, index: from.number() };
 };
 const member = from => {
@@ -141,8 +150,10 @@ const options = from => {
   });
   return read;
 };
+const CANONICAL = ['lift', 'lower', 'resource-new', 'resource-drop', 'resource-rep'];
 const canonical = from => {
-  const define = from.among(['lift', 'lower'], 'canonical function');
+  const define = from.among(CANONICAL, 'canonical function');
+  if (CANONICAL.indexOf(define) > 1) return { define, type: from.number() };
   from.expect(0);
   const func = from.number();
   const read = { define, func, options: options(from) };

@@ -98,7 +98,35 @@ const runSearch = (name, file) => {
   holds(`${name}: how many are younger than 36`, count({ least: 0, most: 35 }), 1);
 };
 
-const RUNS = { main: runMain, strings: runStrings, log: runLog, people: runPeople, search: runSearch };
+// a handle outside is dropped
+const dropped = handle => {
+  handle.of.destroyed(handle.represents);
+  handle.represents = null;
+};
+const runCounters = (name, file) => {
+  const { exports } = linked(readComponent(fs.readFileSync(file)), {});
+  holds(`${name}: what it exports`, Object.keys(exports), ['example:counters/counters', 'example:counters/ranges']);
+  const { count, '[constructor]counter': counter, '[method]counter.next': next, '[static]counter.sum': sum } = exports['example:counters/counters'];
+  const { skip } = exports['example:counters/ranges'];
+  const [one, other] = [counter(10), counter(5)];
+  holds(`${name}: each counts for itself`, [next(one), next(one), next(other), next(one)], [10, 11, 5, 12]);
+  holds(`${name}: another interface gets the same resource`, [skip(one, 7), next(one)], [20, 20]);
+  holds(`${name}: two are in use`, count(), 2);
+  const both = sum(one, other);
+  holds(`${name}: the sum of both`, next(both), 27);
+  holds(`${name}: the module dropped one`, count(), 1);
+  holds(`${name}: no handle is left in the component`, Object.keys(both.of.handles), []);
+  dropped(both);
+  holds(`${name}: the destructor was called`, count(), 0);
+  for (let i = 0; i < 100; i++) dropped(counter(i));
+  holds(`${name}: none is left`, count(), 0);
+  const eight = Array.from({ length: 8 }, (_, i) => counter(i));
+  holds(`${name}: a ninth one traps`, traps(() => counter(8)), true);
+  eight.forEach(dropped);
+  holds(`${name}: all were destroyed`, count(), 0);
+};
+
+const RUNS = { main: runMain, strings: runStrings, log: runLog, people: runPeople, search: runSearch, counters: runCounters };
 for (const argument of process.argv.slice(2)) {
   const [name, file] = argument.split('=');
   try {

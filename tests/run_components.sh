@@ -27,7 +27,7 @@ check() {
 }
 
 kept="main=$top/examples/component.wasm" anew=
-for example in strings log people search; do
+for example in strings log people search counters; do
     from=$top/examples/$example made=$folder/$example
     mkdir "$made"
     check "$example: the kept module's component is made" "$program" new "$made/kept.wasm" "$from/main.wasm"

@@ -8,7 +8,7 @@ use Rattle.comp_encoder.specs.Encoder.{Encoder, naming}
 use Rattle.comp_encoder.specs.Prepared.{IsWorldOf}
 use Rattle.comp_links.specs.Lists.{required_functions}
 use Rattle.comp_worlds.specs.WorldContents.{core_imports}
-use Rattle.core_options.specs.Causes.{IsCause, LacksMemory, LacksRealloc, LacksEncoding}
+use Rattle.core_options.specs.Causes.{IsCause, LacksMemory, LacksRealloc, LacksEncoding, ExportsLater}
 use Rattle.comp_check.specs.declared.fault.CheckFault.TheVariants as checks
 use Rattle.comp_encoder.specs.CanonicalNames.{IsShared}
 use Rattle.comp_encoder.specs.Outputs.{IsCheckCause, IsOutputRefusal, NoOutputCause}
@@ -24,6 +24,7 @@ module _ {L B F : Type 0} (l : lower.Ghosts L B F) where
   from_state e w (state.NoMemory place) is h = subst (λ (x : ComponentWorld). LacksMemory x (core_imports x) (required_functions x) place) is.prepared h
   from_state e w (state.NoRealloc place) is h = subst (λ (x : ComponentWorld). LacksRealloc x (core_imports x) (required_functions x) place) is.prepared h
   from_state e w (state.NoEncoding place) is h = subst (λ x. LacksEncoding x place) is.prepared h
+  from_state e w (state.LaterExport interface used) is h = subst (λ x. ExportsLater x interface used) is.prepared h
   from_state e w (state.TooMany excess) is h = h
 
   pub from_output : (e : Encoder L B) (w : ComponentWorld) (o : OutputFault) → IsWorldOf l e w → IsOutputRefusal (naming e) w e.gathered.options.validate o → IsEncodeRefusal l e (of_output o)

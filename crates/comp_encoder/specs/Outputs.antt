@@ -13,7 +13,7 @@ use Rattle.comp_worlds.specs.declared.world.ComponentWorld.{ComponentWorld}
 use Rattle.wit_data.specs.declared.ids.InterfaceId.{InterfaceId}
 use Rattle.wit_data.specs.declared.worlds.WorldItem.TheVariants as world_items
 use Rattle.wit_data.specs.declared.worlds.WorldKey.{WorldKey}
-use Rattle.core_options.specs.Causes.{IsCause, LacksMemory, LacksRealloc, LacksEncoding}
+use Rattle.core_options.specs.Causes.{IsCause, LacksMemory, LacksRealloc, LacksEncoding, ExportsLater}
 use Rattle.core_options.specs.declared.fault.StateFault.TheVariants as states
 use Rattle.comp_links.specs.Lists.{Stated, IsTypeImport, stated_imports, stated_exports, instance_type_names, nested_names, required_functions}
 use Rattle.comp_encoder.specs.CanonicalNames.{IsShared}
@@ -76,4 +76,5 @@ pub record NoOutputCause (n : Naming) (w : ComponentWorld) (validate : Bool) : T
   pub memory : (place : List ℕ) → LacksMemory w (core_imports w) (required_functions w) place → ⊥
   pub realloc : (place : List ℕ) → LacksRealloc w (core_imports w) (required_functions w) place → ⊥
   pub encodings : (place : List ℕ) → LacksEncoding w place → ⊥
+  pub order : (interface used : List ℕ) → ExportsLater w interface used → ⊥
   pub names : IsTrue validate → (fault : CheckFault) → IsNameCause n w fault → ⊥

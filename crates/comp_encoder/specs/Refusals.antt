@@ -5,7 +5,7 @@ use Rattle.wit_data.specs.declared.ids.WorldId.{WorldId}
 use Rattle.wit_data.specs.declared.resolve.Resolve.{Resolve}
 use Rattle.comp_worlds.specs.declared.lower.Lower as lower
 use Rattle.comp_encoder.specs.Encoder.{Encoder, main_bytes, naming}
-use Rattle.core_options.specs.Causes.{LacksMemory, LacksRealloc, LacksEncoding}
+use Rattle.core_options.specs.Causes.{LacksMemory, LacksRealloc, LacksEncoding, ExportsLater}
 use Rattle.comp_worlds.specs.WorldContents.{core_imports}
 use Rattle.comp_links.specs.Lists.{required_functions}
 use Rattle.comp_check.specs.declared.fault.CheckFault.TheVariants as checks
@@ -17,7 +17,7 @@ use Rattle.comp_encoder.specs.declared.output.OutputFault.TheVariants as outputs
 use Rattle.core_options.specs.declared.fault.StateFault.{StateFault}
 use Rattle.core_options.specs.declared.fault.StateFault.TheVariants as state
 use Rattle.comp_encoder.specs.declared.fault.EncodeFault.{EncodeFault}
-use Rattle.comp_encoder.specs.declared.fault.EncodeFault.TheVariants.{Memory, NoModule, Lower, CanonicalNames, NoMemory, NoRealloc, NoEncoding, Output, TooMany}
+use Rattle.comp_encoder.specs.declared.fault.EncodeFault.TheVariants.{Memory, NoModule, Lower, CanonicalNames, NoMemory, NoRealloc, NoEncoding, LaterExport, Output, TooMany}
 
 -- a canonical name that is shared as a fault of the encoder
 abbrev pub of_shared : {F : Type 0} → SharedName → EncodeFault F
@@ -29,6 +29,7 @@ of_state state.Memory = Memory
 of_state (state.NoMemory place) = NoMemory place
 of_state (state.NoRealloc place) = NoRealloc place
 of_state (state.NoEncoding place) = NoEncoding place
+of_state (state.LaterExport interface used) = LaterExport interface used
 of_state (state.TooMany excess) = TooMany excess
 
 -- a fault of the output as one of the encoder
@@ -58,6 +59,7 @@ module _ {L B F : Type 0} (l : lower.Ghosts L B F) where
   IsModuleRefusal e bytes (NoMemory place) = ⊥
   IsModuleRefusal e bytes (NoRealloc place) = ⊥
   IsModuleRefusal e bytes (NoEncoding place) = ⊥
+  IsModuleRefusal e bytes (LaterExport interface used) = ⊥
   IsModuleRefusal e bytes (Output fault) = ⊥
   IsModuleRefusal e bytes (TooMany excess) = ⊥
 
@@ -71,6 +73,7 @@ module _ {L B F : Type 0} (l : lower.Ghosts L B F) where
   IsEncodeRefusal e (NoMemory place) = let w = l.prepared e.lower e.gathered in LacksMemory w (core_imports w) (required_functions w) place
   IsEncodeRefusal e (NoRealloc place) = let w = l.prepared e.lower e.gathered in LacksRealloc w (core_imports w) (required_functions w) place
   IsEncodeRefusal e (NoEncoding place) = LacksEncoding (l.prepared e.lower e.gathered) place
+  IsEncodeRefusal e (LaterExport interface used) = ExportsLater (l.prepared e.lower e.gathered) interface used
   IsEncodeRefusal e (Output fault) = IsTrue e.gathered.options.validate × IsCheckCause (naming e) (l.prepared e.lower e.gathered) fault
   IsEncodeRefusal e (TooMany excess) = 2 ^ 32 ≤ excess
 

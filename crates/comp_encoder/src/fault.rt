@@ -53,6 +53,13 @@ pub enum EncodeFault<F> {
     NoEncoding {
         place: Text,
     },
+    /// A required interface uses types of another exported one, which main doesn't export before it: it comes later, or is not
+    /// required. Both are named as exports, with their whole version.
+    #[error("E11 LaterExport interface={interface} used={used}")]
+    LaterExport {
+        interface: Text,
+        used: Text,
+    },
     /// `validate` is on, and a name of an import or an export occurs twice, or is not well formed. The fault
     /// is that of `comp_check`, and reports the name.
     #[error("E15 Output: {0}")]
@@ -110,6 +117,9 @@ impl<F> From<StateFault> for EncodeFault<F> {
             StateFault::NoMemory { place } => EncodeFault::NoMemory { place },
             StateFault::NoRealloc { place } => EncodeFault::NoRealloc { place },
             StateFault::NoEncoding { place } => EncodeFault::NoEncoding { place },
+            StateFault::LaterExport { interface, used } => {
+                EncodeFault::LaterExport { interface, used }
+            }
             StateFault::TooMany { excess } => EncodeFault::TooMany { excess },
         }
     }

@@ -29,7 +29,8 @@ use Rattle.comp_worlds.specs.Encodable.{IsEncodable, place_in}
 use Rattle.comp_worlds.specs.WorldTables.{HasTables}
 use Rattle.world_values.specs.Mentions.{interfaces_of, same_interface}
 use Rattle.interface_needs.specs.Needs.{AreUsedNames}
-use Rattle.comp_imports.proofs.NeededInterfaces.{apart_before, found_before, needed_imported, number_behind, place_there}
+use Rattle.interface_needs.proofs.Lending.{imports_apart}
+use Rattle.comp_imports.proofs.NeededInterfaces.{apart_before, found_before, needed_imported, needed_named_of, number_behind, place_there}
 use Rattle.root_imports.proofs.NeededNames.{both_none, names_none}
 use Rattle.comp_worlds.specs.WorldContents.{items_of, imported_types}
 use Rattle.comp_worlds.specs.Worlds.{IsImportItem, IsNamedFunction}
@@ -216,11 +217,12 @@ module _ (n : Naming) (w : ComponentWorld) (old new : Built) (instances : List (
   pub interfaces_done : Grows w old.defs new.defs (interfaces_marked n w)
   interfaces_done = subst (λ es. Grows w old.defs new.defs (flat_map (import_marked n w) (flat_map (interface_entry w) es))) all_done h.grows
 
-  pub interfaces_known : HasTables w → AreInstancesKnown w new.defs instances
-  interfaces_known tables = record {
+  pub interfaces_known : IsEncodable w → AreInstancesKnown w new.defs instances
+  interfaces_known ok = record {
     finds = h.finds;
     needed = record { each = λ id i. AllByRecursion-contains (IsFoundItem w instances) (items_of w).imports (i.key, world_items.Interface id) (subst (AllByRecursion (IsFoundItem w instances)) all_done h.found) i.there };
-    imported = needed_imported w tables;
+    imported = needed_imported w ok.tables;
+    named = λ id t h. needed_named_of w ok id t (needed_imported w ok.tables id t h) h;
   }
 
 -- ---- the next interface
@@ -276,7 +278,7 @@ next_interface n w old mid instances (key, world_items.Interface id) rest ok fir
           ap (λ l. slice_get l (length done)) (all some) ∙ slice_get-append (done ++ ImportedInterface key id ∷ []) more (length done) (ImportedInterface key id) (slice_get-end done (ImportedInterface key id)) in
           ap (slice_get (import_entries w)) count ∙ slice_get-append (interface_entries w) tail (length done) (ImportedInterface key id) there;
       number = λ some.
-          let before = apart_before h.done key id rest (subst (λ es. IsDistinct same_interface (interfaces_of es)) (sym h.split) ok.apart) in
+          let before = apart_before h.done key id rest (subst (λ es. IsDistinct same_interface (interfaces_of es)) (sym h.split) (imports_apart w ok)) in
           let split : import_entries w ≡ done ++ (ImportedInterface key id ∷ (more ++ tail)) =
           ap (λ l. l ++ tail) (all some) ∙ (append_assoc (done ++ ImportedInterface key id ∷ []) more tail ∙ append_assoc done (ImportedInterface key id ∷ []) (more ++ tail)) in
           ap (number_of_interface id) split

@@ -1,5 +1,5 @@
 -- Interfaces of which types are needed are imported, and which interface is which import.
-use Rattle.std.proofs.Common.{◌≡◌, ◌∙◌, ◌<◌, ◌≤◌, ◌+◌, zero-add, append_assoc, length-append, ap, sym, subst, refl, arith, ℕ, suc, Bool, true, false, true≢false, cond, List, [], ◌∷◌, ◌++◌, length, Option, Some, None, is_some, if◌then◌else◌, unwrap_or, ◌==◌, Contains}
+use Rattle.std.proofs.Common.{◌≡◌, ◌∙◌, ◌<◌, ◌≤◌, ◌+◌, zero-add, append_assoc, length-append, ap, sym, subst, refl, arith, ℕ, zero, suc, Bool, true, false, true≢false, cond, List, [], ◌∷◌, ◌++◌, length, Option, Some, None, is_some, if◌then◌else◌, unwrap_or, ◌==◌, Contains}
 use Rattle.std.specs.List.{AllByRecursion, IsDistinct, flat_map}
 use Rattle.std.specs.Map.{lookup}
 use Rattle.std.proofs.lemmas.Bool.Decides.{Decides-eqb}
@@ -13,9 +13,19 @@ use Rattle.wit_data.specs.declared.worlds.WorldItem.TheVariants as world_items
 use Rattle.wit_data.specs.declared.worlds.WorldKey.{WorldKey}
 use Rattle.world_values.specs.Mentions.{interfaces_of, live_entry, same_interface, used_types}
 use Rattle.world_values.specs.Tables.{with_all}
-use Rattle.comp_worlds.specs.Encodable.{place_in}
+use Rattle.comp_worlds.specs.Encodable.{IsEncodable, place_in}
+use Rattle.comp_lists.proofs.Lists.{AllByRecursion-contains}
+use Rattle.wit_data.specs.declared.types.TypeDef.{TypeDef}
+use Rattle.wit_data.specs.declared.types.TypeOwner.TheVariants as owners
+use Rattle.wit_types.specs.Settings.{owner_at}
+use Rattle.type_scopes.specs.Titles.{HasTitle}
+use Rattle.interface_needs.proofs.InterfaceTypes.{types_known}
+use Rattle.interface_needs.proofs.Lists.{is_there}
+use Rattle.root_imports.specs.Met.{is_named_of}
+use Rattle.root_imports.proofs.ExportedTypes.{same_name}
+use Rattle.root_imports.proofs.Meeting.{named_whole}
 use Rattle.comp_worlds.specs.Uses.{all_imports}
-use Rattle.comp_worlds.specs.WorldContents.{items_of}
+use Rattle.comp_worlds.specs.WorldContents.{interface_at, interface_of_owner, items_of}
 use Rattle.comp_worlds.specs.WorldTables.{HasTables}
 use Rattle.comp_worlds.specs.declared.world.ComponentWorld.{ComponentWorld}
 use Rattle.comp_links.specs.Lists.{ImportEntry, ImportedInterface, interface_entry, names_of_interface, needed_types, number_of_interface, unless_empty}
@@ -75,6 +85,19 @@ module _ (w : ComponentWorld) where
       there : (o : Option (List TypeId)) → is_one_of (unwrap_or o []) t.index ≡ true → is_some o ≡ true
       there None e = absurd (true≢false (sym e))
       there (Some ids) e = refl
+
+-- ---- what types are needed
+
+owner_found : (types : List TypeDef) (n : ℕ) (id : InterfaceId) → n < length types → owner_at types n ≡ owners.Interface id → interface_at types n ≡ Some id
+owner_found [] n id l e = absurd (omega (arith, l))
+owner_found (t ∷ ts) zero id l e = ap interface_of_owner e
+owner_found (t ∷ ts) (suc n) id l e = owner_found ts n id (omega (arith, l)) e
+
+-- a type that is needed of an imported interface has a name and belongs to it
+pub needed_named_of : (w : ComponentWorld) → IsEncodable w → (id : InterfaceId) (t : TypeId) → IsImported w id → is_one_of (needed_types w id) t.index ≡ true → is_named_of w.resolve.types id t.index ≡ true
+needed_named_of w ok id t imported needed =
+    let h : HasTitle w.resolve.types id t = AllByRecursion-contains (HasTitle w.resolve.types id) (needed_types w id) t (types_known w ok id imported).titled (is_there (needed_types w id) t.index needed) in
+    named_whole w.resolve.types id t.index (ap is_some (sym (same_name w.resolve.types t.index) ∙ h.is.named)) (owner_found w.resolve.types t.index id h.is.present h.is.owner)
 
 -- ---- which interface is which import
 

@@ -31,8 +31,8 @@ pub fn import_all(
     ensures world { root.new.world ≡ root.old.world }
     ensures extends { Extends root.old.items root.new.items }
     ensures grows { OnOk result (Grows root.old.world.now root.old.items.defs root.new.items.defs (imports_marked (naming_of names.now) root.old.world.now)) }
-    ensures tables { OnOk result (AreTablesRight root.old.world.now root.new.last_type root.new.instances root.new.items.defs root.new.maps) }
-    ensures passed { OnOk result (ArePassed root.old.world.now root.new.last_type) }
+    ensures tables { OnOk result (AreTablesRight root.old.world.now root.new.met root.new.instances root.new.items.defs root.new.maps) }
+    ensures passed { OnOk result (ArePassed root.old.world.now root.new.met) }
     ensures imports { IfOk result (FindsImports root.old.world.now root.new.items.defs) }
     ensures found { IfOk result (FindsUsed root.old.world.now) }
     ensures cause { IfErr result IsRefusal }

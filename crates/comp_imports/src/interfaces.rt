@@ -148,7 +148,7 @@ fn import_interface(
     requires next { IsNextInterface root.old.world.now root.old.items.defs root.old.instances key.now interface }
     requires finds { FindsInterfaces root.old.world.now root.old.items.defs root.old.instances }
     ensures world { root.new.world ≡ root.old.world }
-    ensures next { root.new.last_type ≡ root.old.last_type }
+    ensures met { root.new.met ≡ root.old.met }
     ensures extends { Extends root.old.items root.new.items }
     ensures grows { OnOk result (Grows root.old.world.now root.old.items.defs root.new.items.defs (flat_map (import_marked (naming_of names.now) root.old.world.now) (interface_entry root.old.world.now (key.now, world_items.Interface interface)))) }
     ensures finds { OnOk result (FindsInterfaces root.old.world.now root.new.items.defs root.new.instances) }
@@ -179,7 +179,7 @@ fn import_interface_item(
     requires next { IsNextInterfaceItem root.old.world.now root.old.items.defs root.old.instances (key.now, item.now) }
     requires finds { FindsInterfaces root.old.world.now root.old.items.defs root.old.instances }
     ensures world { root.new.world ≡ root.old.world }
-    ensures next { root.new.last_type ≡ root.old.last_type }
+    ensures met { root.new.met ≡ root.old.met }
     ensures extends { Extends root.old.items root.new.items }
     ensures grows { OnOk result (Grows root.old.world.now root.old.items.defs root.new.items.defs (flat_map (import_marked (naming_of names.now) root.old.world.now) (interface_entry root.old.world.now (key.now, item.now)))) }
     ensures finds { OnOk result (FindsInterfaces root.old.world.now root.new.items.defs root.new.instances) }
@@ -203,7 +203,7 @@ pub(crate) fn import_interfaces(
     requires valid { IsEncodable root.old.world.now }
     requires first { imports_in root.old.items.defs ≡ 0 }
     ensures world { root.new.world ≡ root.old.world }
-    ensures next { root.new.last_type ≡ root.old.last_type }
+    ensures met { root.new.met ≡ root.old.met }
     ensures extends { Extends root.old.items root.new.items }
     ensures grows { OnOk result (Grows root.old.world.now root.old.items.defs root.new.items.defs (interfaces_marked (naming_of names.now) root.old.world.now)) }
     ensures known { OnOk result (AreInstancesKnown root.old.world.now root.new.items.defs root.new.instances) }

@@ -8,7 +8,6 @@ use Rattle.comp_bytes.specs.ItemIndices.{IsAt}
 use Rattle.comp_bytes.specs.Spaces.{items_in}
 use Rattle.comp_bytes.proofs.ItemIndices.{IsAt-append, in_range}
 use Rattle.comp_bytes.specs.declared.canon.CanonicalOption.{CanonicalOption}
-use Rattle.comp_bytes.specs.declared.canon.Intrinsic.TheVariants as intrinsics
 use Rattle.comp_bytes.specs.declared.canon.CanonicalOption.TheVariants as options
 use Rattle.comp_bytes.specs.declared.space.Space.{Space}
 use Rattle.comp_bytes.specs.declared.space.Space.TheVariants as spaces
@@ -25,8 +24,9 @@ use Rattle.comp_inventories.specs.Inventories.{TypeEntry, entry_tree, types_made
 use Rattle.comp_inventories.proofs.InventoryGrowth.{denotes_kept, function_kept, scope_counted, denotes_made, function_made}
 use Rattle.comp_inventories.proofs.Counting.{functions-counted}
 use Rattle.comp_builder.specs.Built.{Built, and_then}
-use Rattle.comp_terms.specs.Terms.{CoreExport, TermOption, Term, IsFunctionType, IsResource, IsImportedFunction, IsInstanceOf, IsExported, IsOption, IsLowering, IsDropping, IsLifting, Is, imports_in}
+use Rattle.comp_terms.specs.Terms.{CoreExport, TermOption, Term, IsFunctionType, IsResource, IsImportedFunction, IsInstanceOf, IsExported, IsOption, IsLowering, IsOfResource, intrinsic_of, IsLifting, Is, imports_in}
 use Rattle.comp_terms.specs.Terms as terms
+use Rattle.comp_links.specs.Targets.{ResourceFunction}
 
 -- definitions were added at the end
 pub record Longer (old new : List Def) : Type 0 where
@@ -70,8 +70,8 @@ module _ (old new : List Def) (g : Longer old new) where
   lowering-kept {i} {origin} {type} {os} h =
       record { function = h.function; written = h.written; made = at-kept g h.made; of = imported_function-kept g h.of; with_options = options-kept h.written os h.with_options }
 
-  dropping-kept : {i : ℕ} {resource : Resource} → IsDropping old i resource → IsDropping new i resource
-  dropping-kept h = record { type = h.type; made = at-kept g h.made; of = resource-kept g h.of }
+  of_resource-kept : {i : ℕ} {function : ResourceFunction} {resource : Resource} → IsOfResource old i function resource → IsOfResource new i function resource
+  of_resource-kept h = record { type = h.type; made = at-kept g h.made; of = resource-kept g h.of }
 
   lifting-kept : {i : ℕ} {e : CoreExport} {os : List TermOption} {type : FunctionTree} → IsLifting old i e os type → IsLifting new i e os type
   lifting-kept {i} {e} {os} {type} h = record {
@@ -90,7 +90,7 @@ module _ (old new : List Def) (g : Longer old new) where
   term-kept spaces.Func i (terms.ImportedFunction origin type) h = imported_function-kept g h
   term-kept spaces.CoreInstance i (terms.InstanceOf number) h = instance-kept g h
   term-kept spaces.CoreFunc i (terms.Lowering origin type os) h = lowering-kept h
-  term-kept spaces.CoreFunc i (terms.Dropping resource) h = dropping-kept h
+  term-kept spaces.CoreFunc i (terms.OfResource function resource) h = of_resource-kept h
   term-kept spaces.Func i (terms.Lifting entry os type) h = lifting-kept h
   term-kept space i (terms.Exported e) h = (h.0, exported-kept g h.1)
   term-kept space i t h = h
@@ -108,7 +108,7 @@ term_in_range ds spaces.Type index (terms.FunctionType type) h = type_in_range d
 term_in_range ds spaces.Func index (terms.ImportedFunction origin type) h = function_in_range h
 term_in_range ds spaces.CoreInstance index (terms.InstanceOf number) h = in_range h.made
 term_in_range ds spaces.CoreFunc index (terms.Lowering origin type os) h = in_range h.made
-term_in_range ds spaces.CoreFunc index (terms.Dropping resource) h = in_range h.made
+term_in_range ds spaces.CoreFunc index (terms.OfResource function resource) h = in_range h.made
 term_in_range ds spaces.Func index (terms.Lifting entry os type) h = in_range h.made
 term_in_range ds space index (terms.Exported e) h = subst (λ s. index < items_in s ds) (sym h.0) (in_range h.1.made)
 term_in_range ds space index t h = absurd h
@@ -121,10 +121,10 @@ lowers old new index function written grown at origin type os of with_options =
     let g : Longer old new = record { more = defs.Item (items.Lower function written) ∷ []; grown = grown } in
     record { function = function; written = written; made = at; of = imported_function-kept g of; with_options = options-kept old new g written os with_options }
 
-pub drops : (old new : List Def) (index type : ℕ) → new ≡ old ++ defs.Item (items.Intrinsic (intrinsics.ResourceDrop type)) ∷ [] → IsAt new spaces.CoreFunc index (defs.Item (items.Intrinsic (intrinsics.ResourceDrop type))) →
-    (resource : Resource) → IsResource old type resource → IsDropping new index resource
-drops old new index type grown at resource of =
-    let g : Longer old new = record { more = defs.Item (items.Intrinsic (intrinsics.ResourceDrop type)) ∷ []; grown = grown } in record { type = type; made = at; of = resource-kept g of }
+pub acts_on_resource : (old new : List Def) (index : ℕ) (function : ResourceFunction) (type : ℕ) → new ≡ old ++ defs.Item (items.Intrinsic (intrinsic_of function type)) ∷ [] →
+    IsAt new spaces.CoreFunc index (defs.Item (items.Intrinsic (intrinsic_of function type))) → (resource : Resource) → IsResource old type resource → IsOfResource new index function resource
+acts_on_resource old new index function type grown at resource of =
+    let g : Longer old new = record { more = defs.Item (items.Intrinsic (intrinsic_of function type)) ∷ []; grown = grown } in record { type = type; made = at; of = resource-kept g of }
 
 pub lifts : (old new : List Def) (index core kind : ℕ) (written : List CanonicalOption) → new ≡ old ++ defs.Item (items.Lift core written kind) ∷ [] → IsAt new spaces.Func index (defs.Item (items.Lift core written kind)) →
     (entry : CoreExport) (os : List TermOption) (type : FunctionTree) → entry.kind ≡ kinds.Func → IsExported old core entry → AllZip (IsOption old) written os → IsFunctionType old kind type → IsLifting new index entry os type

@@ -3,11 +3,11 @@
 ghost use Rattle.std.specs.Prelude.{◌≡◌, IfOk, Some, None, get_or, slice_get};
 ghost use Rattle.comp_builder.specs.Built.{Adds};
 ghost use Rattle.comp_builder.specs.Optional.{option_now};
-ghost use Rattle.comp_trees.specs.Trees.{ResourceAt, ImportedAt};
+ghost use Rattle.comp_trees.specs.Trees.{ResourceAt, ImportedAt, DefinedAt};
 ghost use Rattle.comp_trees.specs.DefinedTrees.{OfValues, OfFunctions, OfOthers, defined_tree, function_tree};
 ghost use Rattle.comp_trees.specs.DefinedScopes.{Denotes};
 ghost use Rattle.comp_inventories.specs.Inventories.{OfInstances, inventory, scope_of};
-ghost use Rattle.comp_terms.specs.Terms.{imports_in};
+ghost use Rattle.comp_terms.specs.Terms.{imports_in, IsResource};
 
 use crate::items::ComponentItems;
 use byte_encoding::BuildFault;
@@ -31,6 +31,20 @@ impl ComponentItems {
         ensures denotes { IfOk result (λ index. Denotes (scope_of self.new.defs) index (OfFunctions (function_tree (scope_of self.old.defs) ty))) }
     {
         let index = self.component.type_function(None, ty)?;
+        Ok(index)
+    }
+
+    /// Adds a resource, which the component defines, with the core function that is its destructor, if it has one. It is known by
+    /// how many resources were defined before it.
+    pub fn resource_type(
+        &mut self,
+        debug: Option<&str>,
+        destructor: Option<u32>,
+    ) -> Result<u32, BuildFault>
+        ensures adds { Adds self.old self.new result Space.Type (Def.Item (Item.Type (TypeDef.Resource destructor))) (option_now debug.entry) }
+        ensures defined { IfOk result (λ index. IsResource self.new.defs index (DefinedAt (inventory self.old.defs).resources)) }
+    {
+        let index = self.component.type_resource(debug, destructor)?;
         Ok(index)
     }
 

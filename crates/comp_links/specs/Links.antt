@@ -26,7 +26,7 @@ use Rattle.comp_roles.specs.declared.libraries.MainOrAdapter.{MainOrAdapter}
 use Rattle.comp_roles.specs.declared.libraries.MainOrAdapter.TheVariants as modules
 use Rattle.comp_worlds.specs.declared.world.ComponentWorld.{ComponentWorld}
 use Rattle.comp_worlds.specs.declared.world.WorldAdapter.{WorldAdapter}
-use Rattle.comp_links.specs.Targets.{UserModule, Main, Adapter, ExportRef, TargetOption, Memory, Realloc, Encoding, Async, PostReturn, Target, OfRoot, OfInterface, Lowered, ExportOf, MainMemory, Dropped, Lifted, Unlinked}
+use Rattle.comp_links.specs.Targets.{UserModule, Main, Adapter, ExportRef, TargetOption, Memory, Realloc, Encoding, Async, PostReturn, Target, OfRoot, OfInterface, Lowered, ExportOf, MainMemory, New, Rep, Drop, OfResource, Lifted, Unlinked}
 use Rattle.comp_links.specs.Modules.{WorldModule}
 use Rattle.comp_links.specs.Lists.{RequiredFunction}
 use Rattle.comp_links.specs.Roles.{import_encoding, export_encoding}
@@ -97,12 +97,15 @@ abbrev pub module_of : MainOrAdapter → UserModule
 module_of modules.Main = Main
 module_of (modules.Adapter name) = Adapter name
 
--- what an import of a user module is to be given, by its role: a function of the world is lowered, handles of a resource are
--- dropped, and what another module exports is given as it is
+-- what an import of a user module is to be given, by its role: a function of the world is lowered, a resource has functions for
+-- its handles, and what another module exports is given as it is
 abbrev pub link_of : ComponentWorld → UserModule → Import → Target
 link_of w m (imports.WorldFunc (keys.Name text) function abi) = Lowered (OfRoot text) (lower_options w m (imports.WorldFunc (keys.Name text) function abi))
 link_of w m (imports.InterfaceFunc key id function abi) = Lowered (OfInterface id function) (lower_options w m (imports.InterfaceFunc key id function abi))
-link_of w m (imports.ImportedResourceDrop key interface id) = Dropped id
+link_of w m (imports.ImportedResourceDrop key interface id) = OfResource Drop id
+link_of w m (imports.ExportedResourceDrop key id) = OfResource Drop id
+link_of w m (imports.ExportedResourceRep key id) = OfResource Rep id
+link_of w m (imports.ExportedResourceNew key id) = OfResource New id
 link_of w m (imports.MainModuleMemory type) = MainMemory
 link_of w m (imports.MainModuleExport name kind) = ExportOf (record { of = Main; name = name })
 link_of w m (imports.AdapterExport adapter name type) = ExportOf (record { of = Adapter adapter; name = name })

@@ -237,14 +237,21 @@ pub record IsNeededType (w : ComponentWorld) (type : TypeId) : Type 0 where
   pub owner : interface_at w.resolve.types type.index ≡ Some other
   pub needed : Contains (needed_types w other) type
 
--- A name under which its nested component may import a type of the interface, or one of an imported interface: that of the type, with
--- as many numbers behind it as it takes. (Which types are imported, no definition here says: those of other interfaces of which
--- the interface is made, and of its own those of which functions are made.)
+-- a type of an interface that the component exports
+pub record IsExportedType (w : ComponentWorld) (type : TypeId) : Type 0 where
+  pub key : WorldKey
+  pub other : InterfaceId
+  pub item : exported_item w key ≡ Some (items.Interface other)
+  pub owner : interface_at w.resolve.types type.index ≡ Some other
+
+-- A name under which its nested component may import a type of the interface, or one of an imported interface or of another exported
+-- one: that of the type, with as many numbers behind it as it takes. (Which types are imported, no definition here says: those of
+-- other interfaces of which the interface is made, and of its own those of which functions are made.)
 pub record IsTypeImport (w : ComponentWorld) (id : InterfaceId) (name : List ℕ) : Type 0 where
   pub type : TypeId
   pub of : List ℕ
   pub titled : name_at w.resolve.types type.index ≡ Some of
-  pub from : (interface_at w.resolve.types type.index ≡ Some id) ⊎ IsNeededType w type
+  pub from : (interface_at w.resolve.types type.index ≡ Some id) ⊎ (IsNeededType w type ⊎ IsExportedType w type)
   pub count : ℕ
   pub same : name ≡ numbered count (type_import_name of)
 

@@ -1,5 +1,5 @@
 -- What an import of a core module is to be given, and what a required export is to be lifted from
--- (Canonical ABI: `canon lower`, `canon lift` and their options). A target names modules, functions and
+-- (Canonical ABI: `canon lower`, `canon lift` and their options, `canon resource.new` and its neighbours). A target names modules, functions and
 -- exports, and never an index.
 use Rattle.std.specs.Prelude.{ℕ, List}
 use Rattle.standard_kinds.specs.declared.kinds.StringEncoding.{StringEncoding}
@@ -30,13 +30,20 @@ pub data TargetOption : Type 0 where
   PostReturn : (export_ref : ExportRef) → TargetOption
   Callback : (export_ref : ExportRef) → TargetOption
 
+-- `resource.new` makes a handle of a representation, `resource.rep` finds the representation of a handle, and `resource.drop`
+-- drops a handle
+pub data ResourceFunction : Type 0 where
+  New : ResourceFunction
+  Rep : ResourceFunction
+  Drop : ResourceFunction
+
 -- what an import of a core module is linked to, or what an export of the component is
 pub data Target : Type 0 where
   Lowered : (function : WorldFunction) (options : List TargetOption) → Target
   ExportOf : (export_ref : ExportRef) → Target
   MainMemory : Target
-  -- the drop of handles of a resource of the world
-  Dropped : (resource : TypeId) → Target
+  -- a function of the handles of a resource of the world
+  OfResource : (function : ResourceFunction) (resource : TypeId) → Target
   Lifted : (entry : ExportRef) (options : List TargetOption) → Target
   -- of a role that no world has so far: no item meets it
   Unlinked : Target

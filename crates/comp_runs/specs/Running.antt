@@ -22,9 +22,9 @@ use Rattle.comp_bytes.specs.declared.def.Def.TheVariants as defs
 use Rattle.standard_kinds.specs.declared.kinds.StringEncoding.TheVariants as encodings
 use Rattle.core_types.specs.declared.types.FuncType.{FuncType}
 use Rattle.core_runs.specs.Store.{Answer}
-use Rattle.comp_trees.specs.Trees.{FunctionTree}
-use Rattle.comp_trees.specs.DefinedTrees.{value_tree}
-use Rattle.comp_runs.specs.Store.{Thing, Export, HeldOption, HeldEncoding, HeldMemory, HeldRealloc, HeldPostReturn, HeldAsync, HeldCallback, Lowering, IntrinsicOf, Function, Imported, Lifting, InstanceTypeOf, ComponentItem}
+use Rattle.comp_trees.specs.Trees.{DefinedAt, ResourceAt, FunctionTree}
+use Rattle.comp_trees.specs.DefinedTrees.{TypeTree, OfValues, value_tree}
+use Rattle.comp_runs.specs.Store.{Thing, Export, HeldOption, HeldEncoding, HeldMemory, HeldRealloc, HeldPostReturn, HeldAsync, HeldCallback, Lowering, IntrinsicOf, tree_held, Function, Imported, Lifting, InstanceTypeOf, ComponentItem}
 use Rattle.comp_runs.specs.Machine.{Machine, Outcome, Done, Stuck, Next, with_some, all_some, address_at, export_of, with_item, new_core_module, new_core_instance, new_core_function, new_function, new_type, new_component, new_instance}
 use Rattle.comp_runs.specs.Instances.{ModuleMeaning, instantiate_module, aliased, type_scope, type_item, with_function_type, announced, described, instance_of_type}
 use Rattle.comp_runs.specs.Signatures.{core_signature, intrinsic_signature}
@@ -61,10 +61,18 @@ type_of_function (Lifting core options type) = type
 abbrev pub lowered_signature : Machine → ℕ → List HeldOption → Option FuncType
 lowered_signature m function options = option_map (λ f. core_signature (type_of_function f) options) (slice_get m.store.functions function)
 
+-- an address, where the type there is a resource that the component defines
+abbrev pub if_own : ℕ → TypeTree → Option ℕ
+if_own address (OfValues (ResourceAt (DefinedAt number))) = Some address
+if_own address tree = None
+
 -- an intrinsic, with the addresses of what it names in the place of its indices
 module _ (m : Machine) where
   abbrev type_address : ℕ → Option ℕ
   type_address index = address_at spaces.Type index m.scope.items
+
+  abbrev pub own_address : ℕ → Option ℕ
+  own_address index = option_and_then (λ a. if_own a (tree_held m.store.types a)) (type_address index)
 
   abbrev addressed_option : CanonicalOption → Option CanonicalOption
   addressed_option (canonical.Memory index) = option_map (λ a. canonical.Memory a) (address_at spaces.CoreMemory index m.scope.items)
@@ -81,9 +89,9 @@ module _ (m : Machine) where
   addressed_value value = Some value
 
   abbrev pub addressed : Intrinsic → Option Intrinsic
-  addressed (intrinsics.ResourceNew type) = option_map (λ a. intrinsics.ResourceNew a) (type_address type)
+  addressed (intrinsics.ResourceNew type) = option_map (λ a. intrinsics.ResourceNew a) (own_address type)
   addressed (intrinsics.ResourceDrop type) = option_map (λ a. intrinsics.ResourceDrop a) (type_address type)
-  addressed (intrinsics.ResourceRep type) = option_map (λ a. intrinsics.ResourceRep a) (type_address type)
+  addressed (intrinsics.ResourceRep type) = option_map (λ a. intrinsics.ResourceRep a) (own_address type)
   addressed (intrinsics.TaskReturn result options) = option_and_then (λ r. option_map (λ os. intrinsics.TaskReturn r os) (addressed_options options)) (addressed_value result)
   addressed (intrinsics.StreamNew type) = option_map (λ a. intrinsics.StreamNew a) (type_address type)
   addressed (intrinsics.StreamRead type options) = option_and_then (λ a. option_map (λ os. intrinsics.StreamRead a os) (addressed_options options)) (type_address type)

@@ -1,5 +1,5 @@
 -- After main's module, it is the only one, and nothing is instantiated.
-use Rattle.std.proofs.Common.{◌≡◌, ◌∙◌, ◌+◌, List, [], ◌∷◌, ◌++◌, refl, ap, length, filter_map, arith}
+use Rattle.std.proofs.Common.{◌≡◌, ◌∙◌, ◌+◌, List, [], ◌∷◌, ◌++◌, refl, ap, length, filter, filter_map, arith}
 use Rattle.comp_bytes.specs.ItemIndices.{IsAt}
 use Rattle.comp_bytes.specs.Spaces.{items_in}
 use Rattle.comp_bytes.specs.declared.def.Def.{Def}
@@ -10,9 +10,10 @@ use Rattle.std.specs.List.{flat_map}
 use Rattle.comp_worlds.specs.declared.world.ComponentWorld.{ComponentWorld}
 use Rattle.comp_links.specs.Lists.{ImportEntry, ImportedInterface, WorldType, RootFunction, import_entries}
 use Rattle.comp_links.specs.Naming.{Naming}
-use Rattle.comp_terms.specs.Rules.{Grows, ModuleIs, import_marked, imports_marked, instance_number, instances_in, landmarks}
+use Rattle.comp_terms.specs.Rules.{Grows, Landmark, ModuleIs, import_marked, imports_marked, instance_number, instances_in, landmarks}
 use Rattle.core_instances.proofs.Counting.{module_mark, modules_counted, modules_grown, instances_grown}
 use Rattle.core_instances.specs.Instances.{IsMainAlone}
+use Rattle.core_instances.proofs.Resourced.{is_defined, resources_grown, resources_of}
 
 -- imports are no modules, and no instances of them
 no_modules : (n : Naming) (w : ComponentWorld) (es : List ImportEntry) → filter_map module_mark (flat_map (import_marked n w) es) ≡ []
@@ -27,6 +28,12 @@ no_instances n w (ImportedInterface key id ∷ es) = no_instances n w es
 no_instances n w (WorldType name id ∷ es) = no_instances n w es
 no_instances n w (RootFunction name ∷ es) = no_instances n w es
 
+no_resources : (n : Naming) (w : ComponentWorld) (es : List ImportEntry) → filter is_defined (flat_map (import_marked n w) es) ≡ []
+no_resources n w [] = refl
+no_resources n w (ImportedInterface key id ∷ es) = no_resources n w es
+no_resources n w (WorldType name id ∷ es) = no_resources n w es
+no_resources n w (RootFunction name ∷ es) = no_resources n w es
+
 pub none_before : (n : Naming) (w : ComponentWorld) (ds : List Def) → landmarks ds ≡ imports_marked n w → items_in spaces.CoreModule ds ≡ 0
 none_before n w ds h = modules_counted ds ∙ ap length (ap (filter_map module_mark) h ∙ no_modules n w (import_entries w))
 
@@ -36,4 +43,4 @@ alone_after n w old new marked g at =
     let before : items_in spaces.CoreModule old ≡ 0 = none_before n w old marked in
     let more : items_in spaces.CoreModule new ≡ items_in spaces.CoreModule old + 1 = modules_grown g in
     let first : instances_in old ≡ [] = ap (filter_map instance_number) marked ∙ no_instances n w (import_entries w) in
-    record { first = record { made = at }; alone = omega (arith, before, more); nothing = instances_grown g ∙ ap (λ l. l ++ []) first }
+    record { first = record { made = at }; alone = omega (arith, before, more); nothing = instances_grown g ∙ ap (λ l. l ++ []) first; none = let grown = resources_grown g in let none = resources_of old ∙ ap (λ l. length (filter is_defined l)) marked ∙ ap (λ (l : List Landmark). length l) (no_resources n w (import_entries w)) in omega (arith, grown, none) }

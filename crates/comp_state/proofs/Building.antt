@@ -13,7 +13,10 @@ use Rattle.comp_roles.specs.CoreImports.{CoreImport}
 use Rattle.comp_worlds.specs.WorldContents.{core_imports}
 use Rattle.comp_worlds.specs.declared.world.ComponentWorld.{ComponentWorld}
 use Rattle.core_instances.specs.Instances.{instances_marked, AddsInstances}
-use Rattle.core_options.specs.Causes.{IsEncoded, IsEncodedExport, LacksEncoding, LacksMemory, LacksRealloc, NeedsLowering, NeedsLift}
+use Rattle.core_options.specs.Causes.{IsEncoded, IsEncodedExport, LacksEncoding, LacksMemory, LacksRealloc, NeedsLowering, NeedsLift, ExportsLater}
+use Rattle.comp_worlds.specs.ExportOrder.{exported_before, used_exports}
+use Rattle.world_values.specs.Mentions.{same_interface}
+use Rattle.std.specs.List.{list_any}
 use Rattle.core_options.specs.MainOptions.{memory_name, HasLowerOptions, HasLiftOptions}
 use Rattle.comp_links.specs.Lists.{required_functions}
 use Rattle.comp_links.specs.Links.{lower_realloc, lift_realloc}
@@ -89,6 +92,11 @@ pub encoded_realloc : (w : ComponentWorld) → IsEncoded w → (place : List ℕ
 encoded_realloc w h place (inl l) =
     let has = AllByRecursion-contains (λ (i : CoreImport). HasLowerOptions w i.role) (core_imports w) l.0.given h.lowered l.0.present in lacks_none (lower_realloc w Main) (has.realloc l.0.needed) l.1
 encoded_realloc w h place (inr l) = let has = AllByRecursion-contains (HasLiftOptions w) (required_functions w) l.0.required h.lifted l.0.present in lacks_none (lift_realloc w) (has.realloc l.0.needed) l.1
+
+-- where interfaces are exported behind those that they use, none is exported too early
+pub encoded_order : (w : ComponentWorld) → IsEncoded w → (interface used : List ℕ) → ExportsLater w interface used → ⊥
+encoded_order w h interface used l =
+    true≢false (sym (AllByRecursion-contains (λ other. list_any (same_interface other) (exported_before w l.later.number) ≡ true) (used_exports w l.id) l.other (h.ordered.each l.later.number l.id l.later.exported) l.later.uses) ∙ l.later.later)
 
 -- the empty list has no imports
 pub no_definitions : (ds : List Def) → ds ≡ [] → imports_in ds ≡ 0

@@ -1,10 +1,10 @@
 -- What was made stays what it is while definitions are added.
-use Rattle.std.proofs.Common.{◌≡◌, ◌∙◌, ℕ, Some, None, IsSome, Option, List, refl, sym, subst}
+use Rattle.std.proofs.Common.{◌≡◌, ◌∙◌, ◌<◌, ℕ, Some, None, IsSome, Option, List, refl, sym, subst}
 use Rattle.std.proofs.lemmas.Option.{same_Some}
 use Rattle.comp_bytes.specs.declared.def.Def.{Def}
 use Rattle.comp_builder.specs.Built.{Built}
 use Rattle.wit_data.specs.declared.ids.InterfaceId.{InterfaceId}
-use Rattle.wit_data.specs.declared.ids.TypeId.{TypeId}
+use Rattle.root_imports.specs.declared.met_types.MetTypes.{MetTypes}
 use Rattle.wit_types.specs.declared.maps.TypeEncodingMaps.{TypeEncodingMaps}
 use Rattle.comp_worlds.specs.Encodable.{IsEncodable}
 use Rattle.comp_worlds.specs.declared.world.ComponentWorld.{ComponentWorld}
@@ -20,7 +20,12 @@ use Rattle.core_instances.specs.Instances.{AreImportsMade}
 use Rattle.comp_state.specs.declared.state.Step.{Step}
 use Rattle.comp_state.specs.declared.state.Step.TheVariants.{Started, Imported, Instantiated}
 use Rattle.comp_state.specs.Encoding.{AreImported}
-use Rattle.comp_state.specs.Tables.{IsMain, IsEncoding}
+use Rattle.std.specs.List.{AllByRecursion}
+use Rattle.wit_data.specs.declared.ids.TypeId.{TypeId}
+use Rattle.comp_worlds.specs.WorldContents.{imported_types}
+use Rattle.root_imports.specs.Met.{next_of}
+use Rattle.main_exports.proofs.AtHand.{at_hand_kept}
+use Rattle.comp_state.specs.Tables.{AreExportsReady, IsMain, IsEncoding}
 
 pub ruleset growing = (extends_none, extends_same, extends_then)
 
@@ -30,55 +35,63 @@ main-kept : {old new : Built} {main : Option ℕ} → Extends old new → IsMain
 main-kept g h = record { index = h.index; known = h.known; made = instance-kept (longer g) h.made }
 
 -- before the first step
-pub encoding-start : (w : ComponentWorld) (items : Built) (maps : TypeEncodingMaps) (instances : List (InterfaceId × ℕ)) (functions : List (List ℕ × ℕ)) → IsEncodable w →
-    IsEncoding w None items.defs maps instances Started functions None
-encoding-start w items maps instances functions ok = record { valid = ok; imported = λ s. absurd s; made = λ e. cc }
+pub encoding-start : (w : ComponentWorld) (met : MetTypes) (items : Built) (maps : TypeEncodingMaps) (instances : List (InterfaceId × ℕ)) (functions : List (List ℕ × ℕ)) → IsEncodable w →
+    IsEncoding w met items.defs maps instances Started functions None
+encoding-start w met items maps instances functions ok = record { valid = ok; imported = λ s. absurd s; made = λ e. cc; exports = λ e. cc }
 
 -- the component has grown
-pub encoding-kept : {w : ComponentWorld} {last : Option TypeId} {old new : Built} {maps : TypeEncodingMaps} {instances : List (InterfaceId × ℕ)} {step : Step} {functions : List (List ℕ × ℕ)} {main : Option ℕ} →
-    Extends old new → IsEncoding w last old.defs maps instances step functions main → IsEncoding w last new.defs maps instances step functions main
-encoding-kept {w} {last} {old} {new} {maps} {instances} g h = record {
+pub encoding-kept : {w : ComponentWorld} {met : MetTypes} {old new : Built} {maps : TypeEncodingMaps} {instances : List (InterfaceId × ℕ)} {step : Step} {functions : List (List ℕ × ℕ)} {main : Option ℕ} →
+    Extends old new → IsEncoding w met old.defs maps instances step functions main → IsEncoding w met new.defs maps instances step functions main
+encoding-kept {w} {met} {old} {new} {maps} {instances} g h = record {
   valid = h.valid;
-  imported = λ s. (let i = h.imported s in record { valid = i.valid; imports = FindsImports-kept (longer g) i.imports; used = i.used; tables = tables_kept w last instances old new maps g i.tables; passed = i.passed });
+  imported = λ s. (let i = h.imported s in record { valid = i.valid; imports = FindsImports-kept (longer g) i.imports; used = i.used; tables = tables_kept w met instances old new maps g i.tables; passed = i.passed });
   made = λ s. main-kept g (h.made s);
+  exports = λ s. (let e = h.exports s in record { ordered = e.ordered; at_hand = at_hand_kept w old new met met g refl e.at_hand });
 }
 
 -- while nothing is imported, the tables hold nothing
-pub encoding-started : {w : ComponentWorld} {last after : Option TypeId} {old new : Built} {maps now : TypeEncodingMaps} {before instances : List (InterfaceId × ℕ)} {step : Step} {functions : List (List ℕ × ℕ)} {main : Option ℕ} →
-    Extends old new → step ≡ Started → IsEncoding w last old.defs maps before step functions main → IsEncoding w after new.defs now instances step functions main
-encoding-started g e h = record { valid = h.valid; imported = λ s. absurd (subst AreImported e s); made = λ s. main-kept g (h.made s) }
+pub encoding-started : {w : ComponentWorld} {met after : MetTypes} {old new : Built} {maps now : TypeEncodingMaps} {before instances : List (InterfaceId × ℕ)} {step : Step} {functions : List (List ℕ × ℕ)} {main : Option ℕ} →
+    Extends old new → step ≡ Started → IsEncoding w met old.defs maps before step functions main → IsEncoding w after new.defs now instances step functions main
+encoding-started g e h = record { valid = h.valid; imported = λ s. absurd (subst AreImported e s); made = λ s. main-kept g (h.made s); exports = λ s. absurd (subst AreImported e (subst AreImported (sym s) tt)) }
 
--- the root has grown by types too, and its tables are right
-pub encoding-typed : {w : ComponentWorld} {last : Option TypeId} {old new : Built} {maps now : TypeEncodingMaps} {before instances : List (InterfaceId × ℕ)} {step : Step} {functions : List (List ℕ × ℕ)} {main : Option ℕ} →
-    Extends old new → AreTablesRight w last instances new.defs now → IsEncoding w last old.defs maps before step functions main → IsEncoding w last new.defs now instances step functions main
-encoding-typed g t h = record {
+-- the root has grown by types too, its tables are right, and other types may be at hand
+pub encoding-moved : {w : ComponentWorld} {met after : MetTypes} {old new : Built} {maps now : TypeEncodingMaps} {before instances : List (InterfaceId × ℕ)} {step : Step} {functions : List (List ℕ × ℕ)} {main : Option ℕ} →
+    Extends old new → AreTablesRight w after instances new.defs now → after.last ≡ met.last → (step ≡ Instantiated → AreExportsReady w after new.defs) → IsEncoding w met old.defs maps before step functions main → IsEncoding w after new.defs now instances step functions main
+encoding-moved {w} {met} {after} g t last ready h = record {
   valid = h.valid;
-  imported = λ s. (let i = h.imported s in record { valid = i.valid; imports = FindsImports-kept (longer g) i.imports; used = i.used; tables = t; passed = i.passed });
+  imported = λ s. (let i = h.imported s in record {
+    valid = i.valid;
+    imports = FindsImports-kept (longer g) i.imports;
+    used = i.used;
+    tables = t;
+    passed = subst (λ (id : Option TypeId). AllByRecursion (λ (t : List ℕ × TypeId). t.1.index < next_of id) (imported_types w)) (sym last) i.passed;
+  });
   made = λ s. main-kept g (h.made s);
+  exports = ready;
 }
 
 -- after the instance of main
-pub encoding-instantiated : {w : ComponentWorld} {last : Option TypeId} {ds : List Def} {maps : TypeEncodingMaps} {instances : List (InterfaceId × ℕ)} {step : Step} {functions : List (List ℕ × ℕ)} {main : Option ℕ} →
-    (index : ℕ) → AreImported step → IsInstanceOf ds index 0 → IsEncoding w last ds maps instances step functions main → IsEncoding w last ds maps instances Instantiated functions (Some index)
-encoding-instantiated index s made h = record { valid = h.valid; imported = λ _. h.imported s; made = λ _. record { index = index; known = refl; made = made } }
+pub encoding-instantiated : {w : ComponentWorld} {met : MetTypes} {ds : List Def} {maps : TypeEncodingMaps} {instances : List (InterfaceId × ℕ)} {step : Step} {functions : List (List ℕ × ℕ)} {main : Option ℕ} →
+    (index : ℕ) → AreImported step → IsInstanceOf ds index 0 → AreExportsReady w met ds → IsEncoding w met ds maps instances step functions main → IsEncoding w met ds maps instances Instantiated functions (Some index)
+encoding-instantiated index s made ready h = record { valid = h.valid; imported = λ _. h.imported s; made = λ _. record { index = index; known = refl; made = made }; exports = λ _. ready }
 
 -- after the imports
-pub encoding-imported : {w : ComponentWorld} {last after : Option TypeId} {old new : List Def} {maps now : TypeEncodingMaps} {first instances : List (InterfaceId × ℕ)} {step : Step} {before functions : List (List ℕ × ℕ)} {main : Option ℕ} →
-    AreImportsMade w functions after new now instances → IsEncoding w last old maps first step before main → IsEncoding w after new now instances Imported functions main
-encoding-imported i h = record { valid = h.valid; imported = λ _. i; made = λ e. cc }
+pub encoding-imported : {w : ComponentWorld} {met after : MetTypes} {old new : List Def} {maps now : TypeEncodingMaps} {first instances : List (InterfaceId × ℕ)} {step : Step} {before functions : List (List ℕ × ℕ)} {main : Option ℕ} →
+    AreImportsMade w functions after new now instances → IsEncoding w met old maps first step before main → IsEncoding w after new now instances Imported functions main
+encoding-imported i h = record { valid = h.valid; imported = λ _. i; made = λ e. cc; exports = λ e. cc }
 
 -- ---- what the steps read of a state
 
 -- main's instance is where it is said to be
-pub main_made : {w : ComponentWorld} {last : Option TypeId} {ds : List Def} {maps : TypeEncodingMaps} {instances : List (InterfaceId × ℕ)} {step : Step} {functions : List (List ℕ × ℕ)} {main : Option ℕ} →
-    IsEncoding w last ds maps instances step functions main → step ≡ Instantiated → (index : ℕ) → main ≡ Some index → IsInstanceOf ds index 0
-main_made {w} {last} {ds} h i index known = let m = h.made i in subst (λ n. IsInstanceOf ds n 0) (same_Some m.index index (sym m.known ∙ known)) m.made
+pub main_made : {w : ComponentWorld} {met : MetTypes} {ds : List Def} {maps : TypeEncodingMaps} {instances : List (InterfaceId × ℕ)} {step : Step} {functions : List (List ℕ × ℕ)} {main : Option ℕ} →
+    IsEncoding w met ds maps instances step functions main → step ≡ Instantiated → (index : ℕ) → main ≡ Some index → IsInstanceOf ds index 0
+main_made {w} {met} {ds} h i index known = let m = h.made i in subst (λ n. IsInstanceOf ds n 0) (same_Some m.index index (sym m.known ∙ known)) m.made
 
 -- the imports are there
-pub imports_made : {w : ComponentWorld} {last : Option TypeId} {ds : List Def} {maps : TypeEncodingMaps} {instances : List (InterfaceId × ℕ)} {step : Step} {functions : List (List ℕ × ℕ)} {main : Option ℕ} →
-    IsEncoding w last ds maps instances step functions main → step ≡ Instantiated → AreImportsMade w functions last ds maps instances
+pub imports_made : {w : ComponentWorld} {met : MetTypes} {ds : List Def} {maps : TypeEncodingMaps} {instances : List (InterfaceId × ℕ)} {step : Step} {functions : List (List ℕ × ℕ)} {main : Option ℕ} →
+    IsEncoding w met ds maps instances step functions main → step ≡ Instantiated → AreImportsMade w functions met ds maps instances
 imports_made h i = h.imported (subst AreImported (sym i) tt)
 
-pub main_known : {w : ComponentWorld} {last : Option TypeId} {ds : List Def} {maps : TypeEncodingMaps} {instances : List (InterfaceId × ℕ)} {step : Step} {functions : List (List ℕ × ℕ)} {main : Option ℕ} →
-    IsEncoding w last ds maps instances step functions main → step ≡ Instantiated → IsSome main
+pub main_known : {w : ComponentWorld} {met : MetTypes} {ds : List Def} {maps : TypeEncodingMaps} {instances : List (InterfaceId × ℕ)} {step : Step} {functions : List (List ℕ × ℕ)} {main : Option ℕ} →
+    IsEncoding w met ds maps instances step functions main → step ≡ Instantiated → IsSome main
 main_known h i = let m = h.made i in subst (λ o. IsSome o) (sym m.known) refl

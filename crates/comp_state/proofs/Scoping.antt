@@ -110,6 +110,8 @@ destructor_within w earlier None (Some name) h = absurd h
 destructor_within w earlier (Some index) None h = absurd h
 
 intrinsic_within : (earlier : List Def) (i : Intrinsic) → IsIntrinsicRight earlier i → AllByRecursion (Within earlier) (intrinsic_references i)
+intrinsic_within earlier (intrinsics.ResourceNew type) h = (type_named earlier type h.is.denotes.within, tt)
+intrinsic_within earlier (intrinsics.ResourceRep type) h = (type_named earlier type h.is.denotes.within, tt)
 intrinsic_within earlier (intrinsics.ResourceDrop type) h = (type_named earlier type h.is.denotes.within, tt)
 intrinsic_within earlier i h = absurd h
 

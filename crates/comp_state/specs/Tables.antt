@@ -2,11 +2,14 @@
 use Rattle.std.specs.Prelude.{◌≡◌, ℕ, List, Option, Some}
 use Rattle.comp_bytes.specs.declared.def.Def.{Def}
 use Rattle.wit_data.specs.declared.ids.InterfaceId.{InterfaceId}
-use Rattle.wit_data.specs.declared.ids.TypeId.{TypeId}
+use Rattle.root_imports.specs.declared.met_types.MetTypes.{MetTypes}
 use Rattle.wit_types.specs.declared.maps.TypeEncodingMaps.{TypeEncodingMaps}
 use Rattle.comp_worlds.specs.Encodable.{IsEncodable}
 use Rattle.comp_worlds.specs.declared.world.ComponentWorld.{ComponentWorld}
+use Rattle.comp_worlds.specs.ExportOrder.{AreExportsInOrder}
+use Rattle.comp_terms.specs.Exports.{exports_in}
 use Rattle.comp_terms.specs.Terms.{IsInstanceOf}
+use Rattle.main_exports.specs.Exports.{AreExportsAtHand}
 use Rattle.core_instances.specs.Instances.{AreImportsMade}
 use Rattle.comp_state.specs.Encoding.{AreImported}
 use Rattle.comp_state.specs.declared.state.Step.{Step}
@@ -18,8 +21,14 @@ pub record IsMain (ds : List Def) (main : Option ℕ) : Type 0 where
   pub known : main ≡ Some index
   pub made : IsInstanceOf ds index 0
 
+-- the types of each interface that main has to export are at hand, and each comes behind those that it uses
+pub record AreExportsReady (w : ComponentWorld) (met : MetTypes) (ds : List Def) : Type 0 where
+  pub ordered : AreExportsInOrder w
+  pub at_hand : AreExportsAtHand w met (exports_in ds)
+
 -- the world is a valid one, and the tables and look-ups hold what the steps so far have made
-pub record IsEncoding (w : ComponentWorld) (last : Option TypeId) (ds : List Def) (maps : TypeEncodingMaps) (instances : List (InterfaceId × ℕ)) (step : Step) (functions : List (List ℕ × ℕ)) (main : Option ℕ) : Type 0 where
+pub record IsEncoding (w : ComponentWorld) (met : MetTypes) (ds : List Def) (maps : TypeEncodingMaps) (instances : List (InterfaceId × ℕ)) (step : Step) (functions : List (List ℕ × ℕ)) (main : Option ℕ) : Type 0 where
   pub valid : IsEncodable w
-  pub imported : AreImported step → AreImportsMade w functions last ds maps instances
+  pub imported : AreImported step → AreImportsMade w functions met ds maps instances
   pub made : step ≡ Instantiated → IsMain ds main
+  pub exports : step ≡ Instantiated → AreExportsReady w met ds

@@ -12,7 +12,7 @@ ghost use Rattle.comp_state.specs.declared.state.Step.TheVariants.{Started};
 ghost use Rattle.comp_state.specs.Encoding.{naming_in};
 ghost use Rattle.comp_terms.specs.Rules.{IsUnnamed, IsBuilt};
 ghost use Rattle.comp_worlds.specs.WorldContents.{core_imports};
-ghost use Rattle.core_options.specs.Causes.{IsCause, LacksEncoding, LacksMemory, LacksRealloc, IsEncoded};
+ghost use Rattle.core_options.specs.Causes.{IsCause, LacksEncoding, LacksMemory, LacksRealloc, ExportsLater, IsEncoded};
 
 use crate::state::EncodingState;
 use byte_encoding::BuildFault;
@@ -63,7 +63,8 @@ impl EncodingState<'_> {
 ///
 /// Refused when out of memory, where a function is lowered or lifted with a memory or a realloc that main doesn't export (`E7`,
 /// `E8`, with the name of the import's shim, or the function that is lifted), where a function that is imported or exported has no
-/// string encoding (`E9`, with the import, or the function), and where a space would have more than 2^32 - 1 items, or a count or
+/// string encoding (`E9`, with the import, or the function), where an interface uses types of another exported one that main doesn't
+/// export before it (`E11`, with both), and where a space would have more than 2^32 - 1 items, or a count or
 /// a size among the names or in a module that is generated would pass that (`E16`).
 pub fn encode_world(
     alloc: Global,
@@ -76,6 +77,7 @@ pub fn encode_world(
     ensures refused { IsOk result → (place : List ℕ) → LacksEncoding world.now place → ⊥ }
     ensures memory { IsOk result → (place : List ℕ) → LacksMemory world.now (core_imports world.now) (required_functions world.now) place → ⊥ }
     ensures realloc { IsOk result → (place : List ℕ) → LacksRealloc world.now (core_imports world.now) (required_functions world.now) place → ⊥ }
+    ensures order { IsOk result → (interface used : List ℕ) → ExportsLater world.now interface used → ⊥ }
     ensures cause { IfErr result (IsCause world.now) }
 {
     let mut state = EncodingState::new(alloc, world, names, debug_names)?;

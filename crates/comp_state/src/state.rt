@@ -7,7 +7,8 @@ ghost use Rattle.comp_builder.specs.Built.{nothing_built};
 ghost use Rattle.comp_items.specs.Items.{Extends};
 ghost use Rattle.comp_links.specs.Lists.{required_functions};
 ghost use Rattle.comp_links.specs.Roles.{IsEncodedImport};
-ghost use Rattle.comp_state.specs.Encoding.{AreImported, naming_in};
+ghost use Rattle.comp_state.specs.Encoding.{naming_in};
+ghost use Rattle.comp_worlds.specs.ExportOrder.{AreExportsInOrder};
 ghost use Rattle.comp_state.specs.declared.state.Step.TheVariants.{Started, Imported, Instantiated};
 ghost use Rattle.comp_terms.specs.Exports.{exports_in};
 ghost use Rattle.comp_terms.specs.Rules.{Grows, ModuleIs, imports_marked, exports_marked, landmarks};
@@ -77,7 +78,7 @@ impl<'a> Model for EncodingState<'a> {
 
     ghost view = { λ s. record { world = s.root.world.now; canonical = s.names.canonical; renamed = s.names.renamed.now; built = s.root.items; step = s.step } };
 
-    ghost invariant = { λ s. IsEncoding s.root.world.now s.root.last_type s.root.items.defs s.root.maps s.root.instances s.step s.functions s.main };
+    ghost invariant = { λ s. IsEncoding s.root.world.now s.root.met s.root.items.defs s.root.maps s.root.instances s.step s.functions s.main };
 }
 
 impl<'a> EncodingState<'a> {
@@ -157,14 +158,16 @@ impl EncodingState<'_> {
     /// shims.
     ///
     /// `E9` where an import of a function has no string encoding, `E7` where a function is lowered with a memory and main exports
-    /// none, `E8` where it is lowered with a realloc and main exports none for imports.
+    /// none, `E8` where it is lowered with a realloc and main exports none for imports, and `E11` where an exported interface uses types
+    /// of another one that main doesn't export before it.
     pub fn encode_core_instantiation(&mut self) -> Result<(), StateFault>
         requires alone { IsMainAlone self.old.world self.old.built.defs }
-        requires imported { AreImported self.old.step }
+        requires imported { self.old.step ≡ Imported }
         ensures world { self.new.world ≡ self.old.world }
         ensures names { naming_in self.new ≡ naming_in self.old }
         ensures step { OnOk result (self.new.step ≡ Instantiated) }
         ensures extends { Extends self.old.built self.new.built }
+        ensures ordered { OnOk result (AreExportsInOrder self.old.world) }
         ensures added { OnOk result (AddsInstances self.old.world self.old.built.defs self.new.built.defs) }
         ensures encoded { OnOk result (AllByRecursion (λ i. IsEncodedImport self.old.world i.role) (core_imports self.old.world)) }
         ensures lowered { OnOk result (AllByRecursion (λ i. HasLowerOptions self.old.world i.role) (core_imports self.old.world)) }

@@ -35,7 +35,7 @@ use Rattle.comp_bytes.specs.declared.def.Def.TheVariants as defs
 use Rattle.comp_lists.specs.Found.{found}
 use Rattle.wit_data.specs.declared.ids.InterfaceId.{InterfaceId}
 use Rattle.wit_data.specs.declared.ids.TypeId.{TypeId}
-use Rattle.comp_trees.specs.Trees.{Origin, Resource, ImportedAt, ResourceAt, FunctionTree, is_known, is_known_function}
+use Rattle.comp_trees.specs.Trees.{Origin, Resource, ImportedAt, DefinedAt, ResourceAt, FunctionTree, is_known, is_known_function}
 use Rattle.comp_trees.specs.DefinedTrees.{TypeTree, OfValues, OfOthers, defined_tree, function_tree}
 use Rattle.comp_trees.specs.Members.{AreMembersRight, exports_name}
 use Rattle.comp_inventories.specs.Inventories.{OfInstances, ImportedInstance, NestedInstance, surroundings_of, inventory, scope_of}
@@ -71,6 +71,7 @@ pub data Landmark : Type 0 where
   CustomNamed : (name : List ℕ) → Landmark
   InstanceTypeOf : (names : List (List ℕ)) → Landmark
   NestedOf : (imports exports : List (List ℕ)) → Landmark
+  ResourceDefined : Landmark
 
 -- a function that is imported at the root
 abbrev pub named_import : List ℕ → Landmark
@@ -79,6 +80,7 @@ named_import text = Imported (root_function text)
 abbrev pub item_landmark : Item → Option Landmark
 item_landmark (items.CoreModule bytes) = Some (ModuleIs bytes)
 item_landmark (items.CoreInstantiate number arguments) = Some (InstanceOf number)
+item_landmark (items.Type (types.Resource destructor)) = Some ResourceDefined
 item_landmark (items.InstanceType t) = Some (InstanceTypeOf (flat_map member_export t.members))
 item_landmark (items.Import name description) = Some (Imported (record { name = name; sort = described_sort description }))
 item_landmark (items.Export name sort index description) = Some (Exported (record { name = name; sort = sort }))
@@ -198,6 +200,11 @@ pub record HasResource (earlier : List Def) (index : ℕ) : Type 0 where
   pub resource : Resource
   pub is : IsResource earlier index resource
 
+-- a resource that the component defines
+pub record HasOwnResource (earlier : List Def) (index : ℕ) : Type 0 where
+  pub number : ℕ
+  pub is : IsResource earlier index (DefinedAt number)
+
 -- a function that is imported
 pub record HasImportedFunction (earlier : List Def) (index : ℕ) : Type 0 where
   pub origin : Origin
@@ -267,8 +274,11 @@ abbrev pub IsLowerOptionRight : List Def → CanonicalOption → Type 0
 IsLowerOptionRight earlier options.Async = ⊥
 IsLowerOptionRight earlier option = IsOptionRight earlier option
 
--- an intrinsic: so far, the drop of a resource
+-- an intrinsic: so far, a function of the handles of a resource. `resource.new` and `resource.rep` are of one that the component
+-- defines
 abbrev pub IsIntrinsicRight : List Def → Intrinsic → Type 0
+IsIntrinsicRight earlier (intrinsics.ResourceNew type) = HasOwnResource earlier type
+IsIntrinsicRight earlier (intrinsics.ResourceRep type) = HasOwnResource earlier type
 IsIntrinsicRight earlier (intrinsics.ResourceDrop type) = HasResource earlier type
 IsIntrinsicRight earlier _ = ⊥
 
@@ -336,11 +346,16 @@ export_marked n w key = nested_marked w (exported_item w key) ++ Exported (state
 abbrev pub exports_marked : Naming → ComponentWorld → List Landmark
 exports_marked n w = flat_map (export_marked n w) w.main_exports
 
--- the landmarks of the core modules and their instances, where these modules are generated
+-- the landmarks of the resources that the component defines
+abbrev pub resources_marked : ComponentWorld → List Landmark
+resources_marked w = map (λ id. ResourceDefined) (own_resources w)
+
+-- the landmarks of the core modules and their instances, where these modules are generated. The resources are defined before main
+-- is instantiated, and after the shims
 abbrev pub modules_marked : ComponentWorld → Option GeneratedBytes → List Landmark
-modules_marked w None = ModuleIs w.main.bytes ∷ InstanceOf 0 ∷ []
+modules_marked w None = ModuleIs w.main.bytes ∷ (resources_marked w ++ InstanceOf 0 ∷ [])
 modules_marked w (Some g) =
-    ModuleIs w.main.bytes ∷ ModuleIs g.shims ∷ InstanceOf (shims_number w) ∷ InstanceOf 0 ∷ ModuleIs g.fixup ∷ InstanceOf (fixup_number w) ∷ []
+    ModuleIs w.main.bytes ∷ ModuleIs g.shims ∷ InstanceOf (shims_number w) ∷ (resources_marked w ++ InstanceOf 0 ∷ ModuleIs g.fixup ∷ InstanceOf (fixup_number w) ∷ [])
 
 -- the landmarks of a component without the names of its items
 abbrev pub expected : Naming → ComponentWorld → Option GeneratedBytes → List Landmark

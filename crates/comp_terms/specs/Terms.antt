@@ -12,6 +12,7 @@ use Rattle.standard_kinds.specs.declared.kinds.StringEncoding.{StringEncoding}
 use Rattle.standard_kinds.specs.declared.kinds.StringEncoding.TheVariants as encodings
 use Rattle.comp_bytes.specs.declared.canon.CanonicalOption.{CanonicalOption}
 use Rattle.comp_bytes.specs.declared.canon.CanonicalOption.TheVariants as options
+use Rattle.comp_bytes.specs.declared.canon.Intrinsic.{Intrinsic}
 use Rattle.comp_bytes.specs.declared.canon.Intrinsic.TheVariants as intrinsics
 use Rattle.comp_bytes.specs.declared.types.Alias.TheVariants as aliases
 use Rattle.comp_bytes.specs.declared.def.CoreArgument.{CoreArgument}
@@ -22,6 +23,7 @@ use Rattle.comp_trees.specs.Trees.{Origin, Resource, ResourceAt, FunctionTree}
 use Rattle.comp_trees.specs.DefinedTrees.{OfValues, OfFunctions}
 use Rattle.comp_trees.specs.DefinedScopes.{Denotes}
 use Rattle.comp_inventories.specs.Inventories.{inventory, scope_of}
+use Rattle.comp_links.specs.Targets.{ResourceFunction, New, Rep, Drop}
 
 -- what the instance of a core module exports, by the module's number, and by the kind and name of the export
 pub record CoreExport : Type 0 where
@@ -48,8 +50,8 @@ pub data Term : Type 0 where
   Exported : (export : CoreExport) → Term
   -- a lowering of a function that is imported
   Lowering : (origin : Origin) (type : FunctionTree) (options : List TermOption) → Term
-  -- the drop of handles of a resource
-  Dropping : (resource : Resource) → Term
+  -- a function of the handles of a resource
+  OfResource : (function : ResourceFunction) (resource : Resource) → Term
   -- a lift of a core function, with its type
   Lifting : (entry : CoreExport) (options : List TermOption) (type : FunctionTree) → Term
 
@@ -95,9 +97,15 @@ pub record IsLowering (ds : List Def) (index : ℕ) (origin : Origin) (type : Fu
   pub of : IsImportedFunction ds function origin type
   pub with_options : AllZip (IsOption ds) written options
 
-pub record IsDropping (ds : List Def) (index : ℕ) (resource : Resource) : Type 0 where
+-- the intrinsic that is a function of the handles of a type's resource
+abbrev pub intrinsic_of : ResourceFunction → ℕ → Intrinsic
+intrinsic_of New type = intrinsics.ResourceNew type
+intrinsic_of Rep type = intrinsics.ResourceRep type
+intrinsic_of Drop type = intrinsics.ResourceDrop type
+
+pub record IsOfResource (ds : List Def) (index : ℕ) (function : ResourceFunction) (resource : Resource) : Type 0 where
   pub type : ℕ
-  pub made : IsAt ds spaces.CoreFunc index (defs.Item (items.Intrinsic (intrinsics.ResourceDrop type)))
+  pub made : IsAt ds spaces.CoreFunc index (defs.Item (items.Intrinsic (intrinsic_of function type)))
   pub of : IsResource ds type resource
 
 pub record IsLifting (ds : List Def) (index : ℕ) (entry : CoreExport) (options : List TermOption) (type : FunctionTree) : Type 0 where
@@ -117,6 +125,6 @@ Is ds spaces.Func index (ImportedFunction origin type) = IsImportedFunction ds i
 Is ds spaces.CoreInstance index (InstanceOf number) = IsInstanceOf ds index number
 Is ds space index (Exported e) = (space ≡ kind_space e.kind) × IsExported ds index e
 Is ds spaces.CoreFunc index (Lowering origin type options) = IsLowering ds index origin type options
-Is ds spaces.CoreFunc index (Dropping resource) = IsDropping ds index resource
+Is ds spaces.CoreFunc index (OfResource function resource) = IsOfResource ds index function resource
 Is ds spaces.Func index (Lifting entry options type) = IsLifting ds index entry options type
 Is ds space index term = ⊥

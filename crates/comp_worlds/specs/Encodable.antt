@@ -1,6 +1,6 @@
 -- What the encoder takes of a validated world, beside what holds of every one: that its numbers refer to something, and
 -- where it finds the types of which its functions are made (component model, WIT: types, resources, interfaces, `use`).
-use Rattle.std.specs.Prelude.{◌≡◌, ◌≤◌, ◌<◌, ◌==◌, ◌&&◌, ◌||◌, ℕ, suc, Bool, true, false, not, List, [], ◌∷◌, length, map, Option, Some, None, IsSome, is_none, is_some, Contains, if◌then◌else◌}
+use Rattle.std.specs.Prelude.{◌≡◌, ◌≤◌, ◌<◌, ◌==◌, ◌&&◌, ◌||◌, ◌++◌, ℕ, suc, Bool, true, false, not, List, [], ◌∷◌, length, map, Option, Some, None, IsSome, is_none, is_some, Contains, if◌then◌else◌}
 use Rattle.std.specs.List.{AllByRecursion, IsDistinct, list_all, list_any}
 use Rattle.comp_lists.specs.Found.{found}
 use Rattle.wit_data.specs.declared.functions.Function.{Function}
@@ -27,6 +27,7 @@ use Rattle.world_values.specs.Items.{functions_of}
 use Rattle.world_values.specs.Mentions.{interface_types, interfaces_of, same_interface}
 use Rattle.comp_worlds.specs.WorldContents.{items_of, imported_types, core_imports, interface_at, name_at}
 use Rattle.comp_worlds.specs.Worlds.{IsWorld, IsResource}
+use Rattle.comp_worlds.specs.ExportOrder.{required_interfaces}
 use Rattle.comp_worlds.specs.WorldTables.{HasTables}
 use Rattle.comp_worlds.specs.declared.world.ComponentWorld.{ComponentWorld}
 
@@ -117,15 +118,15 @@ abbrev pub is_resource_kind : TypeDefKind → Bool
 is_resource_kind kinds.Resource = true
 is_resource_kind kind = false
 
--- whether exported interfaces may use the types of an interface: it is imported, and not exported too
+-- whether exported interfaces may use the types of an interface: it is imported or exported
 abbrev pub is_lent : World → InterfaceId → Bool
-is_lent world id = list_any (same_interface id) (interfaces_of world.imports) && not (list_any (same_interface id) (interfaces_of world.exports))
+is_lent world id = list_any (same_interface id) (interfaces_of world.imports) || list_any (same_interface id) (interfaces_of world.exports)
 
--- Whether a type belongs to this interface and is no resource, or belongs under a name to another one whose types exported interfaces
--- may use, or to none, has no name and is no resource.
+-- Whether a type belongs to this interface, or belongs under a name to another one whose types exported interfaces may use, or to none,
+-- has no name and is no resource.
 abbrev pub is_of_interface : List TypeDef → (InterfaceId → Bool) → InterfaceId → ℕ → TypeDefKind → Bool
 is_of_interface types lent here n kind = elim (interface_at types n) [
-  | Some id ↦ here.index == id.index && not (is_resource_kind kind) || (lent id && is_some (name_at types n))
+  | Some id ↦ here.index == id.index || (lent id && is_some (name_at types n))
   | None ↦ is_none (name_at types n) && not (is_resource_kind kind)
 ]
 
@@ -136,8 +137,8 @@ staying_in types lent here = record { absent = true; simple = λ p. true; made =
 abbrev pub stays_in : List TypeDef → (InterfaceId → Bool) → InterfaceId → Option Ty → Bool
 stays_in types lent here part = value (staying_in types lent here) types part
 
--- an exported interface lists types of its own, in the order of the resolve, none of which is a resource; they and its functions are
--- made of these, of named types of interfaces that are only imported, and of types without names
+-- an exported interface lists types of its own, in the order of the resolve; they and its functions are made of these, of named types
+-- of interfaces that are imported or exported, and of types without names
 pub record IsExportedPlaced (r : Resolve) (world : World) (id : InterfaceId) : Type 0 where
   pub own : AllByRecursion (IsOwnType r.types id) (named_types r id)
   pub ordered : AscendFrom 0 (map (λ t. t.1.index) (named_types r id))
@@ -160,8 +161,10 @@ pub record IsEncodable (w : ComponentWorld) : Type 0 where
   pub sound : IsSound w.resolve
   pub tables : HasTables w
   pub resources : ImportsResources w
-  -- no interface is imported twice
-  pub apart : IsDistinct same_interface (interfaces_of (items_of w).imports)
+  -- no interface is imported or exported twice, nor both
+  pub apart : IsDistinct same_interface (interfaces_of (items_of w).imports ++ interfaces_of (items_of w).exports)
+  -- main doesn't have to export one twice
+  pub required_apart : IsDistinct same_interface (required_interfaces w)
   pub types : (n : ℕ) → n < length w.resolve.types → IsTypePlaced w.resolve (items_of w).imports n
   pub imports : AllByRecursion (λ e. IsItemPlaced w.resolve (items_of w).imports e.1) (items_of w).imports
   pub exports : AllByRecursion (λ e. IsExportPlaced w.resolve (items_of w) e.1) (items_of w).exports

@@ -7,4 +7,5 @@ pub mod Typed
 pub mod Worlds
 pub mod Encodable
 pub mod WorldTables
+pub mod ExportOrder
 pub mod Gathering

@@ -26,6 +26,10 @@ use Rattle.comp_worlds.specs.declared.world.ValidatedModule.{ValidatedModule}
 abbrev pub drop_type : ExternType
 drop_type = externs.Func (function_type (I32 ∷ []) [])
 
+-- the type of `resource.rep` and `resource.new`: a handle and the representation of a resource are numbers
+abbrev pub handle_type : ExternType
+handle_type = externs.Func (function_type (I32 ∷ []) (I32 ∷ []))
+
 -- the type of a realloc: the old address, the old size, the alignment and the new size; the new address
 abbrev pub realloc_type : ExternType
 realloc_type = externs.Func (function_type (I32 ∷ I32 ∷ I32 ∷ I32 ∷ []) (I32 ∷ []))
@@ -43,6 +47,9 @@ abbrev pub type_of_import : Resolve → World → Import → Option ExternType
 type_of_import r items (imports.WorldFunc key function abi) = option_map (called_type r abi) (root_function_at items.imports key)
 type_of_import r items (imports.InterfaceFunc key id function abi) = option_map (called_type r abi) (found function (functions_of r id))
 type_of_import r items (imports.ImportedResourceDrop key interface id) = Some drop_type
+type_of_import r items (imports.ExportedResourceDrop key id) = Some drop_type
+type_of_import r items (imports.ExportedResourceRep key id) = Some handle_type
+type_of_import r items (imports.ExportedResourceNew key id) = Some handle_type
 type_of_import r items role = None
 
 abbrev pub type_of_export : Resolve → World → Export → Option ExternType

@@ -10,6 +10,7 @@ use Rattle.wit_data.specs.declared.functions.FunctionKind.{FunctionKind}
 use Rattle.wit_data.specs.declared.functions.FunctionKind.TheVariants as functions
 use Rattle.wit_data.specs.declared.functions.AbiVariant.TheVariants.{GuestImport, GuestExport}
 use Rattle.wit_data.specs.declared.ids.InterfaceId.{InterfaceId}
+use Rattle.wit_data.specs.declared.ids.TypeId.{TypeId}
 use Rattle.wit_data.specs.declared.types.TypeDef.{TypeDef}
 use Rattle.wit_data.specs.declared.types.TypeDefKind.TheVariants as kinds
 use Rattle.wit_data.specs.declared.resolve.Resolve.{Resolve}
@@ -30,7 +31,7 @@ use Rattle.comp_worlds.specs.declared.world.ComponentWorld.{ComponentWorld}
 use Rattle.comp_worlds.specs.declared.world.ValidatedModule.{ValidatedModule}
 use Rattle.world_values.specs.Items.{functions_of, functions_in}
 use Rattle.comp_worlds.specs.Typed.{FitsImport, FitsExport}
-use Rattle.comp_worlds.specs.WorldContents.{items_of, imported_functions, exported_functions, exported_item, core_name_in}
+use Rattle.comp_worlds.specs.WorldContents.{items_of, imported_functions, exported_functions, exported_item, core_name_in, interface_at}
 
 -- a kind of function that is called synchronously
 abbrev pub IsSynchronous : FunctionKind → Type 0
@@ -74,12 +75,23 @@ pub record IsResource (types : List TypeDef) (number : ℕ) : Type 0 where
   pub present : number < length types
   pub kind : kind_at types number ≡ kinds.Resource
 
--- the role of an import is a function that the world imports, at its root or in an interface, called in the right form, or
--- the drop of a resource
+-- the type is a resource of an interface that main has to export at a key
+pub record IsOwnResource (w : ComponentWorld) (key : WorldKey) (id : TypeId) : Type 0 where
+  pub resource : IsResource w.resolve.types id.index
+  pub interface : InterfaceId
+  pub owner : interface_at w.resolve.types id.index ≡ Some interface
+  pub exported : exported_item w key ≡ Some (items.Interface interface)
+  pub required : Contains w.main_exports key
+
+-- the role of an import is a function that the world imports, at its root or in an interface, called in the right form, the drop of a
+-- resource, or `resource.drop`, `resource.rep` or `resource.new` of a resource of an exported interface
 abbrev pub IsImportRole : ComponentWorld → Import → Type 0
 IsImportRole w (imports.WorldFunc (keys.Name text) function abi) = Contains (imported_functions w) text × (function ≡ text) × (abi ≡ GuestImport)
 IsImportRole w (imports.InterfaceFunc key id function abi) = Contains (items_of w).imports (key, items.Interface id) × Contains (map (λ e. e.0) (functions_of w.resolve id)) function × (abi ≡ GuestImport)
 IsImportRole w (imports.ImportedResourceDrop key interface id) = IsResource w.resolve.types id.index
+IsImportRole w (imports.ExportedResourceDrop key id) = IsOwnResource w key id
+IsImportRole w (imports.ExportedResourceRep key id) = IsOwnResource w key id
+IsImportRole w (imports.ExportedResourceNew key id) = IsOwnResource w key id
 IsImportRole w role = ⊥
 
 -- the roles of the imports from one module

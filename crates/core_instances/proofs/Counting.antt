@@ -1,5 +1,5 @@
 -- The landmarks of a list say how many core modules there are, and which are instantiated.
-use Rattle.std.proofs.Common.{◌≡◌, ◌∙◌, ◌+◌, false, ℕ, suc, List, [], ◌∷◌, ◌++◌, Option, Some, None, refl, sym, ap, filter_map, length}
+use Rattle.std.proofs.Common.{◌≡◌, ◌∙◌, ◌+◌, false, ℕ, suc, List, [], ◌∷◌, ◌++◌, Option, Some, None, refl, sym, ap, filter_map, length, map}
 use Rattle.std.proofs.lemmas.List.{length-append}
 use Rattle.std.proofs.lemmas.List.Elements.{filter_map-append}
 use Rattle.std.proofs.lemmas.List.Sums.{length-filter}
@@ -12,13 +12,14 @@ use Rattle.comp_bytes.specs.declared.space.ComponentExportKind.TheVariants as ex
 use Rattle.comp_bytes.specs.declared.space.Sort.{Sort}
 use Rattle.comp_bytes.specs.declared.space.Sort.TheVariants as sorts
 use Rattle.comp_bytes.specs.declared.space.Space.TheVariants as spaces
+use Rattle.comp_bytes.specs.declared.types.TypeDef.TheVariants as types
 use Rattle.comp_bytes.specs.declared.types.Alias.{Alias}
 use Rattle.comp_bytes.specs.declared.types.Alias.TheVariants as aliases
 use Rattle.comp_bytes.specs.declared.types.Description.{Description}
 use Rattle.comp_bytes.specs.declared.types.Description.TheVariants as descriptions
 use Rattle.standard_kinds.specs.declared.kinds.ExportKind.TheVariants as kinds
 use Rattle.comp_worlds.specs.declared.world.ComponentWorld.{ComponentWorld}
-use Rattle.comp_terms.specs.Rules.{Grows, Landmark, ModuleIs, instance_number, instances_in, landmark, landmarks}
+use Rattle.comp_terms.specs.Rules.{Grows, Landmark, ModuleIs, ResourceDefined, instance_number, instances_in, landmark, landmarks}
 
 -- ---- core modules
 
@@ -61,7 +62,9 @@ each_marked (defs.Item (items.CoreInstantiate number arguments) ∷ ds) = each_m
 each_marked (defs.Item (items.CoreExports entries) ∷ ds) = each_marked ds
 each_marked (defs.Item (items.Instantiate component arguments) ∷ ds) = each_marked ds
 each_marked (defs.Item (items.Alias a) ∷ ds) = rw (alias_apart a) (each_marked ds)
-each_marked (defs.Item (items.Type t) ∷ ds) = each_marked ds
+each_marked (defs.Item (items.Type (types.Resource destructor)) ∷ ds) = each_marked ds
+each_marked (defs.Item (items.Type (types.Func f)) ∷ ds) = each_marked ds
+each_marked (defs.Item (items.Type (types.Defined t)) ∷ ds) = each_marked ds
 each_marked (defs.Item (items.InstanceType t) ∷ ds) = each_marked ds
 each_marked (defs.Item (items.Lift core options kind) ∷ ds) = each_marked ds
 each_marked (defs.Item (items.Lower function options) ∷ ds) = each_marked ds
@@ -87,3 +90,12 @@ modules_grown {w} {old} {new} {marks} g =
 -- these are instantiated after the others
 pub instances_grown : {w : ComponentWorld} {old new : List Def} {marks : List Landmark} → Grows w old new marks → instances_in new ≡ instances_in old ++ filter_map instance_number marks
 instances_grown {w} {old} {new} {marks} g = ap (filter_map instance_number) (marks_grown g) ∙ filter_map-append instance_number (landmarks old) marks
+
+-- resources are neither modules nor instances
+pub no_modules_defined : {X : Type 0} (xs : List X) (more : List Landmark) → filter_map module_mark (map (λ x. ResourceDefined) xs ++ more) ≡ filter_map module_mark more
+no_modules_defined [] more = refl
+no_modules_defined (x ∷ xs) more = no_modules_defined xs more
+
+pub no_instances_defined : {X : Type 0} (xs : List X) (more : List Landmark) → filter_map instance_number (map (λ x. ResourceDefined) xs ++ more) ≡ filter_map instance_number more
+no_instances_defined [] more = refl
+no_instances_defined (x ∷ xs) more = no_instances_defined xs more

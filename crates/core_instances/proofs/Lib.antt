@@ -2,5 +2,12 @@ pub mod Counting
 mod Made
 mod Needs
 mod Ordering
+mod Recording
 mod Unplanned
+pub mod Resourced
+mod Destructing
+mod Entering
+mod OwnTypes
+mod ExportKeys
+mod ExportNames
 pub mod Defining

@@ -1,5 +1,5 @@
 -- What was imported stays what it is while definitions are added, and it is what main and the fixup are given.
-use Rattle.std.proofs.Common.{◌≡◌, ℕ, List, Option, Some, None, IfSome, subst, sym}
+use Rattle.std.proofs.Common.{◌≡◌, ◌<◌, ℕ, List, Option, Some, None, IfSome, subst, sym}
 use Rattle.std.specs.Option.{option_copied}
 use Rattle.comp_builder.specs.Built.{Built}
 use Rattle.comp_items.specs.Items.{Extends}
@@ -18,30 +18,36 @@ use Rattle.main_instance.specs.declared.instances.ImportSources.{ImportSources}
 use Rattle.root_imports.proofs.Finding.{FindsImports-kept}
 use Rattle.root_imports.proofs.Growth.{tables_kept}
 use Rattle.wit_data.specs.declared.ids.InterfaceId.{InterfaceId}
-use Rattle.wit_data.specs.declared.ids.TypeId.{TypeId}
+use Rattle.root_imports.specs.declared.met_types.MetTypes.{MetTypes}
 use Rattle.wit_types.specs.declared.maps.TypeEncodingMaps.{TypeEncodingMaps}
 use Rattle.world_shims.specs.WorldShims.{shims_of}
-use Rattle.root_imports.specs.Keeping.{Root, RootKept}
-use Rattle.root_imports.specs.RootScopes.{AreTablesRight, ArePassed}
+use Rattle.std.specs.List.{AllByRecursion}
+use Rattle.wit_data.specs.declared.ids.TypeId.{TypeId}
+use Rattle.comp_worlds.specs.WorldContents.{imported_types}
+use Rattle.root_imports.specs.Met.{next_of}
+use Rattle.root_imports.specs.Keeping.{Root, RootMoved}
+use Rattle.root_imports.specs.Met.{AreExportsMet}
+use Rattle.core_instances.specs.ExportedTypes.{AreShimSources}
+use Rattle.core_instances.specs.declared.own_resources.ShimSources.{ShimSources}
 use Rattle.core_instances.specs.Instances.{AreImportsMade, IsFirstModule}
 
-module _ {w : ComponentWorld} {last : Option TypeId} {old new : Built} {maps : TypeEncodingMaps} {instances : List (InterfaceId × ℕ)} (g : Extends old new) where
-  pub sources_after : (s : ImportSources) → AreImportsMade w s.functions.now last old.defs maps instances → s.shims.now ≡ shims_of w → IsShimInstance w new.defs s.shim_instance → AreSources w s last new.defs maps instances
-  sources_after s h planned there = record { valid = h.valid; imports = FindsImports-kept (longer g) h.imports; used = h.used; shims = planned; shim_instance = there; tables = tables_kept w last instances old new maps g h.tables; passed = h.passed }
+module _ {w : ComponentWorld} {met : MetTypes} {old new : Built} {maps : TypeEncodingMaps} {instances : List (InterfaceId × ℕ)} (g : Extends old new) where
+  pub sources_after : (s : ImportSources) → AreImportsMade w s.functions.now met old.defs maps instances → AreExportsMet w met → s.shims.now ≡ shims_of w → IsShimInstance w new.defs s.shim_instance → AreSources w s met new.defs maps instances
+  sources_after s h exports planned there = record { exports = exports; valid = h.valid; imports = FindsImports-kept (longer g) h.imports; used = h.used; shims = planned; shim_instance = there; tables = tables_kept w met instances old new maps g h.tables; passed = h.passed }
 
-  pub fills_after : (s : FillSources) → AreImportsMade w s.functions.now last old.defs maps instances → IsInstanceOf new.defs s.options.instance 0 → option_copied s.options.memory ≡ memory_name w →
-      option_copied s.options.realloc ≡ realloc_for is_import_realloc w.main.exports.exports → AreFillSources w s last new.defs maps instances
-  fills_after s h made memory realloc = record { valid = h.valid; imports = FindsImports-kept (longer g) h.imports; used = h.used; options = record { made = made; memory = memory; offered = subst (λ (o : Option (List ℕ)). IfSome o (OffersFunction w)) (sym realloc) (import_realloc_if_offered w h.valid.valid) }; realloc = realloc; tables = tables_kept w last instances old new maps g h.tables; passed = h.passed }
+  pub fills_after : (s : FillSources) → AreImportsMade w s.functions.now met old.defs maps instances → IsInstanceOf new.defs s.options.instance 0 → option_copied s.options.memory ≡ memory_name w →
+      option_copied s.options.realloc ≡ realloc_for is_import_realloc w.main.exports.exports → AreFillSources w s met new.defs maps instances
+  fills_after s h made memory realloc = record { valid = h.valid; imports = FindsImports-kept (longer g) h.imports; used = h.used; options = record { made = made; memory = memory; offered = subst (λ (o : Option (List ℕ)). IfSome o (OffersFunction w)) (sym realloc) (import_realloc_if_offered w h.valid.valid) }; realloc = realloc; tables = tables_kept w met instances old new maps g h.tables; passed = h.passed }
 
 -- what was imported is still there in the root after more steps
-pub made_after : {w : ComponentWorld} {functions : List (List ℕ × ℕ)} (old new : Root) → RootKept w old new → AreImportsMade w functions old.last_type old.items.defs old.maps old.instances →
-    AreImportsMade w functions new.last_type new.items.defs new.maps new.instances
+pub made_after : {w : ComponentWorld} {functions : List (List ℕ × ℕ)} (old new : Root) → RootMoved w old new → AreImportsMade w functions old.met old.items.defs old.maps old.instances →
+    AreImportsMade w functions new.met new.items.defs new.maps new.instances
 made_after {w} old new k h = record {
   valid = h.valid;
   imports = FindsImports-kept (longer k.extends) h.imports;
   used = h.used;
-  tables = subst (λ l. AreTablesRight w l new.instances new.items.defs new.maps) (sym k.next) k.tables;
-  passed = subst (ArePassed w) (sym k.next) h.passed;
+  tables = k.tables;
+  passed = subst (λ (last : Option TypeId). AllByRecursion (λ (t : List ℕ × TypeId). t.1.index < next_of last) (imported_types w)) (sym k.last) h.passed;
 }
 
 -- so is the instance of the module of shims, and main's module
@@ -51,3 +57,6 @@ shim_instance-kept w g (Some index) h = instance-kept g h
 
 pub first-kept : {w : ComponentWorld} {old new : List Def} → Longer old new → IsFirstModule w old → IsFirstModule w new
 first-kept g h = record { made = at-kept g h.made }
+
+pub shim_sources-kept : (w : ComponentWorld) {old new : List Def} → Longer old new → (s : ShimSources) → AreShimSources w old s → AreShimSources w new s
+shim_sources-kept w g s h = record { shims = h.shims; instance = shim_instance-kept w g s.instance h.instance }

@@ -1,6 +1,6 @@
 -- What the core instances add to a component, and what is taken as given (component model, explainer: core instances; this
 -- project's own).
-use Rattle.std.specs.Prelude.{◌≡◌, ℕ, Bool, List, [], ◌∷◌, length, map, Option, Some, None}
+use Rattle.std.specs.Prelude.{◌≡◌, ℕ, Bool, List, [], ◌∷◌, ◌++◌, length, map, Option, Some, None}
 use Rattle.std.specs.List.{range_with_len, flat_map}
 use Rattle.core_bytes.specs.Modules.{Encodes}
 use Rattle.comp_bytes.specs.ItemIndices.{IsAt}
@@ -11,11 +11,12 @@ use Rattle.comp_bytes.specs.declared.def.Def.{Def}
 use Rattle.comp_bytes.specs.declared.def.Def.TheVariants as defs
 use Rattle.wit_data.specs.declared.ids.InterfaceId.{InterfaceId}
 use Rattle.wit_data.specs.declared.ids.TypeId.{TypeId}
+use Rattle.root_imports.specs.declared.met_types.MetTypes.{MetTypes}
 use Rattle.wit_types.specs.declared.maps.TypeEncodingMaps.{TypeEncodingMaps}
 use Rattle.wit_data.specs.Live.{named_types}
 use Rattle.wit_data.specs.declared.worlds.WorldKey.{WorldKey}
 use Rattle.comp_trees.specs.DefinedScopes.{Denotes}
-use Rattle.comp_inventories.specs.Inventories.{scope_of}
+use Rattle.comp_inventories.specs.Inventories.{inventory, scope_of}
 use Rattle.comp_worlds.specs.Encodable.{IsEncodable}
 use Rattle.comp_worlds.specs.WorldContents.{exported_item}
 use Rattle.comp_links.specs.Lists.{type_of_world}
@@ -23,7 +24,7 @@ use Rattle.interface_needs.specs.RootNeeds.{interface_of_item}
 use Rattle.comp_worlds.specs.declared.world.ComponentWorld.{ComponentWorld}
 use Rattle.comp_links.specs.Modules.{user_modules}
 use Rattle.comp_terms.specs.Generated.{shims_number, fixup_number, GeneratedBytes, MayBeGenerated}
-use Rattle.comp_terms.specs.Rules.{Grows, Landmark, ModuleIs, InstanceOf, instances_in}
+use Rattle.comp_terms.specs.Rules.{Grows, Landmark, ModuleIs, InstanceOf, instances_in, resources_marked}
 use Rattle.comp_terms.specs.Terms.{IsInstanceOf}
 use Rattle.root_imports.specs.RootScopes.{AreTablesRight, ArePassed}
 use Rattle.root_imports.specs.Imports.{FindsImports, FindsUsed}
@@ -41,22 +42,23 @@ of_plan (plan.NoEncoding place) = faults.NoEncoding place
 -- ---- what is given
 
 -- the functions and the types that the world imports are there
-pub record AreImportsMade (w : ComponentWorld) (functions : List (List ℕ × ℕ)) (last : Option TypeId) (ds : List Def) (maps : TypeEncodingMaps) (instances : List (InterfaceId × ℕ)) : Type 0 where
+pub record AreImportsMade (w : ComponentWorld) (functions : List (List ℕ × ℕ)) (met : MetTypes) (ds : List Def) (maps : TypeEncodingMaps) (instances : List (InterfaceId × ℕ)) : Type 0 where
   pub valid : IsEncodable w
   pub imports : FindsImports w ds functions
   pub used : FindsUsed w functions
-  pub tables : AreTablesRight w last instances ds maps
-  pub passed : ArePassed w last
+  pub tables : AreTablesRight w met instances ds maps
+  pub passed : ArePassed w met
 
 -- the first core module is main's
 pub record IsFirstModule (w : ComponentWorld) (ds : List Def) : Type 0 where
   pub made : IsAt ds spaces.CoreModule 0 (defs.Item (items.CoreModule w.main.bytes))
 
--- it is the only one, and nothing is instantiated
+-- it is the only one, nothing is instantiated, and no resource is defined
 pub record IsMainAlone (w : ComponentWorld) (ds : List Def) : Type 0 where
   pub first : IsFirstModule w ds
   pub alone : items_in spaces.CoreModule ds ≡ 1
   pub nothing : instances_in ds ≡ []
+  pub none : (inventory ds).resources ≡ 0
 
 -- ---- types of exported interfaces
 
@@ -79,10 +81,11 @@ pub record IsDefinedType (w : ComponentWorld) (ds : List Def) (t : TypeId) : Typ
 
 -- ---- what is added
 
--- the landmarks of the core instances and of the modules that are generated for them
+-- the landmarks of the core instances and of the modules that are generated for them, and of the resources that are defined before
+-- main's instance
 abbrev pub instances_marked : ComponentWorld → Option GeneratedBytes → List Landmark
-instances_marked w None = InstanceOf 0 ∷ []
-instances_marked w (Some g) = ModuleIs g.shims ∷ InstanceOf (shims_number w) ∷ InstanceOf 0 ∷ ModuleIs g.fixup ∷ InstanceOf (fixup_number w) ∷ []
+instances_marked w None = resources_marked w ++ InstanceOf 0 ∷ []
+instances_marked w (Some g) = ModuleIs g.shims ∷ InstanceOf (shims_number w) ∷ (resources_marked w ++ InstanceOf 0 ∷ ModuleIs g.fixup ∷ InstanceOf (fixup_number w) ∷ [])
 
 -- the instance of main, between those of the shims and of the fixup, where there are any
 pub record AddsInstances (w : ComponentWorld) (old new : List Def) : Type 0 where

@@ -1,41 +1,85 @@
-//! The types of exported interfaces. They are defined before main's instance.
+//! The types of exported interfaces. They are defined before main's instance, those of each interface behind the types of the exported
+//! ones that it uses.
 #![tactic(auto)]
 
-ghost use Rattle.std.specs.Prelude.{◌≡◌, ◌<◌, [], length, IfErr, OnOk};
+ghost use Rattle.std.specs.Prelude.{◌≡◌, ◌<◌, [], ◌∷◌, true, length, IfErr, OnOk, Some};
 ghost use Rattle.std.specs.List.{AllByRecursion};
-ghost use Rattle.comp_terms.specs.Rules.{Grows};
-ghost use Rattle.comp_worlds.specs.Encodable.{IsEncodable};
+ghost use Rattle.comp_inventories.specs.Inventories.{inventory};
+ghost use Rattle.comp_terms.specs.Rules.{Grows, resources_marked};
+ghost use Rattle.comp_worlds.specs.ExportOrder.{AreExportsInOrder, interface_among, used_exports};
 ghost use Rattle.comp_worlds.specs.Worlds.{IsRequired};
+ghost use Rattle.core_instances.specs.ExportedTypes.{AreShimSources, AreNextResources, entries_at, EntersTypes, IsNextListed, IsTypesRefusal, UsesMet, resource_mark, resource_marks};
 ghost use Rattle.core_instances.specs.Instances.{types_at, exported_types, IsDefinedType};
-ghost use Rattle.root_imports.specs.Keeping.{RootKept};
+ghost use Rattle.core_options.specs.Causes.{IsCauseAmong};
+ghost use Rattle.root_imports.specs.Keeping.{RootKept, RootMoved};
+ghost use Rattle.root_imports.specs.Met.{has_types, AreAllMet, AreExportsMet};
+ghost use Rattle.wit_data.specs.declared.worlds.WorldItem.TheVariants as items;
+ghost use Rattle.wit_types.specs.Maps.{HasIndex};
 ghost use Rattle.root_imports.specs.RootScopes.{AreTablesRight, IsRefusal};
+ghost use Rattle.comp_worlds.specs.Encodable.{IsEncodable};
 ghost use Rattle.wit_data.specs.Live.{named_types};
 ghost use Rattle.comp_worlds.specs.WorldContents.{exported_item};
 ghost use Rattle.interface_needs.specs.RootNeeds.{IsExportedInterface, interface_of_item};
 
+use crate::export_order::check_order;
+use crate::own_resources::{ShimSources, define_resource, is_resource};
 use byte_encoding::BuildFault;
 use comp_lists::{Keyed, Text};
 use comp_worlds::ComponentWorld;
+use core_options::StateFault;
 use root_imports::{RootScope, types_of};
 use wit_data::{InterfaceId, TypeId, WorldItem, WorldKey};
 
-/// Defines the types that an exported interface lists, in its order, where they are not defined yet.
+/// Defines the next type that an exported interface lists: a resource, or a type of values, where it is not defined yet.
+fn define_type(
+    root: &mut RootScope<'_, ComponentWorld>,
+    shims: ShimSources<'_>,
+    interface: InterfaceId,
+    name: &Text,
+    id: TypeId,
+) -> Result<(), BuildFault>
+    requires valid { IsEncodable root.old.world.now }
+    requires shims { AreShimSources root.old.world.now root.old.items.defs shims }
+    requires tables { AreTablesRight root.old.world.now root.old.met root.old.instances root.old.items.defs root.old.maps }
+    requires next { IsNextListed root.old.world.now root.old.met root.old.items.defs interface id }
+    ensures kept { RootKept root.old.world.now root.old root.new }
+    ensures grows { OnOk result (Grows root.old.world.now root.old.items.defs root.new.items.defs (resource_mark root.old.world.now id)) }
+    ensures defined { OnOk result (IsDefinedType root.old.world.now root.new.items.defs id) }
+    ensures recorded { OnOk result (HasIndex root.new.maps id) }
+    ensures cause { IfErr result IsRefusal }
+{
+    if is_resource(&root.world.resolve, id) {
+        define_resource(root, shims, name, id)
+    } else {
+        root.exported_type(interface, id)?;
+        Ok(())
+    }
+}
+
+/// Defines the types that an exported interface lists, in its order.
 fn define_types_of(
     root: &mut RootScope<'_, ComponentWorld>,
+    shims: ShimSources<'_>,
     id: InterfaceId,
     types: &Keyed<Text, TypeId>,
 ) -> Result<(), BuildFault>
     requires valid { IsEncodable root.old.world.now }
+    requires shims { AreShimSources root.old.world.now root.old.items.defs shims }
+    requires tables { AreTablesRight root.old.world.now root.old.met root.old.instances root.old.items.defs root.old.maps }
     requires exported { IsExportedInterface root.old.world.now id }
+    requires uses { AllByRecursion (λ other. has_types root.old.met other ≡ true) (used_exports root.old.world.now id) }
     requires listed { types.now ≡ named_types root.old.world.now.resolve id }
-    requires tables { AreTablesRight root.old.world.now root.old.last_type root.old.instances root.old.items.defs root.old.maps }
-    ensures kept { RootKept root.old.world.now root.old root.new }
-    ensures grows { OnOk result (Grows root.old.world.now root.old.items.defs root.new.items.defs []) }
+    requires resources { AreNextResources root.old.world.now root.old.items.defs types.now }
+    ensures moved { RootMoved root.old.world.now root.old root.new }
+    ensures met { root.new.met ≡ record root.old.met { own = root.new.met.own } }
+    ensures grows { OnOk result (Grows root.old.world.now root.old.items.defs root.new.items.defs (resource_marks root.old.world.now types.now)) }
     ensures defined { OnOk result (AllByRecursion (λ t. IsDefinedType root.old.world.now root.new.items.defs t.1) types.now) }
+    ensures all { OnOk result (AreAllMet root.old.world.now root.new.met id) }
     ensures cause { IfErr result IsRefusal }
 {
     for entry in types.iter() {
-        root.exported_type(id, *entry.1)?;
+        define_type(root, shims, id, entry.0, *entry.1)?;
+        root.enter_own_type(*entry.1);
     }
     Ok(())
 }
@@ -53,40 +97,81 @@ fn interface_at(world: &ComponentWorld, key: &WorldKey) -> Option<InterfaceId>
     }
 }
 
+/// Defines the types of an exported interface, and enters it.
+///
+/// `E11` where it uses types of an exported interface that are not defined.
+fn define_interface(
+    root: &mut RootScope<'_, ComponentWorld>,
+    shims: ShimSources<'_>,
+    key: &WorldKey,
+    id: InterfaceId,
+) -> Result<(), StateFault>
+    requires valid { IsEncodable root.old.world.now }
+    requires shims { AreShimSources root.old.world.now root.old.items.defs shims }
+    requires tables { AreTablesRight root.old.world.now root.old.met root.old.instances root.old.items.defs root.old.maps }
+    requires required { IsRequired root.old.world.now root.old.world.now.main key.now }
+    requires item { exported_item root.old.world.now key.now ≡ Some (items.Interface id) }
+    requires resources { AreNextResources root.old.world.now root.old.items.defs (named_types root.old.world.now.resolve id) }
+    ensures moved { RootMoved root.old.world.now root.old root.new }
+    ensures grows { OnOk result (Grows root.old.world.now root.old.items.defs root.new.items.defs (resource_marks root.old.world.now (named_types root.old.world.now.resolve id))) }
+    ensures defined { OnOk result (AllByRecursion (λ t. IsDefinedType root.old.world.now root.new.items.defs t.1) (named_types root.old.world.now.resolve id)) }
+    ensures enters { OnOk result (EntersTypes root.old.met root.new.met (id ∷ [])) }
+    ensures uses { OnOk result (UsesMet root.old.world.now root.old.met (id ∷ [])) }
+    ensures cause { IfErr result (IsTypesRefusal root.old.world.now root.old.met key.now) }
+{
+    check_order(root, key, id)?;
+    let world = root.world;
+    define_types_of(root, shims, id, types_of(&world.resolve, id))?;
+    root.enter_interface(id)?;
+    Ok(())
+}
+
 /// Defines the types that the interface of a key lists, where it is an exported interface.
 fn define_types_at(
     root: &mut RootScope<'_, ComponentWorld>,
+    shims: ShimSources<'_>,
     key: &WorldKey,
-) -> Result<(), BuildFault>
+) -> Result<(), StateFault>
     requires valid { IsEncodable root.old.world.now }
+    requires shims { AreShimSources root.old.world.now root.old.items.defs shims }
+    requires tables { AreTablesRight root.old.world.now root.old.met root.old.instances root.old.items.defs root.old.maps }
     requires required { IsRequired root.old.world.now root.old.world.now.main key.now }
-    requires tables { AreTablesRight root.old.world.now root.old.last_type root.old.instances root.old.items.defs root.old.maps }
-    ensures kept { RootKept root.old.world.now root.old root.new }
-    ensures grows { OnOk result (Grows root.old.world.now root.old.items.defs root.new.items.defs []) }
+    requires resources { AreNextResources root.old.world.now root.old.items.defs (entries_at root.old.world.now key.now) }
+    ensures moved { RootMoved root.old.world.now root.old root.new }
+    ensures grows { OnOk result (Grows root.old.world.now root.old.items.defs root.new.items.defs (resource_marks root.old.world.now (entries_at root.old.world.now key.now))) }
     ensures defined { OnOk result (AllByRecursion (IsDefinedType root.old.world.now root.new.items.defs) (types_at root.old.world.now key.now)) }
-    ensures cause { IfErr result IsRefusal }
+    ensures enters { OnOk result (EntersTypes root.old.met root.new.met (interface_among (exported_item root.old.world.now key.now))) }
+    ensures uses { OnOk result (UsesMet root.old.world.now root.old.met (interface_among (exported_item root.old.world.now key.now))) }
+    ensures cause { IfErr result (IsTypesRefusal root.old.world.now root.old.met key.now) }
 {
-    let world = root.world;
-    match interface_at(world, key) {
-        Some(id) => define_types_of(root, id, types_of(&world.resolve, id)),
+    match interface_at(root.world, key) {
+        Some(id) => define_interface(root, shims, key, id),
         None => Ok(()),
     }
 }
 
 /// Defines the types of the interfaces that main has to export, in their order.
+///
+/// `E11` where one uses types of another exported interface that main doesn't export before it.
 pub(crate) fn define_exported_types(
     root: &mut RootScope<'_, ComponentWorld>,
-) -> Result<(), BuildFault>
+    shims: ShimSources<'_>,
+) -> Result<(), StateFault>
     requires valid { IsEncodable root.old.world.now }
-    requires tables { AreTablesRight root.old.world.now root.old.last_type root.old.instances root.old.items.defs root.old.maps }
-    ensures kept { RootKept root.old.world.now root.old root.new }
-    ensures grows { OnOk result (Grows root.old.world.now root.old.items.defs root.new.items.defs []) }
+    requires shims { AreShimSources root.old.world.now root.old.items.defs shims }
+    requires tables { AreTablesRight root.old.world.now root.old.met root.old.instances root.old.items.defs root.old.maps }
+    requires none { (inventory root.old.items.defs).resources ≡ 0 }
+    ensures moved { RootMoved root.old.world.now root.old root.new }
+    ensures grows { OnOk result (Grows root.old.world.now root.old.items.defs root.new.items.defs (resources_marked root.old.world.now)) }
     ensures defined { OnOk result (AllByRecursion (IsDefinedType root.old.world.now root.new.items.defs) (exported_types root.old.world.now)) }
-    ensures cause { IfErr result IsRefusal }
+    ensures ordered { OnOk result (AreExportsInOrder root.old.world.now) }
+    ensures met { OnOk result (AreExportsMet root.old.world.now root.new.met) }
+    ensures cause { IfErr result (IsCauseAmong root.old.world.now [] []) }
 {
+    root.begin_exports();
     let world = root.world;
     for key in world.main_exports.as_slice() {
-        define_types_at(root, key)?;
+        define_types_at(root, shims, key)?;
     }
     Ok(())
 }

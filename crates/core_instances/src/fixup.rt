@@ -39,7 +39,7 @@ fn add_fixup(
     shim_instance: u32,
     debug_names: bool,
 ) -> Result<(), StateFault>
-    requires sources { AreFillSources root.old.world.now sources.now root.old.last_type root.old.items.defs root.old.maps root.old.instances }
+    requires sources { AreFillSources root.old.world.now sources.now root.old.met root.old.items.defs root.old.maps root.old.instances }
     requires shims { shims.now ≡ shims_of root.old.world.now }
     requires next { IsFixupNext root.old.world.now root.old.items.defs shim_instance }
     ensures same { root.new ≡ record root.old { items = root.new.items } }
@@ -63,7 +63,7 @@ pub(crate) fn encode_indirect_lowerings(
     shim_instance: Option<u32>,
     debug_names: bool,
 ) -> Result<(), StateFault>
-    requires sources { AreFillSources root.old.world.now sources.now root.old.last_type root.old.items.defs root.old.maps root.old.instances }
+    requires sources { AreFillSources root.old.world.now sources.now root.old.met root.old.items.defs root.old.maps root.old.instances }
     requires shims { shims.now ≡ shims_of root.old.world.now }
     requires next { IsFixupNextIf root.old.world.now root.old.items.defs shim_instance }
     ensures same { root.new ≡ record root.old { items = root.new.items } }

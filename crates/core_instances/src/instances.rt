@@ -3,10 +3,12 @@
 
 ghost use Rattle.std.specs.Prelude.{IfOk, IfErr, OnOk};
 ghost use Rattle.std.specs.List.{AllByRecursion};
-ghost use Rattle.root_imports.specs.Keeping.{RootKept};
+ghost use Rattle.root_imports.specs.Keeping.{RootMoved};
 ghost use Rattle.comp_links.specs.Roles.{IsEncodedImport};
 ghost use Rattle.comp_terms.specs.Terms.{IsInstanceOf};
 ghost use Rattle.comp_worlds.specs.WorldContents.{core_imports};
+ghost use Rattle.comp_worlds.specs.ExportOrder.{AreExportsInOrder};
+ghost use Rattle.root_imports.specs.Met.{AreExportsMet};
 ghost use Rattle.core_instances.specs.Instances.{AreImportsMade, IsMainAlone, AddsInstances};
 ghost use Rattle.core_options.specs.Causes.{IsCause};
 ghost use Rattle.core_options.specs.MainOptions.{HasLowerOptions};
@@ -14,6 +16,7 @@ ghost use Rattle.core_options.specs.MainOptions.{HasLowerOptions};
 use crate::exported_types::define_exported_types;
 use crate::fixup::encode_indirect_lowerings;
 use crate::main_module::instantiate_main_module;
+use crate::own_resources::ShimSources;
 use crate::plan::plan_shims;
 use comp_lists::{Keyed, Text};
 use comp_worlds::ComponentWorld;
@@ -27,16 +30,19 @@ use root_imports::RootScope;
 /// by their names. After a refusal the definitions that were made until then stay.
 ///
 /// `E9` where an import of a function has no string encoding, `E7` where a function is lowered with a memory and main exports none,
-/// `E8` where it is lowered with a realloc and main exports none for imports.
+/// `E8` where it is lowered with a realloc and main exports none for imports, and `E11` where an exported interface uses types of another
+/// one that main doesn't export before it.
 pub fn encode_core_instantiation(
     root: &mut RootScope<'_, ComponentWorld>,
     functions: &Keyed<Text, u32>,
     debug_names: bool,
 ) -> Result<u32, StateFault>
-    requires made { AreImportsMade root.old.world.now functions.now root.old.last_type root.old.items.defs root.old.maps root.old.instances }
+    requires made { AreImportsMade root.old.world.now functions.now root.old.met root.old.items.defs root.old.maps root.old.instances }
     requires alone { IsMainAlone root.old.world.now root.old.items.defs }
-    ensures kept { RootKept root.old.world.now root.old root.new }
+    ensures moved { RootMoved root.old.world.now root.old root.new }
     ensures added { OnOk result (AddsInstances root.old.world.now root.old.items.defs root.new.items.defs) }
+    ensures ordered { OnOk result (AreExportsInOrder root.old.world.now) }
+    ensures met { OnOk result (AreExportsMet root.old.world.now root.new.met) }
     ensures made { IfOk result (λ index. IsInstanceOf root.new.items.defs index 0) }
     ensures encoded { OnOk result (AllByRecursion (λ i. IsEncodedImport root.old.world.now i.role) (core_imports root.old.world.now)) }
     ensures lowered { OnOk result (AllByRecursion (λ i. HasLowerOptions root.old.world.now i.role) (core_imports root.old.world.now)) }
@@ -44,7 +50,11 @@ pub fn encode_core_instantiation(
 {
     let shims = plan_shims(root.items.allocator(), root.world)?;
     let shim_instance = encode_shim_instantiation(root, &shims, debug_names)?;
-    define_exported_types(root)?;
+    let shims_made = ShimSources {
+        shims: &shims,
+        instance: shim_instance,
+    };
+    define_exported_types(root, shims_made)?;
     let sources = ImportSources {
         functions,
         shims: &shims,

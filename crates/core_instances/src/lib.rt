@@ -9,10 +9,12 @@
 //! (the fixup's module and instance), `instances` (all of them, in order). `specs/Instances.antt` says what is added.
 #![tactic(auto)]
 
+mod export_order;
 mod exported_types;
 mod fixup;
 mod instances;
 mod main_module;
+mod own_resources;
 mod plan;
 
 pub use instances::encode_core_instantiation;

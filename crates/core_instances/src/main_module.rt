@@ -27,7 +27,7 @@ pub(crate) fn instantiate_main_module(
     root: &mut RootScope<'_, ComponentWorld>,
     sources: &ImportSources<'_>,
 ) -> Result<u32, StateFault>
-    requires sources { AreSources root.old.world.now sources.now root.old.last_type root.old.items.defs root.old.maps root.old.instances }
+    requires sources { AreSources root.old.world.now sources.now root.old.met root.old.items.defs root.old.maps root.old.instances }
     requires first { IsFirstModule root.old.world.now root.old.items.defs }
     ensures same { root.new ≡ record root.old { items = root.new.items } }
     ensures extends { Extends root.old.items root.new.items }

@@ -26,6 +26,7 @@ pub among_more : (w : ComponentWorld) (some all : List CoreImport) (few more : L
     ((r : RequiredFunction) → Contains few r → Contains more r) → (e : StateFault) → IsCauseAmong w some few e → IsCauseAmong w all more e
 among_more w some all few more imports exports faults.Memory h = tt
 among_more w some all few more imports exports (faults.TooMany excess) h = h
+among_more w some all few more imports exports (faults.LaterExport interface used) h = h
 among_more w some all few more imports exports (faults.NoMemory place) l = record { needed = either_more w 1 some all few more imports exports place l.needed; none = l.none }
 among_more w some all few more imports exports (faults.NoRealloc place) (inl l) = inl (lowering_more w 2 some all imports place l.0, l.1)
 among_more w some all few more imports exports (faults.NoRealloc place) (inr l) = inr (lift_more w 2 few more exports place l.0, l.1)
@@ -55,6 +56,7 @@ one_import_refused w i name set place needed named none (faults.NoMemory of) h =
 one_import_refused w i name set place needed named none (faults.NoRealloc of) h =
     inl (record { given = i; present = (0, omega arith, refl); needed = subst (λ n. IsTrue (needs n 2)) needed h.0; at = h.2 ∙ named }, none h.1)
 one_import_refused w i name set place needed named none (faults.NoEncoding of) h = absurd h
+one_import_refused w i name set place needed named none (faults.LaterExport interface used) h = absurd h
 
 pub one_export_refused : (w : ComponentWorld) (r : RequiredFunction) (set : ℕ) (place : List ℕ) → set ≡ lift_needs w r.key r.function → place ≡ r.function → (e : StateFault) → IsOptionRefusal w set (lift_realloc w) place e →
     IsCauseAmong w [] (r ∷ []) e
@@ -67,3 +69,4 @@ one_export_refused w r set place needed named (faults.NoMemory of) h = record {
 one_export_refused w r set place needed named (faults.NoRealloc of) h =
     inr (record { required = r; present = (0, omega arith, refl); needed = subst (λ n. IsTrue (needs n 2)) needed h.0; at = h.2 ∙ named }, h.1)
 one_export_refused w r set place needed named (faults.NoEncoding of) h = absurd h
+one_export_refused w r set place needed named (faults.LaterExport interface used) h = absurd h

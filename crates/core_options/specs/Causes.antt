@@ -1,9 +1,14 @@
 -- When the encoding of a world is refused: out of memory, where a function has no string encoding, no memory or no realloc
--- (Canonical ABI: `string-encoding`, `memory`, `realloc`), and where a count passes 32 bits (core standard, binary format: vectors).
-use Rattle.std.specs.Prelude.{◌≡◌, ◌≤◌, ◌^◌, ◌⊎◌, ◌++◌, ℕ, codes, List, Option, None, Contains, IsSome, IsTrue}
+-- (Canonical ABI: `string-encoding`, `memory`, `realloc`), where an interface is exported before one that it uses, and where a count passes 32 bits (core standard, binary format: vectors).
+use Rattle.std.specs.Prelude.{◌≡◌, ◌≤◌, ◌^◌, ◌⊎◌, ◌++◌, ℕ, codes, List, Option, Some, None, Contains, IsSome, IsTrue}
 use Rattle.std.specs.List.{AllByRecursion}
 use Rattle.comp_roles.specs.CoreImports.{CoreImport}
-use Rattle.comp_worlds.specs.WorldContents.{core_imports}
+use Rattle.comp_worlds.specs.ExportOrder.{AreExportsInOrder, IsLaterExport}
+use Rattle.comp_worlds.specs.WorldContents.{core_imports, exported_item}
+use Rattle.wit_data.specs.Names.{key_text}
+use Rattle.wit_data.specs.declared.ids.InterfaceId.{InterfaceId}
+use Rattle.wit_data.specs.declared.worlds.WorldItem.TheVariants as items
+use Rattle.wit_data.specs.declared.worlds.WorldKey.{WorldKey}
 use Rattle.comp_worlds.specs.declared.world.ComponentWorld.{ComponentWorld}
 use Rattle.byte_encoding.specs.declared.fault.BuildFault.{BuildFault}
 use Rattle.byte_encoding.specs.declared.fault.BuildFault.TheVariants as build
@@ -71,12 +76,27 @@ pub record LacksMemory (w : ComponentWorld) (imports : List CoreImport) (functio
 abbrev pub LacksRealloc : ComponentWorld → List CoreImport → List RequiredFunction → List ℕ → Type 0
 LacksRealloc w imports functions place = (NeedsLowering w 2 imports place × (lower_realloc w Main ≡ None)) ⊎ (NeedsLift w 2 functions place × (lift_realloc w ≡ None))
 
+-- the name of an exported interface: that of a key at which it is exported, with its whole version
+pub record IsExportName (w : ComponentWorld) (id : InterfaceId) (name : List ℕ) : Type 0 where
+  pub key : WorldKey
+  pub item : exported_item w key ≡ Some (items.Interface id)
+  pub named : name ≡ key_text w.resolve key
+
+-- an interface that main has to export uses types of another exported one, which main doesn't export before it; these are their names
+pub record ExportsLater (w : ComponentWorld) (interface used : List ℕ) : Type 0 where
+  pub id : InterfaceId
+  pub other : InterfaceId
+  pub later : IsLaterExport w id other
+  pub named : IsExportName w id interface
+  pub used_named : IsExportName w other used
+
 -- the cause of a fault, where these imports are given what they need and these functions are lifted
 abbrev pub IsCauseAmong : ComponentWorld → List CoreImport → List RequiredFunction → StateFault → Type 0
 IsCauseAmong w imports functions faults.Memory = Unit {0}
 IsCauseAmong w imports functions (faults.NoEncoding place) = LacksImportEncoding w imports place ⊎ LacksExportEncoding w functions place
 IsCauseAmong w imports functions (faults.NoMemory place) = LacksMemory w imports functions place
 IsCauseAmong w imports functions (faults.NoRealloc place) = LacksRealloc w imports functions place
+IsCauseAmong w imports functions (faults.LaterExport interface used) = ExportsLater w interface used
 IsCauseAmong w imports functions (faults.TooMany excess) = 2 ^ 32 ≤ excess
 
 -- the cause of a fault where the options of a set are listed for the function of a name
@@ -93,6 +113,7 @@ IsOptionRefusal w set realloc name (faults.TooMany excess) = 2 ^ 32 ≤ excess
 IsOptionRefusal w set realloc name (faults.NoMemory place) = IsTrue (needs set 1) × (memory_name w ≡ None) × (place ≡ name)
 IsOptionRefusal w set realloc name (faults.NoRealloc place) = IsTrue (needs set 2) × (realloc ≡ None) × (place ≡ name)
 IsOptionRefusal w set realloc name (faults.NoEncoding place) = ⊥
+IsOptionRefusal w set realloc name (faults.LaterExport interface used) = ⊥
 
 -- a core import of the world, or a required function, has no string encoding
 abbrev pub LacksEncoding : ComponentWorld → List ℕ → Type 0
@@ -106,9 +127,11 @@ IsCause w = IsCauseAmong w (core_imports w) (required_functions w)
 abbrev pub IsEncodedExport : ComponentWorld → RequiredFunction → Type 0
 IsEncodedExport w r = IsSome (export_encoding w r.key r.function)
 
--- each core import that needs a string encoding, and each required function, has one, and main has what lowerings and lifts need
+-- each core import that needs a string encoding, and each required function, has one, main has what lowerings and lifts need, and
+-- interfaces are exported behind those that they use
 pub record IsEncoded (w : ComponentWorld) : Type 0 where
   pub imports : AllByRecursion (λ i. IsEncodedImport w i.role) (core_imports w)
   pub exports : AllByRecursion (IsEncodedExport w) (required_functions w)
   pub lowered : AllByRecursion (λ i. HasLowerOptions w i.role) (core_imports w)
   pub lifted : AllByRecursion (HasLiftOptions w) (required_functions w)
+  pub ordered : AreExportsInOrder w

@@ -26,6 +26,10 @@ pub enum StateFault {
     /// name of a function that is lifted.
     #[error("E9 NoEncoding place={place}")]
     NoEncoding { place: Text },
+    /// A required interface uses types of another exported one, which main doesn't export before it. Both are named by the keys at
+    /// which they are exported, with their whole version.
+    #[error("E11 LaterExport interface={interface} used={used}")]
+    LaterExport { interface: Text, used: Text },
     /// A count or a size would pass 2^32 - 1.
     #[error("E16 TooMany excess={excess}")]
     TooMany { excess: Excess },

@@ -14,7 +14,7 @@ use Rattle.comp_worlds.specs.Encodable.{IsEncodable, IsListedType}
 use Rattle.comp_worlds.specs.Encodable as encodable
 use Rattle.comp_worlds.specs.WorldContents.{interface_at, name_at}
 use Rattle.comp_worlds.specs.declared.world.ComponentWorld.{ComponentWorld}
-use Rattle.interface_needs.proofs.OwnResources.{resource_imported}
+use Rattle.interface_needs.proofs.OwnResources.{interface_resource}
 use Rattle.comp_links.specs.Lists.{needed_types, number_of_type, number_of_interface, import_entries, resource_of, type_name}
 use Rattle.interface_needs.specs.Needs.{IsImported, AreTypesKnown}
 use Rattle.interface_needs.proofs.Lists.{all_of_each}
@@ -57,7 +57,7 @@ module _ (w : ComponentWorld) (ok : IsEncodable w) (id : InterfaceId) (imported 
   known : (outer : List TypeTree) (t : TypeId) → Contains (needed_types w id) t → IsKnownByName (surroundings_of (number_of_interface id (import_entries w)) outer) (resource_of w) w.resolve.types t
   known outer t c =
       let h : IsNeededType w id t = needed_has w ok id imported t c in
-      record { same = λ name resource named. resource_imported w ok t ∙ ap ImportedAt (by name h.own (sym (same_name w.resolve.types t.index) ∙ named)) }
+      record { same = λ name resource named. interface_resource w ok t id imported h.own ∙ ap ImportedAt (by name h.own (sym (same_name w.resolve.types t.index) ∙ named)) }
     where
       of : Option InterfaceId → Origin
       of o = elim o [

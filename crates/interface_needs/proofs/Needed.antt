@@ -1,29 +1,27 @@
 -- The types that an imported interface needs are the live ones of those that it lists, and a live type of it is one of them.
-use Rattle.std.proofs.Common.{◌≡◌, ◌∙◌, ◌==◌, ℕ, Bool, true, false, cond, List, [], ◌∷◌, ◌++◌, map, filter, Contains, inl, inr, refl, sym, ap, subst, Some, is_some}
-use Rattle.std.specs.List.{AllByRecursion, flat_map}
+use Rattle.std.proofs.Common.{◌≡◌, ◌∙◌, ◌==◌, ℕ, Bool, true, List, [], ◌∷◌, map, filter, Contains, refl, sym, ap, subst, Some}
+use Rattle.std.specs.List.{flat_map}
 use Rattle.std.specs.Map.{lookup}
 use Rattle.std.specs.Option.{unwrap_or}
-use Rattle.std.proofs.lemmas.Bool.{eq-eqb}
 use Rattle.std.proofs.lemmas.Map.Views.{Contains-from_lookup}
 use Rattle.std.proofs.lemmas.Slice.Eq.{bytes_eq-Decides}
 use Rattle.comp_lists.proofs.Lists.{AllByRecursion-contains, Contains-map}
 use Rattle.wit_data.specs.declared.ids.InterfaceId.{InterfaceId}
 use Rattle.wit_data.specs.declared.ids.TypeId.{TypeId}
 use Rattle.wit_data.specs.declared.types.Type.{«Type» as Ty}
-use Rattle.wit_data.specs.declared.worlds.WorldItem.{WorldItem}
 use Rattle.wit_data.specs.declared.worlds.WorldItem.TheVariants as items
-use Rattle.wit_data.specs.declared.worlds.WorldKey.{WorldKey}
 use Rattle.wit_data.specs.Live.{named_types, is_live, live_types}
 use Rattle.world_values.specs.Mentions.{same_interface, live_entry, used_types}
+use Rattle.world_values.specs.Tables.{with_all}
 use Rattle.comp_worlds.specs.Encodable.{Entries, IsEncodable, IsInterfacePlaced, IsItemPlaced, IsListedType, IsOwnType}
 use Rattle.comp_worlds.specs.Uses.{all_imports}
 use Rattle.comp_worlds.specs.WorldContents.{items_of, interface_at, name_at}
 use Rattle.comp_worlds.specs.declared.world.ComponentWorld.{ComponentWorld}
 use Rattle.comp_links.specs.Lists.{needed_types}
 use Rattle.interface_needs.specs.Needs.{IsImported, IsNeeded}
-use Rattle.interface_needs.proofs.Lists.{contains_none, contains_cons, filter_keeps, filter_has, map_contains, one_of}
-use Rattle.interface_needs.proofs.Owners.{same_id, owned_within}
-use Rattle.interface_needs.proofs.Tables.{made_finds}
+use Rattle.interface_needs.proofs.Lists.{filter_keeps, filter_has, map_contains, one_of}
+use Rattle.interface_needs.proofs.Owners.{owned_within}
+use Rattle.interface_needs.proofs.Entered.{entered, entered_found}
 
 -- all types for which the component of a world needs definitions
 abbrev pub used_in : ComponentWorld → List Ty
@@ -34,31 +32,11 @@ module _ (w : ComponentWorld) (live : ℕ → Bool) where
   abbrev live_of : InterfaceId → List TypeId
   live_of i = filter (λ t. live t.index) (map (λ e. e.1) (named_types w.resolve i))
 
-  entries_valued : (es : Entries) → AllByRecursion (λ e. e.1 ≡ live_of e.0) (flat_map (λ e. live_entry live w.resolve e.1) es)
-  entries_valued [] = tt
-  entries_valued ((key, items.Interface id) ∷ es) = (refl, entries_valued es)
-  entries_valued ((key, items.Function f) ∷ es) = entries_valued es
-  entries_valued ((key, items.NamedType t) ∷ es) = entries_valued es
-
-  entry_later : (id : InterfaceId) (item : WorldItem) (rest : List (InterfaceId × List TypeId)) → is_some (lookup (λ (other : InterfaceId). id.index == other.index) rest) ≡ true →
-      is_some (lookup (λ (other : InterfaceId). id.index == other.index) (live_entry live w.resolve item ++ rest)) ≡ true
-  entry_later id (items.Interface other) rest h = by (id.index == other.index)
-    where
-      by : (b : Bool) → is_some (cond b (Some (live_of other)) (lookup (λ (other : InterfaceId). id.index == other.index) rest)) ≡ true
-      by true = refl
-      by false = h
-  entry_later id (items.Function f) rest h = h
-  entry_later id (items.NamedType t) rest h = h
-
-  entry_there : (id : InterfaceId) (key : WorldKey) (es : Entries) → Contains es (key, items.Interface id) → is_some (lookup (λ (other : InterfaceId). id.index == other.index) (flat_map (λ e. live_entry live w.resolve e.1) es)) ≡ true
-  entry_there id key [] c = contains_none (key, items.Interface id) c
-  entry_there id key (e ∷ es) c =
-      let rest = flat_map (λ e. live_entry live w.resolve e.1) es in
-      elim (contains_cons e es (key, items.Interface id) c) [
-        | inl same ↦ subst (λ x. is_some (lookup (λ (other : InterfaceId). id.index == other.index) (live_entry live w.resolve x.1 ++ rest)) ≡ true) (sym same)
-            (ap (λ b. is_some (cond b (Some (live_of id)) (lookup (λ (other : InterfaceId). id.index == other.index) rest))) (eq-eqb id.index id.index refl))
-        | inr later ↦ entry_later id e.1 rest (entry_there id key es later)
-      ]
+  same_entries : (es : Entries) → flat_map (λ e. live_entry live w.resolve e.1) es ≡ flat_map (λ e. entered (λ (i : InterfaceId). filter (λ t. live t.index) (map (λ e. e.1) (named_types w.resolve i))) e.1) es
+  same_entries [] = refl
+  same_entries ((key, items.Interface id) ∷ es) = ap (λ rest. (id, live_of id) ∷ rest) (same_entries es)
+  same_entries ((key, items.Function f) ∷ es) = same_entries es
+  same_entries ((key, items.NamedType t) ∷ es) = same_entries es
 
 -- a type that an interface needs
 pub record IsNeededType (w : ComponentWorld) (id : InterfaceId) (t : TypeId) : Type 0 where
@@ -75,11 +53,10 @@ module _ (w : ComponentWorld) (ok : IsEncodable w) where
   needed_are id h =
       let live : ℕ → Bool = is_live w.resolve.types (used_in w) in
       let test : InterfaceId → Bool = λ other. id.index == other.index in
-      let entries : List (InterfaceId × List TypeId) = flat_map (λ e. live_entry live w.resolve e.1) (items_of w).imports in
+      let value : InterfaceId → List TypeId = λ i. live_types w.resolve.types (used_in w) (named_types w.resolve i) in
       ap (λ table. unwrap_or (lookup test table) []) ok.tables.live_type_imports
-      ∙ ap (λ o. unwrap_or o [])
-      (made_finds same_interface (λ (i : InterfaceId). live_types w.resolve.types (used_in w) (named_types w.resolve i)) test id entries (λ j e. sym (same_id id j e)) (λ j t e. e) (entries_valued w live (items_of w).imports)
-      (entry_there w live id h.key (items_of w).imports h.there))
+      ∙ (ap (λ entries. unwrap_or (lookup test (with_all same_interface [] entries)) []) (same_entries w live (items_of w).imports)
+      ∙ ap (λ o. unwrap_or o []) (entered_found value id h.key (items_of w).imports h.there))
 
   pub needed_has : (id : InterfaceId) → IsImported w id → (t : TypeId) → Contains (needed_types w id) t → IsNeededType w id t
   needed_has id h t c =

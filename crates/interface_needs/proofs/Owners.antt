@@ -13,7 +13,7 @@ use Rattle.wit_types.specs.Settings.{owner_at}
 use Rattle.wit_types.specs.Settings as settings
 use Rattle.comp_worlds.specs.WorldContents.{interface_of_owner, interface_at, name_at}
 
-owner_is : (o : TypeOwner) (i : InterfaceId) → interface_of_owner o ≡ Some i → o ≡ owners.Interface i
+pub owner_is : (o : TypeOwner) (i : InterfaceId) → interface_of_owner o ≡ Some i → o ≡ owners.Interface i
 owner_is (owners.Interface j) i e = ap owners.Interface (same_Some j i e)
 owner_is o i e = absurd (none-some i e)
 

@@ -29,7 +29,7 @@ use Rattle.world_values.specs.Mentions.{function_types, resource_of, at_most_one
 use Rattle.comp_worlds.specs.Encodable.{is_resource_kind, is_of_interface}
 use Rattle.comp_worlds.specs.WorldContents.{interface_at, name_at}
 use Rattle.interface_needs.proofs.Lists.{contains_first, contains_later}
-use Rattle.interface_needs.proofs.Owners.{at_root, same_name}
+use Rattle.interface_needs.proofs.Owners.{at_root, same_id, same_name}
 use Rattle.interface_needs.proofs.RootTypes.{of_parts, all_tests}
 
 -- ---- what holds of each live type that passes a test, where a live type is made of live ones
@@ -106,45 +106,48 @@ owner_home types lent here n resource =
     ∙ (ap (λ i. owned_home lent here n resource i (settings.name_at types n)) (at_root types n)
     ∙ ap (owned_home lent here n resource (interface_at types n)) (same_name types n))
 
-module _ (types : List TypeDef) (lent : ℕ → Bool) (lends : InterfaceId → Bool) (here : InterfaceId) (n : ℕ) (given : (other : InterfaceId) → interface_at types n ≡ Some other → lends other ≡ true → lent n ≡ true) where
+module _ (types : List TypeDef) (lent : ℕ → Bool) (lends : InterfaceId → Bool) (here : InterfaceId) (n : ℕ) (given : (other : InterfaceId) → interface_at types n ≡ Some other → lends other ≡ true → lent n ≡ true)
+    (own : interface_at types n ≡ Some here → lent n ≡ true) (titled : interface_at types n ≡ Some here → is_resource (kind_at types n) ≡ true → is_some (name_at types n) ≡ true) where
   -- whether the owner of a type is this interface, or one that lends it under a name; or there is neither
   abbrev owned_by : Bool → Option InterfaceId → Option (List ℕ) → Bool
-  owned_by resource owner name = elim owner [ Some id ↦ here.index == id.index && not resource || (lends id && is_some name) | None ↦ is_none name && not resource ]
+  owned_by resource owner name = elim owner [ Some id ↦ here.index == id.index || (lends id && is_some name) | None ↦ is_none name && not resource ]
 
-  owned : (resource : Bool) (owner : Option InterfaceId) (name : Option (List ℕ)) → interface_at types n ≡ owner → owned_by resource owner name ≡ true → owned_home lent here n resource owner name ≡ true
-  owned true None name is e = absurd (true≢false (sym (and_parts (is_none name) false e).1))
-  owned false None name is e = or_left (is_none name) false (and_parts (is_none name) true e).0
-  owned resource (Some id) name is e =
-      by (here.index == id.index) resource e
+  owned : (resource : Bool) (owner : Option InterfaceId) (name : Option (List ℕ)) → interface_at types n ≡ owner → (owner ≡ Some here → resource ≡ true → is_some name ≡ true) → owned_by resource owner name ≡ true → owned_home lent here n resource owner name ≡ true
+  owned true None name is named e = absurd (true≢false (sym (and_parts (is_none name) false e).1))
+  owned false None name is named e = or_left (is_none name) false (and_parts (is_none name) true e).0
+  owned resource (Some id) name is named e =
+      by (here.index == id.index) resource refl named e
     where
-      is_lent : lends id && is_some name ≡ true → (lent n ≡ true) × (is_some name ≡ true)
-      is_lent h = let b = and_parts (lends id) (is_some name) h in (given id is b.0, b.1)
+      by : (own_one resource : Bool) → (here.index == id.index) ≡ own_one → (Some id ≡ Some here → resource ≡ true → is_some name ≡ true) → (own_one || (lends id && is_some name)) ≡ true → home_by lent n resource (if own_one then None else Some id) (Some id) name ≡ true
+      by true false same named e = or_right (is_none name) true refl
+      by true true same named e =
+          let one : Some id ≡ Some here = ap Some (sym (same_id here id same)) in
+          and_from (lent n) (is_some name && true) (own (is ∙ one)) (and_from (is_some name) true (named one refl) refl)
+      by false resource other named e = let b = and_parts (lends id) (is_some name) e in and_from (lent n) (is_some name) (given id is b.0) b.1
 
-      by : (own resource : Bool) → (own && not resource || (lends id && is_some name)) ≡ true → home_by lent n resource (if own then None else Some id) (Some id) name ≡ true
-      by true false e = or_right (is_none name) true refl
-      by true true e = let h = is_lent e in and_from (lent n) (is_some name && true) h.0 (and_from (is_some name) true h.1 refl)
-      by false resource e = let h = is_lent e in and_from (lent n) (is_some name) h.0 h.1
-
-  pub home_of : (k : TypeDefKind) → is_of_interface types lends here n k ≡ true → is_at_home types lent here n k ≡ true
-  home_of k e =
+  pub home_of : is_of_interface types lends here n (kind_at types n) ≡ true → is_at_home types lent here n (kind_at types n) ≡ true
+  home_of e =
+      let k = kind_at types n in
       owner_home types lent here n (is_resource k)
-      ∙ owned (is_resource k) (interface_at types n) (name_at types n) refl (ap (λ b. owned_by b (interface_at types n) (name_at types n)) (same_kind k) ∙ e)
+      ∙ owned (is_resource k) (interface_at types n) (name_at types n) refl titled (ap (λ b. owned_by b (interface_at types n) (name_at types n)) (same_kind k) ∙ e)
 
--- a type of the interface that is not lent is one of values
-pub own_values : (lent : ℕ → Bool) (n : ℕ) (k : TypeDefKind) (owner : Option InterfaceId) (name : Option (List ℕ)) → lent n ≡ false → home_by lent n (is_resource k) None owner name ≡ true → is_resource k ≡ false
-own_values lent n k owner name unlent e = by (is_resource k) e
-  where
-    by : (r : Bool) → home_by lent n r None owner name ≡ true → r ≡ false
-    by false e = refl
-    by true e = absurd (true≢false (sym (and_parts (lent n) (is_some name && is_some owner) e).0 ∙ unlent))
+-- a resource that is at home in an interface is one of an interface
+pub resource_owned : (types : List TypeDef) (lent : ℕ → Bool) (here : InterfaceId) (n : ℕ) (k : TypeDefKind) → is_at_home types lent here n k ≡ true → is_resource k ≡ true → interface_at types n ≡ None → ⊥
+resource_owned types lent here n k e resource none =
+    let at : owned_home lent here n (is_resource k) (interface_at types n) (name_at types n) ≡ true = sym (owner_home types lent here n (is_resource k)) ∙ e in
+    let by : owned_home lent here n true None (name_at types n) ≡ true = ap (λ r. owned_home lent here n r None (name_at types n)) (sym resource) ∙ (ap (λ o. owned_home lent here n (is_resource k) o (name_at types n)) (sym none) ∙ at) in
+    true≢false (sym (and_parts (is_some (name_at types n)) false (and_parts (lent n) (is_some (name_at types n) && false) by).1).1)
 
 -- ---- a type that is at home in an interface may be encoded in a scope of it
 
+-- Each type of another interface that is lent is in the tables, or may be imported; of the live types that are parts of live ones, each
+-- resource of the interface is in the tables.
 module _ (s : Setting) (here : InterfaceId) (back : RefersBack s.types) (inside : s.interface ≡ Some here) (own : (n : ℕ) → s.may_own n ≡ true) (lent : ℕ → Bool)
-    (may : (n : ℕ) (other : InterfaceId) → foreign (Some here) (owner_at s.types n) ≡ Some other → lent n ≡ true → s.may_import other (record { index = n }) ≡ true)
-    (unlent : (n : ℕ) → foreign (Some here) (owner_at s.types n) ≡ None → lent n ≡ false) where
-  made_allowed : (n : ℕ) (bs : List Bool) → is_at_home s.types lent here n (kind_at s.types n) ≡ true → AllByRecursion (λ b. b ≡ true) bs → may_have s n (kind_at s.types n) bs ≡ true
-  made_allowed n bs e h = by (s.met (record { index = n })) (foreign (Some here) (owner_at s.types n)) refl e
+    (may : (n : ℕ) (other : InterfaceId) → foreign (Some here) (owner_at s.types n) ≡ Some other → lent n ≡ true → is_some (settings.name_at s.types n) ≡ true → (s.met (record { index = n }) || s.may_import other (record { index = n })) ≡ true) (live : ℕ → Bool)
+    (onward : (n m : ℕ) → n < length s.types → Contains (parts (kind_at s.types n)) (Some (Id (record { index = m }))) → live n ≡ true → live m ≡ true)
+    (resources : (n : ℕ) → live n ≡ true → foreign (Some here) (owner_at s.types n) ≡ None → is_some (foreign None (owner_at s.types n)) ≡ true → is_resource (kind_at s.types n) ≡ true → s.met (record { index = n }) ≡ true) where
+  made_allowed : (n : ℕ) (bs : List Bool) → live n ≡ true → is_at_home s.types lent here n (kind_at s.types n) ≡ true → AllByRecursion (λ b. b ≡ true) bs → may_have s n (kind_at s.types n) bs ≡ true
+  made_allowed n bs l e h = by (s.met (record { index = n })) (foreign (Some here) (owner_at s.types n)) refl refl e
     where
       k : TypeDefKind
       k = kind_at s.types n
@@ -152,21 +155,26 @@ module _ (s : Setting) (here : InterfaceId) (back : RefersBack s.types) (inside 
       of : (o : Option InterfaceId) → foreign (Some here) (owner_at s.types n) ≡ o → may_make s n k bs (foreign s.interface (owner_at s.types n)) ≡ may_make s n k bs o
       of o is = ap (may_make s n k bs) (ap (λ i. foreign i (owner_at s.types n)) inside ∙ is)
 
-      by : (met : Bool) (o : Option InterfaceId) → foreign (Some here) (owner_at s.types n) ≡ o → home_by lent n (is_resource k) o (foreign None (owner_at s.types n)) (settings.name_at s.types n) ≡ true → (if met then true else may_make s n k bs (foreign s.interface (owner_at s.types n))) ≡ true
-      by true o is e = refl
-      by false None is e =
-          of None is ∙ and_from (s.may_own n) (may_define s n k bs) (own n) (of_parts s n k bs (own_values lent n k (foreign None (owner_at s.types n)) (settings.name_at s.types n) (unlent n is) e) (all_tests (λ (b : Bool). b) bs h))
-      by false (Some other) is e = let c = and_parts (lent n) (is_some (settings.name_at s.types n)) e in of (Some other) is ∙ may n other is c.0
+      -- one of the interface that isn't in the tables is one of values
+      values : s.met (record { index = n }) ≡ false → foreign (Some here) (owner_at s.types n) ≡ None → (r : Bool) → is_resource k ≡ r → home_by lent n r None (foreign None (owner_at s.types n)) (settings.name_at s.types n) ≡ true → is_resource k ≡ false
+      values unmet is false r e = r
+      values unmet is true r e =
+          let owner = is_some (foreign None (owner_at s.types n)) in
+          let b = and_parts (lent n) (is_some (settings.name_at s.types n) && owner) e in
+          absurd (true≢false (sym (resources n l is (and_parts (is_some (settings.name_at s.types n)) owner b.1).1 r) ∙ unmet))
 
-  pub home_allowed : (p : Option Ty) → value (each_passes (is_at_home s.types lent here)) s.types p ≡ true → is_allowed s p ≡ true
+      by : (met : Bool) (o : Option InterfaceId) → s.met (record { index = n }) ≡ met → foreign (Some here) (owner_at s.types n) ≡ o → home_by lent n (is_resource k) o (foreign None (owner_at s.types n)) (settings.name_at s.types n) ≡ true → (if met then true else may_make s n k bs (foreign s.interface (owner_at s.types n))) ≡ true
+      by true o m is e = refl
+      by false None m is e =
+          of None is ∙ and_from (s.may_own n) (may_define s n k bs) (own n) (of_parts s n k bs (values m is (is_resource k) refl e) (all_tests (λ (b : Bool). b) bs h))
+      by false (Some other) m is e =
+          let c = and_parts (lent n) (is_some (settings.name_at s.types n)) e in
+          of (Some other) is ∙ (ap (λ b. b || s.may_import other (record { index = n })) (sym m) ∙ may n other is c.0 c.1)
+
+  pub home_allowed : (p : Option Ty) → (IsBelow (length s.types) p → IsLive live p) → value (each_passes (is_at_home s.types lent here)) s.types p ≡ true → is_allowed s p ≡ true
   unfolding is_allowed
-  home_allowed p e =
-      passing_holds s.types back (is_at_home s.types lent here) (λ n. true) (λ n m l c h. refl) (allowing s) (λ b. b ≡ true) refl (λ q. refl) (λ n bs h t each. made_allowed n bs t each) p (all_live p) e
-    where
-      all_live : (p : Option Ty) → IsBelow (length s.types) p → IsLive (λ n. true) p
-      all_live None l = tt
-      all_live (Some (Primitive p)) l = tt
-      all_live (Some (Id id)) l = refl
+  home_allowed p is_live e =
+      passing_holds s.types back (is_at_home s.types lent here) live onward (allowing s) (λ b. b ≡ true) refl (λ q. refl) made_allowed p is_live e
 
 -- ---- the types that a function names
 

@@ -1,6 +1,6 @@
 -- What the types and functions at the root of a world need, and have at hand, in a world that can be encoded (component
 -- model, WIT: worlds, `use`, resources).
-use Rattle.std.specs.Prelude.{◌≡◌, ◌<◌, ◌≤◌, ◌&&◌, ℕ, Bool, true, false, List, length, map, Option, Some, None, IsSome, Contains}
+use Rattle.std.specs.Prelude.{◌≡◌, ◌<◌, ◌≤◌, ◌==◌, ◌⊎◌, ◌&&◌, ◌||◌, ℕ, Bool, true, false, List, length, map, Option, Some, None, IsSome, Contains}
 use Rattle.wit_data.specs.declared.functions.Function.{Function}
 use Rattle.wit_data.specs.declared.ids.InterfaceId.{InterfaceId}
 use Rattle.wit_data.specs.declared.ids.TypeId.{TypeId}
@@ -9,12 +9,17 @@ use Rattle.wit_data.specs.declared.worlds.WorldItem.{WorldItem}
 use Rattle.wit_data.specs.declared.worlds.WorldItem.TheVariants as items
 use Rattle.wit_data.specs.declared.worlds.WorldKey.{WorldKey}
 use Rattle.wit_data.specs.declared.worlds.WorldKey.TheVariants as keys
-use Rattle.wit_data.specs.Values.{value}
+use Rattle.wit_data.specs.declared.types.TypeDef.{TypeDef}
+use Rattle.wit_data.specs.Values.{kind_at, value}
+use Rattle.wit_types.specs.Allowing.{is_resource}
 use Rattle.wit_types.specs.Settings.{Setting}
 use Rattle.type_scopes.specs.Needs.{each_passes, is_at_home}
 use Rattle.type_scopes.specs.Titles.{is_one_of}
+use Rattle.std.specs.List.{list_any}
 use Rattle.world_values.specs.Items.{root_function_at}
-use Rattle.comp_worlds.specs.Encodable.{place, is_lent}
+use Rattle.world_values.specs.Mentions.{interfaces_of, same_interface}
+use Rattle.comp_worlds.specs.Encodable.{place}
+use Rattle.comp_worlds.specs.ExportOrder.{used_exports}
 use Rattle.comp_worlds.specs.WorldContents.{items_of, exported_item, function_exported, imported_types, interface_at, name_at}
 use Rattle.comp_worlds.specs.Worlds.{IsResource}
 use Rattle.comp_worlds.specs.declared.world.ComponentWorld.{ComponentWorld}
@@ -55,10 +60,19 @@ pub record IsExportedInterface (w : ComponentWorld) (interface : InterfaceId) : 
   pub key : WorldKey
   pub of : exported_item w key ≡ Some (items.Interface interface)
 
--- a type that exported interfaces may use, of an interface that is only imported: a component needs it
-abbrev pub is_lent_type : ComponentWorld → ℕ → Bool
-is_lent_type w n = elim (interface_at w.resolve.types n) [
-  | Some other ↦ is_lent (items_of w) other && is_one_of (needed_types w other) n
+-- a type that a component needs of an imported interface
+abbrev pub is_needed_of : ComponentWorld → InterfaceId → ℕ → Bool
+is_needed_of w other n = list_any (same_interface other) (interfaces_of (items_of w).imports) && is_one_of (needed_types w other) n
+
+-- whether an exported interface may use the types of another one, or of itself
+abbrev pub is_lent_to : ComponentWorld → InterfaceId → InterfaceId → ℕ → Bool
+is_lent_to w here other n = here.index == other.index || (list_any (same_interface other) (used_exports w here) || is_needed_of w other n)
+
+-- A type that an exported interface may use: of an imported interface one that a component needs; of another exported interface that it
+-- uses any; and its own.
+abbrev pub is_lent_type : ComponentWorld → InterfaceId → ℕ → Bool
+is_lent_type w here n = elim (interface_at w.resolve.types n) [
+  | Some other ↦ is_lent_to w here other n
   | None ↦ false
 ]
 
@@ -67,14 +81,21 @@ pub record IsUsableType (w : ComponentWorld) (interface : InterfaceId) (t : Type
   pub exported : IsExportedInterface w interface
   pub within : t.index < length w.resolve.types
   pub named : IsSome (name_at w.resolve.types t.index)
-  pub passes : value (each_passes (is_at_home w.resolve.types (is_lent_type w) interface)) w.resolve.types (Some (Id t)) ≡ true
+  pub passes : value (each_passes (is_at_home w.resolve.types (is_lent_type w interface) interface)) w.resolve.types (Some (Id t)) ≡ true
 
--- the scope of an exported interface, in which every type may be defined, and each type imported that an imported interface needs
-pub record IsInterfaceScope (w : ComponentWorld) (id : InterfaceId) (s : Setting) : Type 0 where
+-- The scope of an exported interface, in which every type may be defined, each type imported that an imported interface needs, and each
+-- named type of an exported interface used that the interface uses. Its resources that come before this number are in the tables.
+pub record IsInterfaceScope (w : ComponentWorld) (id : InterfaceId) (s : Setting) (bound : ℕ) : Type 0 where
   pub types : s.types ≡ w.resolve.types
   pub interface : s.interface ≡ Some id
   pub own : (n : ℕ) → s.may_own n ≡ true
   pub imports : (other : InterfaceId) (t : TypeId) → IsNeeded w other t → s.may_import other t ≡ true
+  pub uses : (other : InterfaceId) (t : TypeId) → Contains (used_exports w id) other → interface_at w.resolve.types t.index ≡ Some other → IsSome (name_at w.resolve.types t.index) → (s.met t || s.may_import other t) ≡ true
+  pub resources : (n : ℕ) → n < bound → interface_at w.resolve.types n ≡ Some id → is_resource (kind_at w.resolve.types n) ≡ true → s.met (record { index = n }) ≡ true
+
+-- a type comes before this number, or no later and is no resource
+abbrev pub IsWithin : List TypeDef → ℕ → TypeId → Type 0
+IsWithin types bound t = (t.index < bound) ⊎ ((t.index ≤ bound) × (is_resource (kind_at types t.index) ≡ false))
 
 -- a type that the world imports, made of types of imported interfaces and of the root
 pub record IsWorldType (w : ComponentWorld) (id : TypeId) : Type 0 where

@@ -96,7 +96,7 @@ use Rattle.link_laws.proofs.WorkedTexts.{all_below}
 
 -- ---- the world
 
-abbrev s : List ℕ
+abbrev pub s : List ℕ
 s = codes "s"
 
 abbrev e : List ℕ
@@ -106,7 +106,7 @@ e = codes "e"
 abbrev core : List ℕ
 core = core_preamble ++ 0x01 ∷ 0x05 ∷ 0x01 ∷ 0x60 ∷ 0x01 ∷ 0x7f ∷ 0x00 ∷ 0x03 ∷ 0x03 ∷ 0x02 ∷ 0x00 ∷ 0x00 ∷ 0x07 ∷ 0x09 ∷ 0x02 ∷ 0x01 ∷ 0x64 ∷ 0x00 ∷ 0x00 ∷ 0x01 ∷ 0x65 ∷ 0x00 ∷ 0x01 ∷ 0x0a ∷ 0x07 ∷ 0x02 ∷ 0x02 ∷ 0x00 ∷ 0x0b ∷ 0x02 ∷ 0x00 ∷ 0x0b ∷ []
 
-abbrev resource_type : List ℕ → TypeDef
+abbrev pub resource_type : List ℕ → TypeDef
 resource_type text = record { name = Some text; kind = wit_kinds.Resource; owner = owners.Interface (interface_id 0) }
 
 abbrev world : ComponentWorld
@@ -255,13 +255,13 @@ are_generated = record { debug_names = false; shims = shims_encoded; fixup = fix
 
 -- ---- a list for it, where r and s have these destructors, and the nested component is given these types for them
 
-abbrev import_r : List ℕ
+abbrev pub import_r : List ℕ
 import_r = codes "import-type-r"
 
-abbrev import_s : List ℕ
+abbrev pub import_s : List ℕ
 import_s = codes "import-type-s"
 
-abbrev passing_on : List Item
+abbrev pub passing_on : List Item
 passing_on =
     items.Import (plain import_r) descriptions.SubResource
     ∷ items.Import (plain import_s) descriptions.SubResource
@@ -269,7 +269,7 @@ passing_on =
     ∷ items.Export (plain s) sorts.Type 1 None
     ∷ []
 
-abbrev given_as : ℕ → ℕ → List Argument
+abbrev pub given_as : ℕ → ℕ → List Argument
 given_as for_r for_s = record { name = import_r; sort = sorts.Type; index = for_r } ∷ record { name = import_s; sort = sorts.Type; index = for_s } ∷ []
 
 abbrev fixup_arguments : List CoreArgument
@@ -385,13 +385,13 @@ fixup_right : InstantiatesFixup world (ds 12) 2 fixup_arguments
 fixup_right = record { numbered = refl; scoped = omega arith; last = refl; actual = 2; shims = 0; given = refl; of_shims = shims_are 12 refl; fills = both_filled }
 
 -- what the nested component imports are the resources
-abbrev resources_given : List ℕ → TypeTree
+abbrev pub resources_given : List ℕ → TypeTree
 resources_given text = OfValues (ResourceAt (DefinedAt (if bytes_eq text import_r then 0 else 1)))
 
-nested_right : AreItemsRight resources_given empty_scope passing_on
+pub nested_right : AreItemsRight resources_given empty_scope passing_on
 nested_right = (record { resource = DefinedAt 0; same = refl }, (record { resource = DefinedAt 1; same = refl }, (omega arith, (omega arith, tt))))
 
-imports_apart : IsDistinct bytes_eq (import_r ∷ import_s ∷ [])
+pub imports_apart : IsDistinct bytes_eq (import_r ∷ import_s ∷ [])
 unfolding IsDistinct
 imports_apart = ((refl, tt), (tt, tt))
 

@@ -48,7 +48,8 @@ use Rattle.comp_runs.specs.Store.{Thing, Export, HeldOption, HeldEncoding, HeldM
 use Rattle.comp_roles.specs.declared.offered.ExternType.{ExternType}
 use Rattle.comp_roles.specs.declared.offered.ExternType.TheVariants as externs
 use Rattle.comp_roles.specs.declared.offered.ImportType.{ImportType}
-use Rattle.comp_links.specs.Targets.{UserModule, Main, WorldFunction, ExportRef, TargetOption, Target, OfRoot, OfInterface, Lowered, ExportOf, Dropped, Lifted}
+use Rattle.wit_data.specs.declared.ids.TypeId.{TypeId}
+use Rattle.comp_links.specs.Targets.{UserModule, Main, WorldFunction, ExportRef, TargetOption, Target, OfRoot, OfInterface, Lowered, ExportOf, OfResource, ResourceFunction, New, Rep, Drop, Lifted}
 use Rattle.comp_links.specs.Targets as targets
 use Rattle.comp_links.specs.Modules.{WorldModule, adapter_module, IsModule}
 use Rattle.comp_links.specs.Lists.{IsOriginOf, resource_of}
@@ -61,7 +62,7 @@ use Rattle.shim_runs.proofs.Placed.{shim_at}
 use Rattle.shim_runs.proofs.Exported.{shims_found}
 use Rattle.link_laws.specs.Composition.{at_root, item_instantiates}
 use Rattle.comp_terms.specs.Generated.{shims_number, role_of_kind, Purpose, OfImport, OfDestructor, target_of, HasPurpose}
-use Rattle.comp_terms.specs.Terms.{CoreExport, TermOption, Term, Is, IsFunctionType, IsResource, IsImportedFunction, IsInstanceOf, IsExported, IsOption, IsLowering, IsDropping, IsLifting}
+use Rattle.comp_terms.specs.Terms.{CoreExport, TermOption, Term, Is, IsFunctionType, IsResource, IsImportedFunction, IsInstanceOf, IsExported, IsOption, IsLowering, IsOfResource, intrinsic_of, IsLifting}
 use Rattle.comp_terms.specs.Terms as terms
 use Rattle.comp_terms.specs.Planned.{IsExportFor, IsMemoryFor, IsOptionFor, IsTypeOf, IsTermFor, IsItemFor, IsDestructorFor, IsGivenFor, IsLiftFor, IsEntryFor, IsArgumentFor}
 use Rattle.comp_terms.specs.Rules.{IsOfKind}
@@ -75,7 +76,7 @@ use Rattle.instance_laws.proofs.Held.{trees_of_held, held_of_entries, IsTypeTher
 use Rattle.link_laws.proofs.Zips.{AllZip-filter, AllZip-back, mapped_some, filter-both, all_some-zip, found-zip, found-each}
 use Rattle.comp_worlds.proofs.Roles.{bound_some}
 use Rattle.link_laws.proofs.Plain.{IsFunctionImport, lowered_type, same_signature-refl, function_type_in, only_main_is, fields_right}
-use Rattle.link_laws.proofs.Stores.{IsOpaqueOf, IsInstance, IsUserItem, IsUserExport, IsUserInstance, IsNamedEntry, IsInlineInstance, ShimsAt, AreModuleExports, IsModuleInstance, NamesUser, IsLoweredItem, IsTypeAt, IsDropItem, IsLiftedItem, IsAliasedItem, DefIs, Means, makes, IsTypeEntry, entry_of, IsFunctionEntry, IsInstanceThing, IsLoweredFor, IsDropOf, IsExportServed, IsServedAs, IsShimGivenAt, IsShimGiven, Serves, MayHaveShims, main_module, IsPlanned, IsMainExport, IsFirstMemory, IsOptionFunction, IsHeldOption, IsOptionHeld, IsCoreExportAt, IsLiftedFrom, IsDestructorAt, IsDestructorGiven, Agrees}
+use Rattle.link_laws.proofs.Stores.{IsOpaqueOf, IsInstance, IsUserItem, IsUserExport, IsUserInstance, IsNamedEntry, IsInlineInstance, ShimsAt, AreModuleExports, IsModuleInstance, NamesUser, IsLoweredItem, IsTypeAt, IsResourceItem, IsLiftedItem, IsAliasedItem, DefIs, Means, makes, IsTypeEntry, entry_of, IsFunctionEntry, IsInstanceThing, IsLoweredFor, IsFunctionOf, IsExportServed, IsServedAs, resource_core, IsShimGivenAt, IsShimGiven, Serves, MayHaveShims, main_module, IsPlanned, IsMainExport, IsFirstMemory, IsOptionFunction, IsHeldOption, IsOptionHeld, IsCoreExportAt, IsLiftedFrom, IsDestructorAt, IsDestructorGiven, Agrees}
 
 makes-space : (space : Space) (d : Def) → is_space space (space_of d) ≡ true → makes d ≡ true
 makes-space space d e = by (space_of d) e
@@ -312,9 +313,16 @@ module _ {w : ComponentWorld} {earlier : List Def} {c : Scope} {s : Store} (a : 
       let x = function_there index (record { origin = Some origin; type = OfFunctions type }) h.is in
       (x.0, x.1, x.2.present ∙ ap (λ (f : Function). Some f) (imported_of_entry x.2.function origin type x.2.same))
 
-  pub dropped_there : {index : ℕ} {resource : Resource} → IsDropping earlier index resource → (x : ℕ) × (address_at spaces.CoreFunc index c.items ≡ Some x) × IsDropOf s x resource
-  dropped_there {index} {resource} h =
-      let l : (x : ℕ) × (address_at spaces.CoreFunc index c.items ≡ Some x) × IsDropItem c.items s h.type x = thing_there h.made in
+  -- the item of a function of a resource's handles
+  resource_item_there : (function : ResourceFunction) {index type : ℕ} → IsAt earlier spaces.CoreFunc index (defs.Item (items.Intrinsic (intrinsic_of function type))) →
+      (x : ℕ) × (address_at spaces.CoreFunc index c.items ≡ Some x) × IsResourceItem c.items s function type x
+  resource_item_there New made = thing_there made
+  resource_item_there Rep made = thing_there made
+  resource_item_there Drop made = thing_there made
+
+  pub of_resource_there : {index : ℕ} {function : ResourceFunction} {resource : Resource} → IsOfResource earlier index function resource → (x : ℕ) × (address_at spaces.CoreFunc index c.items ≡ Some x) × IsFunctionOf s x function resource
+  of_resource_there {index} {function} {resource} h =
+      let l : (x : ℕ) × (address_at spaces.CoreFunc index c.items ≡ Some x) × IsResourceItem c.items s function h.type x = resource_item_there function h.made in
       let t : (x : ℕ) × (address_at spaces.Type h.type c.items ≡ Some x) × IsHeldAs s.types (OfValues (ResourceAt resource)) x = held_there h.of.denotes in
       let same : t.0 ≡ l.2.of = same_Some t.0 l.2.of (sym t.1 ∙ l.2.at) in
       (l.0, l.1, record { of = l.2.of; is = l.2.is; held = subst (IsHeldAs s.types (OfValues (ResourceAt resource))) same t.2 })
@@ -545,19 +553,24 @@ module _ {w : ComponentWorld} {earlier : List Def} {c : Scope} {s : Store} (a : 
   lowering_there ok kinds.Global index function options (terms.Lowering origin type written) is asked = absurd is
   lowering_there ok kind index function options term is asked = absurd asked
 
+  resource_function_there : (kind : ExportKind) (index : ℕ) (function : ResourceFunction) (id : TypeId) (term : Term) → Is earlier (kind_space kind) index term → IsTermFor w (OfResource function id) term →
+      (kind ≡ kinds.Func) × (x : ℕ) × (address_at spaces.CoreFunc index c.items ≡ Some x) × IsFunctionOf s x function (resource_of w id)
+  resource_function_there kinds.Func index function id (terms.OfResource same resource) is asked =
+      let l : (x : ℕ) × (address_at spaces.CoreFunc index c.items ≡ Some x) × IsFunctionOf s x same resource = of_resource_there is in
+      (refl, l.0, l.1, subst (λ f. IsFunctionOf s l.0 f (resource_of w id)) asked.0 (subst (IsFunctionOf s l.0 same) asked.1 l.2))
+  resource_function_there kinds.Table index function id (terms.OfResource same resource) is asked = absurd is
+  resource_function_there kinds.Memory index function id (terms.OfResource same resource) is asked = absurd is
+  resource_function_there kinds.Global index function id (terms.OfResource same resource) is asked = absurd is
+  resource_function_there kind index function id term is asked = absurd asked
+
   pub item_there : IsWorld w → (kind : ExportKind) (index : ℕ) (role : Import) → IsImportRole w role → IsItemFor w earlier (kind_space kind) index (link_of w Main role) →
       (kind ≡ kinds.Func) × (x : ℕ) × (address_at spaces.CoreFunc index c.items ≡ Some x) × IsServedAs w s x (link_of w Main role)
   item_there ok kind index (imports.WorldFunc (keys.Name text) function abi) right h = lowering_there ok kind index (OfRoot text) (lower_options w Main (imports.WorldFunc (keys.Name text) function abi)) h.term h.is h.asked
   item_there ok kind index (imports.InterfaceFunc key interface function abi) right h = lowering_there ok kind index (OfInterface interface function) (lower_options w Main (imports.InterfaceFunc key interface function abi)) h.term h.is h.asked
-  item_there ok kind index (imports.ImportedResourceDrop key interface id) right h = by kind h.term h.is h.asked
-    where
-      by : (kind : ExportKind) (term : Term) → Is earlier (kind_space kind) index term → IsTermFor w (Dropped id) term →
-          (kind ≡ kinds.Func) × (x : ℕ) × (address_at spaces.CoreFunc index c.items ≡ Some x) × IsDropOf s x (resource_of w id)
-      by kinds.Func (terms.Dropping resource) is asked = let l = dropped_there is in (refl, l.0, l.1, subst (IsDropOf s l.0) asked l.2)
-      by kinds.Table (terms.Dropping resource) is asked = absurd is
-      by kinds.Memory (terms.Dropping resource) is asked = absurd is
-      by kinds.Global (terms.Dropping resource) is asked = absurd is
-      by kind term is asked = absurd asked
+  item_there ok kind index (imports.ImportedResourceDrop key interface id) right h = resource_function_there kind index Drop id h.term h.is h.asked
+  item_there ok kind index (imports.ExportedResourceDrop key id) right h = resource_function_there kind index Drop id h.term h.is h.asked
+  item_there ok kind index (imports.ExportedResourceRep key id) right h = resource_function_there kind index Rep id h.term h.is h.asked
+  item_there ok kind index (imports.ExportedResourceNew key id) right h = resource_function_there kind index New id h.term h.is h.asked
   item_there ok kind index role right h = absurd right
 
   -- so has a destructor that main exports
@@ -630,6 +643,13 @@ module _ {w : ComponentWorld} {earlier : List Def} {c : Scope} {s : Store} (a : 
 
 -- ---- what main's imports find
 
+-- a function of a resource's handles is opaque, and has its core type
+resource_opaque : (s : Store) (address : ℕ) (function : ResourceFunction) (resource : Resource) (type : FuncType) → Some (externs.Func (resource_core function)) ≡ Some (externs.Func type) → IsFunctionOf s address function resource →
+    (item : CoreItem) × IsOpaqueOf s address type item
+resource_opaque s address function resource type fits h =
+    let item : CoreItem = IntrinsicOf (intrinsic_of function h.of) in
+    (item, subst (λ t. IsOpaqueOf s address t item) (ap (function_type_in type) (same_Some (externs.Func (resource_core function)) (externs.Func type) fits)) h.is)
+
 -- what serves a role is opaque, and has the core type that the role requires
 pub served_opaque : (w : ComponentWorld) (s : Store) (address : ℕ) (role : Import) (type : FuncType) → IsImportRole w role → type_of_import w.resolve (items_of w) role ≡ Some (externs.Func type) →
     IsServedAs w s address (link_of w Main role) → (item : CoreItem) × IsOpaqueOf s address type item
@@ -645,8 +665,10 @@ served_opaque w s address (imports.InterfaceFunc key id function abi) type right
     (sym (ap (option_map (called_type w.resolve GuestImport)) h.typed.imported) ∙ (ap (λ abi. option_map (called_type w.resolve abi) (found function (functions_of w.resolve id))) (sym right.2) ∙ fits)) in
     let typed : externs.Func (core_signature h.type []) ≡ externs.Func type = lowered_type w h.type h.typed.wit h.typed.typed ∙ asked in
     (Lowering h.lowered.of h.held, subst (λ t. IsOpaqueOf s address t (Lowering h.lowered.of h.held)) (ap (function_type_in type) typed) h.lowered.is)
-served_opaque w s address (imports.ImportedResourceDrop key interface id) type right fits h =
-    (IntrinsicOf (intrinsics.ResourceDrop h.of), subst (λ t. IsOpaqueOf s address t (IntrinsicOf (intrinsics.ResourceDrop h.of))) (ap (function_type_in type) (same_Some drop_type (externs.Func type) fits)) h.is)
+served_opaque w s address (imports.ImportedResourceDrop key interface id) type right fits h = resource_opaque s address Drop (resource_of w id) type fits h
+served_opaque w s address (imports.ExportedResourceDrop key id) type right fits h = resource_opaque s address Drop (resource_of w id) type fits h
+served_opaque w s address (imports.ExportedResourceRep key id) type right fits h = resource_opaque s address Rep (resource_of w id) type fits h
+served_opaque w s address (imports.ExportedResourceNew key id) type right fits h = resource_opaque s address New (resource_of w id) type fits h
 served_opaque w s address role type right fits h = absurd right
 
 -- what a shim hands on to is opaque, and has the shim's core type

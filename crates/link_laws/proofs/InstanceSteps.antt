@@ -9,6 +9,7 @@ use Rattle.comp_bytes.specs.Spaces.{kind_space, items_in}
 use Rattle.comp_bytes.specs.declared.space.Space.TheVariants as spaces
 use Rattle.comp_bytes.specs.declared.def.CoreArgument.{CoreArgument}
 use Rattle.comp_bytes.specs.declared.def.CoreInlineExport.{CoreInlineExport}
+use Rattle.comp_bytes.specs.declared.types.TypeDef.TheVariants as types
 use Rattle.comp_bytes.specs.declared.def.Item.TheVariants as items
 use Rattle.comp_bytes.specs.declared.def.Def.{Def}
 use Rattle.comp_bytes.specs.declared.def.Def.TheVariants as defs
@@ -80,7 +81,7 @@ users_of_generated n other = ap (λ b. cond b (n ∷ []) []) (ne_eqb n 0 (λ e. 
 
 -- the numbers of instances, by the landmarks and by the definitions
 number_of_one : (d : Def) → filter_map instance_number (filter_map landmark (d ∷ [])) ≡ at_root item_instantiates d
-number_of_one (defs.Item (items.CoreModule bytes)) = refl
+number_of_one (defs.Item (items.Type (types.Resource destructor))) = refl
 number_of_one d = refl
 
 pub numbers_of : (ds : List Def) → instances_in ds ≡ flat_map (at_root item_instantiates) ds

@@ -1,10 +1,11 @@
 -- What is kept while a run goes on: what there is stays where it is.
-use Rattle.std.proofs.Common.{None, ◌≡◌, ◌+◌, arith, zero, suc, inl, inr, ℕ, Option, List, [], ◌∷◌, ◌++◌, length, map, filter, refl, sym, subst, ap, Some}
+use Rattle.std.proofs.Common.{None, ◌≡◌, ◌∙◌, ◌<◌, ◌==◌, Bool, true, false, true≢false, ◌+◌, arith, zero, suc, inl, inr, ℕ, Option, List, [], ◌∷◌, ◌++◌, length, map, filter, refl, sym, subst, ap, Some}
 use Rattle.std.proofs.lemmas.List.Elements.{filter-append, Contains-append_left}
 use Rattle.std.proofs.lemmas.Option.{none-some, same_Some}
+use Rattle.std.proofs.lemmas.Bool.Decides.{Decides-eqb}
 use Rattle.std.specs.Prelude.{Contains}
 use Rattle.std.specs.List.{slice_get, AllByRecursion}
-use Rattle.comp_lists.proofs.Lists.{slice_get-append, AllZip-weaker, AllByRecursion-weaker}
+use Rattle.comp_lists.proofs.Lists.{slice_get-append, slice_get-end, AllZip-weaker, AllByRecursion-weaker}
 use Rattle.comp_lists.specs.Found.{found}
 use Rattle.comp_bytes.specs.Spaces.{kind_space, sort_space}
 use Rattle.comp_bytes.specs.declared.space.Space.{Space}
@@ -30,7 +31,7 @@ use Rattle.comp_roles.specs.declared.imports.Import.{Import}
 use Rattle.comp_roles.specs.declared.offered.ImportType.{ImportType}
 use Rattle.comp_worlds.specs.WorldContents.{exported_item}
 use Rattle.comp_worlds.specs.declared.world.ComponentWorld.{ComponentWorld}
-use Rattle.comp_links.specs.Targets.{Main, ExportRef, TargetOption, Target, Lowered, ExportOf, Dropped}
+use Rattle.comp_links.specs.Targets.{Main, ExportRef, TargetOption, Target, Lowered, ExportOf, OfResource}
 use Rattle.comp_links.specs.Targets as targets
 use Rattle.comp_links.specs.Lists.{resource_of, RequiredFunction, functions_required, RequiredType, types_required, type_of_world}
 use Rattle.comp_links.specs.Links.{link_of, destructor_of}
@@ -50,7 +51,7 @@ use Rattle.wit_data.specs.declared.worlds.WorldKey.{WorldKey}
 use Rattle.wit_data.specs.declared.worlds.WorldItem.{WorldItem}
 use Rattle.wit_data.specs.declared.worlds.WorldItem.TheVariants as world_items
 use Rattle.link_laws.proofs.Zips.{mapped_some, AllByRecursion-join}
-use Rattle.link_laws.proofs.Stores.{IsOpaqueOf, IsUserItem, IsUserExport, IsInstance, ShimsAt, AreShimExports, AreModuleExports, IsModuleInstance, IsNamedEntry, IsTypeAt, IsHeldOption, IsArgumentHeld, ItemIs, DefIs, Means, IsEntryItem, IsTypeEntry, IsFunctionEntry, IsInstanceThing, IsMainExport, IsFirstMemory, IsOptionFunction, IsOptionHeld, IsLoweringOf, IsServedAs, IsShimGiven, Serves, IsPlanned, IsPlannedUser, IsFilledWith, AreFilled, ExportsShims, AreShims, MayHaveShims, IsLiftedFrom, main_key, main_function, IsRequiredAt, IsAmong, IsTypeAmong, IsItemExport, IsKeyExport, AreKeyExports, IsDestructorGiven, IsDestroyedBy, IsOwnResource, IsOwnIfDefined, AreResources}
+use Rattle.link_laws.proofs.Stores.{IsOpaqueOf, IsUserItem, IsUserExport, IsInstance, ShimsAt, AreShimExports, AreModuleExports, IsModuleInstance, IsNamedEntry, IsTypeAt, IsHeldOption, IsArgumentHeld, ItemIs, DefIs, Means, IsEntryItem, IsTypeEntry, IsFunctionEntry, IsInstanceThing, IsMainExport, IsFirstMemory, IsOptionFunction, IsOptionHeld, IsLoweringOf, IsServedAs, IsShimGiven, Serves, IsPlanned, IsPlannedUser, IsFilledWith, AreFilled, ExportsShims, AreShims, MayHaveShims, IsLiftedFrom, main_key, main_function, IsRequiredAt, IsAmong, IsTypeAmong, IsItemExport, IsKeyExport, AreKeyExports, IsDestructorGiven, IsDestroyedBy, IsOwnResource, IsOwnIfDefined, AreResources, HasNumber}
 
 -- every entry of the old scope and store is unchanged in the new ones
 pub record Keeps (a b : List Thing) (s t : Store) : Type 0 where
@@ -209,7 +210,7 @@ IsOwnIfDefined-kept w old new same (OwnResource number destructor) h = record { 
 IsOwnIfDefined-kept w old new same item h = tt
 
 pub AreResources-kept : (w : ComponentWorld) (old new : Option ShimsAt) → ShimsKept old new → (types : List TypeItem) (count : ℕ) → AreResources w old types count → AreResources w new types count
-AreResources-kept w old new same types count h = record { counted = h.counted; each = AllByRecursion-weaker (IsOwnIfDefined-kept w old new same) types h.each }
+AreResources-kept w old new same types count h = record { counted = h.counted; each = AllByRecursion-weaker (IsOwnIfDefined-kept w old new same) types h.each; numbered = h.numbered }
 
 -- types that define no resource
 none_own : (w : ComponentWorld) (shims : Option ShimsAt) (types : List TypeItem) → resources_among types ≡ 0 → AllByRecursion (IsOwnIfDefined w shims) types
@@ -224,21 +225,28 @@ none_at (OwnResource other by ∷ types) none address number destructor e = let 
 none_at (item ∷ types) none zero number destructor e = cc
 none_at (item ∷ types) none (suc n) number destructor e = none_at types none n number destructor e
 
+resource-kept : (types more : List TypeItem) (number : ℕ) → HasNumber types number → HasNumber (types ++ more) number
+resource-kept types more number h = record { address = h.address; destructor = h.destructor; is = slice_get-append types more h.address (OwnResource number h.destructor) h.is }
+
 -- with such types the resources are the same
 pub AreResources-more : (w : ComponentWorld) (shims : Option ShimsAt) (types more : List TypeItem) (count : ℕ) → AreResources w shims types count → resources_among more ≡ 0 → AreResources w shims (types ++ more) count
 AreResources-more w shims types more count h none =
     let all : resources_among (types ++ more) ≡ resources_among types + resources_among more = own_resources-append types more in
     let counted = h.counted in
-    record { counted = omega (arith, all, counted, none); each = AllByRecursion-join (IsOwnIfDefined w shims) types more h.each (none_own w shims more none) }
+    record { counted = omega (arith, all, counted, none); each = AllByRecursion-join (IsOwnIfDefined w shims) types more h.each (none_own w shims more none); numbered = λ n less. resource-kept types more n (h.numbered n less) }
 
 -- one resource more
-pub AreResources-push : (w : ComponentWorld) (shims : Option ShimsAt) (types : List TypeItem) (number : ℕ) (destructor : Option ℕ) (count : ℕ) → AreResources w shims types count → IsOwnResource w shims number destructor →
+pub AreResources-push : (w : ComponentWorld) (shims : Option ShimsAt) (types : List TypeItem) (number : ℕ) (destructor : Option ℕ) (count : ℕ) → number ≡ count → AreResources w shims types count → IsOwnResource w shims number destructor →
     AreResources w shims (types ++ OwnResource number destructor ∷ []) (suc count)
-AreResources-push w shims types number destructor count h own =
+AreResources-push w shims types number destructor count next h own =
     let item : TypeItem = OwnResource number destructor in
     let all : resources_among (types ++ item ∷ []) ≡ resources_among types + 1 = own_resources-append types (item ∷ []) in
     let counted = h.counted in
-    record { counted = omega (arith, all, counted); each = AllByRecursion-join (IsOwnIfDefined w shims) types (item ∷ []) h.each (own, tt) }
+    record { counted = omega (arith, all, counted); each = AllByRecursion-join (IsOwnIfDefined w shims) types (item ∷ []) h.each (own, tt); numbered = λ n less. by n less (n == number) refl }
+  where
+    by : (n : ℕ) → n < suc count → (same : Bool) → n == number ≡ same → HasNumber (types ++ OwnResource number destructor ∷ []) n
+    by n less true same = let is : n ≡ number = (Decides-eqb n number).0 same in record { address = length types; destructor = destructor; is = rw is (slice_get-end types (OwnResource number destructor)) }
+    by n less false same = let other : n ≡ number → ⊥ = λ e. true≢false (sym ((Decides-eqb n number).1 e) ∙ same) in resource-kept types (OwnResource number destructor ∷ []) n (h.numbered n (omega (arith, less, next, other)))
 
 shim_exports-kept : (w : ComponentWorld) (old new : Option ShimsAt) → ShimsKept old new → (number : ℕ) (exports : List Export) → AreShimExports w old number exports → AreShimExports w new number exports
 shim_exports-kept w None new same number exports h = absurd h
@@ -310,7 +318,7 @@ module _ {a b : List Thing} {s t : Store} (k : Keeps a b s t) where
     lowered = IsLoweringOf-kept address h.origin h.type h.held h.lowered;
     with_options = AllZip-weaker (IsOptionHeld-kept w) h.held options h.with_options;
   }
-  IsServedAs-kept w address (Dropped id) h = record { of = h.of; is = IsOpaque-kept h.is; held = IsHeldAs-kept k.types (OfValues (ResourceAt (resource_of w id))) h.of h.held }
+  IsServedAs-kept w address (OfResource function id) h = record { of = h.of; is = IsOpaque-kept h.is; held = IsHeldAs-kept k.types (OfValues (ResourceAt (resource_of w id))) h.of h.held }
   IsServedAs-kept w address (ExportOf export_ref) h = record {
     of = h.of;
     is = record { user = h.is.user; type = h.is.type; is = IsOpaque-kept h.is.is; of = IsInstance-kept h.is.of };
@@ -414,6 +422,8 @@ module _ (w : ComponentWorld) (old new : Option ShimsAt) (shims : ShimsKept old 
     with_options = AllZip-weaker (IsHeldOption-kept k) options h.held h.with_options;
     is = IsOpaque-kept k h.is;
   }
+  item-kept (items.Intrinsic (intrinsics.ResourceNew type)) x h = record { of = h.of; at = k.things spaces.Type type h.of h.at; is = IsOpaque-kept k h.is }
+  item-kept (items.Intrinsic (intrinsics.ResourceRep type)) x h = record { of = h.of; at = k.things spaces.Type type h.of h.at; is = IsOpaque-kept k h.is }
   item-kept (items.Intrinsic (intrinsics.ResourceDrop type)) x h = record { of = h.of; at = k.things spaces.Type type h.of h.at; is = IsOpaque-kept k h.is }
   item-kept (items.Instantiate component written) x h = record {
     definitions = h.definitions;

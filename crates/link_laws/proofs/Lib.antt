@@ -40,3 +40,4 @@ mod CrossedNested
 mod WorkedNestedTypes
 mod WorkedOwnResource
 mod CrossedDestructors
+mod WorkedHandles

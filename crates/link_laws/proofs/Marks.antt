@@ -1,8 +1,10 @@
 -- The landmarks of a list of definitions, and what they say of it.
-use Rattle.std.proofs.Common.{◌≡◌, ◌∙◌, ℕ, List, [], ◌∷◌, ◌++◌, map, refl, ap, ap₂, append-nil, Option, Some, None}
+use Rattle.std.proofs.Common.{◌≡◌, ◌∙◌, ◌+◌, arith, ℕ, List, [], ◌∷◌, ◌++◌, length, map, refl, sym, ap, ap₂, append-nil, add-one, add-zero, zero-add, length-append, Option, Some, None}
+use Rattle.std.proofs.lemmas.List.{length-map}
 use Rattle.std.proofs.lemmas.Grind.{flat_map-append}
 use Rattle.std.specs.List.{flat_map, filter_map}
 use Rattle.comp_bytes.specs.ScopeNames.{Names, member_export, def_export, item_export, item_names}
+use Rattle.comp_bytes.specs.declared.types.TypeDef.TheVariants as types
 use Rattle.comp_bytes.specs.declared.def.Item.{Item}
 use Rattle.comp_bytes.specs.declared.def.Item.TheVariants as items
 use Rattle.comp_bytes.specs.declared.def.Def.{Def}
@@ -10,10 +12,12 @@ use Rattle.comp_bytes.specs.declared.def.Def.TheVariants as defs
 use Rattle.comp_worlds.specs.declared.world.ComponentWorld.{ComponentWorld}
 use Rattle.comp_worlds.specs.WorldContents.{exported_item}
 use Rattle.comp_links.specs.Naming.{Naming, name_of}
-use Rattle.comp_links.specs.Lists.{ImportEntry, ImportedInterface, WorldType, RootFunction, Stated, root_function, root_type, import_entries, names_of_interface, stated_import, stated_imports, names_in, instance_type_names, AreNames, stated_export, stated_exports, functions_of_interface, nested_export_names, nested_lists, nested_names}
+use Rattle.comp_links.specs.Lists.{ImportEntry, ImportedInterface, WorldType, RootFunction, Stated, root_function, root_type, import_entries, names_of_interface, stated_import, stated_imports, names_in, instance_type_names, AreNames, stated_export, stated_exports, functions_of_interface, nested_export_names, nested_lists, nested_names, own_resources}
 use Rattle.comp_links.specs.Targets.{Main}
-use Rattle.comp_terms.specs.Rules.{Landmark, Imported, ModuleIs, InstanceOf, Exported, CustomNamed, InstanceTypeOf, landmark, import_marked, imports_marked, modules_marked, exports_marked, IsBuilt, NestedOf, nested_marked, export_marked}
+use Rattle.comp_terms.specs.Rules.{Landmark, Imported, ModuleIs, InstanceOf, Exported, CustomNamed, InstanceTypeOf, landmark, import_marked, imports_marked, modules_marked, exports_marked, IsBuilt, NestedOf, ResourceDefined, nested_marked, export_marked}
 use Rattle.comp_terms.specs.Generated.{shims_number, fixup_number, GeneratedBytes}
+use Rattle.comp_inventories.specs.Inventories.{Inventory, resources_made, with_def, inventory_after, inventory, empty_inventory}
+use Rattle.wit_data.specs.declared.ids.TypeId.{TypeId}
 use Rattle.wit_data.specs.declared.worlds.WorldKey.{WorldKey}
 use Rattle.wit_data.specs.declared.worlds.WorldItem.{WorldItem}
 use Rattle.wit_data.specs.declared.worlds.WorldItem.TheVariants as world_items
@@ -66,36 +70,66 @@ nested_mark (NestedOf imports exports) = imports ∷ exports ∷ []
 nested_mark _ = []
 
 import_is : (d : Def) → at_root item_imports d ≡ flat_map import_mark (filter_map landmark (d ∷ []))
-import_is (defs.Item (items.CoreModule bytes)) = refl
+import_is (defs.Item (items.Type (types.Resource destructor))) = refl
 import_is d = refl
 
 module_is : (d : Def) → at_root item_module d ≡ flat_map module_mark (filter_map landmark (d ∷ []))
-module_is (defs.Item (items.CoreModule bytes)) = refl
+module_is (defs.Item (items.Type (types.Resource destructor))) = refl
 module_is d = refl
 
 instance_is : (d : Def) → at_root item_instantiates d ≡ flat_map instance_mark (filter_map landmark (d ∷ []))
-instance_is (defs.Item (items.CoreModule bytes)) = refl
+instance_is (defs.Item (items.Type (types.Resource destructor))) = refl
 instance_is d = refl
 
 export_is : (d : Def) → at_root item_exports d ≡ flat_map export_mark (filter_map landmark (d ∷ []))
-export_is (defs.Item (items.CoreModule bytes)) = refl
+export_is (defs.Item (items.Type (types.Resource destructor))) = refl
 export_is d = refl
 
 name_is : (d : Def) → def_export d ≡ flat_map name_mark (filter_map landmark (d ∷ []))
-name_is (defs.Item (items.CoreModule bytes)) = refl
+name_is (defs.Item (items.Type (types.Resource destructor))) = refl
 name_is d = refl
 
 custom_is : (d : Def) → at_root item_customs d ≡ flat_map custom_mark (filter_map landmark (d ∷ []))
-custom_is (defs.Item (items.CoreModule bytes)) = refl
+custom_is (defs.Item (items.Type (types.Resource destructor))) = refl
 custom_is d = refl
 
 type_is : (d : Def) → at_root item_type_names d ≡ flat_map type_mark (filter_map landmark (d ∷ []))
-type_is (defs.Item (items.CoreModule bytes)) = refl
+type_is (defs.Item (items.Type (types.Resource destructor))) = refl
 type_is d = refl
 
 nested_is : (d : Def) → nested_lists_of d ≡ flat_map nested_mark (filter_map landmark (d ∷ []))
-nested_is (defs.Item (items.CoreModule bytes)) = refl
+nested_is (defs.Item (items.Type (types.Resource destructor))) = refl
 nested_is d = refl
+
+-- a resource that is defined
+abbrev pub item_resource : Item → List ℕ
+item_resource (items.Type (types.Resource destructor)) = 0 ∷ []
+item_resource _ = []
+
+abbrev resource_mark : Landmark → List ℕ
+resource_mark ResourceDefined = 0 ∷ []
+resource_mark _ = []
+
+resource_is : (d : Def) → at_root item_resource d ≡ flat_map resource_mark (filter_map landmark (d ∷ []))
+resource_is (defs.Item (items.Type (types.Resource destructor))) = refl
+resource_is d = refl
+
+-- these are as many as the inventory counts
+one_resource : (v : Inventory) (d : Def) → resources_made v d ≡ v.resources + length (at_root item_resource d)
+one_resource v (defs.Item (items.Type (types.Resource destructor))) = sym (add-one v.resources)
+one_resource v d = sym (add-zero v.resources)
+
+resources_after : (v : Inventory) (ds : List Def) → (inventory_after v ds).resources ≡ v.resources + length (flat_map (at_root item_resource) ds)
+resources_after v [] = sym (add-zero v.resources)
+resources_after v (d ∷ ds) =
+    let rest : (inventory_after (with_def v d) ds).resources ≡ resources_made v d + length (flat_map (at_root item_resource) ds) = resources_after (with_def v d) ds in
+    let here : resources_made v d ≡ v.resources + length (at_root item_resource d) = one_resource v d in
+    let all : length (at_root item_resource d ++ flat_map (at_root item_resource) ds) ≡ length (at_root item_resource d) + length (flat_map (at_root item_resource) ds) = length-append (at_root item_resource d) (flat_map (at_root item_resource) ds) in
+    rest ∙ omega (arith, here, all)
+
+resources_counted : (ds : List Def) → (inventory ds).resources ≡ length (flat_map (at_root item_resource) ds)
+unfolding inventory
+resources_counted ds = resources_after empty_inventory ds ∙ zero-add (length (flat_map (at_root item_resource) ds))
 
 -- the section of names has nothing of what others have
 names_nothing : {A : Type 0} (f : Def → List A) → ((name contents : List ℕ) → f (defs.Item (items.Custom name contents)) ≡ []) → (ds : List Def) → AreNames ds → flat_map f ds ≡ []
@@ -190,6 +224,29 @@ abbrev pub numbers_listed : ComponentWorld → Option GeneratedBytes → List �
 numbers_listed w None = 0 ∷ []
 numbers_listed w (Some b) = shims_number w ∷ 0 ∷ fixup_number w ∷ []
 
+-- the landmarks of the modules without those of the resources
+abbrev module_marks : ComponentWorld → Option GeneratedBytes → List Landmark
+module_marks w None = ModuleIs w.main.bytes ∷ InstanceOf 0 ∷ []
+module_marks w (Some b) = ModuleIs w.main.bytes ∷ ModuleIs b.shims ∷ InstanceOf (shims_number w) ∷ InstanceOf 0 ∷ ModuleIs b.fixup ∷ InstanceOf (fixup_number w) ∷ []
+
+no_resources : {A : Type 0} (g : Landmark → List A) → g ResourceDefined ≡ [] → (ids : List TypeId) → flat_map g (map (λ id. ResourceDefined) ids) ≡ []
+no_resources g none [] = refl
+no_resources g none (id ∷ ids) = ap₂ (λ xs ys. xs ++ ys) none (no_resources g none ids)
+
+behind_resources : {A : Type 0} (g : Landmark → List A) → g ResourceDefined ≡ [] → (ids : List TypeId) (rest : List Landmark) → flat_map g (map (λ id. ResourceDefined) ids ++ rest) ≡ flat_map g rest
+behind_resources g none ids rest = flat_map-append g (map (λ id. ResourceDefined) ids) rest ∙ ap (λ l. l ++ flat_map g rest) (no_resources g none ids)
+
+-- what reads nothing of resources reads this
+without_resources : {A : Type 0} (w : ComponentWorld) (g : Landmark → List A) → g ResourceDefined ≡ [] → (o : Option GeneratedBytes) → flat_map g (modules_marked w o) ≡ flat_map g (module_marks w o)
+without_resources w g none None = ap (λ l. g (ModuleIs w.main.bytes) ++ l) (behind_resources g none (own_resources w) (InstanceOf 0 ∷ []))
+without_resources w g none (Some b) =
+    ap (λ l. g (ModuleIs w.main.bytes) ++ (g (ModuleIs b.shims) ++ (g (InstanceOf (shims_number w)) ++ l)))
+    (behind_resources g none (own_resources w) (InstanceOf 0 ∷ ModuleIs b.fixup ∷ InstanceOf (fixup_number w) ∷ []))
+
+each_resource : (ids : List TypeId) (rest : List Landmark) → flat_map resource_mark rest ≡ [] → flat_map resource_mark (map (λ id. ResourceDefined) ids ++ rest) ≡ map (λ id. 0) ids
+each_resource [] rest none = none
+each_resource (id ∷ ids) rest none = ap (λ l. 0 ∷ l) (each_resource ids rest none)
+
 -- ---- the names of nested components
 
 -- a right one has no lists of names but those of its imports and its exports
@@ -233,25 +290,25 @@ module _ (n : Naming) (w : ComponentWorld) (ds : List Def) (built : IsBuilt n w 
       ∙ (ap (λ l. flat_map f built.front ++ l) (names_nothing f none built.names built.named) ∙ (append-nil (flat_map f built.front) ∙ front_marks f g same)))
 
   -- the modules and their instances have no import, no export, no custom section, and no type of instances
-  none_of_modules : {A : Type 0} (g : Landmark → List A) → ((bytes : List ℕ) → g (ModuleIs bytes) ≡ []) → ((number : ℕ) → g (InstanceOf number) ≡ []) → flat_map g (modules_marked w built.generated) ≡ []
-  none_of_modules g m i = by built.generated
+  none_of_modules : {A : Type 0} (g : Landmark → List A) → g ResourceDefined ≡ [] → ((bytes : List ℕ) → g (ModuleIs bytes) ≡ []) → ((number : ℕ) → g (InstanceOf number) ≡ []) → flat_map g (modules_marked w built.generated) ≡ []
+  none_of_modules g none m i = without_resources w g none built.generated ∙ by built.generated
     where
-      by : (o : Option GeneratedBytes) → flat_map g (modules_marked w o) ≡ []
+      by : (o : Option GeneratedBytes) → flat_map g (module_marks w o) ≡ []
       by None = rw (m w.main.bytes, i 0) refl
       by (Some b) = rw (m w.main.bytes, m b.shims, i (shims_number w), i 0, m b.fixup, i (fixup_number w)) refl
 
   pub root_imports : flat_map (at_root item_imports) ds ≡ stated_imports n w
   root_imports =
       read_marks (at_root item_imports) import_mark import_is (λ n c. refl)
-      ∙ rw (imports_said, none_of_modules import_mark (λ b. refl) (λ k. refl), exports_nothing n w import_mark (λ i e. refl) (λ s. refl)) (append-nil (stated_imports n w))
+      ∙ rw (imports_said, none_of_modules import_mark refl (λ b. refl) (λ k. refl), exports_nothing n w import_mark (λ i e. refl) (λ s. refl)) (append-nil (stated_imports n w))
 
   pub root_modules : flat_map (at_root item_module) ds ≡ w.main.bytes ∷ bytes_listed built.generated
   root_modules =
       read_marks (at_root item_module) module_mark module_is (λ n c. refl)
       ∙ rw (said_by module_mark (λ s. refl) (λ names. refl), exports_nothing n w module_mark (λ i e. refl) (λ s. refl))
-      (append-nil (flat_map module_mark (modules_marked w built.generated)) ∙ by built.generated)
+      (append-nil (flat_map module_mark (modules_marked w built.generated)) ∙ (without_resources w module_mark refl built.generated ∙ by built.generated))
     where
-      by : (o : Option GeneratedBytes) → flat_map module_mark (modules_marked w o) ≡ w.main.bytes ∷ bytes_listed o
+      by : (o : Option GeneratedBytes) → flat_map module_mark (module_marks w o) ≡ w.main.bytes ∷ bytes_listed o
       by None = refl
       by (Some b) = refl
 
@@ -259,33 +316,47 @@ module _ (n : Naming) (w : ComponentWorld) (ds : List Def) (built : IsBuilt n w 
   root_instances =
       read_marks (at_root item_instantiates) instance_mark instance_is (λ n c. refl)
       ∙ rw (said_by instance_mark (λ s. refl) (λ names. refl), exports_nothing n w instance_mark (λ i e. refl) (λ s. refl))
-      (append-nil (flat_map instance_mark (modules_marked w built.generated)) ∙ by built.generated)
+      (append-nil (flat_map instance_mark (modules_marked w built.generated)) ∙ (without_resources w instance_mark refl built.generated ∙ by built.generated))
     where
-      by : (o : Option GeneratedBytes) → flat_map instance_mark (modules_marked w o) ≡ numbers_listed w o
+      by : (o : Option GeneratedBytes) → flat_map instance_mark (module_marks w o) ≡ numbers_listed w o
       by None = refl
       by (Some b) = refl
+
+  root_resources : flat_map (at_root item_resource) ds ≡ map (λ id. 0) (own_resources w)
+  root_resources =
+      read_marks (at_root item_resource) resource_mark resource_is (λ n c. refl)
+      ∙ rw (said_by resource_mark (λ s. refl) (λ names. refl), exports_nothing n w resource_mark (λ i e. refl) (λ s. refl))
+      (append-nil (flat_map resource_mark (modules_marked w built.generated)) ∙ by built.generated)
+    where
+      by : (o : Option GeneratedBytes) → flat_map resource_mark (modules_marked w o) ≡ map (λ id. 0) (own_resources w)
+      by None = each_resource (own_resources w) (InstanceOf 0 ∷ []) refl
+      by (Some b) = each_resource (own_resources w) (InstanceOf 0 ∷ ModuleIs b.fixup ∷ InstanceOf (fixup_number w) ∷ []) refl
+
+  -- as many resources are defined as the world has
+  pub all_resources : (inventory ds).resources ≡ length (own_resources w)
+  all_resources = resources_counted ds ∙ (ap length root_resources ∙ length-map (own_resources w) (λ (id : TypeId). 0))
 
   pub root_exports : flat_map (at_root item_exports) ds ≡ stated_exports n w
   root_exports =
       read_marks (at_root item_exports) export_mark export_is (λ n c. refl)
-      ∙ rw (said_by export_mark (λ s. refl) (λ names. refl), none_of_modules export_mark (λ b. refl) (λ k. refl), exports_each n w export_mark (λ s. s) (λ i e. refl) (λ s. refl))
+      ∙ rw (said_by export_mark (λ s. refl) (λ names. refl), none_of_modules export_mark refl (λ b. refl) (λ k. refl), exports_each n w export_mark (λ s. s) (λ i e. refl) (λ s. refl))
       (mapped_twice (stated_export n w) (λ key. record { of = Main; key = key }) w.main_exports)
 
   pub root_export_names : flat_map def_export ds ≡ map (λ key. (name_of n w.resolve key).name) w.main_exports
   root_export_names =
       read_marks def_export name_mark name_is (λ n c. refl)
-      ∙ rw (said_by name_mark (λ s. refl) (λ names. refl), none_of_modules name_mark (λ b. refl) (λ k. refl), exports_each n w name_mark (λ (s : Stated). s.name.name) (λ i e. refl) (λ s. refl)) refl
+      ∙ rw (said_by name_mark (λ s. refl) (λ names. refl), none_of_modules name_mark refl (λ b. refl) (λ k. refl), exports_each n w name_mark (λ (s : Stated). s.name.name) (λ i e. refl) (λ s. refl)) refl
 
   pub root_type_names : flat_map (at_root item_type_names) ds ≡ instance_type_names w
   root_type_names =
       read_marks (at_root item_type_names) type_mark type_is (λ n c. refl)
-      ∙ rw (types_said, none_of_modules type_mark (λ b. refl) (λ k. refl), exports_nothing n w type_mark (λ i e. refl) (λ s. refl)) (append-nil (instance_type_names w))
+      ∙ rw (types_said, none_of_modules type_mark refl (λ b. refl) (λ k. refl), exports_nothing n w type_mark (λ i e. refl) (λ s. refl)) (append-nil (instance_type_names w))
 
   -- the nested components import the functions, and export what, the world says
   pub root_nested_names : flat_map nested_lists_of ds ≡ nested_names w
   root_nested_names =
       read_marks nested_lists_of nested_mark nested_is (λ n c. refl)
-      ∙ rw (said_by nested_mark (λ s. refl) (λ names. refl), none_of_modules nested_mark (λ b. refl) (λ k. refl))
+      ∙ rw (said_by nested_mark (λ s. refl) (λ names. refl), none_of_modules nested_mark refl (λ b. refl) (λ k. refl))
       (of_keys n w nested_mark (λ key. nested_lists w (exported_item w key))
       (λ key. of_key n w nested_mark (nested_lists w (exported_item w key)) [] key (nested_of w (exported_item w key)) refl ∙ append-nil (nested_lists w (exported_item w key)))
       w.main_exports)
@@ -293,4 +364,4 @@ module _ (n : Naming) (w : ComponentWorld) (ds : List Def) (built : IsBuilt n w 
   pub no_customs : flat_map (at_root item_customs) built.front ≡ []
   no_customs =
       front_marks (at_root item_customs) custom_mark custom_is
-      ∙ rw (said_by custom_mark (λ s. refl) (λ names. refl), none_of_modules custom_mark (λ b. refl) (λ k. refl), exports_nothing n w custom_mark (λ i e. refl) (λ s. refl)) refl
+      ∙ rw (said_by custom_mark (λ s. refl) (λ names. refl), none_of_modules custom_mark refl (λ b. refl) (λ k. refl), exports_nothing n w custom_mark (λ i e. refl) (λ s. refl)) refl

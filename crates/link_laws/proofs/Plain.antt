@@ -36,7 +36,7 @@ use Rattle.comp_roles.specs.declared.offered.ImportType.{ImportType}
 use Rattle.comp_roles.specs.Lookups.{first_export, memory_of_import, memory_of_fields, imported_memory, is_initialize, is_task_hook}
 use Rattle.world_values.specs.Items.{functions_of, root_function_at}
 use Rattle.comp_worlds.proofs.Roles.{role_right}
-use Rattle.comp_worlds.specs.Typed.{drop_type, type_of_import, FitsImport}
+use Rattle.comp_worlds.specs.Typed.{drop_type, handle_type, type_of_import, FitsImport}
 use Rattle.comp_worlds.specs.WorldContents.{items_of, exported_item}
 use Rattle.comp_worlds.specs.Worlds.{IsWorld, IsExportItem, IsImportRole, IsImportGroup, IsExportRole}
 use Rattle.comp_worlds.specs.declared.world.ComponentWorld.{ComponentWorld}
@@ -49,7 +49,8 @@ use Rattle.comp_runs.specs.Signatures.{core_signature}
 use Rattle.comp_trees.specs.Trees.{FunctionTree}
 use Rattle.comp_trees.proofs.Signing.{signatures_of_trees}
 use Rattle.link_laws.proofs.Zips.{mapped_some}
-use Rattle.link_laws.proofs.Stores.{drop_core, main_module}
+use Rattle.comp_links.specs.Targets.{New, Rep, Drop}
+use Rattle.link_laws.proofs.Stores.{resource_core, main_module}
 
 pub only : {X : Type 0} (x y : X) → Contains (x ∷ []) y → x ≡ y
 only x y (zero, l, e) = e
@@ -154,7 +155,10 @@ import_type w (imports.InterfaceFunc key id function abi) type right fits =
     let x : (f : Function) × (found function (functions_of w.resolve id) ≡ Some f) × (called_type w.resolve abi f ≡ type) =
     mapped_some (called_type w.resolve abi) (found function (functions_of w.resolve id)) type fits in
     (core_type (signature abi w.resolve.types x.0), sym x.2)
-import_type w (imports.ImportedResourceDrop key interface id) type right fits = (drop_core, sym (same_Some drop_type type fits))
+import_type w (imports.ImportedResourceDrop key interface id) type right fits = (resource_core Drop, sym (same_Some drop_type type fits))
+import_type w (imports.ExportedResourceDrop key id) type right fits = (resource_core Drop, sym (same_Some drop_type type fits))
+import_type w (imports.ExportedResourceRep key id) type right fits = (resource_core Rep, sym (same_Some handle_type type fits))
+import_type w (imports.ExportedResourceNew key id) type right fits = (resource_core New, sym (same_Some handle_type type fits))
 import_type w role type right fits = absurd right
 
 one_import : (w : ComponentWorld) → IsWorld w → (i : ImportType) → FitsImport w.resolve (items_of w) w.main i → IsFunctionImport w i

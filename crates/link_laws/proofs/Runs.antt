@@ -30,7 +30,7 @@ use Rattle.comp_worlds.specs.declared.world.ComponentWorld.{ComponentWorld}
 use Rattle.comp_links.specs.Naming.{Naming}
 use Rattle.comp_links.specs.Modules.{WorldModule, user_modules}
 use Rattle.comp_links.specs.Lists.{resource_of, AreExportsApart}
-use Rattle.comp_inventories.specs.Inventories.{Inventory}
+use Rattle.comp_inventories.specs.Inventories.{Inventory, inventory}
 use Rattle.comp_inventories.proofs.Inventories.{inventory-empty}
 use Rattle.core_types.specs.declared.types.ValType.{ValType}
 use Rattle.core_runs.specs.Bodies.{table_shim}
@@ -46,10 +46,10 @@ use Rattle.link_laws.proofs.Stores.{ShimsAt, ExportsShims, MayHaveShims, IsTypeE
 use Rattle.link_laws.proofs.Given.{not_shims, scope_there}
 use Rattle.link_laws.proofs.Plain.{only, nothing_in, only_main, no_initialize}
 use Rattle.link_laws.proofs.InstanceSteps.{IsGenerated, generated_for, step_instantiate}
-use Rattle.link_laws.proofs.Steps.{no_modules, machine, IsNow, IsGood, users_among, users_in, asks, events_of, seen_by, Steps, step_type, step_instance_type, step_import, step_import_type, step_import_resource, step_import_instance, step_alias_function, step_alias_type, step_lower, step_drop, step_lift, step_inline_instance, step_alias, step_module, step_custom}
-use Rattle.link_laws.proofs.Marks.{bytes_listed, numbers_listed, root_imports, root_modules, root_instances, root_exports, root_export_names, no_customs}
+use Rattle.link_laws.proofs.Steps.{no_modules, machine, IsNow, IsGood, users_among, users_in, asks, events_of, seen_by, Steps, step_type, step_instance_type, step_import, step_import_type, step_import_resource, step_import_instance, step_alias_function, step_alias_type, step_lower, step_new, step_rep, step_drop, step_lift, step_inline_instance, step_alias, step_module, step_custom}
+use Rattle.link_laws.proofs.Marks.{bytes_listed, numbers_listed, root_imports, root_modules, root_instances, root_exports, root_export_names, all_resources, no_customs}
 use Rattle.link_laws.proofs.ImportedTypes.{types_served}
-use Rattle.link_laws.proofs.Served.{FilledAtEnd, users_served, resource_defined, each_provided, each_type_provided}
+use Rattle.link_laws.proofs.Served.{FilledAtEnd, users_served, resource_defined, number_defined, each_provided, each_type_provided}
 use Rattle.link_laws.proofs.NestedSteps.{step_component, step_nested, step_export_function, step_export_instance}
 
 -- a generated module is instantiated only where it is one of these
@@ -68,6 +68,8 @@ module _ {w : ComponentWorld} {earlier : List Def} {c : Scope} {s : Store} (a : 
   step ok (defs.Item (items.InstanceType t)) may h = step_instance_type a g gen t
   step ok (defs.Item (items.Lift core options kind)) may h = step_lift a g gen core options kind h.0 h.1 h.2
   step ok (defs.Item (items.Lower function options)) may h = step_lower a g gen function options h.0 h.1
+  step ok (defs.Item (items.Intrinsic (intrinsics.ResourceNew type))) may h = step_new a g gen type h
+  step ok (defs.Item (items.Intrinsic (intrinsics.ResourceRep type))) may h = step_rep a g gen type h
   step ok (defs.Item (items.Intrinsic (intrinsics.ResourceDrop type))) may h = step_drop a g gen type h
   step ok (defs.Item (items.Import name (descriptions.Func kind))) may h = step_import a g gen name kind h
   step ok (defs.Item (items.Import name (descriptions.TypeEqual index))) may h = step_import_type a g gen name index h.0
@@ -166,7 +168,9 @@ no_calls : (w : ComponentWorld) → IsWorld w → start_calls w ≡ []
 no_calls w ok = ap (initialization (task_hook w)) (no_initialize w w.main.exports.exports ok.main.export_roles)
 
 start : (w : ComponentWorld) → Agrees w [] (fresh_machine []).scope (fresh_machine []).store
-start w = record { shims = None; with_shims = λ yes. nothing_in (shims_number w) yes; means = tt; types = subst (λ (v : Inventory). AllZip (IsTypeEntry (fresh_machine []).store) v.types []) (sym inventory-empty) tt; functions = subst (λ (v : Inventory). AllZip (IsFunctionEntry (fresh_machine []).store) v.functions []) (sym inventory-empty) tt; instances = subst (λ (v : Inventory). AllZip (IsInstanceThing (fresh_machine []).store) v.instances []) (sym inventory-empty) tt; resources = record { counted = sym (ap (λ (v : Inventory). v.resources) inventory-empty); each = tt }; modules = refl; instantiated = refl; served = tt; exports = refl; lifted = tt; imports = sym (ap (λ (v : Inventory). v.imports) inventory-empty) }
+start w =
+    let none : (inventory []).resources ≡ 0 = ap (λ (v : Inventory). v.resources) inventory-empty in
+    record { shims = None; with_shims = λ yes. nothing_in (shims_number w) yes; means = tt; types = subst (λ (v : Inventory). AllZip (IsTypeEntry (fresh_machine []).store) v.types []) (sym inventory-empty) tt; functions = subst (λ (v : Inventory). AllZip (IsFunctionEntry (fresh_machine []).store) v.functions []) (sym inventory-empty) tt; instances = subst (λ (v : Inventory). AllZip (IsInstanceThing (fresh_machine []).store) v.instances []) (sym inventory-empty) tt; resources = record { counted = sym none; each = tt; numbered = λ number less. let zero_is = none in absurd (omega (arith, less, zero_is)) }; modules = refl; instantiated = refl; served = tt; exports = refl; lifted = tt; imports = sym (ap (λ (v : Inventory). v.imports) inventory-empty) }
 
 -- where the shims are made, they are filled at the end
 filled_at_end : (w : ComponentWorld) (m : Machine) (o : Option GeneratedBytes) (shims : Option ShimsAt) → (numbers : List ℕ) → numbers ≡ numbers_listed w o → MayHaveShims w m.store numbers shims → (ok : IsWorld w) → FilledAtEnd w ok m shims
@@ -186,6 +190,7 @@ linked_at_end n w ds m ok apart built a events =
       exports = each_provided n w ok apart m (a.exports ∙ root_export_names n w ds built) a.lifted;
       types = each_type_provided n w ok apart m (a.exports ∙ root_export_names n w ds built) a.lifted;
       resources = λ address number destructor present. resource_defined w ok m a.shims filled address number destructor present a.resources;
+      defined = λ number less. number_defined w ok m a.shims number a.resources (subst (λ n. number < n) (sym (all_resources n w ds built)) less);
       events = events ∙ sym (ap (λ (us : List WorldModule). map (λ n. Instantiated n) (numbers_from 0 (length us)) ++ []) (only_main w ok));
       started = rw (no_calls w ok) tt;
     }

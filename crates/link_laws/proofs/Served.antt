@@ -7,7 +7,7 @@ use Rattle.std.specs.List.{slice_get, flat_map, AllZip, AllByRecursion}
 use Rattle.std.specs.Option.{option_map, option_and_then}
 use Rattle.comp_lists.proofs.Lists.{AllZip-at, AllZip-weaker}
 use Rattle.comp_bytes.specs.declared.space.Space.TheVariants as spaces
-use Rattle.comp_bytes.specs.declared.canon.Intrinsic.TheVariants as intrinsics
+use Rattle.comp_terms.specs.Terms.{intrinsic_of}
 use Rattle.comp_bytes.specs.Spaces.{is_space}
 use Rattle.comp_bytes.specs.declared.space.Space.{Space}
 use Rattle.core_types.specs.declared.types.FuncType.{FuncType}
@@ -33,9 +33,9 @@ use Rattle.comp_roles.specs.Lookups.{first_memory}
 use Rattle.world_values.specs.Items.{functions_in}
 use Rattle.comp_worlds.specs.Worlds.{IsWorld}
 use Rattle.comp_worlds.specs.declared.world.ComponentWorld.{ComponentWorld}
-use Rattle.comp_trees.specs.Trees.{FunctionTree}
+use Rattle.comp_trees.specs.Trees.{Resource, FunctionTree}
 use Rattle.comp_trees.specs.DefinedTrees.{OfOthers}
-use Rattle.comp_links.specs.Targets.{Main, ExportRef, WorldFunction, TargetOption, Target, Lowered, ExportOf, Dropped, Lifted}
+use Rattle.comp_links.specs.Targets.{Main, ExportRef, WorldFunction, TargetOption, Target, Lowered, ResourceFunction, New, Rep, Drop, ExportOf, OfResource, Lifted}
 use Rattle.comp_links.specs.Targets as targets
 use Rattle.comp_links.specs.Links.{lift_options, link_of, destructor_of}
 use Rattle.comp_terms.specs.Generated.{Purpose, OfImport, OfDestructor, target_of, HasPurpose}
@@ -52,11 +52,11 @@ use Rattle.comp_runs.specs.Store.{Thing, Export, HeldOption, HeldEncoding, HeldM
 use Rattle.comp_runs.specs.Machine.{Machine, export_in, export_of}
 use Rattle.nested_laws.proofs.Kept.{is_function}
 use Rattle.nested_laws.proofs.Exports.{front, other_space}
-use Rattle.link_laws.specs.Meeting.{CoreMeets, CoreExportMeets, task_hook, hooks_round, MemoryMeets, IsMainMemory, MeetsOption, ItemIsExport, ItemIsLowering, ItemIsDrop, Meets, MeetsIn, entry_kind, IsExportOf}
+use Rattle.link_laws.specs.Meeting.{CoreMeets, CoreExportMeets, task_hook, hooks_round, MemoryMeets, IsMainMemory, MeetsOption, ItemIsExport, ItemIsLowering, IsResourceHeld, ItemIsOfResource, Meets, MeetsIn, entry_kind, IsExportOf}
 use Rattle.instance_laws.proofs.Held.{tree_of_held}
-use Rattle.link_laws.specs.Linking.{IsServed, AreServed, UsersServed, IsProvided, IsTypeProvided, DestructorMeets, IsDefined, exports_at}
+use Rattle.link_laws.specs.Linking.{IsServed, AreServed, UsersServed, IsProvided, IsTypeProvided, DestructorMeets, IsDefined, IsNumberDefined, exports_at}
 use Rattle.link_laws.proofs.Zips.{AllByRecursion-join, each_at}
-use Rattle.link_laws.proofs.Stores.{IsOpaqueOf, IsInstance, ShimsAt, drop_core, IsLoweredFor, IsDropOf, IsExportServed, IsServedAs, Serves, IsFilledWith, AreFilled, main_module, IsPlanned, IsPlannedUser, IsMainExport, IsFirstMemory, IsOptionFunction, IsOptionHeld, main_key, main_function, IsRequiredAt, IsFunctionExport, IsAmong, IsInterfaceExport, IsItemExport, IsKeyExport, AreKeyExports, type_at_key, IsTypeAmong, IsDestroyedBy, IsOwnResource, IsOwnIfDefined, AreResources}
+use Rattle.link_laws.proofs.Stores.{IsOpaqueOf, IsInstance, ShimsAt, resource_core, IsLoweredFor, IsFunctionOf, IsExportServed, IsServedAs, Serves, IsFilledWith, AreFilled, main_module, IsPlanned, IsPlannedUser, IsMainExport, IsFirstMemory, IsOptionFunction, IsOptionHeld, main_key, main_function, IsRequiredAt, IsFunctionExport, IsAmong, IsInterfaceExport, IsItemExport, IsKeyExport, AreKeyExports, type_at_key, IsTypeAmong, IsDestroyedBy, IsOwnResource, IsOwnIfDefined, AreResources, HasNumber}
 use Rattle.link_laws.proofs.Given.{by_parts, purpose_opaque, one_purpose}
 use Rattle.link_laws.proofs.Plain.{listed_main, no_hook, no_memory_imported, function_key}
 use Rattle.comp_worlds.specs.WorldContents.{exported_item}
@@ -180,10 +180,16 @@ module _ (w : ComponentWorld) (ok : IsWorld w) (m : Machine) where
         AllZip-weaker (option_meets w ok m) h.held options h.with_options,
       )
 
-  drop_meets : (address at : ℕ) (id : TypeId) → IsDropOf m.store at (resource_of w id) → Forwards w ok m address at drop_core → CoreMeets w m None address (ItemIsDrop m (resource_of w id))
-  drop_meets address at id h same =
-      forwarding_meets w ok m None address at drop_core (IntrinsicOf (intrinsics.ResourceDrop h.of)) (ItemIsDrop m (resource_of w id)) same h.is
-      (ap (λ o. elim o [ None ↦ OfOthers | Some i ↦ item_tree i ]) h.held.present ∙ h.held.denotes)
+  named_function : (function : ResourceFunction) (resource : Resource) (type : ℕ) → IsResourceHeld m resource type → ItemIsOfResource m function resource (IntrinsicOf (intrinsic_of function type))
+  named_function New resource type held = held
+  named_function Rep resource type held = held
+  named_function Drop resource type held = held
+
+  resource_meets : (address at : ℕ) (function : ResourceFunction) (id : TypeId) → IsFunctionOf m.store at function (resource_of w id) → Forwards w ok m address at (resource_core function) →
+      CoreMeets w m None address (ItemIsOfResource m function (resource_of w id))
+  resource_meets address at function id h same =
+      forwarding_meets w ok m None address at (resource_core function) (IntrinsicOf (intrinsic_of function h.of)) (ItemIsOfResource m function (resource_of w id)) same h.is
+      (named_function function (resource_of w id) h.of (ap (λ o. elim o [ None ↦ OfOthers | Some i ↦ item_tree i ]) h.held.present ∙ h.held.denotes))
 
   export_meets : (kind : Option Bracketed) (address at : ℕ) (export_ref : ExportRef) (h : IsExportServed w m.store at export_ref) → Forwards w ok m address at h.is.type → CoreExportMeets w m kind address export_ref
   export_meets kind address at export_ref h same =
@@ -194,9 +200,9 @@ module _ (w : ComponentWorld) (ok : IsWorld w) (m : Machine) where
   function_meets_as t at (Lowered function options) space same h =
       subst (λ space. MeetsIn w m (resource_of w) space t.address (Lowered function options)) (sym space)
       (import_meets t.address at function options h (same (core_signature h.type []) (Lowering h.lowered.of h.held) h.lowered.is))
-  function_meets_as t at (Dropped id) space same h =
-      subst (λ space. MeetsIn w m (resource_of w) space t.address (Dropped id)) (sym space)
-      (drop_meets t.address at id h (same drop_core (IntrinsicOf (intrinsics.ResourceDrop h.of)) h.is))
+  function_meets_as t at (OfResource function id) space same h =
+      subst (λ space. MeetsIn w m (resource_of w) space t.address (OfResource function id)) (sym space)
+      (resource_meets t.address at function id h (same (resource_core function) (IntrinsicOf (intrinsic_of function h.of)) h.is))
   function_meets_as t at (ExportOf export_ref) space same h =
       subst (λ space. MeetsIn w m (resource_of w) space t.address (ExportOf export_ref)) (sym space)
       (export_meets None t.address at export_ref h (same h.is.type (ExportedBy h.is.user export_ref.name) h.is.is))
@@ -264,6 +270,10 @@ module _ (w : ComponentWorld) (ok : IsWorld w) (m : Machine) where
       among [] n h e = absurd (none-some (OwnResource number destructor) e)
       among (x ∷ types) zero h e = subst (IsOwnIfDefined w shims) (same_Some x (OwnResource number destructor) e) h.0
       among (x ∷ types) (suc n) h e = among types n h.1 e
+
+  -- and each number is that of one
+  pub number_defined : (shims : Option ShimsAt) (number : ℕ) → {count : ℕ} → AreResources w shims m.store.types count → number < count → IsNumberDefined m number
+  number_defined shims number all less = let r : HasNumber m.store.types number = all.numbered number less in record { address = r.address; destructor = r.destructor; is = r.is }
 
   -- ---- what main is given
 

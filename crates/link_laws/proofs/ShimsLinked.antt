@@ -1,6 +1,6 @@
 -- A worked example: the list with shims is linked, whatever the outside returns, and with the slots crossed it isn't.
 use Rattle.comp_links.specs.Naming.{own_names}
-use Rattle.std.proofs.Common.{◌≡◌, ◌∙◌, ℕ, zero, suc, true≢false, List, [], ◌∷◌, refl, sym, ap, subst, Some, None, IsTrue, arith}
+use Rattle.std.proofs.Common.{◌≡◌, ◌<◌, ◌∙◌, ℕ, zero, suc, true≢false, List, [], ◌∷◌, refl, sym, ap, subst, Some, None, IsTrue, arith}
 use Rattle.std.proofs.lemmas.Option.{none-some, same_Some}
 use Rattle.std.specs.List.{slice_get}
 use Rattle.comp_bytes.proofs.Worked.{f, root}
@@ -106,6 +106,7 @@ module _ (number : ℕ) (rest : List Answer) where
     exports = tt;
     types = tt;
     resources = λ address number destructor present. absurd (none_at m.store.types refl address number destructor present);
+    defined = λ number less. let none : number < 0 = less in absurd (omega (arith, none));
     events = refl;
     started = tt;
   }

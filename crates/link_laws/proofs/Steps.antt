@@ -28,20 +28,22 @@ use Rattle.comp_bytes.specs.declared.types.Alias.TheVariants as aliases
 use Rattle.comp_bytes.specs.declared.types.Member.{Member}
 use Rattle.comp_bytes.specs.declared.types.InstanceType.{InstanceType as InstanceTypeDef}
 use Rattle.comp_bytes.specs.declared.types.Description.TheVariants as descriptions
+use Rattle.comp_bytes.specs.declared.canon.Intrinsic.{Intrinsic}
 use Rattle.comp_bytes.specs.declared.canon.Intrinsic.TheVariants as intrinsics
+use Rattle.comp_bytes.specs.declared.types.ComponentValType.{ComponentValType}
 use Rattle.comp_bytes.specs.declared.def.CoreInlineExport.{CoreInlineExport}
 use Rattle.comp_bytes.specs.declared.def.Item.TheVariants as items
 use Rattle.comp_bytes.specs.declared.def.Def.{Def}
 use Rattle.comp_bytes.specs.declared.def.Def.TheVariants as defs
 use Rattle.comp_worlds.specs.Worlds.{IsWorld}
-use Rattle.comp_trees.specs.Trees.{Origin, Resource, ImportedAt, DefinedAt, ResourceAt, FunctionTree, is_known}
-use Rattle.comp_trees.specs.DefinedTrees.{TypeTree, OfValues, OfFunctions, OfOthers, function_tree, defined_tree}
+use Rattle.comp_trees.specs.Trees.{Origin, Resource, ImportedAt, DefinedAt, ResourceAt, Tree, FunctionTree, is_known}
+use Rattle.comp_trees.specs.DefinedTrees.{TypeTree, OfValues, OfFunctions, OfOthers, value_tree, function_tree, defined_tree}
 use Rattle.comp_trees.specs.DefinedScopes.{type_tree}
 use Rattle.nested_terms.specs.Nested.{type_named}
 use Rattle.comp_inventories.specs.Inventories.{Inventory, OfInstances, InstanceEntry, Denoting, ImportedInstance, NestedInstance, OtherInstance, entry_tree, no_type, type_if_named, type_of_instance, function_of_instance, instance_imported, types_made, functions_made, instances_made, imports_made, resources_made, surroundings_of, inventory, scope_of}
 use Rattle.comp_trees.specs.Members.{AreMembersRight}
 use Rattle.comp_terms.specs.Generated.{shims_number, fixup_number}
-use Rattle.comp_terms.specs.Terms.{IsInstanceOf, imports_in}
+use Rattle.comp_terms.specs.Terms.{IsInstanceOf, IsResource, intrinsic_of, imports_in}
 use Rattle.world_shims.specs.WorldShims.{shims_of}
 use Rattle.shim_runs.specs.ShimRuns.{instance_exports}
 use Rattle.shim_runs.proofs.Exported.{shims_found}
@@ -56,18 +58,19 @@ use Rattle.core_runs.specs.Values.{Value}
 use Rattle.core_types.specs.declared.types.ValType.TheVariants.{I32}
 use Rattle.core_runs.specs.Store.{Opaque, Answer, Gives, Traps, Event, Instantiated, Now, Cell, Foreign}
 use Rattle.core_runs.specs.Execution.{answered, seen, renewed}
-use Rattle.comp_runs.specs.Store.{Thing, Export, HeldOption, HeldEncoding, HeldMemory, HeldRealloc, HeldPostReturn, HeldAsync, HeldCallback, CoreItem, Lowering, IntrinsicOf, Function, Imported, Lifting, TypeItem, TreeOf, ImportedResource, OwnResource, own_resources as resources_among, InstanceTypeOf, ModuleInstance, Store}
+use Rattle.comp_runs.specs.Store.{Thing, Export, HeldOption, HeldEncoding, HeldMemory, HeldRealloc, HeldPostReturn, HeldAsync, HeldCallback, CoreItem, Lowering, IntrinsicOf, Function, Imported, Lifting, TypeItem, TreeOf, ImportedResource, OwnResource, item_tree, tree_held, own_resources as resources_among, InstanceTypeOf, ModuleInstance, Store}
+use Rattle.comp_links.specs.Targets.{ResourceFunction, New, Rep, Drop}
 use Rattle.comp_links.specs.Modules.{WorldModule}
 use Rattle.comp_links.specs.Lists.{own_resources}
 use Rattle.comp_links.specs.Links.{destructor_of}
 use Rattle.comp_roles.specs.declared.offered.ExternType.{ExternType}
 use Rattle.comp_roles.specs.declared.offered.ExternType.TheVariants as externs
 use Rattle.comp_roles.specs.declared.offered.ImportType.{ImportType}
-use Rattle.comp_terms.specs.Rules.{AliasesUser, AliasesShim, IsEntry, AreEntries, AliasesImported, AliasesNested, AliasesType as MayAliasType, HasFunctionType, HasResource, HasImportedFunction, IsOptionRight, IsLowerOptionRight, IsTypeRight, IsDestructorRight, DefinesResource, IsItemRight}
+use Rattle.comp_terms.specs.Rules.{AliasesUser, AliasesShim, IsEntry, AreEntries, AliasesImported, AliasesNested, AliasesType as MayAliasType, HasFunctionType, HasResource, HasOwnResource, HasImportedFunction, IsOptionRight, IsLowerOptionRight, IsTypeRight, IsDestructorRight, DefinesResource, IsItemRight}
 use Rattle.comp_runs.specs.Machine.{Scope, Machine, Outcome, Done, Trapped, Open, Stuck, with_some, address_at, is_of, export_named, all_some, resumed, with_opaque}
 use Rattle.comp_runs.specs.Instances.{matching, argument_for, type_kind, given_to, type_scope, known_function, type_item}
-use Rattle.comp_runs.specs.Signatures.{is_async, core_signature}
-use Rattle.comp_runs.specs.Running.{core_entry, held, options_held, type_of_function as function_type_of, lowered_signature, run}
+use Rattle.comp_runs.specs.Signatures.{is_async, core_signature, intrinsic_signature}
+use Rattle.comp_runs.specs.Running.{core_entry, held, options_held, type_of_function as function_type_of, lowered_signature, if_own, own_address, addressed, run}
 use Rattle.instance_laws.specs.Instantiated.{IsHeldAs}
 use Rattle.instance_laws.specs.InstanceEntries.{IsInstanceType, IsInstanceEntry, RunsImport, AliasesFunction, AliasesType}
 use Rattle.instance_laws.proofs.Held.{keeps_same, keeps_more, keeps_grown, AreHeldAs-kept}
@@ -76,7 +79,7 @@ use Rattle.instance_laws.proofs.Importing.{instance_type_made, import_runs, alia
 use Rattle.link_laws.specs.Composition.{GeneratedModules, at_root, item_instantiates}
 use Rattle.link_laws.specs.Linking.{module_meanings, LetsRun}
 use Rattle.link_laws.proofs.Zips.{all_some-self}
-use Rattle.link_laws.proofs.Stores.{IsOpaqueOf, IsUserItem, IsUserExport, IsUserInstance, ShimsAt, IsModuleInstance, IsNamedEntry, ExportsShims, MayHaveShims, IsTypeAt, drop_core, Means, makes, IsTypeEntry, entry_of, IsFunctionEntry, IsInstanceThing, main_module, IsPlannedUser, IsAliasedItem, IsHeldOption, NumberedFrom, Agrees, AreKeyExports, IsDestroyedBy, IsOwnResource, AreResources}
+use Rattle.link_laws.proofs.Stores.{IsOpaqueOf, IsUserItem, IsUserExport, IsUserInstance, ShimsAt, IsModuleInstance, IsNamedEntry, ExportsShims, MayHaveShims, IsTypeAt, resource_core, IsResourceItem, DefIs, Means, makes, IsTypeEntry, entry_of, IsFunctionEntry, IsInstanceThing, main_module, IsPlannedUser, IsAliasedItem, IsHeldOption, NumberedFrom, Agrees, AreKeyExports, IsDestroyedBy, IsOwnResource, AreResources}
 use Rattle.link_laws.proofs.Given.{of_shims, module_there, address_there, all_held, scope_there, entry_there, held_there, type_there, instance_type_there, instance_there, imported_there, user_there, space_of_kind, offered_there, destructor_shim}
 use Rattle.link_laws.proofs.Plain.{only, IsFunctionImport, listed_main}
 use Rattle.link_laws.proofs.Kept.{ShimsKept, shims_same, MayHaveShims-kept, keeps_all, IsHeldOption-kept, Keeps, address_at-append, things_kept, keeps_store, keeps_type, keeps_function, keeps_opaque, keeps_core_instance, keeps_module, Means-kept, IsTypeEntry-kept, IsFunctionEntry-kept, IsInstanceThing-kept, IsPlannedUser-kept, AreKeyExports-kept, AreResources-more, AreResources-push}
@@ -444,7 +447,7 @@ module _ {w : ComponentWorld} {earlier : List Def} {c : Scope} {s : Store} (a : 
       let own : IsOwnResource w a.shims number x.held = record { id = h.id; is = ap (slice_get (own_resources w)) a.resources.counted ∙ h.next; destroyed = x.destroyed } in
       quiet_step d c.imports s' t (λ rest now. rw (x.made now) refl) (keeps_type c.items t s item)
       (record { space = refl; is = tt }) ((record { item = item; present = slice_get-end s.types item; denotes = ap (λ n. OfValues (ResourceAt (DefinedAt n))) a.resources.counted; is = tt }, tt), tt, tt) refl refl refl refl refl refl a.imports
-      (AreResources-push w a.shims s.types number x.held (inventory earlier).resources a.resources own)
+      (AreResources-push w a.shims s.types number x.held (inventory earlier).resources a.resources.counted a.resources own)
 
   pub step_type : (t : TypeDef) → IsItemRight w earlier (items.Type t) → Steps w gen earlier c s g (defs.Item (items.Type t))
   step_type (types.Func f) h = step_type_made (types.Func f) h refl
@@ -573,16 +576,46 @@ module _ {w : ComponentWorld} {earlier : List Def} {c : Scope} {s : Store} (a : 
   step_alias_type instance name (inl h) = step_alias_found instance name (alias_of_imported instance name h)
   step_alias_type instance name (inr h) = step_alias_found instance name (alias_of_nested instance name h)
 
+  -- an intrinsic is a new core function
+  step_intrinsic : (i held : Intrinsic) (type : FuncType) → ((now : Now) → addressed (machine c s now) i ≡ Some held) → ((tree_of : ComponentValType → Tree) → intrinsic_signature tree_of i ≡ type) →
+      DefIs w a.shims (earlier ++ defs.Item (items.Intrinsic i) ∷ []) (c.items ++ record { space = spaces.CoreFunc; address = length s.code.functions } ∷ []) (with_opaque (IntrinsicOf held) type s) (defs.Item (items.Intrinsic i)) (length s.code.functions) →
+      Steps w gen earlier c s g (defs.Item (items.Intrinsic i))
+  step_intrinsic i held type found typed is =
+      let d : Def = defs.Item (items.Intrinsic i) in
+      let t : Thing = record { space = spaces.CoreFunc; address = length s.code.functions } in
+      quiet_step d c.imports (with_opaque (IntrinsicOf held) type s) t (λ rest now. rw (found now, typed (value_tree (type_scope (machine c s now)))) refl) (keeps_opaque c.items t s (IntrinsicOf held) type) (record { space = refl; is = is })
+      (tt, tt, tt) refl refl refl refl refl refl a.imports a.resources
+
+  -- a resource of the component's own is found as one
+  own_there : {type number : ℕ} → IsResource earlier type (DefinedAt number) → (x : ℕ) × (address_at spaces.Type type c.items ≡ Some x) × ((now : Now) → own_address (machine c s now) type ≡ Some x)
+  own_there {type} {number} h =
+      let x : (x : ℕ) × (address_at spaces.Type type c.items ≡ Some x) × IsHeldAs s.types (OfValues (ResourceAt (DefinedAt number))) x = held_there a h.denotes in
+      let tree : tree_held s.types x.0 ≡ OfValues (ResourceAt (DefinedAt number)) = ap (λ o. elim o [ None ↦ OfOthers | Some i ↦ item_tree i ]) x.2.present ∙ x.2.denotes in
+      (x.0, x.1, λ now. ap (option_and_then (λ (n : ℕ). if_own n (tree_held s.types n))) x.1 ∙ ap (if_own x.0) tree)
+
+  -- what such a function is of, in a scope with one item more
+  resource_item : (function : ResourceFunction) (type x : ℕ) → address_at spaces.Type type c.items ≡ Some x →
+      IsResourceItem (c.items ++ record { space = spaces.CoreFunc; address = length s.code.functions } ∷ []) (with_opaque (IntrinsicOf (intrinsic_of function x)) (resource_core function) s) function type (length s.code.functions)
+  resource_item function type x at = record {
+    of = x;
+    at = address_at-append c.items (record { space = spaces.CoreFunc; address = length s.code.functions } ∷ []) spaces.Type type x at;
+    is = opaque_there (IntrinsicOf (intrinsic_of function x)) (resource_core function) s;
+  }
+
+  pub step_new : (type : ℕ) → HasOwnResource earlier type → Steps w gen earlier c s g (defs.Item (items.Intrinsic (intrinsics.ResourceNew type)))
+  step_new type h =
+      let x : (x : ℕ) × (address_at spaces.Type type c.items ≡ Some x) × ((now : Now) → own_address (machine c s now) type ≡ Some x) = own_there h.is in
+      step_intrinsic (intrinsics.ResourceNew type) (intrinsics.ResourceNew x.0) (resource_core New) (λ now. ap (option_map (λ n. intrinsics.ResourceNew n)) (x.2 now)) (λ tree_of. refl) (resource_item New type x.0 x.1)
+
+  pub step_rep : (type : ℕ) → HasOwnResource earlier type → Steps w gen earlier c s g (defs.Item (items.Intrinsic (intrinsics.ResourceRep type)))
+  step_rep type h =
+      let x : (x : ℕ) × (address_at spaces.Type type c.items ≡ Some x) × ((now : Now) → own_address (machine c s now) type ≡ Some x) = own_there h.is in
+      step_intrinsic (intrinsics.ResourceRep type) (intrinsics.ResourceRep x.0) (resource_core Rep) (λ now. ap (option_map (λ n. intrinsics.ResourceRep n)) (x.2 now)) (λ tree_of. refl) (resource_item Rep type x.0 x.1)
+
   pub step_drop : (type : ℕ) → HasResource earlier type → Steps w gen earlier c s g (defs.Item (items.Intrinsic (intrinsics.ResourceDrop type)))
   step_drop type h =
-      let d : Def = defs.Item (items.Intrinsic (intrinsics.ResourceDrop type)) in
       let x : (x : ℕ) × (address_at spaces.Type type c.items ≡ Some x) × IsHeldAs s.types (OfValues (ResourceAt h.resource)) x = held_there a h.is.denotes in
-      let t : Thing = record { space = spaces.CoreFunc; address = length s.code.functions } in
-      let item : CoreItem = IntrinsicOf (intrinsics.ResourceDrop x.0) in
-      let s' : Store = with_opaque item drop_core s in
-      quiet_step d c.imports s' t (λ rest now. rw x.1 refl) (keeps_opaque c.items t s item drop_core)
-      (record { space = refl; is = record { of = x.0; at = address_at-append c.items (t ∷ []) spaces.Type type x.0 x.1; is = opaque_there item drop_core s } })
-      (tt, tt, tt) refl refl refl refl refl refl a.imports a.resources
+      step_intrinsic (intrinsics.ResourceDrop type) (intrinsics.ResourceDrop x.0) (resource_core Drop) (λ now. ap (option_map (λ n. intrinsics.ResourceDrop n)) x.1) (λ tree_of. refl) (resource_item Drop type x.0 x.1)
 
   -- an option that names an earlier item has its address
   option_addressed : (o : CanonicalOption) → IsOptionRight earlier o → (x : HeldOption) × (held (machine c s no_answers) o ≡ Some x) × IsHeldOption c.items o x

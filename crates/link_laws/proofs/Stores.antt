@@ -33,7 +33,7 @@ use Rattle.comp_roles.specs.declared.imports.Import.{Import}
 use Rattle.comp_roles.specs.declared.offered.ImportType.{ImportType}
 use Rattle.comp_worlds.specs.WorldContents.{core_name_of, exported_item, function_exported}
 use Rattle.comp_worlds.specs.declared.world.ComponentWorld.{ComponentWorld}
-use Rattle.comp_links.specs.Targets.{Main, ExportRef, WorldFunction, TargetOption, Target, Lowered, ExportOf, Dropped}
+use Rattle.comp_links.specs.Targets.{Main, ExportRef, WorldFunction, TargetOption, ResourceFunction, New, Rep, Drop, Target, Lowered, ExportOf, OfResource}
 use Rattle.comp_links.specs.Targets as targets
 use Rattle.comp_links.specs.Modules.{WorldModule}
 use Rattle.comp_links.specs.Lists.{IsOriginOf, resource_of, RequiredKey, RequiredFunction, functions_required, RequiredType, types_required, type_of_world, own_resources}
@@ -42,7 +42,7 @@ use Rattle.shim_plan.specs.declared.shims.Shim.{Shim}
 use Rattle.world_shims.specs.WorldShims.{shims_of}
 use Rattle.shim_runs.specs.ShimRuns.{AreShimsFrom, instance_exports}
 use Rattle.comp_terms.specs.Generated.{shims_number, fixup_number, IsShimOf, IsShimOfDestructor, Purpose, target_of, HasPurpose}
-use Rattle.comp_terms.specs.Terms.{CoreExport, IsInstanceOf, imports_in}
+use Rattle.comp_terms.specs.Terms.{CoreExport, IsInstanceOf, intrinsic_of, imports_in}
 use Rattle.comp_terms.specs.Planned.{IsTypeOf, type_of_function}
 use Rattle.comp_terms.specs.Rules.{IsOfKind}
 use Rattle.core_runs.specs.Store.{Opaque}
@@ -133,15 +133,20 @@ pub record IsTypeAt (things : List Thing) (s : Store) (kind : ℕ) (type : Funct
   pub at : address_at spaces.Type kind things ≡ Some address
   pub is : slice_get s.types address ≡ Some (TreeOf (OfFunctions type))
 
--- the core type of a drop: a handle is a number
+-- the core types of the functions of a resource's handles: a handle is a number, and so is a representation
 abbrev pub drop_core : FuncType
 drop_core = function_type (I32 ∷ []) []
 
--- the drop of the type at this index
-pub record IsDropItem (things : List Thing) (s : Store) (type address : ℕ) : Type 0 where
+abbrev pub resource_core : ResourceFunction → FuncType
+resource_core New = function_type (I32 ∷ []) (I32 ∷ [])
+resource_core Rep = function_type (I32 ∷ []) (I32 ∷ [])
+resource_core Drop = drop_core
+
+-- such a function, of the type at this index
+pub record IsResourceItem (things : List Thing) (s : Store) (function : ResourceFunction) (type address : ℕ) : Type 0 where
   pub of : ℕ
   pub at : address_at spaces.Type type things ≡ Some of
-  pub is : IsOpaqueOf s address drop_core (IntrinsicOf (intrinsics.ResourceDrop of))
+  pub is : IsOpaqueOf s address (resource_core function) (IntrinsicOf (intrinsic_of function of))
 
 -- an option, with the address of what it names
 abbrev pub IsHeldOption : List Thing → CanonicalOption → HeldOption → Type 0
@@ -228,7 +233,9 @@ module _ (w : ComponentWorld) (shims : Option ShimsAt) (ds : List Def) (things :
   ItemIs (items.Alias (aliases.CoreExport kind instance name)) a = IsAliasedItem w ds things s kind instance name a
   ItemIs (items.Lift core options kind) a = IsLiftedItem things s core options kind a
   ItemIs (items.Lower function options) a = IsLoweredItem things s function options a
-  ItemIs (items.Intrinsic (intrinsics.ResourceDrop type)) a = IsDropItem things s type a
+  ItemIs (items.Intrinsic (intrinsics.ResourceNew type)) a = IsResourceItem things s New type a
+  ItemIs (items.Intrinsic (intrinsics.ResourceRep type)) a = IsResourceItem things s Rep type a
+  ItemIs (items.Intrinsic (intrinsics.ResourceDrop type)) a = IsResourceItem things s Drop type a
   ItemIs (items.Instantiate component arguments) a = IsNestedInstance ds things s component arguments a
   ItemIs _ a = Unit {0}
 
@@ -330,10 +337,10 @@ pub record IsLoweredFor (w : ComponentWorld) (s : Store) (address : ℕ) (functi
   pub lowered : IsLoweringOf s address origin type held
   pub with_options : AllZip (IsOptionHeld w s) held options
 
--- the core function is the drop of handles of this resource
-pub record IsDropOf (s : Store) (address : ℕ) (resource : Resource) : Type 0 where
+-- the core function is this one of the handles of this resource
+pub record IsFunctionOf (s : Store) (address : ℕ) (function : ResourceFunction) (resource : Resource) : Type 0 where
   pub of : ℕ
-  pub is : IsOpaqueOf s address drop_core (IntrinsicOf (intrinsics.ResourceDrop of))
+  pub is : IsOpaqueOf s address (resource_core function) (IntrinsicOf (intrinsic_of function of))
   pub held : IsHeldAs s.types (OfValues (ResourceAt resource)) of
 
 -- the core function is an export of main, of the type that validation found
@@ -345,7 +352,7 @@ pub record IsExportServed (w : ComponentWorld) (s : Store) (address : ℕ) (expo
 -- the core function is what the target names
 abbrev pub IsServedAs : ComponentWorld → Store → ℕ → Target → Type 0
 IsServedAs w s address (Lowered function options) = IsLoweredFor w s address function options
-IsServedAs w s address (Dropped id) = IsDropOf s address (resource_of w id)
+IsServedAs w s address (OfResource function id) = IsFunctionOf s address function (resource_of w id)
 IsServedAs w s address (ExportOf export_ref) = IsExportServed w s address export_ref
 IsServedAs w s address target = ⊥
 
@@ -520,10 +527,17 @@ abbrev pub IsOwnIfDefined : ComponentWorld → Option ShimsAt → TypeItem → T
 IsOwnIfDefined w shims (OwnResource number destructor) = IsOwnResource w shims number destructor
 IsOwnIfDefined w shims item = Unit {0}
 
--- this many are defined, and each is one
+-- one of them has this number
+pub record HasNumber (types : List TypeItem) (number : ℕ) : Type 0 where
+  pub address : ℕ
+  pub destructor : Option ℕ
+  pub is : slice_get types address ≡ Some (OwnResource number destructor)
+
+-- this many are defined, each is one, and each number below is that of one
 pub record AreResources (w : ComponentWorld) (shims : Option ShimsAt) (types : List TypeItem) (count : ℕ) : Type 0 where
   pub counted : resources_among types ≡ count
   pub each : AllByRecursion (IsOwnIfDefined w shims) types
+  pub numbered : (number : ℕ) → number < count → HasNumber types number
 
 -- ---- the run so far
 

@@ -1,6 +1,6 @@
 -- A worked example: the list with an adapter is composed and linked, and with two of the adapter's imports crossed it isn't linked.
 use Rattle.comp_links.specs.Naming.{own_names}
-use Rattle.std.proofs.Common.{◌≡◌, ◌∙◌, ◌≤◌, ℕ, zero, suc, true≢false, List, [], ◌∷◌, refl, sym, ap, subst, Option, Some, None, arith}
+use Rattle.std.proofs.Common.{◌≡◌, ◌<◌, ◌∙◌, ◌≤◌, ℕ, zero, suc, true≢false, List, [], ◌∷◌, refl, sym, ap, subst, Option, Some, None, arith}
 use Rattle.std.proofs.lemmas.Option.{none-some, same_Some}
 use Rattle.std.specs.List.{slice_get}
 use Rattle.comp_bytes.proofs.Worked.{g}
@@ -178,6 +178,7 @@ module _ (number number' : ℕ) (rest : List Answer) where
     exports = (g_provided, tt);
     types = tt;
     resources = λ address number destructor present. absurd (none_at m.store.types refl address number destructor present);
+    defined = λ number less. let none : number < 0 = less in absurd (omega (arith, none));
     events = refl;
     started = tt;
   }

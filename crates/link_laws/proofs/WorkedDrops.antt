@@ -38,14 +38,14 @@ use Rattle.comp_trees.specs.Trees.{Resource, ImportedAt, ResourceAt}
 use Rattle.comp_trees.specs.DefinedTrees.{TypeTree, OfValues}
 use Rattle.comp_inventories.specs.Inventories.{inventory}
 use Rattle.comp_links.specs.Lists.{resource_of}
-use Rattle.comp_links.specs.Targets.{Main, Dropped}
-use Rattle.comp_terms.specs.Terms.{IsResource as IsResourceAt, IsDropping}
+use Rattle.comp_links.specs.Targets.{Main, Drop, OfResource}
+use Rattle.comp_terms.specs.Terms.{IsResource as IsResourceAt, IsOfResource}
 use Rattle.comp_terms.specs.Terms as terms
 use Rattle.comp_terms.specs.Planned.{IsEntryFor, IsArgumentFor}
 use Rattle.comp_terms.specs.Rules.{IsDescriptionRight, IsBuilt}
 use Rattle.comp_runs.specs.Store.{IntrinsicOf}
 use Rattle.comp_runs.specs.Machine.{Machine, Outcome}
-use Rattle.link_laws.specs.Meeting.{CoreMeets, ItemIsDrop, Meets}
+use Rattle.link_laws.specs.Meeting.{CoreMeets, ItemIsOfResource, Meets}
 use Rattle.link_laws.specs.Linking.{outcome, IsServed, IsLinked, Links}
 use Rattle.link_laws.proofs.Stores.{drop_core, main_module}
 use Rattle.link_laws.proofs.Steps.{no_modules}
@@ -208,11 +208,11 @@ s_there : IsResourceAt (ds 4) 1 (resource 1)
 unfolding inventory
 s_there = record { denotes = record { within = omega arith; tree = refl } }
 
-r_dropped : IsDropping (ds 6) 0 (resource 0)
+r_dropped : IsOfResource (ds 6) 0 Drop (resource 0)
 unfolding inventory
 r_dropped = record { type = 0; made = record { made = refl }; of = record { denotes = record { within = omega arith; tree = refl } } }
 
-s_dropped : IsDropping (ds 6) 1 (resource 1)
+s_dropped : IsOfResource (ds 6) 1 Drop (resource 1)
 unfolding inventory
 s_dropped = record { type = 1; made = record { made = refl }; of = record { denotes = record { within = omega arith; tree = refl } } }
 
@@ -220,10 +220,10 @@ pub not_true : {P : Type 0} → IsTrue false → P
 not_true e = cc
 
 r_given : IsEntryFor world Main (ds 6) (record { name = drop_r; kind = kinds.Func; index = 0 }) (drop_r, drop_of r 0)
-r_given = record { named = refl; serves = inl (record { term = terms.Dropping (resource 0); is = r_dropped; asked = refl }); encoded = not_true }
+r_given = record { named = refl; serves = inl (record { term = terms.OfResource Drop (resource 0); is = r_dropped; asked = (refl, refl) }); encoded = not_true }
 
 s_given : IsEntryFor world Main (ds 6) (record { name = drop_s; kind = kinds.Func; index = 1 }) (drop_s, drop_of s 1)
-s_given = record { named = refl; serves = inl (record { term = terms.Dropping (resource 1); is = s_dropped; asked = refl }); encoded = not_true }
+s_given = record { named = refl; serves = inl (record { term = terms.OfResource Drop (resource 1); is = s_dropped; asked = (refl, refl) }); encoded = not_true }
 
 both_given : IsArgumentFor world Main (ds 6) (record { name = root; instance = 0 }) (root, instances.Names fields)
 both_given = record { named = refl; serves = record { entries = entries; made = record { made = refl }; each = (r_given, (s_given, tt)) } }
@@ -282,16 +282,16 @@ number_of (OfValues (ResourceAt (ImportedAt origin))) = origin.number
 number_of tree = 0
 
 -- function 0 drops the second resource
-no_drop_of_r : CoreMeets world m None 0 (ItemIsDrop m (resource 0)) → ⊥
-no_drop_of_r c = let other : 1 ≡ 0 = ap number_of (own_item world m 0 (ItemIsDrop m (resource 0)) c 0 drop_core (IntrinsicOf (intrinsics.ResourceDrop 1)) refl refl) in absurd (omega (arith, other))
+no_drop_of_r : CoreMeets world m None 0 (ItemIsOfResource m Drop (resource 0)) → ⊥
+no_drop_of_r c = let other : 1 ≡ 0 = ap number_of (own_item world m 0 (ItemIsOfResource m Drop (resource 0)) c 0 drop_core (IntrinsicOf (intrinsics.ResourceDrop 1)) refl refl) in absurd (omega (arith, other))
 
 abbrev first_import : ImportType
 first_import = record { module_name = root; field = drop_r; ty = drop_type }
 
 first_meets : (origins : TypeId → Resource) → origins (record { index = 0 }) ≡ resource_of world (record { index = 0 }) → IsServed world m origins (main_module world) (core_function 0) first_import →
-    CoreMeets world m None 0 (ItemIsDrop m (resource 0))
+    CoreMeets world m None 0 (ItemIsOfResource m Drop (resource 0))
 first_meets origins is served =
-    subst (λ o. CoreMeets world m None 0 (ItemIsDrop m o)) is (subst (Meets world m origins (core_function 0)) (same_Some served.target (Dropped (record { index = 0 })) (sym served.said)) served.meets)
+    subst (λ o. CoreMeets world m None 0 (ItemIsOfResource m Drop o)) is (subst (Meets world m origins (core_function 0)) (same_Some served.target (OfResource Drop (record { index = 0 })) (sym served.said)) served.meets)
 
 pub crossed_is_not_linked : IsLinked own_names world no_modules m → ⊥
 crossed_is_not_linked l = no_drop_of_r (first_meets l.origins l.imports.resources.0 (l.imports.each 0 _ _ refl refl).0)

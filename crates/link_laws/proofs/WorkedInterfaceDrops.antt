@@ -43,14 +43,14 @@ use Rattle.comp_trees.specs.DefinedTrees.{TypeTree, OfValues}
 use Rattle.comp_inventories.specs.Inventories.{inventory, surroundings_of}
 use Rattle.comp_trees.specs.Members.{AreMembersRight}
 use Rattle.comp_links.proofs.WorkedImports.{interface_of, interface_id, type_id, import_of_interface}
-use Rattle.comp_links.specs.Targets.{Main, Dropped}
-use Rattle.comp_terms.specs.Terms.{IsResource as IsResourceAt, IsDropping}
+use Rattle.comp_links.specs.Targets.{Main, Drop, OfResource}
+use Rattle.comp_terms.specs.Terms.{IsResource as IsResourceAt, IsOfResource}
 use Rattle.comp_terms.specs.Terms as terms
 use Rattle.comp_terms.specs.Planned.{IsEntryFor, IsArgumentFor}
 use Rattle.comp_terms.specs.Rules.{AliasesImported, ImportsInterface, IsBuilt}
 use Rattle.comp_runs.specs.Store.{IntrinsicOf}
 use Rattle.comp_runs.specs.Machine.{Machine, Outcome}
-use Rattle.link_laws.specs.Meeting.{CoreMeets, ItemIsDrop, Meets}
+use Rattle.link_laws.specs.Meeting.{CoreMeets, ItemIsOfResource, Meets}
 use Rattle.link_laws.specs.Linking.{outcome, IsServed, UsersServed, IsLinked, Links}
 use Rattle.link_laws.proofs.Stores.{drop_core, main_module}
 use Rattle.link_laws.proofs.Steps.{no_modules}
@@ -213,21 +213,21 @@ r_there : IsResourceAt (ds 6) 2 (resource r)
 unfolding inventory
 r_there = record { denotes = record { within = omega arith; tree = refl } }
 
-s_dropped : IsDropping (ds 8) 0 (resource s)
+s_dropped : IsOfResource (ds 8) 0 Drop (resource s)
 unfolding inventory
 s_dropped = record { type = 1; made = record { made = refl }; of = record { denotes = record { within = omega arith; tree = refl } } }
 
-r_dropped : IsDropping (ds 8) 1 (resource r)
+r_dropped : IsOfResource (ds 8) 1 Drop (resource r)
 unfolding inventory
 r_dropped = record { type = 2; made = record { made = refl }; of = record { denotes = record { within = omega arith; tree = refl } } }
 
 s_given : IsEntryFor world Main (ds 8) (record { name = drop_s; kind = kinds.Func; index = 0 }) (drop_s, drop_of 1)
 unfolding values_from
-s_given = record { named = refl; serves = inl (record { term = terms.Dropping (resource s); is = s_dropped; asked = refl }); encoded = not_true }
+s_given = record { named = refl; serves = inl (record { term = terms.OfResource Drop (resource s); is = s_dropped; asked = (refl, refl) }); encoded = not_true }
 
 r_given : IsEntryFor world Main (ds 8) (record { name = drop_r; kind = kinds.Func; index = 1 }) (drop_r, drop_of 0)
 unfolding values_from
-r_given = record { named = refl; serves = inl (record { term = terms.Dropping (resource r); is = r_dropped; asked = refl }); encoded = not_true }
+r_given = record { named = refl; serves = inl (record { term = terms.OfResource Drop (resource r); is = r_dropped; asked = (refl, refl) }); encoded = not_true }
 
 both_given : IsArgumentFor world Main (ds 8) (record { name = env; instance = 0 }) (env, instances.Names fields)
 both_given = record { named = refl; serves = record { entries = entries; made = record { made = refl }; each = (s_given, (r_given, tt)) } }
@@ -300,8 +300,8 @@ letter_of_type (OfValues (ResourceAt (ImportedAt origin))) = letter_of origin
 letter_of_type tree = 0
 
 -- function 0 drops r
-no_drop_of_s : CoreMeets world m None 0 (ItemIsDrop m (resource s)) → ⊥
-no_drop_of_s c = let other : 0x72 ≡ 0x73 = ap letter_of_type (own_item world m 0 (ItemIsDrop m (resource s)) c 0 drop_core (IntrinsicOf (intrinsics.ResourceDrop 1)) refl refl) in absurd (omega (arith, other))
+no_drop_of_s : CoreMeets world m None 0 (ItemIsOfResource m Drop (resource s)) → ⊥
+no_drop_of_s c = let other : 0x72 ≡ 0x73 = ap letter_of_type (own_item world m 0 (ItemIsOfResource m Drop (resource s)) c 0 drop_core (IntrinsicOf (intrinsics.ResourceDrop 1)) refl refl) in absurd (omega (arith, other))
 
 abbrev first_import : ImportType
 first_import = record { module_name = env; field = drop_s; ty = drop_type }
@@ -311,9 +311,9 @@ s_is : (origins : TypeId → Resource) → UsersServed world m origins → origi
 unfolding values_from
 s_is origins served = served.resources.1.0
 
-first_meets : (origins : TypeId → Resource) → origins (type_id 1) ≡ resource s → IsServed world m origins (main_module world) (core_function 0) first_import → CoreMeets world m None 0 (ItemIsDrop m (resource s))
+first_meets : (origins : TypeId → Resource) → origins (type_id 1) ≡ resource s → IsServed world m origins (main_module world) (core_function 0) first_import → CoreMeets world m None 0 (ItemIsOfResource m Drop (resource s))
 first_meets origins is served =
-    subst (λ o. CoreMeets world m None 0 (ItemIsDrop m o)) is (subst (Meets world m origins (core_function 0)) (same_Some served.target (Dropped (type_id 1)) (sym served.said)) served.meets)
+    subst (λ o. CoreMeets world m None 0 (ItemIsOfResource m Drop o)) is (subst (Meets world m origins (core_function 0)) (same_Some served.target (OfResource Drop (type_id 1)) (sym served.said)) served.meets)
 
 pub crossed_is_not_linked : IsLinked own_names world no_modules m → ⊥
 crossed_is_not_linked l = no_drop_of_s (first_meets l.origins (s_is l.origins l.imports) (l.imports.each 0 _ _ refl refl).0)

@@ -53,8 +53,8 @@ use Rattle.comp_inventories.specs.Inventories.{inventory, surroundings_of}
 use Rattle.comp_trees.specs.Members.{AreMembersRight}
 use Rattle.comp_trees.specs.WitTrees.{wit_function_tree}
 use Rattle.comp_links.proofs.WorkedImports.{interface_of, interface_id, type_id, import_of_interface, f, v, from_u}
-use Rattle.comp_links.specs.Targets.{Main, OfInterface, Lowered}
-use Rattle.comp_terms.specs.Terms.{IsResource as IsResourceAt, IsDropping, IsImportedFunction, IsLowering}
+use Rattle.comp_links.specs.Targets.{Main, OfInterface, Drop, Lowered}
+use Rattle.comp_terms.specs.Terms.{IsResource as IsResourceAt, IsOfResource, IsImportedFunction, IsLowering}
 use Rattle.comp_terms.specs.Terms as terms
 use Rattle.comp_terms.specs.Planned.{IsTypeOf, IsEntryFor, IsArgumentFor}
 use Rattle.comp_terms.specs.Rules.{AliasesImported, ImportsInterface, IsBuilt}
@@ -255,7 +255,7 @@ f_imported : IsImportedFunction (ds 8) 0 f_origin (f_tree 0)
 unfolding inventory
 f_imported = record { is = refl }
 
-r_dropped : IsDropping (ds 11) 0 (resource 0)
+r_dropped : IsOfResource (ds 11) 0 Drop (resource 0)
 unfolding inventory
 r_dropped = record { type = 1; made = record { made = refl }; of = record { denotes = record { within = omega arith; tree = refl } } }
 
@@ -269,7 +269,7 @@ f_as_said = record { wit = wit_f; imported = refl; typed = refl }
 
 drop_given : IsEntryFor world Main (ds 11) (record { name = drop_r; kind = kinds.Func; index = 0 }) (drop_r, drop_role)
 unfolding values_from
-drop_given = record { named = refl; serves = inl (record { term = terms.Dropping (resource 0); is = r_dropped; asked = refl }); encoded = not_true }
+drop_given = record { named = refl; serves = inl (record { term = terms.OfResource Drop (resource 0); is = r_dropped; asked = (refl, refl) }); encoded = not_true }
 
 f_given : IsEntryFor world Main (ds 11) (record { name = f; kind = kinds.Func; index = 1 }) (f, f_role)
 unfolding values_from

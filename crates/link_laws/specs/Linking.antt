@@ -1,6 +1,6 @@
 -- What a list of definitions is to a validated world when it is run (component model, explainer: component definitions;
 -- Canonical ABI: `canon lift`, `canon lower`).
-use Rattle.std.specs.Prelude.{◌≡◌, ◌≢◌, ◌≤◌, ◌+◌, ◌++◌, ◌&&◌, ℕ, nat_le, Bool, List, [], ◌∷◌, Option, Some, None, length, map, filter, slice_get, is_some, IsTrue, Contains}
+use Rattle.std.specs.Prelude.{◌≡◌, ◌≢◌, ◌≤◌, ◌<◌, ◌+◌, ◌++◌, ◌&&◌, ℕ, nat_le, Bool, List, [], ◌∷◌, Option, Some, None, length, map, filter, slice_get, is_some, IsTrue, Contains}
 use Rattle.std.specs.List.{AllByRecursion, AllZip, flat_map, list_all}
 use Rattle.std.specs.Option.{option_and_then}
 use Rattle.comp_bytes.specs.declared.space.Space.TheVariants as spaces
@@ -151,6 +151,12 @@ pub record IsDefined (w : ComponentWorld) (m : Machine) (number : ℕ) (destruct
   pub is : slice_get (own_resources w) number ≡ Some id
   pub destroyed : DestructorMeets w m destructor (destructor_of w id)
 
+-- a resource is defined with this number
+pub record IsNumberDefined (m : Machine) (number : ℕ) : Type 0 where
+  pub address : ℕ
+  pub destructor : Option ℕ
+  pub is : slice_get m.store.types address ≡ Some (OwnResource number destructor)
+
 -- ---- the end of a run
 
 -- an event is this call
@@ -161,7 +167,7 @@ MakesCall w m (Called address arguments) call =
 MakesCall w m event call = ⊥
 
 -- At the end: each module has one instance, in order; each import is served, and each required function and type is
--- provided; each resource that is defined is one of the world's; and what was seen from outside is the instantiation of each user
+-- provided; each resource that is defined is one of the world's, and each of these is defined; and what was seen from outside is the instantiation of each user
 -- module, and then the start calls.
 pub record IsLinked (n : Naming) (w : ComponentWorld) (g : GeneratedModules) (m : Machine) : Type 0 where
   pub origins : TypeId → Resource
@@ -171,6 +177,7 @@ pub record IsLinked (n : Naming) (w : ComponentWorld) (g : GeneratedModules) (m 
   pub exports : AllByRecursion (IsProvided n w m origins) (required_functions w)
   pub types : AllByRecursion (IsTypeProvided n w m) (required_types w)
   pub resources : (address number : ℕ) (destructor : Option ℕ) → slice_get m.store.types address ≡ Some (OwnResource number destructor) → IsDefined w m number destructor
+  pub defined : (number : ℕ) → number < length (own_resources w) → IsNumberDefined m number
   pub events : m.now.events ≡ map (λ n. Instantiated n) (numbers_from 0 (length (user_modules w))) ++ start_events
   pub started : AllZip (MakesCall w m) start_events (start_calls w)
 

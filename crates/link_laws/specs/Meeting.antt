@@ -23,7 +23,7 @@ use Rattle.comp_trees.specs.Trees.{Origin, Resource, ResourceAt, FunctionTree}
 use Rattle.comp_trees.specs.WitTrees.{wit_function_tree}
 use Rattle.comp_trees.specs.DefinedTrees.{OfValues}
 use Rattle.comp_bytes.specs.declared.canon.Intrinsic.TheVariants as intrinsics
-use Rattle.comp_links.specs.Targets.{Main, WorldFunction, ExportRef, TargetOption, Memory, Realloc, Encoding, Async, PostReturn, Callback, Target, Lowered, ExportOf, MainMemory, Dropped}
+use Rattle.comp_links.specs.Targets.{Main, WorldFunction, ExportRef, TargetOption, Memory, Realloc, Encoding, Async, PostReturn, Callback, ResourceFunction, New, Rep, Drop, Target, Lowered, ExportOf, MainMemory, OfResource}
 use Rattle.comp_links.specs.Modules.{user_modules, IsModule, function_imported}
 use Rattle.comp_links.specs.Lists.{IsOriginOf}
 use Rattle.comp_runs.specs.Store.{Thing, HeldOption, HeldEncoding, HeldMemory, HeldRealloc, HeldPostReturn, HeldAsync, HeldCallback, CoreItem, Lowering, IntrinsicOf, tree_held, ExportedBy, Imported, Lifting, ModuleInstance}
@@ -169,10 +169,16 @@ abbrev pub ItemIsLowering : ComponentWorld → Machine → (TypeId → Resource)
 ItemIsLowering w m origins of options (Lowering function held) = IsImport w m origins function of × MeetOptions w m held options
 ItemIsLowering w m origins of options item = ⊥
 
--- the drop of handles of a resource
-abbrev pub ItemIsDrop : Machine → Resource → CoreItem → Type 0
-ItemIsDrop m resource (IntrinsicOf (intrinsics.ResourceDrop type)) = tree_held m.store.types type ≡ OfValues (ResourceAt resource)
-ItemIsDrop m resource item = ⊥
+-- the type at this address is the resource
+abbrev pub IsResourceHeld : Machine → Resource → ℕ → Type 0
+IsResourceHeld m resource type = tree_held m.store.types type ≡ OfValues (ResourceAt resource)
+
+-- a function of the handles of a resource
+abbrev pub ItemIsOfResource : Machine → ResourceFunction → Resource → CoreItem → Type 0
+ItemIsOfResource m New resource (IntrinsicOf (intrinsics.ResourceNew type)) = IsResourceHeld m resource type
+ItemIsOfResource m Rep resource (IntrinsicOf (intrinsics.ResourceRep type)) = IsResourceHeld m resource type
+ItemIsOfResource m Drop resource (IntrinsicOf (intrinsics.ResourceDrop type)) = IsResourceHeld m resource type
+ItemIsOfResource m function resource item = ⊥
 
 -- the function at this address is a lift of this type, whose entry and options meet those of the target
 pub record IsLift (w : ComponentWorld) (m : Machine) (address : ℕ) (type : FunctionTree) (entry : ExportRef) (options : List TargetOption) : Type 0 where
@@ -185,7 +191,7 @@ pub record IsLift (w : ComponentWorld) (m : Machine) (address : ℕ) (type : Fun
 -- an item of a core module meets a target
 abbrev pub MeetsIn : ComponentWorld → Machine → (TypeId → Resource) → Space → ℕ → Target → Type 0
 MeetsIn w m origins spaces.CoreFunc address (Lowered of options) = CoreMeets w m None address (ItemIsLowering w m origins of options)
-MeetsIn w m origins spaces.CoreFunc address (Dropped id) = CoreMeets w m None address (ItemIsDrop m (origins id))
+MeetsIn w m origins spaces.CoreFunc address (OfResource function id) = CoreMeets w m None address (ItemIsOfResource m function (origins id))
 MeetsIn w m origins spaces.CoreFunc address (ExportOf export_ref) = CoreExportMeets w m None address export_ref
 MeetsIn w m origins spaces.CoreTable address (ExportOf export_ref) = ItemMeets w m spaces.CoreTable address export_ref
 MeetsIn w m origins spaces.CoreMemory address (ExportOf export_ref) = ItemMeets w m spaces.CoreMemory address export_ref

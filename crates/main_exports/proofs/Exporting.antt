@@ -17,6 +17,7 @@ use Rattle.comp_bytes.specs.ScopeNames.{def_export}
 use Rattle.comp_bytes.specs.declared.def.Def.{Def}
 use Rattle.comp_bytes.specs.declared.def.Def.TheVariants as defs
 use Rattle.comp_bytes.specs.declared.def.Item.TheVariants as items
+use Rattle.comp_bytes.specs.declared.types.TypeDef.TheVariants as types
 use Rattle.comp_bytes.specs.declared.space.Sort.{Sort}
 use Rattle.comp_bytes.specs.declared.types.ExternName.{ExternName}
 use Rattle.wit_data.specs.Keys.{is_same_key}
@@ -43,16 +44,18 @@ use Rattle.interface_needs.proofs.Lists.{all_both, all_of_each, contains_cons, c
 use Rattle.wit_data.specs.Live.{named_types}
 use Rattle.nested_components.specs.Types.{IsAtHome}
 use Rattle.interface_needs.specs.RootNeeds.{interface_of_item, IsExportedInterface, is_lent_type}
+use Rattle.interface_needs.proofs.Orders.{home_later}
+use Rattle.comp_worlds.specs.ExportOrder.{AreExportsInOrder, IsExportedAt}
 use Rattle.interface_needs.proofs.RootItems.{exported_there, exported_sound}
-use Rattle.interface_needs.proofs.ExportedInterfaces.{exported_titled, exported_ascend, exported_types_home, exported_functions_home, exported_every, home_later}
+use Rattle.interface_needs.proofs.ExportedInterfaces.{exported_titled, exported_ascend, exported_types_home, exported_functions_home, exported_every}
 use Rattle.root_imports.specs.Growing.{Grows-none, Grows-by, Grows-then}
 use Rattle.core_options.specs.Causes.{IsCause, IsCauseAmong, IsEncodedExport}
 use Rattle.core_options.specs.MainOptions.{HasLiftOptions}
 use Rattle.core_options.specs.declared.fault.StateFault.{StateFault}
 use Rattle.core_options.proofs.Refusals.{among_more}
-use Rattle.root_imports.specs.Keeping.{Root, RootKept}
+use Rattle.root_imports.specs.Keeping.{Root, RootMoved}
 use Rattle.main_exports.specs.Exports.{main_function, at_key, functions_at, functions_of_key, IsMainFunction, AreMainFunctions}
-use Rattle.root_imports.proofs.Keeping.{kept_then}
+use Rattle.root_imports.proofs.Keeping.{moved_then}
 
 -- ---- how many exports there are
 
@@ -71,6 +74,9 @@ marks_append (m ∷ ms) b = marks_append ms b
 
 def_counted : (d : Def) → length (def_export d) ≡ exported_marks (filter_map landmark (d ∷ []))
 def_counted (defs.Item (items.CoreModule bytes)) = refl
+def_counted (defs.Item (items.Type (types.Resource destructor))) = refl
+def_counted (defs.Item (items.Type (types.Func f))) = refl
+def_counted (defs.Item (items.Type (types.Defined t))) = refl
 def_counted d = refl
 
 counted : (ds : List Def) → exports_in ds ≡ exported_marks (landmarks ds)
@@ -93,7 +99,7 @@ exports_same {w} {old} g = exports_grow g ∙ omega arith
 pub exports_nested : {w : ComponentWorld} {old new : List Def} {imports exports : List (List ℕ)} → Grows w old new (NestedOf imports exports ∷ []) → exports_in new ≡ exports_in old
 exports_nested {w} {old} g = exports_grow g ∙ omega arith
 
-one_marked : (n : Naming) (w : ComponentWorld) (key : WorldKey) → exported_marks (export_marked n w key) ≡ 1
+pub one_marked : (n : Naming) (w : ComponentWorld) (key : WorldKey) → exported_marks (export_marked n w key) ≡ 1
 one_marked n w key = by (exported_item w key)
   where
     by : (o : Option WorldItem) → exported_marks (nested_marked w o ++ Exported (record { name = name_of n w.resolve key; sort = sort_of o }) ∷ []) ≡ 1
@@ -212,17 +218,17 @@ module _ (w : ComponentWorld) (ok : IsEncodable w) (key : WorldKey) (id : Interf
   pub entries_sound : IsDistinct bytes_eq (keys_of entries) → AllByRecursion (λ (e : List ℕ × Function). HasFunction w.resolve e.1) entries
   entries_sound apart = all_of_each (λ (e : List ℕ × Function). HasFunction w.resolve e.1) entries (λ e c. one_sound apart e c)
 
-  pub interface_at_home : IsAtHome w.resolve.types id (named_types w.resolve id) entries
-  interface_at_home =
+  pub interface_at_home : (number : ℕ) → slice_get w.main_exports number ≡ Some key → AreExportsInOrder w → IsAtHome w.resolve.types id (named_types w.resolve id) entries
+  interface_at_home number at order =
       let exported : IsExportedInterface w id = record { key = key; of = is } in
       record {
-        lent = is_lent_type w;
+        lent = is_lent_type w id;
         titled = exported_titled w ok id exported;
         ascend = exported_ascend w ok id exported;
         types = exported_types_home w ok id exported;
         functions = exported_functions_home w ok id exported;
         every = record { each = exported_every w ok id exported };
-        later = record { each = λ t within other h. home_later w ok id exported t h };
+        later = record { each = λ t within other h. home_later w ok id number (record { key = key; required = at; item = is }) order t within other h };
       }
 
   pub interface_functions : functions_of_key w key ≡ functions_at key entries
@@ -246,22 +252,22 @@ module _ (w : ComponentWorld) (ok : IsEncodable w) (key : WorldKey) (id : Interf
 
 -- the keys that were exported so far
 pub record ExportsSoFar (n : Naming) (w : ComponentWorld) (old new : Root) (done : List WorldKey) : Type 0 where
-  pub kept : RootKept w old new
+  pub moved : RootMoved w old new
   pub grows : Grows w old.items.defs new.items.defs (flat_map (export_marked n w) done)
   pub encoded : AllByRecursion (IsEncodedExport w) (flat_map (functions_of_key w) done)
   pub has : AllByRecursion (HasLiftOptions w) (flat_map (functions_of_key w) done)
 
-pub exports_start : (n : Naming) (w : ComponentWorld) (root : Root) → RootKept w root root → ExportsSoFar n w root root []
-exports_start n w root kept = record { kept = kept; grows = Grows-none w root.items.defs; encoded = tt; has = tt }
+pub exports_start : (n : Naming) (w : ComponentWorld) (root : Root) → RootMoved w root root → ExportsSoFar n w root root []
+exports_start n w root moved = record { moved = moved; grows = Grows-none w root.items.defs; encoded = tt; has = tt }
 
 flat_more : {A B : Type 0} (f : A → List B) (xs : List A) (i : ℕ) (x : A) → i < length xs → x ≡ get_or xs i x → flat_map f (take (i + 1) xs) ≡ flat_map f (take i xs) ++ f x
 flat_more f xs i x l is =
     ap (flat_map f) (take_more xs i x l ∙ ap (λ k. take i xs ++ k ∷ []) (sym is)) ∙ (flat_map-append f (take i xs) (x ∷ []) ∙ ap (λ l. flat_map f (take i xs) ++ l) (append-nil (f x)))
 
-pub exports_step : (n : Naming) (w : ComponentWorld) (old mid new : Root) (ks : List WorldKey) (i : ℕ) (key : WorldKey) → ExportsSoFar n w old mid (take i ks) → i < length ks → key ≡ get_or ks i key → RootKept w mid new →
+pub exports_step : (n : Naming) (w : ComponentWorld) (old mid new : Root) (ks : List WorldKey) (i : ℕ) (key : WorldKey) → ExportsSoFar n w old mid (take i ks) → i < length ks → key ≡ get_or ks i key → RootMoved w mid new →
     Grows w mid.items.defs new.items.defs (export_marked n w key) → AllByRecursion (IsEncodedExport w) (functions_of_key w key) → AllByRecursion (HasLiftOptions w) (functions_of_key w key) → ExportsSoFar n w old new (take (i + 1) ks)
-exports_step n w old mid new ks i key h l is kept grows encoded has = record {
-  kept = kept_then w old mid new h.kept kept;
+exports_step n w old mid new ks i key h l is moved grows encoded has = record {
+  moved = moved_then w old mid new h.moved moved;
   grows = subst (λ m. Grows w old.items.defs new.items.defs m) (sym (flat_more (export_marked n w) ks i key l is)) (Grows-then h.grows grows);
   encoded = subst (AllByRecursion (IsEncodedExport w)) (sym (flat_more (functions_of_key w) ks i key l is)) (all_both (IsEncodedExport w) (flat_map (functions_of_key w) (take i ks)) (functions_of_key w key) h.encoded encoded);
   has = subst (AllByRecursion (HasLiftOptions w)) (sym (flat_more (functions_of_key w) ks i key l is)) (all_both (HasLiftOptions w) (flat_map (functions_of_key w) (take i ks)) (functions_of_key w key) h.has has);
@@ -285,7 +291,7 @@ required_are w [] = refl
 required_are w (k ∷ ks) = ap (λ l. functions_of_key w k ++ l) (required_are w ks)
 
 pub record ExportsDone (n : Naming) (w : ComponentWorld) (old new : Root) : Type 0 where
-  pub kept : RootKept w old new
+  pub moved : RootMoved w old new
   pub grows : Grows w old.items.defs new.items.defs (exports_marked n w)
   pub encoded : AllByRecursion (IsEncodedExport w) (required_functions w)
   pub has : AllByRecursion (HasLiftOptions w) (required_functions w)
@@ -295,7 +301,7 @@ exports_done n w old new i e h =
     let all : take i w.main_exports ≡ w.main_exports = take_all i w.main_exports (omega (arith, e)) in
     let functions : flat_map (functions_of_key w) (take i w.main_exports) ≡ required_functions w = ap (flat_map (functions_of_key w)) all ∙ sym (required_are w w.main_exports) in
     record {
-      kept = h.kept;
+      moved = h.moved;
       grows = subst (λ ks. Grows w old.items.defs new.items.defs (flat_map (export_marked n w) ks)) all h.grows;
       encoded = subst (AllByRecursion (IsEncodedExport w)) functions h.encoded;
       has = subst (AllByRecursion (HasLiftOptions w)) functions h.has;

@@ -1,6 +1,6 @@
 -- What was made stays what it is while definitions are added, and the root after several steps.
-use Rattle.std.proofs.Common.{◌≡◌, ◌∙◌, ℕ, List, [], ◌∷◌, refl, sym, ap, subst, None}
-use Rattle.std.specs.List.{slice_get, AllZip}
+use Rattle.std.proofs.Common.{◌≡◌, ◌∙◌, ◌<◌, ℕ, Option, List, [], ◌∷◌, refl, sym, ap, subst, None}
+use Rattle.std.specs.List.{slice_get, AllByRecursion, AllZip}
 use Rattle.comp_lists.proofs.Lists.{AllZip-weaker}
 use Rattle.comp_bytes.specs.declared.def.Argument.{Argument}
 use Rattle.comp_bytes.specs.declared.def.Def.{Def}
@@ -26,7 +26,10 @@ use Rattle.root_imports.specs.RootScopes.{AreTablesRight, ArePassed, RootGrows}
 use Rattle.root_imports.proofs.Growth.{tables_kept}
 use Rattle.nested_components.specs.declared.component.NestedComponent.{NestedComponent}
 use Rattle.nested_components.specs.declared.type_import.TypeImport.{TypeImport}
-use Rattle.root_imports.specs.Keeping.{Root, RootKept}
+use Rattle.root_imports.specs.Keeping.{Root, RootKept, RootMoved}
+use Rattle.root_imports.specs.Met.{next_of}
+use Rattle.wit_data.specs.declared.ids.TypeId.{TypeId}
+use Rattle.comp_worlds.specs.WorldContents.{imported_types}
 use Rattle.main_exports.specs.Exports.{AreExports, IsTypedLift, IsLiftArgument, AreLiftArguments, IsTypeArgument, AreArgumentsOf}
 use Rattle.main_exports.specs.declared.sources.MainExports.{MainExports}
 
@@ -86,6 +89,18 @@ module _ (w : ComponentWorld) where
     tabled = h.tabled;
     sources = record { made = instance-kept (longer g.extends) h.sources.made; memory = h.sources.memory; offered = h.sources.offered };
     realloc = h.realloc;
-    tables = subst (λ l. AreTablesRight w l new.instances new.items.defs new.maps) (sym g.next) g.tables;
-    passed = subst (ArePassed w) (sym g.next) h.passed;
+    tables = subst (λ l. AreTablesRight w l new.instances new.items.defs new.maps) (sym g.met) g.tables;
+    passed = subst (ArePassed w) (sym g.met) h.passed;
+    ordered = h.ordered;
+  }
+
+  pub exports-moved : (e : MainExports) (old new : Root) → RootMoved w old new → AreExports w e old → AreExports w e new
+  exports-moved e old new g h = record {
+    valid = h.valid;
+    tabled = h.tabled;
+    sources = record { made = instance-kept (longer g.extends) h.sources.made; memory = h.sources.memory; offered = h.sources.offered };
+    realloc = h.realloc;
+    tables = g.tables;
+    passed = subst (λ (last : Option TypeId). AllByRecursion (λ (t : List ℕ × TypeId). t.1.index < next_of last) (imported_types w)) (sym g.last) h.passed;
+    ordered = h.ordered;
   }

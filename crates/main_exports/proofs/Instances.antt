@@ -53,8 +53,11 @@ use Rattle.comp_items.proofs.Kept.{Longer, denotes-kept}
 use Rattle.root_imports.specs.Growing.{Grows-by, Grows-then}
 use Rattle.root_imports.proofs.ExportedTypes.{same_name}
 use Rattle.interface_needs.proofs.Usable.{usable_from}
+use Rattle.comp_inventories.specs.Inventories.{NestedInstance, given_by, scope_of}
+use Rattle.root_imports.specs.Interfaces.{ExportsListed}
+use Rattle.main_exports.proofs.GivenTypes.{exported_entry, same_given}
 use Rattle.main_exports.proofs.TypeArguments.{usable_import}
-use Rattle.main_exports.specs.Exports.{IsNestedOf, nested_mark, functions_at, functions_of_key, AreLiftArguments, IsTypeArgument, AreArgumentsOf, AreArgumentsFor, IsInstantiated}
+use Rattle.main_exports.specs.Exports.{IsExportAdded, IsNestedOf, nested_mark, functions_at, functions_of_key, AreLiftArguments, IsTypeArgument, AreArgumentsOf, AreArgumentsFor, IsInstantiated}
 use Rattle.main_exports.proofs.Exporting.{own_names, interface_functions}
 use Rattle.main_exports.proofs.Growth.{all_arguments-kept}
 use Rattle.main_exports.proofs.Nested.{AreFound, Finds, IsOfSort, all_found, all_given, types_given, imports_given, all_passed, arguments_named, types_named, lifts_sorted, types_sorted, exports_found, past_types, IsTypeFound, types_found, functions_named, import_types_named, functions_then_types, exports_named, imported_names, given_names, listed_names, exported_names, export_name}
@@ -192,7 +195,7 @@ module _ (w : ComponentWorld) (key : WorldKey) (listed : List (List ℕ × TypeI
     each_given = subst (λ as'. AllByRecursion (IsImportGiven ds as') (imports_after n.given empty_scope c.items)) (sym h.both) given
 
     -- the arguments are those of the component
-    pub arguments_for : AreArgumentsFor ds c.items arguments
+    abbrev pub arguments_for : AreArgumentsFor ds c.items arguments
     arguments_for = record { given = n.given; scoped = all_scoped; apart = names_apart; right = n.passes.right; each = each_given }
 
     -- an instance that is given them is one of it
@@ -281,3 +284,18 @@ pub mark_expected : (w : ComponentWorld) (key : WorldKey) (id : InterfaceId) (es
     nested_mark c.items ∷ [] ≡ nested_marked w (Some (world_items.Interface id))
 mark_expected w key id es same c n =
     ap (λ m. m ∷ []) (nested_marked_as w key (named_types w.resolve id) (functions_of w.resolve id) c (subst (λ l. IsNestedOf w (named_types w.resolve id) l c) same n))
+
+-- the instance that is exported has each type of the interface
+pub listed_exported : (w : ComponentWorld) (key : WorldKey) (id : InterfaceId) (c : NestedComponent) (n : IsNestedOf w (named_types w.resolve id) (functions_of w.resolve id) c) (arguments : List Argument) (mid new end : List Def) → AreArgumentsOf w mid key (functions_of w.resolve id) c arguments →
+    IsDistinct bytes_eq (keys_of (named_types w.resolve id)) → (definitions : List Item) → definitions ≡ c.items → (instance exported : ℕ) →
+    slice_get (inventory new).instances instance ≡ Some (NestedInstance (exports_after (given_by (scope_of mid) arguments) empty_scope definitions)) → IsExportAdded new end sorts.Instance instance exported → ExportsListed w end id exported
+listed_exported w key id c n arguments mid new end given apart definitions same instance exported there added =
+    let a : AreArgumentsFor mid c.items arguments = arguments_for w key (named_types w.resolve id) (functions_of w.resolve id) c n mid arguments given in
+    let exports : exports_after n.given empty_scope c.items ≡ exports_after (given_by (scope_of mid) arguments) empty_scope c.items = same_given mid arguments n.given empty_scope c.items a.each in
+    let entry : slice_get (inventory new).instances instance ≡ Some (NestedInstance (exports_after n.given empty_scope c.items)) =
+    there ∙ (ap (λ is. Some (NestedInstance (exports_after (given_by (scope_of mid) arguments) empty_scope is))) same ∙ ap (λ es. Some (NestedInstance es)) (sym exports)) in
+    record {
+      exported = exports_after n.given empty_scope c.items;
+      nested = exported_entry new end added.name instance exported (NestedInstance (exports_after n.given empty_scope c.items)) entry added.added added.at;
+      types = types_exported w key (named_types w.resolve id) (functions_of w.resolve id) c n apart;
+    }

@@ -7,3 +7,5 @@ pub mod Nested
 pub mod Exporting
 pub mod Instances
 pub mod TypeArguments
+pub mod AtHand
+mod GivenTypes

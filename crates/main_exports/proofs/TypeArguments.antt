@@ -58,7 +58,7 @@ module _ (w : ComponentWorld) (ok : IsEncodable w) (key : WorldKey) (id : Interf
         exported = exported;
         within = h.within;
         named = ap is_some (sym (same_name w.resolve.types i.id.index) ∙ h.titled);
-        passes = h.reached.each (is_at_home w.resolve.types (is_lent_type w) id) (exported_types_home w ok id exported) (exported_functions_home w ok id exported);
+        passes = h.reached.each (is_at_home w.resolve.types (is_lent_type w id) id) (exported_types_home w ok id exported) (exported_functions_home w ok id exported);
       }
 
   pub usable_imports : (imports : List TypeImport) → AllByRecursion (IsImportOf w.resolve.types (named_types w.resolve id) (functions_of w.resolve id)) imports → AreTypesUsable w id imports

@@ -1,5 +1,5 @@
 -- What is taken as given where the required exports are lifted, and what is lifted for each. (The rules are this project's own.)
-use Rattle.std.specs.Prelude.{◌≡◌, ℕ, List, [], ◌∷◌, ◌++◌, map, Some, IsSome, slice_get, None}
+use Rattle.std.specs.Prelude.{◌≡◌, ◌<◌, ◌≤◌, ℕ, true, List, [], ◌∷◌, ◌++◌, map, Some, IsSome, slice_get, None}
 use Rattle.std.specs.List.{AllByRecursion, AllZip, IsDistinct, flat_map}
 use Rattle.std.specs.Option.{option_copied}
 use Rattle.std.specs.Str.{bytes_eq}
@@ -11,6 +11,9 @@ use Rattle.comp_bytes.specs.declared.def.Def.TheVariants as defs
 use Rattle.comp_bytes.specs.declared.def.Item.{Item}
 use Rattle.comp_bytes.specs.declared.def.Item.TheVariants as items
 use Rattle.comp_bytes.specs.declared.space.Space.TheVariants as spaces
+use Rattle.comp_bytes.specs.Spaces.{items_in, sort_space}
+use Rattle.comp_bytes.specs.declared.space.Sort.{Sort}
+use Rattle.comp_bytes.specs.declared.types.ExternName.{ExternName}
 use Rattle.comp_bytes.specs.declared.space.Sort.TheVariants as sorts
 use Rattle.standard_kinds.specs.declared.kinds.ExportKind.TheVariants as kinds
 use Rattle.wit_data.specs.Sound.{HasFunction}
@@ -37,6 +40,9 @@ use Rattle.comp_terms.specs.Exports.{IsArgumentRight, IsImportGiven, IsRequiredL
 use Rattle.comp_terms.specs.Rules.{Landmark, NestedOf}
 use Rattle.comp_terms.specs.Planned.{type_of_function}
 use Rattle.comp_terms.specs.Terms.{IsExported}
+use Rattle.comp_worlds.specs.ExportOrder.{AreExportsInOrder, IsExportedAt}
+use Rattle.root_imports.specs.Met.{has_types, is_at_hand}
+use Rattle.root_imports.specs.declared.met_types.MetTypes.{MetTypes}
 use Rattle.root_imports.specs.RootScopes.{AreTablesRight, ArePassed, AreForgotten}
 use Rattle.interface_needs.specs.RootNeeds.{IsUsableType}
 use Rattle.root_imports.specs.Keeping.{Root}
@@ -44,14 +50,20 @@ use Rattle.core_options.specs.MainOptions.{of_main, AreOptionSources}
 use Rattle.main_exports.specs.Tables.{AreTablesOf}
 use Rattle.main_exports.specs.declared.sources.MainExports.{MainExports}
 
--- what functions are lifted from is there, and the tables of types are right
+-- what functions are lifted from is there, interfaces are exported behind those that they use, and the tables of types are right
 pub record AreExports (w : ComponentWorld) (e : MainExports) (root : Root) : Type 0 where
   pub valid : IsEncodable w
   pub tabled : AreTablesOf w.main.exports.exports e.tables
   pub sources : AreOptionSources w root.items.defs e.sources
   pub realloc : option_copied e.sources.realloc ≡ lift_realloc w
-  pub tables : AreTablesRight w root.last_type root.instances root.items.defs root.maps
-  pub passed : ArePassed w root.last_type
+  pub tables : AreTablesRight w root.met root.instances root.items.defs root.maps
+  pub passed : ArePassed w root.met
+  pub ordered : AreExportsInOrder w
+
+-- The types of each interface that main has to export are at hand: of those that come from this number on, they are in the tables.
+pub record AreExportsAtHand (w : ComponentWorld) (met : MetTypes) (number : ℕ) : Type 0 where
+  pub before : (n : ℕ) (id : InterfaceId) → n < number → IsExportedAt w n id → is_at_hand met id ≡ true
+  pub from : (n : ℕ) (id : InterfaceId) → number ≤ n → IsExportedAt w n id → has_types met id ≡ true
 
 -- a function that main has to export
 abbrev pub main_function : FunctionKey → RequiredFunction
@@ -126,6 +138,12 @@ pub record IsInstantiated (ds : List Def) (definitions : List Item) (arguments :
 -- the nested component of an interface that lists these types and has these functions
 abbrev pub IsNestedOf : ComponentWorld → List (List ℕ × TypeId) → List (List ℕ × WitFunction) → NestedComponent → Type 0
 IsNestedOf w listed entries c = IsNestedComponent (resource_of w) w.resolve.types listed entries c
+
+-- the item was exported last, with this index
+pub record IsExportAdded (old new : List Def) (sort : Sort) (index exported : ℕ) : Type 0 where
+  pub name : ExternName
+  pub at : exported ≡ items_in (sort_space sort) old
+  pub added : new ≡ old ++ defs.Item (items.Export name sort index None) ∷ []
 
 -- ---- its arguments
 

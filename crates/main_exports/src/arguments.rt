@@ -4,7 +4,7 @@
 //! Component model, explainer: instance definitions.
 #![tactic(auto, using(crate::proofs::Growth::growing))]
 
-ghost use Rattle.std.specs.Prelude.{◌≡◌, [], IfOk, IfErr, OnOk, Some};
+ghost use Rattle.std.specs.Prelude.{◌≡◌, [], length, IfOk, IfErr, OnOk, Some};
 ghost use Rattle.std.specs.List.{AllByRecursion, AllZip};
 ghost use Rattle.comp_terms.specs.Rules.{Grows};
 ghost use Rattle.comp_worlds.specs.Encodable.{IsEncodable};
@@ -14,6 +14,7 @@ ghost use Rattle.core_options.specs.MainOptions.{HasLiftOptions};
 ghost use Rattle.interface_needs.specs.RootNeeds.{IsUsableType};
 ghost use Rattle.root_imports.specs.Keeping.{RootKept};
 ghost use Rattle.main_exports.specs.Exports.{AreExports, functions_at, AreMainFunctions, IsTypeArgument, AreTypesUsable, IsNestedOf, AreArgumentsOf};
+ghost use Rattle.root_imports.specs.Met.{IsSupplied};
 ghost use Rattle.root_imports.specs.RootScopes.{AreTablesRight};
 ghost use Rattle.world_values.specs.Items.{functions_of};
 ghost use Rattle.wit_data.specs.Live.{named_types};
@@ -37,7 +38,8 @@ fn type_argument(
 ) -> Result<Argument, StateFault>
     requires valid { IsEncodable root.old.world.now }
     requires usable { IsUsableType root.old.world.now interface import.now.id }
-    requires tables { AreTablesRight root.old.world.now root.old.last_type root.old.instances root.old.items.defs root.old.maps }
+    requires supplied { IsSupplied root.old.world.now root.old.met interface (length root.old.world.now.resolve.types) }
+    requires tables { AreTablesRight root.old.world.now root.old.met root.old.instances root.old.items.defs root.old.maps }
     ensures kept { RootKept root.old.world.now root.old root.new }
     ensures grows { OnOk result (Grows root.old.world.now root.old.items.defs root.new.items.defs []) }
     ensures given { IfOk result (λ a. IsTypeArgument root.old.world.now root.new.items.defs import.now a) }
@@ -60,7 +62,8 @@ fn type_arguments(
 ) -> Result<Seq<Argument>, StateFault>
     requires valid { IsEncodable root.old.world.now }
     requires usable { AreTypesUsable root.old.world.now interface imports.now }
-    requires tables { AreTablesRight root.old.world.now root.old.last_type root.old.instances root.old.items.defs root.old.maps }
+    requires supplied { IsSupplied root.old.world.now root.old.met interface (length root.old.world.now.resolve.types) }
+    requires tables { AreTablesRight root.old.world.now root.old.met root.old.instances root.old.items.defs root.old.maps }
     ensures kept { RootKept root.old.world.now root.old root.new }
     ensures grows { OnOk result (Grows root.old.world.now root.old.items.defs root.new.items.defs []) }
     ensures given { IfOk result (λ arguments. AllZip (IsTypeArgument root.old.world.now root.new.items.defs) imports.now arguments) }
@@ -85,6 +88,7 @@ impl MainExports<'_> {
     ) -> Result<Seq<Argument>, StateFault>
         requires exports { AreExports root.old.world.now self.now root.old }
         requires item { exported_item root.old.world.now key.now ≡ Some (world_items.Interface id) }
+        requires supplied { IsSupplied root.old.world.now root.old.met id (length root.old.world.now.resolve.types) }
         requires functions { AreMainFunctions root.old.world.now key.now functions.now }
         requires all { functions.now ≡ functions_of root.old.world.now.resolve id }
         requires nested { IsNestedOf root.old.world.now (named_types root.old.world.now.resolve id) functions.now nested.now }

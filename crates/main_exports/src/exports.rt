@@ -4,7 +4,7 @@
 //! Component model, explainer: component definitions, instance definitions, export definitions.
 #![tactic(auto, using(crate::proofs::Growth::growing))]
 
-ghost use Rattle.std.specs.Prelude.{◌≡◌, [], ◌∷◌, IfOk, IfErr, OnOk, Some, None, slice_get};
+ghost use Rattle.std.specs.Prelude.{◌≡◌, [], ◌∷◌, length, IfOk, IfErr, OnOk, Some, None, slice_get};
 ghost use Rattle.std.specs.List.{AllByRecursion, IsDistinct};
 ghost use Rattle.std.specs.Map.{keys_of};
 ghost use Rattle.std.specs.Str.{bytes_eq};
@@ -23,9 +23,14 @@ ghost use Rattle.comp_worlds.specs.Worlds.{IsRequired};
 ghost use Rattle.core_options.specs.Causes.{IsCause, IsCauseAmong, IsEncodedExport};
 ghost use Rattle.core_options.specs.MainOptions.{HasLiftOptions};
 ghost use Rattle.comp_trees.specs.Trees.{Resource};
-ghost use Rattle.root_imports.specs.Keeping.{RootKept};
-ghost use Rattle.main_exports.specs.Exports.{AreExports, ForgetsTypes, functions_of_key, nested_mark, AreArgumentsFor, IsInstantiated, IsNestedOf};
+ghost use Rattle.root_imports.specs.Keeping.{RootKept, RootMoved};
+ghost use Rattle.main_exports.specs.Exports.{AreExports, AreExportsAtHand, IsExportAdded, ForgetsTypes, functions_of_key, nested_mark, AreArgumentsFor, IsInstantiated, IsNestedOf};
 ghost use Rattle.nested_components.specs.Types.{IsAtHome};
+ghost use Rattle.comp_inventories.specs.Inventories.{NestedInstance, given_by, inventory, scope_of};
+ghost use Rattle.comp_worlds.specs.ExportOrder.{AreExportsInOrder};
+ghost use Rattle.nested_terms.specs.Nested.{empty_scope, exports_after};
+ghost use Rattle.root_imports.specs.Interfaces.{ExportsListed};
+ghost use Rattle.root_imports.specs.Met.{IsSupplied};
 ghost use Rattle.root_imports.specs.RootScopes.{AreTablesRight, ArePassed};
 ghost use Rattle.wit_data.specs.declared.worlds.WorldItem.TheVariants as items;
 ghost use Rattle.wit_data.specs.Sound.{IsSound, HasFunction, HasInterface, HasKey};
@@ -103,27 +108,28 @@ fn interface_component(
 }
 
 impl MainExports<'_> {
-    /// Exports an item under the name of its key.
+    /// Exports an item under the name of its key, and returns the index of what is exported.
     fn export(
         &self,
         root: &mut RootScope<'_, ComponentWorld>,
         key: &WorldKey,
         sort: Sort,
         index: u32,
-    ) -> Result<(), StateFault>
+    ) -> Result<u32, StateFault>
         requires sound { IsSound root.old.world.now.resolve }
         requires present { HasKey root.old.world.now.resolve key.now }
         requires right { IsExportRight root.old.world.now root.old.items.defs sort index None }
         ensures same { root.new ≡ record root.old { items = root.new.items } }
         ensures extends { Extends root.old.items root.new.items }
         ensures grows { OnOk result (Grows root.old.world.now root.old.items.defs root.new.items.defs (Exported (record { name = name_of (naming_of self.now.names) root.old.world.now.resolve key.now; sort = sort }) ∷ [])) }
+        ensures added { IfOk result (IsExportAdded root.old.items.defs root.new.items.defs sort index) }
         ensures cause { IfErr result (IsCauseAmong root.old.world.now [] []) }
     {
         let world = root.world;
         let alloc = root.items.allocator();
         let name = self.names.key_name(alloc, &world.resolve, key)?;
-        root.items.export(name, sort, index)?;
-        Ok(())
+        let exported = root.items.export(name, sort, index)?;
+        Ok(exported)
     }
 
     /// Lifts a function that is required at the root, and exports it.
@@ -145,7 +151,7 @@ impl MainExports<'_> {
     {
         let required = function_key(root.items.allocator(), key, &function.name)?;
         let lifted = self.lift(root, None, &required, function)?;
-        self.export(root, key, Sort::Func, lifted)?;
+        let _ = self.export(root, key, Sort::Func, lifted)?;
         Ok(())
     }
 
@@ -167,6 +173,7 @@ impl MainExports<'_> {
         ensures extends { Extends root.old.items root.new.items }
         ensures grows { OnOk result (Grows root.old.world.now root.old.items.defs root.new.items.defs (nested_mark definitions ∷ [])) }
         ensures made { IfOk result (λ index. IsInstantiated root.new.items.defs definitions arguments index) }
+        ensures entry { IfOk result (λ index. slice_get (inventory root.new.items.defs).instances index ≡ Some (NestedInstance (exports_after (given_by (scope_of root.old.items.defs) arguments) empty_scope definitions))) }
         ensures cause { IfErr result (IsCauseAmong root.old.world.now [] []) }
     {
         let world = root.world;
@@ -182,19 +189,21 @@ impl MainExports<'_> {
     }
 
     /// Lifts the functions of an interface, and exports an instance of the interface's nested component, which is given the lifts, and
-    /// the types of which they are made.
+    /// the types of which they are made. The answer is the index of the instance that is exported.
     fn export_instance(
         &self,
         root: &mut RootScope<'_, ComponentWorld>,
         key: &WorldKey,
         id: InterfaceId,
-    ) -> Result<(), StateFault>
+    ) -> Result<u32, StateFault>
         requires exports { AreExports root.old.world.now self.now root.old }
         requires next { slice_get root.old.world.now.main_exports (exports_in root.old.items.defs) ≡ Some key.now }
         requires item { exported_item root.old.world.now key.now ≡ Some (items.Interface id) }
         requires required { IsRequired root.old.world.now root.old.world.now.main key.now }
+        requires supplied { IsSupplied root.old.world.now root.old.met id (length root.old.world.now.resolve.types) }
         ensures kept { RootKept root.old.world.now root.old root.new }
         ensures grows { OnOk result (Grows root.old.world.now root.old.items.defs root.new.items.defs (export_marked (naming_of self.now.names) root.old.world.now key.now)) }
+        ensures exports { IfOk result (ExportsListed root.old.world.now root.new.items.defs id) }
         ensures has { OnOk result (AllByRecursion (HasLiftOptions root.old.world.now) (functions_of_key root.old.world.now key.now)) }
         ensures encoded { OnOk result (AllByRecursion (IsEncodedExport root.old.world.now) (functions_of_key root.old.world.now key.now)) }
         ensures cause { IfErr result (IsCauseAmong root.old.world.now [] (functions_of_key root.old.world.now key.now)) }
@@ -205,11 +214,11 @@ impl MainExports<'_> {
         let nested = interface_component(root.items.allocator(), world, id, types, functions)?;
         let arguments = self.interface_arguments(root, key, id, functions, &nested)?;
         let instance = self.nested_instance(root, key, nested.into_items(), arguments)?;
-        self.export(root, key, Sort::Instance, instance)?;
-        Ok(())
+        let exported = self.export(root, key, Sort::Instance, instance)?;
+        Ok(exported)
     }
 
-    /// Exports an interface. The root forgets its types then, so that others are defined anew.
+    /// Exports an interface. The root forgets its types then, so that others are defined anew, and knows the instance that exports them.
     fn export_interface(
         &self,
         root: &mut RootScope<'_, ComponentWorld>,
@@ -217,17 +226,20 @@ impl MainExports<'_> {
         id: InterfaceId,
     ) -> Result<(), StateFault>
         requires exports { AreExports root.old.world.now self.now root.old }
+        requires at_hand { AreExportsAtHand root.old.world.now root.old.met (exports_in root.old.items.defs) }
         requires next { slice_get root.old.world.now.main_exports (exports_in root.old.items.defs) ≡ Some key.now }
         requires item { exported_item root.old.world.now key.now ≡ Some (items.Interface id) }
         requires required { IsRequired root.old.world.now root.old.world.now.main key.now }
-        ensures kept { RootKept root.old.world.now root.old root.new }
+        ensures moved { RootMoved root.old.world.now root.old root.new }
+        ensures at_hand { AreExportsAtHand root.old.world.now root.new.met (exports_in root.new.items.defs) }
         ensures forgotten { OnOk result (ForgetsTypes root.old.world.now id root.new) }
         ensures grows { OnOk result (Grows root.old.world.now root.old.items.defs root.new.items.defs (export_marked (naming_of self.now.names) root.old.world.now key.now)) }
         ensures has { OnOk result (AllByRecursion (HasLiftOptions root.old.world.now) (functions_of_key root.old.world.now key.now)) }
         ensures encoded { OnOk result (AllByRecursion (IsEncodedExport root.old.world.now) (functions_of_key root.old.world.now key.now)) }
         ensures cause { IfErr result (IsCauseAmong root.old.world.now [] (functions_of_key root.old.world.now key.now)) }
     {
-        self.export_instance(root, key, id)?;
+        let instance = self.export_instance(root, key, id)?;
+        root.enter_export(id, instance)?;
         root.forget_exported_types(id);
         Ok(())
     }
@@ -239,9 +251,11 @@ impl MainExports<'_> {
         key: &WorldKey,
     ) -> Result<(), StateFault>
         requires exports { AreExports root.old.world.now self.now root.old }
+        requires at_hand { AreExportsAtHand root.old.world.now root.old.met (exports_in root.old.items.defs) }
         requires next { slice_get root.old.world.now.main_exports (exports_in root.old.items.defs) ≡ Some key.now }
         requires required { IsRequired root.old.world.now root.old.world.now.main key.now }
-        ensures kept { RootKept root.old.world.now root.old root.new }
+        ensures moved { RootMoved root.old.world.now root.old root.new }
+        ensures at_hand { AreExportsAtHand root.old.world.now root.new.met (exports_in root.new.items.defs) }
         ensures grows { OnOk result (Grows root.old.world.now root.old.items.defs root.new.items.defs (export_marked (naming_of self.now.names) root.old.world.now key.now)) }
         ensures has { OnOk result (AllByRecursion (HasLiftOptions root.old.world.now) (functions_of_key root.old.world.now key.now)) }
         ensures encoded { OnOk result (AllByRecursion (IsEncodedExport root.old.world.now) (functions_of_key root.old.world.now key.now)) }
@@ -257,8 +271,10 @@ impl MainExports<'_> {
     /// Lifts and exports what is required of main, in order.
     fn export_items(&self, root: &mut RootScope<'_, ComponentWorld>) -> Result<(), StateFault>
         requires exports { AreExports root.old.world.now self.now root.old }
+        requires at_hand { AreExportsAtHand root.old.world.now root.old.met (exports_in root.old.items.defs) }
         requires none { exports_in root.old.items.defs ≡ 0 }
-        ensures kept { RootKept root.old.world.now root.old root.new }
+        ensures moved { RootMoved root.old.world.now root.old root.new }
+        ensures at_hand { AreExportsAtHand root.old.world.now root.new.met (exports_in root.new.items.defs) }
         ensures grows { OnOk result (Grows root.old.world.now root.old.items.defs root.new.items.defs (exports_marked (naming_of self.now.names) root.old.world.now)) }
         ensures encoded { OnOk result (AllByRecursion (IsEncodedExport root.old.world.now) (required_functions root.old.world.now)) }
         ensures has { OnOk result (AllByRecursion (HasLiftOptions root.old.world.now) (required_functions root.old.world.now)) }
@@ -281,10 +297,13 @@ pub fn export_all(
 ) -> Result<(), StateFault>
     requires valid { IsEncodable root.old.world.now }
     requires made { IsInstanceOf root.old.items.defs instance 0 }
-    requires tables { AreTablesRight root.old.world.now root.old.last_type root.old.instances root.old.items.defs root.old.maps }
-    requires passed { ArePassed root.old.world.now root.old.last_type }
+    requires tables { AreTablesRight root.old.world.now root.old.met root.old.instances root.old.items.defs root.old.maps }
+    requires passed { ArePassed root.old.world.now root.old.met }
+    requires ordered { AreExportsInOrder root.old.world.now }
+    requires at_hand { AreExportsAtHand root.old.world.now root.old.met (exports_in root.old.items.defs) }
     requires none { exports_in root.old.items.defs ≡ 0 }
-    ensures kept { RootKept root.old.world.now root.old root.new }
+    ensures moved { RootMoved root.old.world.now root.old root.new }
+    ensures at_hand { AreExportsAtHand root.old.world.now root.new.met (exports_in root.new.items.defs) }
     ensures grows { OnOk result (Grows root.old.world.now root.old.items.defs root.new.items.defs (exports_marked (naming_of names.now) root.old.world.now)) }
     ensures encoded { OnOk result (AllByRecursion (IsEncodedExport root.old.world.now) (required_functions root.old.world.now)) }
     ensures has { OnOk result (AllByRecursion (HasLiftOptions root.old.world.now) (required_functions root.old.world.now)) }

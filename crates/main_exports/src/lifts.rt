@@ -14,6 +14,7 @@ ghost use Rattle.core_options.specs.Causes.{IsCauseAmong, IsEncodedExport};
 ghost use Rattle.core_options.specs.MainOptions.{HasLiftOptions};
 ghost use Rattle.root_imports.specs.Keeping.{RootKept};
 ghost use Rattle.main_exports.specs.Exports.{AreExports, main_function, IsMainFunction, IsEntryOf, IsTypedLift, at_key, functions_at, AreMainFunctions, IsLiftArgument, AreLiftArguments};
+ghost use Rattle.root_imports.specs.Met.{IsSupplied, IsSuppliedFor};
 ghost use Rattle.root_imports.specs.RootScopes.{IsRefusal};
 
 use crate::sources::MainExports;
@@ -60,6 +61,7 @@ impl MainExports<'_> {
         requires exports { AreExports root.old.world.now self.now root.old }
         requires required { IsMainFunction root.old.world.now required.now function.now }
         requires of { interface_of_item (exported_item root.old.world.now required.now.key) ≡ interface }
+        requires supplied { IsSuppliedFor root.old.world.now root.old.met interface }
         ensures kept { RootKept root.old.world.now root.old root.new }
         ensures grows { OnOk result (Grows root.old.world.now root.old.items.defs root.new.items.defs []) }
         ensures lifted { IfOk result (λ index. IsTypedLift root.old.world.now root.new.items.defs required.now function.now index) }
@@ -87,6 +89,7 @@ impl MainExports<'_> {
     ) -> Result<Argument, StateFault>
         requires exports { AreExports root.old.world.now self.now root.old }
         requires item { exported_item root.old.world.now key.now ≡ Some (world_items.Interface id) }
+        requires supplied { IsSupplied root.old.world.now root.old.met id (length root.old.world.now.resolve.types) }
         requires required { IsMainFunction root.old.world.now (at_key key.now name.now) function.now }
         ensures kept { RootKept root.old.world.now root.old root.new }
         ensures grows { OnOk result (Grows root.old.world.now root.old.items.defs root.new.items.defs []) }
@@ -117,6 +120,7 @@ impl MainExports<'_> {
     ) -> Result<Seq<Argument>, StateFault>
         requires exports { AreExports root.old.world.now self.now root.old }
         requires item { exported_item root.old.world.now key.now ≡ Some (world_items.Interface id) }
+        requires supplied { IsSupplied root.old.world.now root.old.met id (length root.old.world.now.resolve.types) }
         requires functions { AreMainFunctions root.old.world.now key.now functions.now }
         requires imports { length imports.now ≡ length functions.now }
         ensures kept { RootKept root.old.world.now root.old root.new }

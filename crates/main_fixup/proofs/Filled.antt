@@ -29,7 +29,7 @@ use Rattle.root_imports.specs.Growing.{Grows-none, Grows-by, Grows-then, longer_
 use Rattle.root_imports.proofs.Growth.{tables_kept}
 use Rattle.root_imports.proofs.Finding.{FindsImports-kept}
 use Rattle.wit_data.specs.declared.ids.InterfaceId.{InterfaceId}
-use Rattle.wit_data.specs.declared.ids.TypeId.{TypeId}
+use Rattle.root_imports.specs.declared.met_types.MetTypes.{MetTypes}
 use Rattle.wit_types.specs.declared.maps.TypeEncodingMaps.{TypeEncodingMaps}
 use Rattle.shim_plan.specs.declared.shims.Shim.{Shim}
 use Rattle.shim_plan.specs.Plans.{AreNumbered}
@@ -42,15 +42,15 @@ use Rattle.main_fixup.specs.declared.sources.FillSources.{FillSources}
 
 -- ---- what stays while definitions are added
 
-pub sources-kept : {w : ComponentWorld} {s : FillSources} {last : Option TypeId} {old new : Built} {maps : TypeEncodingMaps} {instances : List (InterfaceId × ℕ)} → Extends old new → AreFillSources w s last old.defs maps instances →
-    AreFillSources w s last new.defs maps instances
-sources-kept {w} {s} {last} {old} {new} {maps} {instances} g h = record {
+pub sources-kept : {w : ComponentWorld} {s : FillSources} {met : MetTypes} {old new : Built} {maps : TypeEncodingMaps} {instances : List (InterfaceId × ℕ)} → Extends old new → AreFillSources w s met old.defs maps instances →
+    AreFillSources w s met new.defs maps instances
+sources-kept {w} {s} {met} {old} {new} {maps} {instances} g h = record {
   valid = h.valid;
   imports = FindsImports-kept (longer g) h.imports;
   used = h.used;
   options = record { made = instance-kept (longer g) h.options.made; memory = h.options.memory; offered = h.options.offered };
   realloc = h.realloc;
-  tables = tables_kept w last instances old new maps g h.tables;
+  tables = tables_kept w met instances old new maps g h.tables;
   passed = h.passed;
 }
 

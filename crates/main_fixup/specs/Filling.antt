@@ -6,7 +6,7 @@ use Rattle.standard_kinds.specs.declared.kinds.StringEncoding.{StringEncoding}
 use Rattle.comp_bytes.specs.declared.def.Def.{Def}
 use Rattle.comp_bytes.specs.declared.space.Space.TheVariants as spaces
 use Rattle.wit_data.specs.declared.ids.InterfaceId.{InterfaceId}
-use Rattle.wit_data.specs.declared.ids.TypeId.{TypeId}
+use Rattle.root_imports.specs.declared.met_types.MetTypes.{MetTypes}
 use Rattle.wit_data.specs.declared.worlds.WorldItem.TheVariants as items
 use Rattle.wit_data.specs.declared.worlds.WorldKey.{WorldKey}
 use Rattle.comp_trees.specs.Trees.{Origin, FunctionTree}
@@ -33,14 +33,14 @@ use Rattle.shim_targets.specs.ShimTargets.{StandsFor}
 use Rattle.main_fixup.specs.declared.sources.FillSources.{FillSources}
 
 -- what the lowerings need is there, and the tables of types are right, with the instances of the interfaces
-pub record AreFillSources (w : ComponentWorld) (s : FillSources) (last : Option TypeId) (ds : List Def) (maps : TypeEncodingMaps) (instances : List (InterfaceId × ℕ)) : Type 0 where
+pub record AreFillSources (w : ComponentWorld) (s : FillSources) (met : MetTypes) (ds : List Def) (maps : TypeEncodingMaps) (instances : List (InterfaceId × ℕ)) : Type 0 where
   pub valid : IsEncodable w
   pub imports : FindsImports w ds s.functions.now
   pub used : FindsUsed w s.functions.now
   pub options : AreOptionSources w ds s.options
   pub realloc : option_copied s.options.realloc ≡ realloc_for is_import_realloc w.main.exports.exports
-  pub tables : AreTablesRight w last instances ds maps
-  pub passed : ArePassed w last
+  pub tables : AreTablesRight w met instances ds maps
+  pub passed : ArePassed w met
 
 -- main has the memory and the realloc that the options of a shim name
 pub record HasShimOptions (w : ComponentWorld) (s : Shim) : Type 0 where

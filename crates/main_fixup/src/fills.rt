@@ -28,7 +28,7 @@ fn fill(
     sources: &FillSources<'_>,
     shim: &Shim,
 ) -> Result<CoreInlineExport, StateFault>
-    requires sources { AreFillSources root.old.world.now sources.now root.old.last_type root.old.items.defs root.old.maps root.old.instances }
+    requires sources { AreFillSources root.old.world.now sources.now root.old.met root.old.items.defs root.old.maps root.old.instances }
     requires stands { StandsForOne root.old.world.now shim.now }
     ensures same { root.new ≡ record root.old { items = root.new.items } }
     ensures extends { Extends root.old.items root.new.items }
@@ -52,7 +52,7 @@ fn fills(
     sources: &FillSources<'_>,
     shims: &Shims,
 ) -> Result<Seq<CoreInlineExport>, StateFault>
-    requires sources { AreFillSources root.old.world.now sources.now root.old.last_type root.old.items.defs root.old.maps root.old.instances }
+    requires sources { AreFillSources root.old.world.now sources.now root.old.met root.old.items.defs root.old.maps root.old.instances }
     requires shims { shims.now ≡ shims_of root.old.world.now }
     ensures same { root.new ≡ record root.old { items = root.new.items } }
     ensures extends { Extends root.old.items root.new.items }
@@ -76,7 +76,7 @@ pub(crate) fn actual_instance(
     sources: &FillSources<'_>,
     shims: &Shims,
 ) -> Result<u32, StateFault>
-    requires sources { AreFillSources root.old.world.now sources.now root.old.last_type root.old.items.defs root.old.maps root.old.instances }
+    requires sources { AreFillSources root.old.world.now sources.now root.old.met root.old.items.defs root.old.maps root.old.instances }
     requires shims { shims.now ≡ shims_of root.old.world.now }
     ensures same { root.new ≡ record root.old { items = root.new.items } }
     ensures extends { Extends root.old.items root.new.items }

@@ -81,7 +81,7 @@ pub fn encode_fixup(
     shim_instance: u32,
     module: &[u8],
 ) -> Result<(), StateFault>
-    requires sources { AreFillSources root.old.world.now sources.now root.old.last_type root.old.items.defs root.old.maps root.old.instances }
+    requires sources { AreFillSources root.old.world.now sources.now root.old.met root.old.items.defs root.old.maps root.old.instances }
     requires shims { shims.now ≡ shims_of root.old.world.now }
     requires made { IsInstanceOf root.old.items.defs shim_instance (shims_number root.old.world.now) }
     requires binary { IsCoreModule «module».now }

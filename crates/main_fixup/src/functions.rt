@@ -46,7 +46,7 @@ fn root_function(
     sources: &FillSources<'_>,
     name: &Text,
 ) -> u32
-    requires sources { AreFillSources root.now.world.now sources.now root.now.last_type root.now.items.defs root.now.maps root.now.instances }
+    requires sources { AreFillSources root.now.world.now sources.now root.now.met root.now.items.defs root.now.maps root.now.instances }
     requires used { IsTrue (is_used root.now.world.now name.now) }
     ensures { IsFunctionOf root.now.world.now root.now.items.defs result (OfRoot name.now) }
 {
@@ -60,7 +60,7 @@ fn interface_function(
     interface: InterfaceId,
     name: &Text,
 ) -> Result<u32, BuildFault>
-    requires sources { AreFillSources root.old.world.now sources.now root.old.last_type root.old.items.defs root.old.maps root.old.instances }
+    requires sources { AreFillSources root.old.world.now sources.now root.old.met root.old.items.defs root.old.maps root.old.instances }
     requires used { IsUsedOfInterface root.old.world.now interface name.now }
     ensures same { root.new ≡ record root.old { items = root.new.items } }
     ensures extends { Extends root.old.items root.new.items }
@@ -81,7 +81,7 @@ pub(crate) fn imported_function(
     interface: &Option<WorldKey>,
     name: &Text,
 ) -> Result<u32, BuildFault>
-    requires sources { AreFillSources root.old.world.now sources.now root.old.last_type root.old.items.defs root.old.maps root.old.instances }
+    requires sources { AreFillSources root.old.world.now sources.now root.old.met root.old.items.defs root.old.maps root.old.instances }
     requires used { IsUsedAt root.old.world.now interface.now name.now }
     ensures same { root.new ≡ record root.old { items = root.new.items } }
     ensures extends { Extends root.old.items root.new.items }

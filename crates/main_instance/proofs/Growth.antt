@@ -16,9 +16,10 @@ use Rattle.comp_roles.specs.declared.imports.Import.{Import}
 use Rattle.comp_roles.specs.declared.imports.ImportInstance.{ImportInstance}
 use Rattle.comp_worlds.specs.Worlds.{IsImportRole}
 use Rattle.comp_worlds.specs.declared.world.ComponentWorld.{ComponentWorld}
-use Rattle.comp_links.specs.Targets.{Main, UserModule, WorldFunction, TargetOption, Target, OfRoot, OfInterface, Lowered, Dropped}
+use Rattle.comp_links.specs.Targets.{Main, UserModule, WorldFunction, TargetOption, Target, OfRoot, OfInterface, ResourceFunction, New, Rep, Drop, Lowered, OfResource}
 use Rattle.wit_data.specs.declared.ids.InterfaceId.{InterfaceId}
 use Rattle.wit_data.specs.declared.ids.TypeId.{TypeId}
+use Rattle.root_imports.specs.declared.met_types.MetTypes.{MetTypes}
 use Rattle.comp_links.specs.Links.{lower_options, link_of}
 use Rattle.comp_terms.specs.Terms.{CoreExport, Term, IsInstanceOf, Is}
 use Rattle.comp_terms.specs.Terms as terms
@@ -66,8 +67,8 @@ shim_instance-kept : (w : ComponentWorld) {old new : List Def} (instance : Optio
 shim_instance-kept w None g h = h
 shim_instance-kept w (Some instance) g h = instance-kept g h
 
-pub sources-kept : {w : ComponentWorld} {s : ImportSources} {last : Option TypeId} {old new : Built} {maps : TypeEncodingMaps} {instances : List (InterfaceId × ℕ)} → Extends old new → AreSources w s last old.defs maps instances → AreSources w s last new.defs maps instances
-sources-kept {w} {s} {last} {old} {new} {maps} {instances} g h = record { valid = h.valid; imports = FindsImports-kept (longer g) h.imports; used = h.used; shims = h.shims; shim_instance = shim_instance-kept w s.shim_instance (longer g) h.shim_instance; tables = tables_kept w last instances old new maps g h.tables; passed = h.passed }
+pub sources-kept : {w : ComponentWorld} {s : ImportSources} {met : MetTypes} {old new : Built} {maps : TypeEncodingMaps} {instances : List (InterfaceId × ℕ)} → Extends old new → AreSources w s met old.defs maps instances → AreSources w s met new.defs maps instances
+sources-kept {w} {s} {met} {old} {new} {maps} {instances} g h = record { valid = h.valid; imports = FindsImports-kept (longer g) h.imports; used = h.used; shims = h.shims; shim_instance = shim_instance-kept w s.shim_instance (longer g) h.shim_instance; tables = tables_kept w met instances old new maps g h.tables; passed = h.passed; exports = h.exports }
 
 -- ---- the entries of an inline instance are core functions
 
@@ -82,17 +83,20 @@ entries_in_range w ds (e ∷ es) (f ∷ fs) r h = (one e f.1 r.0 h.0.serves, ent
     by_kind kinds.Global index function os (terms.Lowering origin type written) is asked = absurd is
     by_kind kind index function os t is asked = absurd asked
 
-    dropped : (kind : ExportKind) (index : ℕ) (id : TypeId) (t : Term) → Is ds (kind_space kind) index t → IsTermFor w (Dropped id) t → (kind ≡ kinds.Func) × (index < items_in spaces.CoreFunc ds)
-    dropped kinds.Func index id (terms.Dropping resource) is asked = (refl, in_range is.made)
-    dropped kinds.Table index id (terms.Dropping resource) is asked = absurd is
-    dropped kinds.Memory index id (terms.Dropping resource) is asked = absurd is
-    dropped kinds.Global index id (terms.Dropping resource) is asked = absurd is
-    dropped kind index id t is asked = absurd asked
+    of_resource : (kind : ExportKind) (index : ℕ) (function : ResourceFunction) (id : TypeId) (t : Term) → Is ds (kind_space kind) index t → IsTermFor w (OfResource function id) t → (kind ≡ kinds.Func) × (index < items_in spaces.CoreFunc ds)
+    of_resource kinds.Func index function id (terms.OfResource same resource) is asked = (refl, in_range is.made)
+    of_resource kinds.Table index function id (terms.OfResource same resource) is asked = absurd is
+    of_resource kinds.Memory index function id (terms.OfResource same resource) is asked = absurd is
+    of_resource kinds.Global index function id (terms.OfResource same resource) is asked = absurd is
+    of_resource kind index function id t is asked = absurd asked
 
     own : (e : CoreInlineExport) (role : Import) → IsImportRole w role → IsItemFor w ds (kind_space e.kind) e.index (link_of w Main role) → IsEntry ds e
     own e (imports.WorldFunc (keys.Name text) function abi) r h = let b = by_kind e.kind e.index (OfRoot text) (lower_options w Main (imports.WorldFunc (keys.Name text) function abi)) h.term h.is h.asked in record { kind = b.0; scoped = b.1 }
     own e (imports.InterfaceFunc key id function abi) r h = let b = by_kind e.kind e.index (OfInterface id function) (lower_options w Main (imports.InterfaceFunc key id function abi)) h.term h.is h.asked in record { kind = b.0; scoped = b.1 }
-    own e (imports.ImportedResourceDrop key interface id) r h = let b = dropped e.kind e.index id h.term h.is h.asked in record { kind = b.0; scoped = b.1 }
+    own e (imports.ImportedResourceDrop key interface id) r h = let b = of_resource e.kind e.index Drop id h.term h.is h.asked in record { kind = b.0; scoped = b.1 }
+    own e (imports.ExportedResourceDrop key id) r h = let b = of_resource e.kind e.index Drop id h.term h.is h.asked in record { kind = b.0; scoped = b.1 }
+    own e (imports.ExportedResourceRep key id) r h = let b = of_resource e.kind e.index Rep id h.term h.is h.asked in record { kind = b.0; scoped = b.1 }
+    own e (imports.ExportedResourceNew key id) r h = let b = of_resource e.kind e.index New id h.term h.is h.asked in record { kind = b.0; scoped = b.1 }
     own e role r h = absurd r
 
     func_kind : (kind : ExportKind) → kind_space kind ≡ spaces.CoreFunc → kind ≡ kinds.Func

@@ -3,3 +3,4 @@ pub mod Serving
 pub mod Interfaces
 pub mod Giving
 pub mod Instantiating
+mod OwnHandles

@@ -1,15 +1,19 @@
 -- What is taken as given where main's imports are given what they need. (The rules are this project's own.)
 use Rattle.std.specs.Prelude.{◌≡◌, ℕ, List, [], Option, Some, None, true, map, Contains}
+use Rattle.std.specs.List.{AllByRecursion}
 use Rattle.standard_kinds.specs.declared.kinds.ExportKind.TheVariants as kinds
 use Rattle.comp_bytes.specs.declared.def.Def.{Def}
 use Rattle.wit_data.specs.declared.ids.InterfaceId.{InterfaceId}
 use Rattle.wit_data.specs.declared.ids.TypeId.{TypeId}
+use Rattle.root_imports.specs.declared.met_types.MetTypes.{MetTypes}
 use Rattle.wit_data.specs.declared.worlds.WorldItem.TheVariants as items
 use Rattle.wit_data.specs.declared.worlds.WorldKey.{WorldKey}
 use Rattle.wit_types.specs.declared.maps.TypeEncodingMaps.{TypeEncodingMaps}
 use Rattle.world_values.specs.Items.{functions_of}
 use Rattle.comp_worlds.specs.Encodable.{IsEncodable}
+use Rattle.comp_worlds.specs.ExportOrder.{required_interfaces}
 use Rattle.comp_worlds.specs.WorldContents.{items_of}
+use Rattle.comp_worlds.specs.Worlds.{IsOwnResource}
 use Rattle.comp_worlds.specs.declared.world.ComponentWorld.{ComponentWorld}
 use Rattle.comp_links.specs.Roles.{is_used_of}
 use Rattle.comp_terms.specs.Generated.{shims_number}
@@ -20,6 +24,7 @@ use Rattle.shim_plan.specs.declared.shims.Shim.{Shim}
 use Rattle.world_shims.specs.WorldShims.{shims_of}
 use Rattle.root_imports.specs.RootScopes.{AreTablesRight, ArePassed}
 use Rattle.root_imports.specs.Imports.{FindsImports, FindsUsed}
+use Rattle.root_imports.specs.Met.{has_types}
 use Rattle.main_instance.specs.declared.instances.ImportSources.{ImportSources}
 
 -- the world imports this function of an interface, and a core import uses it
@@ -29,20 +34,30 @@ pub record IsUsedOfInterface (w : ComponentWorld) (id : InterfaceId) (name : Lis
   pub named : Contains (map (λ f. f.0) (functions_of w.resolve id)) name
   pub used : is_used_of w id name ≡ true
 
+-- a resource that the component defines
+pub record IsDefinedHere (w : ComponentWorld) (id : TypeId) : Type 0 where
+  pub key : WorldKey
+  pub own : IsOwnResource w key id
+
+-- the types of the interfaces that main has to export are all in the tables
+abbrev pub AreExportsMet : ComponentWorld → MetTypes → Type 0
+AreExportsMet w met = AllByRecursion (λ interface. has_types met interface ≡ true) (required_interfaces w)
+
 -- the instance of the shims, where there are any
 abbrev pub IsShimInstance : ComponentWorld → List Def → Option ℕ → Type 0
 IsShimInstance w ds None = shims_of w ≡ []
 IsShimInstance w ds (Some instance) = IsInstanceOf ds instance (shims_number w)
 
 -- what the imports of main are given is there, and the tables of types are right, with the instances of the interfaces
-pub record AreSources (w : ComponentWorld) (s : ImportSources) (last : Option TypeId) (ds : List Def) (maps : TypeEncodingMaps) (instances : List (InterfaceId × ℕ)) : Type 0 where
+pub record AreSources (w : ComponentWorld) (s : ImportSources) (met : MetTypes) (ds : List Def) (maps : TypeEncodingMaps) (instances : List (InterfaceId × ℕ)) : Type 0 where
   pub valid : IsEncodable w
   pub imports : FindsImports w ds s.functions.now
   pub used : FindsUsed w s.functions.now
   pub shims : s.shims.now ≡ shims_of w
   pub shim_instance : IsShimInstance w ds s.shim_instance
-  pub tables : AreTablesRight w last instances ds maps
-  pub passed : ArePassed w last
+  pub tables : AreTablesRight w met instances ds maps
+  pub passed : ArePassed w met
+  pub exports : AreExportsMet w met
 
 -- the index is an alias of the shim of a kind, where there is one
 abbrev pub IsShimAlias : ComponentWorld → List Def → ShimKind → Option ℕ → Type 0

@@ -9,7 +9,7 @@ ghost use Rattle.comp_bytes.specs.Spaces.{kind_space};
 ghost use Rattle.comp_bytes.specs.declared.space.Space.TheVariants.{CoreFunc};
 ghost use Rattle.comp_items.specs.Items.{Extends};
 ghost use Rattle.comp_links.specs.Roles.{IsEncodedImport};
-ghost use Rattle.comp_links.specs.Targets.{Main, OfRoot, OfInterface, Lowered, Dropped};
+ghost use Rattle.comp_links.specs.Targets.{Main, OfRoot, OfInterface, Drop, Lowered, OfResource};
 ghost use Rattle.comp_lists.specs.Found.{found};
 ghost use Rattle.comp_roles.specs.CoreImports.{imports_from};
 ghost use Rattle.comp_roles.specs.declared.imports.Import.TheVariants as imports;
@@ -25,6 +25,7 @@ ghost use Rattle.interface_needs.specs.RootNeeds.{IsDropKnown};
 ghost use Rattle.wit_data.specs.declared.worlds.WorldKey.TheVariants as keys;
 
 use crate::calls::{CorePlace, import_encoding, kind_of_call};
+use crate::shims::shim_alias;
 use byte_encoding::BuildFault;
 use comp_bytes::{CoreArgument, CoreInlineExport};
 use comp_lists::{Keyed, Seq, Text};
@@ -52,7 +53,7 @@ impl ImportSources<'_> {
         root: &mut RootScope<'_, ComponentWorld>,
         name: &Text,
     ) -> Result<u32, BuildFault>
-        requires sources { AreSources root.old.world.now self.now root.old.last_type root.old.items.defs root.old.maps root.old.instances }
+        requires sources { AreSources root.old.world.now self.now root.old.met root.old.items.defs root.old.maps root.old.instances }
         requires used { IsSome (found name.now self.now.functions.now) }
         ensures same { root.new ≡ record root.old { items = root.new.items } }
         ensures extends { Extends root.old.items root.new.items }
@@ -75,7 +76,7 @@ impl ImportSources<'_> {
         interface: InterfaceId,
         name: &Text,
     ) -> Result<u32, BuildFault>
-        requires sources { AreSources root.old.world.now self.now root.old.last_type root.old.items.defs root.old.maps root.old.instances }
+        requires sources { AreSources root.old.world.now self.now root.old.met root.old.items.defs root.old.maps root.old.instances }
         requires imported { IsUsedOfInterface root.old.world.now interface name.now }
         ensures same { root.new ≡ record root.old { items = root.new.items } }
         ensures extends { Extends root.old.items root.new.items }
@@ -98,12 +99,12 @@ impl ImportSources<'_> {
         root: &mut RootScope<'_, ComponentWorld>,
         id: TypeId,
     ) -> Result<u32, BuildFault>
-        requires sources { AreSources root.old.world.now self.now root.old.last_type root.old.items.defs root.old.maps root.old.instances }
+        requires sources { AreSources root.old.world.now self.now root.old.met root.old.items.defs root.old.maps root.old.instances }
         requires known { IsDropKnown root.old.world.now id }
         ensures same { root.new ≡ record root.old { items = root.new.items } }
         ensures extends { Extends root.old.items root.new.items }
         ensures grows { OnOk result (Grows root.old.world.now root.old.items.defs root.new.items.defs []) }
-        ensures dropped { IfOk result (λ index. IsItemFor root.old.world.now root.new.items.defs CoreFunc index (Dropped id)) }
+        ensures dropped { IfOk result (λ index. IsItemFor root.old.world.now root.new.items.defs CoreFunc index (OfResource Drop id)) }
         ensures cause { IfErr result IsRefusal }
     {
         let ty = root.dropped_resource(id)?;
@@ -117,21 +118,15 @@ impl ImportSources<'_> {
         root: &mut RootScope<'_, ComponentWorld>,
         kind: &ShimKind,
     ) -> Result<Option<u32>, BuildFault>
-        requires sources { AreSources root.old.world.now self.now root.old.last_type root.old.items.defs root.old.maps root.old.instances }
+        requires sources { AreSources root.old.world.now self.now root.old.met root.old.items.defs root.old.maps root.old.instances }
         ensures same { root.new ≡ record root.old { items = root.new.items } }
         ensures extends { Extends root.old.items root.new.items }
         ensures grows { OnOk result (Grows root.old.world.now root.old.items.defs root.new.items.defs []) }
         ensures shim { IfOk result (IsShimAlias root.old.world.now root.new.items.defs kind.now) }
         ensures cause { IfErr result IsRefusal }
     {
-        let Some(shim) = self.shims.get(kind) else {
-            return Ok(None);
-        };
-        let instance = self.shim_instance.unwrap();
-        let index = root
-            .items
-            .named_function(shim.debug_name.as_str(), instance, shim.name.as_str())?;
-        Ok(Some(index))
+        let index = shim_alias(root, self.shims, self.shim_instance, kind)?;
+        Ok(index)
     }
 
     /// The shim for calls of a function, if there is one: `interface` is the key of its interface, none for a function at the
@@ -144,7 +139,7 @@ impl ImportSources<'_> {
         abi: AbiVariant,
         encoding: StringEncoding,
     ) -> Result<Option<u32>, BuildFault>
-        requires sources { AreSources root.old.world.now self.now root.old.last_type root.old.items.defs root.old.maps root.old.instances }
+        requires sources { AreSources root.old.world.now self.now root.old.met root.old.items.defs root.old.maps root.old.instances }
         ensures same { root.new ≡ record root.old { items = root.new.items } }
         ensures extends { Extends root.old.items root.new.items }
         ensures grows { OnOk result (Grows root.old.world.now root.old.items.defs root.new.items.defs []) }
@@ -166,7 +161,7 @@ impl ImportSources<'_> {
         function: &Text,
         abi: AbiVariant,
     ) -> Result<u32, StateFault>
-        requires sources { AreSources root.old.world.now self.now root.old.last_type root.old.items.defs root.old.maps root.old.instances }
+        requires sources { AreSources root.old.world.now self.now root.old.met root.old.items.defs root.old.maps root.old.instances }
         requires present { Contains (core_imports root.old.world.now) (import_at place (imports.WorldFunc (keys.Name name.now) function.now abi)) }
         ensures same { root.new ≡ record root.old { items = root.new.items } }
         ensures extends { Extends root.old.items root.new.items }
@@ -197,7 +192,7 @@ impl ImportSources<'_> {
         function: &Text,
         abi: AbiVariant,
     ) -> Result<u32, StateFault>
-        requires sources { AreSources root.old.world.now self.now root.old.last_type root.old.items.defs root.old.maps root.old.instances }
+        requires sources { AreSources root.old.world.now self.now root.old.met root.old.items.defs root.old.maps root.old.instances }
         requires present { Contains (core_imports root.old.world.now) (import_at place (imports.InterfaceFunc key.now interface function.now abi)) }
         ensures same { root.new ≡ record root.old { items = root.new.items } }
         ensures extends { Extends root.old.items root.new.items }
@@ -224,7 +219,7 @@ impl ImportSources<'_> {
         field: &Text,
         import: &Import,
     ) -> Result<(ExportKind, u32), StateFault>
-        requires sources { AreSources root.old.world.now self.now root.old.last_type root.old.items.defs root.old.maps root.old.instances }
+        requires sources { AreSources root.old.world.now self.now root.old.met root.old.items.defs root.old.maps root.old.instances }
         requires present { Contains (core_imports root.old.world.now) (record { module_name = «module».now; field = field.now; role = import.now }) }
         ensures same { root.new ≡ record root.old { items = root.new.items } }
         ensures extends { Extends root.old.items root.new.items }
@@ -249,6 +244,18 @@ impl ImportSources<'_> {
                 let index = self.drop_resource(root, *id)?;
                 Ok((ExportKind::Func, index))
             }
+            Import::ExportedResourceDrop(_, id) => {
+                let index = self.drop_own(root, *id)?;
+                Ok((ExportKind::Func, index))
+            }
+            Import::ExportedResourceRep(_, id) => {
+                let index = self.rep_of_own(root, *id)?;
+                Ok((ExportKind::Func, index))
+            }
+            Import::ExportedResourceNew(_, id) => {
+                let index = self.new_of_own(root, *id)?;
+                Ok((ExportKind::Func, index))
+            }
             _ => unreachable!(),
         }
     }
@@ -261,7 +268,7 @@ impl ImportSources<'_> {
         field: &Text,
         import: &Import,
     ) -> Result<CoreInlineExport, StateFault>
-        requires sources { AreSources root.old.world.now self.now root.old.last_type root.old.items.defs root.old.maps root.old.instances }
+        requires sources { AreSources root.old.world.now self.now root.old.met root.old.items.defs root.old.maps root.old.instances }
         requires present { Contains (core_imports root.old.world.now) (record { module_name = «module».now; field = field.now; role = import.now }) }
         ensures same { root.new ≡ record root.old { items = root.new.items } }
         ensures extends { Extends root.old.items root.new.items }
@@ -281,7 +288,7 @@ impl ImportSources<'_> {
         module: &Text,
         fields: &Keyed<Text, Import>,
     ) -> Result<Seq<CoreInlineExport>, StateFault>
-        requires sources { AreSources root.old.world.now self.now root.old.last_type root.old.items.defs root.old.maps root.old.instances }
+        requires sources { AreSources root.old.world.now self.now root.old.met root.old.items.defs root.old.maps root.old.instances }
         requires present { Contains root.old.world.now.main.imports.modules («module».now, Names fields.now) }
         ensures same { root.new ≡ record root.old { items = root.new.items } }
         ensures extends { Extends root.old.items root.new.items }
@@ -305,7 +312,7 @@ impl ImportSources<'_> {
         module: &Text,
         fields: &Keyed<Text, Import>,
     ) -> Result<CoreArgument, StateFault>
-        requires sources { AreSources root.old.world.now self.now root.old.last_type root.old.items.defs root.old.maps root.old.instances }
+        requires sources { AreSources root.old.world.now self.now root.old.met root.old.items.defs root.old.maps root.old.instances }
         requires present { Contains root.old.world.now.main.imports.modules («module».now, Names fields.now) }
         ensures same { root.new ≡ record root.old { items = root.new.items } }
         ensures extends { Extends root.old.items root.new.items }
@@ -326,7 +333,7 @@ impl ImportSources<'_> {
         module: &Text,
         instance: &ImportInstance,
     ) -> Result<CoreArgument, StateFault>
-        requires sources { AreSources root.old.world.now self.now root.old.last_type root.old.items.defs root.old.maps root.old.instances }
+        requires sources { AreSources root.old.world.now self.now root.old.met root.old.items.defs root.old.maps root.old.instances }
         requires present { Contains root.old.world.now.main.imports.modules («module».now, instance.now) }
         ensures same { root.new ≡ record root.old { items = root.new.items } }
         ensures extends { Extends root.old.items root.new.items }
@@ -345,7 +352,7 @@ impl ImportSources<'_> {
         &self,
         root: &mut RootScope<'_, ComponentWorld>,
     ) -> Result<Seq<CoreArgument>, StateFault>
-        requires sources { AreSources root.old.world.now self.now root.old.last_type root.old.items.defs root.old.maps root.old.instances }
+        requires sources { AreSources root.old.world.now self.now root.old.met root.old.items.defs root.old.maps root.old.instances }
         ensures same { root.new ≡ record root.old { items = root.new.items } }
         ensures extends { Extends root.old.items root.new.items }
         ensures grows { OnOk result (Grows root.old.world.now root.old.items.defs root.new.items.defs []) }

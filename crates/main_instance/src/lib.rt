@@ -1,11 +1,11 @@
 //! What main's imports are given, when it is instantiated.
 //!
 //! A function of the world is given as a lowering without options, or, where its calls need a memory, as a shim: an export of the
-//! instance of shims, which stands for a lowering that is made after main. The drop of a resource is given as itself. There is an
+//! instance of shims, which stands for a lowering that is made after main. The functions of a resource's handles are given as themselves. There is an
 //! inline instance for each module that main imports from, with an entry for each field.
 //!
-//! In reading order: `calls` (string encodings, and the kinds of shims), `shims` (their module and its instance), `instances`
-//! (what each import is given). In `specs/`: `Calls`, `Shims`, and `Sources` (what is taken as given).
+//! In reading order: `calls` (string encodings, and the kinds of shims), `shims` (their module and its instance), `own_handles`
+//! (functions of the handles of own resources), `instances` (what each import is given). In `specs/`: `Calls`, `Shims`, and `Sources` (what is taken as given).
 //!
 //! Upward this crate promises: each argument is what the link table names for each of its fields, or a shim that stands for it
 //! (`IsArgumentFor` of `comp_terms`); definitions grow at their end, and each keeps its rule.
@@ -13,7 +13,8 @@
 
 mod calls;
 mod instances;
+mod own_handles;
 mod shims;
 
 pub use instances::ImportSources;
-pub use shims::encode_shim_instantiation;
+pub use shims::{encode_shim_instantiation, shim_alias};

@@ -1,7 +1,10 @@
 //! The module of shims, and its instance.
 #![tactic(auto, using(crate::proofs::Growth::growing))]
 
-ghost use Rattle.std.specs.Prelude.{◌≡◌, ◌<◌, ◌^◌, [], length, IfOk, IfErr};
+ghost use Rattle.std.specs.Prelude.{◌≡◌, ◌<◌, ◌^◌, [], length, IfOk, IfErr, OnOk};
+ghost use Rattle.comp_terms.specs.Rules.{Grows};
+ghost use Rattle.comp_worlds.specs.Encodable.{IsEncodable};
+ghost use Rattle.main_instance.specs.Sources.{IsShimAlias, IsShimInstance};
 ghost use Rattle.comp_bytes.specs.Spaces.{items_in};
 ghost use Rattle.comp_bytes.specs.declared.space.Space.TheVariants as spaces;
 ghost use Rattle.comp_items.specs.Items.{Extends};
@@ -16,7 +19,7 @@ use comp_lists::Seq;
 use comp_worlds::ComponentWorld;
 use core_bytes::Module;
 use root_imports::RootScope;
-use shim_plan::Shims;
+use shim_plan::{ShimKind, Shims};
 use world_shims::module_of_shims;
 
 /// Adds the module of shims, and its instance.
@@ -45,6 +48,32 @@ fn instantiate_shims(
         Seq::new(alloc),
     )?;
     Ok(instance)
+}
+
+/// The shim of a kind, as an alias of the shims' instance, if there is one.
+pub fn shim_alias(
+    root: &mut RootScope<'_, ComponentWorld>,
+    shims: &Shims,
+    shim_instance: Option<u32>,
+    kind: &ShimKind,
+) -> Result<Option<u32>, BuildFault>
+    requires valid { IsEncodable root.old.world.now }
+    requires shims { shims.now ≡ shims_of root.old.world.now }
+    requires made { IsShimInstance root.old.world.now root.old.items.defs shim_instance }
+    ensures same { root.new ≡ record root.old { items = root.new.items } }
+    ensures extends { Extends root.old.items root.new.items }
+    ensures grows { OnOk result (Grows root.old.world.now root.old.items.defs root.new.items.defs []) }
+    ensures shim { IfOk result (IsShimAlias root.old.world.now root.new.items.defs kind.now) }
+    ensures cause { IfErr result IsRefusal }
+{
+    let Some(shim) = shims.get(kind) else {
+        return Ok(None);
+    };
+    let instance = shim_instance.unwrap();
+    let index = root
+        .items
+        .named_function(shim.debug_name.as_str(), instance, shim.name.as_str())?;
+    Ok(Some(index))
 }
 
 /// Adds the module of shims and its instance, where there are shims: it is the first core instance of a component. The answer is

@@ -111,6 +111,10 @@ post_return_typed core r e None ty fits is = absurd (none-some ty is)
 abbrev dropping : WasmSignature
 dropping = record { params = numbers.I32 ∷ []; results = []; indirect_params = false; retptr = false }
 
+-- `resource.rep` takes a handle and returns a representation, `resource.new` the other way round
+abbrev handling : WasmSignature
+handling = record { params = numbers.I32 ∷ []; results = numbers.I32 ∷ []; indirect_params = false; retptr = false }
+
 -- a realloc takes the old address, the old size, the alignment and the new size, and returns the new address
 abbrev reallocating : WasmSignature
 reallocating = record { params = numbers.I32 ∷ numbers.I32 ∷ numbers.I32 ∷ numbers.I32 ∷ []; results = numbers.I32 ∷ []; indirect_params = false; retptr = false }
@@ -156,6 +160,9 @@ module _ (r : Resolve) (present : 0 < length r.worlds) (core : CoreModule) where
       entity_typed core r abi e (root_function_at the_items.imports key) ty asked is
   import_typed (imports.InterfaceFunc key id name abi) e ty fits is = entity_typed core r abi e (found name (functions_of r id)) ty fits is
   import_typed (imports.ImportedResourceDrop key interface id) e ty fits is = entity_of core e dropping fits ∙ is
+  import_typed (imports.ExportedResourceDrop key id) e ty fits is = entity_of core e dropping fits ∙ is
+  import_typed (imports.ExportedResourceRep key id) e ty fits is = entity_of core e handling fits ∙ is
+  import_typed (imports.ExportedResourceNew key id) e ty fits is = entity_of core e handling fits ∙ is
   import_typed role e ty fits is = absurd (none-some ty is)
 
   -- an entity is of no type that is not required

@@ -1,5 +1,5 @@
 -- What one definition more makes of the root.
-use Rattle.std.proofs.Common.{◌≡◌, ◌∙◌, ℕ, List, [], ◌∷◌, ◌++◌, length, map, sym, ap, subst, None, Result, Ok, Err}
+use Rattle.std.proofs.Common.{◌≡◌, ◌∙◌, ◌+◌, arith, length-append, ℕ, List, [], ◌∷◌, ◌++◌, length, map, sym, ap, subst, None, Result, Ok, Err}
 use Rattle.std.specs.Prelude.{IfOk, get_or}
 use Rattle.std.proofs.lemmas.List.{map-append}
 use Rattle.std.proofs.Math.Seq.{get_or-append_seam}
@@ -10,7 +10,7 @@ use Rattle.comp_bytes.specs.declared.space.Space.TheVariants as spaces
 use Rattle.comp_builder.specs.Built.{Built, Adds}
 use Rattle.comp_trees.specs.DefinedTrees.{TypeTree, OfOthers}
 use Rattle.comp_trees.specs.DefinedScopes.{Denotes}
-use Rattle.comp_inventories.specs.Inventories.{Inventory, TypeEntry, entry_tree, types_made, inventory, scope_of}
+use Rattle.comp_inventories.specs.Inventories.{Inventory, TypeEntry, Denoting, entry_tree, types_made, inventory, scope_of}
 use Rattle.comp_inventories.proofs.Inventories.{inventory-push}
 use Rattle.comp_inventories.proofs.InventoryGrowth.{scope_counted}
 use Rattle.comp_worlds.specs.declared.world.ComponentWorld.{ComponentWorld}
@@ -45,3 +45,16 @@ root_added w old new (Ok index) s d unmarked right adds = record {
   grows = subst (λ m. Grows w old.defs new.defs m) unmarked (Grows-by d (ap (λ (b : Built). b.defs) adds.1) right);
 }
 root_added w old new (Err e) s d unmarked right adds = subst (λ b. RootGrows w old b) (sym adds.0) (root_same w old)
+
+-- a definition that makes one type, of which it is known what it denotes
+pub one_made : (old new : Built) (index : ℕ) (d : Def) (t : TypeTree) → types_made (inventory old.defs) d ≡ Denoting t ∷ [] → Adds old new (Ok index) spaces.Type d None → AddsOne (scope_of old.defs) (scope_of new.defs) t × Denotes (scope_of new.defs) index t
+one_made old new index d t made adds =
+    let scope : scope_of new.defs ≡ scope_of old.defs ++ t ∷ [] = ap (λ (b : Built). scope_of b.defs) adds.1 ∙ scope_made old.defs d (Denoting t) made in
+    let at : index ≡ length (scope_of old.defs) = adds.0 ∙ sym (scope_counted old.defs) in (
+      record { added = scope },
+      subst (λ ts. Denotes ts index t) (sym scope)
+          (record {
+            within = let l : length (scope_of old.defs ++ t ∷ []) ≡ length (scope_of old.defs) + 1 = length-append (scope_of old.defs) (t ∷ []) in omega (arith, at, l);
+            tree = ap (λ k. get_or (scope_of old.defs ++ t ∷ []) k OfOthers) at ∙ get_or-append_seam (scope_of old.defs) t [] OfOthers;
+          }),
+    )

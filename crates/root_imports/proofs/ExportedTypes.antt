@@ -1,5 +1,5 @@
 -- Types that instances of imported interfaces export, each as it is found by its interface.
-use Rattle.std.proofs.Common.{inl, zero, suc, ◌||◌, ◌≡◌, ◌∙◌, ◌<◌, ◌==◌, sym, subst, refl, ℕ, Bool, true, false, true≢false, cond, List, [], ◌∷◌, Option, Some, None, is_some, length, IsSome}
+use Rattle.std.proofs.Common.{inl, inr, ap, arith, zero, suc, ◌||◌, ◌≡◌, ◌∙◌, ◌<◌, ◌==◌, sym, subst, refl, ℕ, Bool, true, false, true≢false, cond, List, [], ◌∷◌, Option, Some, None, is_some, length, IsSome}
 use Rattle.std.specs.List.{AllByRecursion, list_any}
 use Rattle.std.specs.Map.{lookup}
 use Rattle.std.proofs.lemmas.Option.{none-some, same_Some}
@@ -19,7 +19,14 @@ use Rattle.comp_worlds.specs.WorldContents.{name_at}
 use Rattle.comp_worlds.specs.declared.world.ComponentWorld.{ComponentWorld}
 use Rattle.comp_links.specs.Lists.{needed_types, resource_of, type_of_world}
 use Rattle.comp_terms.specs.Rules.{AliasesType}
-use Rattle.root_imports.specs.Interfaces.{FindsInterfaces, IsInterfaceImport}
+use Rattle.comp_inventories.specs.Inventories.{Denoting, InstanceEntry, NestedInstance, OtherInstance, inventory, type_if_named, type_of_instance, types_made}
+use Rattle.comp_bytes.specs.declared.space.ComponentExportKind.TheVariants as exports
+use Rattle.comp_bytes.specs.declared.types.Alias.TheVariants as aliases
+use Rattle.comp_bytes.specs.declared.def.Def.TheVariants as defs
+use Rattle.comp_bytes.specs.declared.def.Item.TheVariants as items
+use Rattle.std.specs.Prelude.{slice_get, get_or}
+use Rattle.root_imports.specs.Met.{is_named_of}
+use Rattle.root_imports.specs.Interfaces.{FindsInterfaces, IsInterfaceExport, IsInterfaceImport}
 
 -- ---- what is found
 
@@ -107,3 +114,38 @@ module _ {w : ComponentWorld} {ds : List Def} {id : InterfaceId} {instance : ℕ
 pub is_there : {X : Type 0} (o : Option X) → is_some o ≡ true → IsSome o
 is_there None e = absurd (true≢false (sym e))
 is_there (Some x) e = refl
+
+-- ---- exported interfaces
+
+-- what is found for an exported interface is an instance of it
+pub found_export : (w : ComponentWorld) (ds : List Def) (id : InterfaceId) (index : ℕ) (table : List (InterfaceId × ℕ)) → AllByRecursion (λ e. IsInterfaceExport w ds e.0 e.1) table → lookup (same_id.eq-value.it id) table ≡ Some index →
+    IsInterfaceExport w ds id index
+found_export w ds id index [] h e = absurd (none-some index e)
+found_export w ds id index (x ∷ table) h e = by (same_id.eq-value.it id x.0) refl e (found_export w ds id index table h.1)
+  where
+    by : (b : Bool) → same_id.eq-value.it id x.0 ≡ b → cond b (Some x.1) (lookup (same_id.eq-value.it id) table) ≡ Some index → (lookup (same_id.eq-value.it id) table ≡ Some index → IsInterfaceExport w ds id index) →
+        IsInterfaceExport w ds id index
+    by true alike e later = subst (λ n. IsInterfaceExport w ds (record { index = n }) index) (sym ((Decides-eqb id.index x.0.index).0 alike)) (subst (IsInterfaceExport w ds x.0) (same_Some x.1 index e) h.0)
+    by false apart e later = later e
+
+-- what has a name is in the resolve
+pub named_within : (types : List TypeDef) (n : ℕ) → is_some (name_at types n) ≡ true → n < length types
+named_within [] n e = absurd (true≢false (sym e))
+named_within (t ∷ ts) zero e = omega arith
+named_within (t ∷ ts) (suc n) e = let l = named_within ts n e in omega (arith, l)
+
+module _ {w : ComponentWorld} {ds : List Def} {id : InterfaceId} {instance : ℕ} (t : TypeId) (h : IsInterfaceExport w ds id instance) (of : is_named_of w.resolve.types id t.index ≡ true) where
+  -- an alias of a type that the instance exports is right
+  pub export_aliased : (name : List ℕ) → name_at w.resolve.types t.index ≡ Some name → AliasesType ds instance name
+  export_aliased name named = inr (record { exported = h.exported; tree = type_of_world w t; nested = h.nested; named = h.types t name of named })
+
+  -- and it makes this type
+  pub export_made : (name : List ℕ) → name_at w.resolve.types t.index ≡ Some name → types_made (inventory ds) (defs.Item (items.Alias (aliases.Export exports.Type instance name))) ≡ Denoting (type_of_world w t) ∷ []
+  export_made name named =
+      ap (λ e. type_of_instance name e ∷ []) (get_or_found (inventory ds).instances instance (NestedInstance h.exported) h.nested)
+      ∙ ap (λ o. type_if_named o ∷ []) (h.types t name of named)
+    where
+      get_or_found : (es : List InstanceEntry) (n : ℕ) (e : InstanceEntry) → slice_get es n ≡ Some e → get_or es n OtherInstance ≡ e
+      get_or_found [] n e h = absurd (none-some e h)
+      get_or_found (x ∷ xs) zero e h = same_Some x e h
+      get_or_found (x ∷ xs) (suc n) e h = get_or_found xs n e h

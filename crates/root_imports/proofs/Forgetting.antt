@@ -1,6 +1,5 @@
 -- Tables from which types are removed: what is left in them, and that they are still right.
 use Rattle.std.proofs.Common.{◌≡◌, ◌∙◌, ◌<◌, ℕ, Bool, true, false, true≢false, List, [], ◌∷◌, ◌++◌, length, map, get_or, position, append_assoc, append-nil, Option, Some, None, is_some, if◌then◌else◌, refl, sym, ap, subst, IsPermutation, IsTrue}
-use Rattle.std.specs.Prelude.{nat_lt}
 use Rattle.std.specs.Cmp.{IsEquivalence}
 use Rattle.std.specs.List.{AllByRecursion, IsDistinct, swap_remove}
 use Rattle.std.specs.Map.{keys_of, lookup}
@@ -34,8 +33,11 @@ use Rattle.wit_types.specs.Settings.{Setting, tree_in}
 use Rattle.wit_types.specs.declared.maps.TypeEncodingMaps.{TypeEncodingMaps}
 use Rattle.comp_worlds.specs.declared.world.ComponentWorld.{ComponentWorld}
 use Rattle.root_imports.specs.Forgetting.{without, Forgets, IsForgettable}
-use Rattle.root_imports.specs.RootScopes.{any_index, is_imported_type, next_of, root_setting, AreForgotten, AreTablesRight}
-use Rattle.root_imports.proofs.Passing.{right_of}
+use Rattle.wit_data.specs.contracts.ids.InterfaceIdEq.TheImpl.Laws.{laws-law as interface_laws}
+use Rattle.wit_data.specs.contracts.ids.InterfaceIdPartialEq.TheImpl as same_interface
+use Rattle.root_imports.specs.Met.{is_met, Leaves}
+use Rattle.root_imports.specs.RootScopes.{any_index, root_setting, AreForgotten, AreTablesRight}
+use Rattle.root_imports.specs.declared.met_types.MetTypes.{MetTypes}
 
 -- ---- one entry
 
@@ -76,6 +78,22 @@ all_left {K} {X} P test (e ∷ es) h = by (position test (keys_of (e ∷ es))) r
         let all : AllByRecursion P (x ∷ swap_remove l i x) = recursion_from_All P (x ∷ swap_remove l i x) (All-permutation P l (x ∷ swap_remove l i x) moved (All-from_recursion P l h)) in
         subst (λ xs. AllByRecursion P xs) (sym (swap_remove_entry-found test l i x at)) all.1
 
+-- ---- one interface
+
+pub left_after : (id : InterfaceId) (old : MetTypes) (interfaces : List (InterfaceId × Unit {0})) → IsDistinct same_interface.eq-value.it (keys_of old.interfaces) → interfaces ≡ swap_remove_entry (same_interface.eq-value.it id) old.interfaces → Leaves id old (record old { interfaces = interfaces; own = None })
+left_after id old interfaces apart is = record {
+  last = refl;
+  own = refl;
+  exported = refl;
+  interfaces = λ other.
+      ap is_some (ap (lookup (same_interface.eq-value.it other)) is ∙ removed_lookup same_interface.eq-value.it interface_laws id old.interfaces apart other)
+      ∙ by (same_interface.eq-value.it id other) (lookup (same_interface.eq-value.it other) old.interfaces);
+}
+  where
+    by : (b : Bool) (o : Option (Unit {0})) → is_some (if b then None else o) ≡ (if b then false else is_some o)
+    by true o = refl
+    by false o = refl
+
 -- ---- one type
 
 pub forgets : (types : List TypeDef) (id : TypeId) (kind : TypeDefKind) (old new : TypeEncodingMaps) → kind ≡ kind_at types id.index → IsDistinct same_id.eq-value.it (keys_of old.id_to_index) → IsDistinct same_kind.eq-value.it (keys_of old.def_to_index) → new ≡ without id kind old → Forgets types id old new
@@ -87,12 +105,12 @@ forgets types id kind old new of apart kinds_apart is = record {
       ∙ ap (λ k. if same_kind.eq-value.it k q then None else lookup (same_kind.eq-value.it q) old.def_to_index) of);
 }
 
--- tables that were right are right without a type that the world doesn't import
-pub tables_left : (w : ComponentWorld) (last : Option TypeId) (instances : List (InterfaceId × ℕ)) (ds : List Def) (id : TypeId) (kind : TypeDefKind) (old new : TypeEncodingMaps) → IsForgettable w id → Forgets w.resolve.types id old new → new ≡ without id kind old → AreTablesRight w last instances ds old → AreTablesRight w last instances ds new
-tables_left w last instances ds id kind old new may forgets is h = subst (λ maps. AreTablesRight w last instances ds maps) (sym is) left
+-- tables that were right are right without a type of which it isn't known that it is in them
+pub tables_left : (w : ComponentWorld) (met : MetTypes) (instances : List (InterfaceId × ℕ)) (ds : List Def) (id : TypeId) (kind : TypeDefKind) (old new : TypeEncodingMaps) → IsForgettable w met id → Forgets w.resolve.types id old new → new ≡ without id kind old → AreTablesRight w met instances ds old → AreTablesRight w met instances ds new
+tables_left w met instances ds id kind old new may forgets is h = subst (λ maps. AreTablesRight w met instances ds maps) (sym is) left
   where
     s : Setting
-    s = root_setting w None last
+    s = root_setting w None met
 
     gone : TypeEncodingMaps
     gone = without id kind old
@@ -101,12 +119,10 @@ tables_left w last instances ds id kind old new may forgets is h = subst (λ map
     still j e = ap (λ (m : TypeEncodingMaps). is_some (lookup (same_id.eq-value.it j) m.id_to_index)) (sym is) ∙ (ap is_some (forgets.ids j) ∙ by (same_id.eq-value.it id j) refl)
       where
         by : (b : Bool) → same_id.eq-value.it id j ≡ b → is_some (if b then None else lookup (same_id.eq-value.it j) old.id_to_index) ≡ true
-        by true same =
-            let listed : is_imported_type w j ≡ true = right_of (nat_lt j.index (next_of last)) (is_imported_type w j) e in
-            absurd (true≢false (sym listed ∙ (ap (is_imported_type w) (sym (one_id id j same)) ∙ may.other)))
+        by true same = absurd (true≢false (sym e ∙ (ap (is_met w met) (sym (one_id id j same)) ∙ may.other)))
         by false apart = (h.met j e).there
 
-    left : AreTablesRight w last instances ds gone
+    left : AreTablesRight w met instances ds gone
     left = record {
       offers = h.offers;
       ids = all_left (λ e. Denotes (scope_of ds) e.1 (OfValues (tree_in s (Some (Id e.0))))) (same_id.eq-value.it id) old.id_to_index h.ids;

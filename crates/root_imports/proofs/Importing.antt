@@ -12,6 +12,7 @@ use Rattle.std.proofs.lemmas.Grind.{flat_map-append}
 use Rattle.std.proofs.lemmas.List.Elements.{filter-append}
 use Rattle.comp_lists.proofs.Lists.{AllByRecursion-contains, AllByRecursion-weaker, slice_get-append, slice_get-end}
 use Rattle.comp_bytes.specs.declared.def.Item.TheVariants as items
+use Rattle.comp_bytes.specs.declared.types.TypeDef.TheVariants as types
 use Rattle.comp_bytes.specs.declared.def.Def.{Def}
 use Rattle.comp_bytes.specs.declared.def.Def.TheVariants as defs
 use Rattle.comp_builder.specs.Built.{Built}
@@ -44,7 +45,9 @@ use Rattle.comp_items.proofs.Extending.{extends_none, extends_then}
 use Rattle.root_imports.specs.Imports.{FindsImports, FindsMore, FindsUsed, IsNextItem, IsNextType, next_after}
 use Rattle.interface_needs.proofs.Lists.{contains_none, contains_cons, all_both}
 use Rattle.root_imports.proofs.Allowing.{below_next}
-use Rattle.root_imports.specs.RootScopes.{next_of, ArePassed}
+use Rattle.root_imports.specs.Met.{next_of}
+use Rattle.root_imports.specs.RootScopes.{ArePassed}
+use Rattle.root_imports.specs.declared.met_types.MetTypes.{MetTypes}
 use Rattle.std.proofs.lemmas.Bool.Decides.{Decides-eqb}
 use Rattle.std.proofs.lemmas.List.Elements.{Contains-append_cases, Contains-append_right}
 use Rattle.root_imports.specs.Growing.{Grows-none, Grows-then}
@@ -57,6 +60,9 @@ role_is_imported : (w : ComponentWorld) (text : List ℕ) (role : Import) → is
 role_is_imported w text (imports.WorldFunc (keys.Name name) function abi) same h = subst (IsWorldImport w) (sym ((bytes_eq-Decides text name).0 same)) h.0
 role_is_imported w text (imports.ImportedResourceDrop key interface id) same h = cc
 role_is_imported w text (imports.InterfaceFunc key interface function abi) same h = cc
+role_is_imported w text (imports.ExportedResourceDrop key id) same h = cc
+role_is_imported w text (imports.ExportedResourceRep key id) same h = cc
+role_is_imported w text (imports.ExportedResourceNew key id) same h = cc
 role_is_imported w text role same h = absurd h
 
 field_is_imported : (w : ComponentWorld) (text : List ℕ) (fs : List (List ℕ × Import)) → AllByRecursion (λ f. IsImportRole w f.1) fs → is_any_import text fs ≡ true → IsWorldImport w text
@@ -98,7 +104,9 @@ counted v (defs.Item (items.CoreInstantiate number arguments) ∷ ds) = counted 
 counted v (defs.Item (items.CoreExports entries) ∷ ds) = counted (with_def v (defs.Item (items.CoreExports entries))) ds
 counted v (defs.Item (items.Instantiate component arguments) ∷ ds) = counted (with_def v (defs.Item (items.Instantiate component arguments))) ds
 counted v (defs.Item (items.Alias a) ∷ ds) = counted (with_def v (defs.Item (items.Alias a))) ds
-counted v (defs.Item (items.Type t) ∷ ds) = counted (with_def v (defs.Item (items.Type t))) ds
+counted v (defs.Item (items.Type (types.Resource destructor)) ∷ ds) = counted (with_def v (defs.Item (items.Type (types.Resource destructor)))) ds
+counted v (defs.Item (items.Type (types.Func f)) ∷ ds) = counted (with_def v (defs.Item (items.Type (types.Func f)))) ds
+counted v (defs.Item (items.Type (types.Defined t)) ∷ ds) = counted (with_def v (defs.Item (items.Type (types.Defined t)))) ds
 counted v (defs.Item (items.InstanceType t) ∷ ds) = counted (with_def v (defs.Item (items.InstanceType t))) ds
 counted v (defs.Item (items.Lift core options kind) ∷ ds) = counted (with_def v (defs.Item (items.Lift core options kind))) ds
 counted v (defs.Item (items.Lower function options) ∷ ds) = counted (with_def v (defs.Item (items.Lower function options))) ds
@@ -424,7 +432,7 @@ types_done w old new next h =
     subst (λ es. Grows w old.defs new.defs (map (λ (t : List ℕ × TypeId). Imported (root_type t.0)) (flat_map world_type es))) all h.grows
 
 -- and each type of the world is passed
-pub types_passed : (w : ComponentWorld) (old new : Built) (last : Option TypeId) → TypesSoFar w old new (next_of last) [] → ArePassed w last
-types_passed w old new last h =
+pub types_passed : (w : ComponentWorld) (old new : Built) (met : MetTypes) → TypesSoFar w old new (next_of met.last) [] → ArePassed w met
+types_passed w old new met h =
     let all : h.done ≡ (items_of w).imports = sym (append-nil h.done) ∙ h.split in
-    subst (λ es. AllByRecursion (λ (t : List ℕ × TypeId). t.1.index < next_of last) (flat_map world_type es)) all h.below
+    subst (λ es. AllByRecursion (λ (t : List ℕ × TypeId). t.1.index < next_of met.last) (flat_map world_type es)) all h.below

@@ -1,3 +1,4 @@
+pub mod Meeting
 pub mod Growth
 pub mod Indexing
 pub mod Finding
@@ -8,6 +9,7 @@ pub mod Naming
 pub mod NeededNames
 pub mod ExportedTypes
 pub mod Passing
+mod OfTables
 pub mod Resources
 pub mod Defining
 pub mod Forgetting

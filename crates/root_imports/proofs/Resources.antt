@@ -17,12 +17,12 @@ use Rattle.comp_trees.specs.WitTrees.{kind_tree, making_trees}
 use Rattle.comp_worlds.specs.Encodable.{IsEncodable, IsItemPlaced, IsRootType}
 use Rattle.comp_worlds.specs.WorldContents.{items_of, interface_at}
 use Rattle.interface_needs.specs.RootNeeds.{IsWorldType}
-use Rattle.interface_needs.proofs.OwnResources.{resource_imported}
+use Rattle.interface_needs.proofs.OwnResources.{root_resource}
 use Rattle.interface_needs.proofs.RootItems.{root_placed}
 use Rattle.comp_worlds.specs.declared.world.ComponentWorld.{ComponentWorld}
 use Rattle.comp_links.specs.Lists.{import_entries, number_of_interface, number_of_type, resource_of, type_name, type_of_world}
 
-kind_is : (k : TypeDefKind) → is_resource k ≡ true → k ≡ kinds.Resource
+pub kind_is : (k : TypeDefKind) → is_resource k ≡ true → k ≡ kinds.Resource
 kind_is kinds.Resource e = refl
 kind_is k e = absurd (true≢false (sym e))
 
@@ -38,7 +38,7 @@ pub resource_numbered : (w : ComponentWorld) → IsEncodable w → (id : TypeId)
     OfValues (ResourceAt (ImportedAt (record { number = n; inner = None }))) ≡ type_of_world w id
 resource_numbered w ok id n l resource own number =
     sym (resource_tree w ok id l (kind_is (kind_at w.resolve.types id.index) resource)
-    ∙ (ap (λ r. OfValues (ResourceAt r)) (resource_imported w ok id)
+    ∙ (ap (λ r. OfValues (ResourceAt r)) (root_resource w ok id own)
     ∙ ap (λ (o : Option InterfaceId). OfValues (ResourceAt (ImportedAt (elim o [ None ↦ record { number = number_of_type id (import_entries w); inner = None } | Some interface ↦ record { number = number_of_interface interface (import_entries w); inner = Some (type_name w id) } ])))) own
     ∙ ap (λ m. OfValues (ResourceAt (ImportedAt (record { number = m; inner = None })))) number))
 

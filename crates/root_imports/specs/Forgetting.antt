@@ -10,12 +10,13 @@ use Rattle.wit_data.specs.declared.types.TypeDefKind.{TypeDefKind}
 use Rattle.wit_data.specs.Values.{kind_at}
 use Rattle.wit_types.specs.declared.maps.TypeEncodingMaps.{TypeEncodingMaps}
 use Rattle.comp_worlds.specs.declared.world.ComponentWorld.{ComponentWorld}
-use Rattle.root_imports.specs.RootScopes.{is_imported_type}
+use Rattle.root_imports.specs.Met.{is_met}
+use Rattle.root_imports.specs.declared.met_types.MetTypes.{MetTypes}
 
--- a type of the resolve that the world doesn't import
-pub record IsForgettable (w : ComponentWorld) (id : TypeId) : Type 0 where
+-- a type of the resolve of which it isn't known that it is in the tables
+pub record IsForgettable (w : ComponentWorld) (met : MetTypes) (id : TypeId) : Type 0 where
   pub present : id.index < length w.resolve.types
-  pub other : is_imported_type w id ≡ false
+  pub other : is_met w met id ≡ false
 
 -- the type has no index any more, nor have the types without names of its kind; all others have what they had
 pub record Forgets (types : List TypeDef) (id : TypeId) (old new : TypeEncodingMaps) : Type 0 where

@@ -14,7 +14,8 @@ use Rattle.comp_items.proofs.Kept.{Longer, at-kept}
 use Rattle.comp_lists.proofs.Lists.{AllByRecursion-weaker}
 use Rattle.wit_data.specs.declared.ids.InterfaceId.{InterfaceId}
 use Rattle.comp_items.proofs.Entries.{instance_entry-kept}
-use Rattle.root_imports.specs.Interfaces.{AreInstancesKnown, FindsInterfaces}
+use Rattle.root_imports.specs.Interfaces.{AreInstancesKnown, AreInterfacesKnown, FindsExports, FindsInterfaces}
+use Rattle.root_imports.specs.declared.met_types.MetTypes.{MetTypes}
 use Rattle.root_imports.specs.RootScopes.{RootGrows}
 
 RightAfter-append : (w : ComponentWorld) (old a b : List Def) → RightAfter w old a → RightAfter w (old ++ a) b → RightAfter w old (a ++ b)
@@ -73,10 +74,20 @@ FindsInterfaces-kept {w} {old} {new} {instances} g h = record {
       instances h.each;
 }
 
-pub known_kept : {w : ComponentWorld} {old new : List Def} {instances : List (InterfaceId × ℕ)} → Longer old new → AreInstancesKnown w old instances → AreInstancesKnown w new instances
-known_kept g h = record { finds = FindsInterfaces-kept g h.finds; needed = h.needed; imported = h.imported }
+pub instances_kept : {w : ComponentWorld} {old new : List Def} {instances : List (InterfaceId × ℕ)} → Longer old new → AreInstancesKnown w old instances → AreInstancesKnown w new instances
+instances_kept g h = record { finds = FindsInterfaces-kept g h.finds; needed = h.needed; imported = h.imported; named = h.named }
 
--- of two states of a scope, each with a reference to what has the world, two values, and the instances
-pub known_on : {R N J : Type 0} (world : R → ComponentWorld) (r s : R) (k l : N) (x y : List (InterfaceId × ℕ)) (o p : J) (a b : Built) → (s ≡ r) × (l ≡ k) × (y ≡ x) × RootGrows (world r) a b × (p ≡ o) → AreInstancesKnown (world r) a.defs x → AreInstancesKnown (world s) b.defs y
+FindsExports-kept : {w : ComponentWorld} {old new : List Def} {exported : List (InterfaceId × ℕ)} → Longer old new → FindsExports w old exported → FindsExports w new exported
+FindsExports-kept {w} {old} {new} {exported} g h = record {
+  each = AllByRecursion-weaker (λ e i. record { exported = i.exported; nested = instance_entry-kept g e.1 _ i.nested; types = i.types }) exported h.each;
+}
+
+pub known_kept : {w : ComponentWorld} {old new : List Def} {exported instances : List (InterfaceId × ℕ)} → Longer old new → AreInterfacesKnown w old exported instances → AreInterfacesKnown w new exported instances
+known_kept g h = record { imports = instances_kept g h.imports; exports = FindsExports-kept g h.exports }
+
+-- of two states of a scope, each with a reference to what has the world, the types that are at hand, and the instances
+pub known_on : {R J : Type 0} (world : R → ComponentWorld) (r s : R) (k l : MetTypes) (x y : List (InterfaceId × ℕ)) (o p : J) (a b : Built) → (s ≡ r) × (l ≡ k) × (y ≡ x) × RootGrows (world r) a b × (p ≡ o) → AreInterfacesKnown (world r) a.defs k.exported x → AreInterfacesKnown (world s) b.defs l.exported y
 known_on world r s k l x y o p a b g h =
-    subst (λ t. AreInstancesKnown (world t) b.defs y) (sym g.0) (subst (λ es. AreInstancesKnown (world r) b.defs es) (sym g.2) (known_kept (longer_by g.3.grows) h))
+    subst (λ t. AreInterfacesKnown (world t) b.defs l.exported y) (sym g.0)
+    (subst (λ (m : MetTypes). AreInterfacesKnown (world r) b.defs m.exported y) (sym g.1)
+    (subst (λ es. AreInterfacesKnown (world r) b.defs k.exported es) (sym g.2) (known_kept (longer_by g.3.grows) h)))

@@ -1,4 +1,4 @@
--- What is known of the interfaces that were imported. (The rules are this project's own.)
+-- What is known of the interfaces that were imported, and of those that were exported. (The rules are this project's own.)
 use Rattle.std.specs.Prelude.{◌≡◌, ◌≢◌, ℕ, true, List, [], Some, slice_get, is_some}
 use Rattle.std.specs.List.{AllByRecursion, list_any}
 use Rattle.std.specs.Map.{lookup}
@@ -9,14 +9,18 @@ use Rattle.comp_bytes.specs.declared.def.Def.{Def}
 use Rattle.comp_trees.specs.Trees.{FunctionTree}
 use Rattle.comp_trees.specs.DefinedTrees.{TypeTree, OfFunctions}
 use Rattle.comp_trees.specs.Members.{Surroundings, member_trees, exports_name, function_exported}
-use Rattle.comp_inventories.specs.Inventories.{ImportedInstance, surroundings_of, inventory}
+use Rattle.comp_inventories.specs.Inventories.{ImportedInstance, NestedInstance, surroundings_of, inventory}
+use Rattle.nested_terms.specs.Nested.{NestedExport, type_named}
+use Rattle.comp_terms.specs.Exports.{ExportsTypes}
+use Rattle.comp_worlds.specs.WorldContents.{name_at}
+use Rattle.root_imports.specs.Met.{is_named_of}
 use Rattle.wit_data.specs.contracts.ids.InterfaceIdPartialEq.TheImpl as same_id
 use Rattle.wit_data.specs.declared.functions.Function.{Function}
 use Rattle.wit_data.specs.declared.ids.InterfaceId.{InterfaceId}
 use Rattle.wit_data.specs.declared.worlds.WorldKey.{WorldKey}
 use Rattle.world_values.specs.Items.{functions_of}
 use Rattle.comp_worlds.specs.declared.world.ComponentWorld.{ComponentWorld}
-use Rattle.comp_links.specs.Lists.{ImportedInterface, import_entries, names_of_interface, needed_types, resource_of}
+use Rattle.comp_links.specs.Lists.{ImportedInterface, import_entries, names_of_interface, needed_types, resource_of, type_of_world}
 use Rattle.type_scopes.specs.Interfaces.{ExportsType}
 use Rattle.type_scopes.specs.Titles.{is_one_of}
 use Rattle.interface_needs.specs.Needs.{IsImported}
@@ -65,3 +69,27 @@ pub record AreInstancesKnown (w : ComponentWorld) (ds : List Def) (instances : L
   pub finds : FindsInterfaces w ds instances
   pub needed : FindsNeededInterfaces w instances
   pub imported : (id : InterfaceId) (t : TypeId) → is_one_of (needed_types w id) t.index ≡ true → IsImported w id
+  pub named : (id : InterfaceId) (t : TypeId) → is_one_of (needed_types w id) t.index ≡ true → is_named_of w.resolve.types id t.index ≡ true
+
+-- ---- exported interfaces
+
+-- the instance of a nested component, which exports each type of the interface under its name
+pub record IsInterfaceExport (w : ComponentWorld) (ds : List Def) (id : InterfaceId) (index : ℕ) : Type 0 where
+  pub exported : List NestedExport
+  pub nested : slice_get (inventory ds).instances index ≡ Some (NestedInstance exported)
+  pub types : (t : TypeId) (name : List ℕ) → is_named_of w.resolve.types id t.index ≡ true → name_at w.resolve.types t.index ≡ Some name → type_named name exported ≡ Some (type_of_world w t)
+
+-- each instance is one of the interface that it is found for
+pub record FindsExports (w : ComponentWorld) (ds : List Def) (exported : List (InterfaceId × ℕ)) : Type 0 where
+  pub each : AllByRecursion (λ e. IsInterfaceExport w ds e.0 e.1) exported
+
+-- what is known of the instances of all interfaces: those that were exported, and those that were imported
+pub record AreInterfacesKnown (w : ComponentWorld) (ds : List Def) (exported instances : List (InterfaceId × ℕ)) : Type 0 where
+  pub imports : AreInstancesKnown w ds instances
+  pub exports : FindsExports w ds exported
+
+-- the instance that was exported for an interface: it exports each type that the interface lists
+pub record ExportsListed (w : ComponentWorld) (ds : List Def) (id : InterfaceId) (index : ℕ) : Type 0 where
+  pub exported : List NestedExport
+  pub nested : slice_get (inventory ds).instances index ≡ Some (NestedInstance exported)
+  pub types : ExportsTypes w id exported

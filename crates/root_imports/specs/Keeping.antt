@@ -11,7 +11,15 @@ Root = RootScope ComponentWorld
 -- the root after a step: the tables are right, and the component has only grown at its end
 pub record RootKept (w : ComponentWorld) (old new : Root) : Type 0 where
   pub world : new.world ≡ old.world
-  pub next : new.last_type ≡ old.last_type
+  pub met : new.met ≡ old.met
   pub instances : new.instances ≡ old.instances
   pub extends : Extends old.items new.items
-  pub tables : AreTablesRight w old.last_type new.instances new.items.defs new.maps
+  pub tables : AreTablesRight w old.met new.instances new.items.defs new.maps
+
+-- the root after a step that also changes which types of exported interfaces are at hand
+pub record RootMoved (w : ComponentWorld) (old new : Root) : Type 0 where
+  pub world : new.world ≡ old.world
+  pub last : new.met.last ≡ old.met.last
+  pub instances : new.instances ≡ old.instances
+  pub extends : Extends old.items new.items
+  pub tables : AreTablesRight w new.met new.instances new.items.defs new.maps

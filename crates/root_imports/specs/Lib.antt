@@ -1,3 +1,4 @@
+pub mod Met
 pub mod RootScopes
 pub mod Growing
 pub mod Imports

@@ -1,6 +1,6 @@
 -- The root of a component as a scope of types (component model, explainer: type definitions, import definitions).
-use Rattle.std.specs.Prelude.{ℕ, suc, Bool, ◌+◌, ◌<◌, ◌≤◌, ◌==◌, ◌&&◌, ◌^◌, ◌≡◌, nat_lt, true, false, List, [], map, Option, Some, None}
-use Rattle.std.specs.List.{AllByRecursion, list_any}
+use Rattle.std.specs.Prelude.{ℕ, ◌+◌, ◌<◌, ◌≤◌, ◌||◌, ◌^◌, ◌≡◌, true, false, List, [], Option, Some, None}
+use Rattle.std.specs.List.{AllByRecursion}
 use Rattle.byte_encoding.specs.declared.fault.BuildFault.{BuildFault}
 use Rattle.byte_encoding.specs.declared.fault.BuildFault.TheVariants.{Memory, TooMany}
 use Rattle.comp_bytes.specs.Spaces.{items_in}
@@ -20,34 +20,26 @@ use Rattle.comp_worlds.specs.declared.world.ComponentWorld.{ComponentWorld}
 use Rattle.comp_links.specs.Lists.{needed_types, resource_of}
 use Rattle.type_scopes.specs.Titles.{is_one_of}
 use Rattle.wit_data.specs.declared.ids.InterfaceId.{InterfaceId}
-use Rattle.root_imports.specs.Interfaces.{AreInstancesKnown}
+use Rattle.root_imports.specs.Interfaces.{AreInterfacesKnown}
+use Rattle.root_imports.specs.Met.{is_met, is_exported_type, next_of}
+use Rattle.root_imports.specs.declared.met_types.MetTypes.{MetTypes}
 use Rattle.comp_terms.specs.Rules.{Grows}
 use Rattle.comp_items.specs.Items.{Extends}
 use Rattle.wit_types.specs.Settings.{Setting}
 use Rattle.wit_types.specs.Maps.{Faithful}
 use Rattle.wit_types.specs.declared.maps.TypeEncodingMaps.{TypeEncodingMaps}
 
--- whether the world imports the type
-abbrev pub is_imported_type : ComponentWorld → TypeId → Bool
-is_imported_type w id = list_any (λ n. id.index == n) (map (λ t. t.1.index) (imported_types w))
-
--- the number after that of the last type
-abbrev pub next_of : Option TypeId → ℕ
-next_of None = 0
-next_of (Some id) = suc id.index
-
--- What definitions of types at the root take as given, where the types that the world imports are in the tables as far as the
--- last one that was imported. They get their names where they are imported, and not while others are defined: so nothing is
--- exported there. What is imported is a type that an instance of an interface exports. The types of one exported interface may be
--- defined, where one is given.
-abbrev pub root_setting : ComponentWorld → Option InterfaceId → Option TypeId → Setting
-root_setting w interface last =
+-- What definitions of types at the root take as given, where these types are at hand. The types of the world get their names where
+-- they are imported, and not while others are defined: so nothing is exported there. What is imported is a type that an instance of an
+-- interface exports. The types of one exported interface may be defined, where one is given.
+abbrev pub root_setting : ComponentWorld → Option InterfaceId → MetTypes → Setting
+root_setting w interface met =
     record {
       types = w.resolve.types;
       interface = interface;
       origin = resource_of w;
-      met = λ id. nat_lt id.index (next_of last) && is_imported_type w id;
-      may_import = λ other id. is_one_of (needed_types w other) id.index;
+      met = is_met w met;
+      may_import = λ other id. is_one_of (needed_types w other) id.index || is_exported_type w met other id;
       may_own = λ n. true;
       may_export = λ name. false;
       resource = λ name. ImportedAt (record { number = 0; inner = None });
@@ -67,12 +59,12 @@ abbrev pub is_full : List Def → ℕ → Type 0
 is_full ds count = (2 ^ 32 ≤ count) × (count ≡ items_in spaces.Type ds + 1)
 
 -- each index in the tables denotes what it is the index of, and the instances of the interfaces are known
-abbrev pub AreTablesRight : ComponentWorld → Option TypeId → List (InterfaceId × ℕ) → List Def → TypeEncodingMaps → Type 0
-AreTablesRight w last instances ds maps = Faithful (root_setting w None last) (scope_of ds) any_index (AreInstancesKnown w ds instances) maps
+abbrev pub AreTablesRight : ComponentWorld → MetTypes → List (InterfaceId × ℕ) → List Def → TypeEncodingMaps → Type 0
+AreTablesRight w met instances ds maps = Faithful (root_setting w None met) (scope_of ds) any_index (AreInterfacesKnown w ds met.exported instances) maps
 
 -- each type that the world imports was imported
-abbrev pub ArePassed : ComponentWorld → Option TypeId → Type 0
-ArePassed w last = AllByRecursion (λ t. t.1.index < next_of last) (imported_types w)
+abbrev pub ArePassed : ComponentWorld → MetTypes → Type 0
+ArePassed w met = AllByRecursion (λ t. t.1.index < next_of met.last) (imported_types w)
 
 -- out of memory, or a count that is more than a space can have
 abbrev pub IsRefusal : BuildFault → Type 0

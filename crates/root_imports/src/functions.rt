@@ -30,14 +30,14 @@ impl RootScope<'_, ComponentWorld> {
         requires valid { IsEncodable self.old.world.now }
         requires present { HasFunction self.old.world.now.resolve function.now }
         requires needed { IsNeededFunction self.old.world.now None function.now }
-        requires passed { ArePassed self.old.world.now self.old.last_type }
-        requires tables { AreTablesRight self.old.world.now self.old.last_type self.old.instances self.old.items.defs self.old.maps }
+        requires passed { ArePassed self.old.world.now self.old.met }
+        requires tables { AreTablesRight self.old.world.now self.old.met self.old.instances self.old.items.defs self.old.maps }
         ensures world { self.new.world ≡ self.old.world }
-        ensures next { self.new.last_type ≡ self.old.last_type }
+        ensures met { self.new.met ≡ self.old.met }
         ensures instances { self.new.instances ≡ self.old.instances }
         ensures extends { Extends self.old.items self.new.items }
         ensures grows { OnOk result (Grows self.old.world.now self.old.items.defs self.new.items.defs (named_import name.now ∷ [])) }
-        ensures tables { AreTablesRight self.old.world.now self.old.last_type self.new.instances self.new.items.defs self.new.maps }
+        ensures tables { AreTablesRight self.old.world.now self.old.met self.new.instances self.new.items.defs self.new.maps }
         ensures imported { IfOk result (λ index. IsImportedFunction self.new.items.defs index (record { number = imports_in self.old.items.defs; inner = None }) (type_of_function self.old.world.now function.now)) }
         ensures cause { IfErr result IsRefusal }
     {
@@ -60,17 +60,17 @@ impl RootScope<'_, ComponentWorld> {
     ) -> Result<(), BuildFault>
         requires valid { IsEncodable self.old.world.now }
         requires present { HasFunction self.old.world.now.resolve function.now }
-        requires passed { ArePassed self.old.world.now self.old.last_type }
-        requires tables { AreTablesRight self.old.world.now self.old.last_type self.old.instances self.old.items.defs self.old.maps }
+        requires passed { ArePassed self.old.world.now self.old.met }
+        requires tables { AreTablesRight self.old.world.now self.old.met self.old.instances self.old.items.defs self.old.maps }
         requires used { (text : List ℕ) → is_some (found text used.now) ≡ is_used self.old.world.now text }
         requires next { IsNext self.old.world.now self.old.items.defs name.now function.now }
         requires imports { FindsImports self.old.world.now self.old.items.defs functions.old }
         ensures world { self.new.world ≡ self.old.world }
-        ensures next { self.new.last_type ≡ self.old.last_type }
+        ensures met { self.new.met ≡ self.old.met }
         ensures instances { self.new.instances ≡ self.old.instances }
         ensures extends { Extends self.old.items self.new.items }
         ensures grows { OnOk result (Grows self.old.world.now self.old.items.defs self.new.items.defs (names_marked self.old.world.now (name.now ∷ []))) }
-        ensures tables { AreTablesRight self.old.world.now self.old.last_type self.new.instances self.new.items.defs self.new.maps }
+        ensures tables { AreTablesRight self.old.world.now self.old.met self.new.instances self.new.items.defs self.new.maps }
         ensures imports { OnOk result (FindsImports self.old.world.now self.new.items.defs functions.new) }
         ensures finds { FindsMore functions.old functions.new }
         ensures found { OnOk result (IsTrue (is_used self.old.world.now name.now) → IsSome (found name.now functions.new)) }
@@ -94,17 +94,17 @@ impl RootScope<'_, ComponentWorld> {
         item: &WorldItem,
     ) -> Result<(), BuildFault>
         requires valid { IsEncodable self.old.world.now }
-        requires passed { ArePassed self.old.world.now self.old.last_type }
-        requires tables { AreTablesRight self.old.world.now self.old.last_type self.old.instances self.old.items.defs self.old.maps }
+        requires passed { ArePassed self.old.world.now self.old.met }
+        requires tables { AreTablesRight self.old.world.now self.old.met self.old.instances self.old.items.defs self.old.maps }
         requires used { (text : List ℕ) → is_some (found text used.now) ≡ is_used self.old.world.now text }
         requires next { IsNextItem self.old.world.now self.old.items.defs (key.now, item.now) }
         requires imports { FindsImports self.old.world.now self.old.items.defs functions.old }
         ensures world { self.new.world ≡ self.old.world }
-        ensures next { self.new.last_type ≡ self.old.last_type }
+        ensures met { self.new.met ≡ self.old.met }
         ensures instances { self.new.instances ≡ self.old.instances }
         ensures extends { Extends self.old.items self.new.items }
         ensures grows { OnOk result (Grows self.old.world.now self.old.items.defs self.new.items.defs (names_marked self.old.world.now (root_function (key.now, item.now)))) }
-        ensures tables { AreTablesRight self.old.world.now self.old.last_type self.new.instances self.new.items.defs self.new.maps }
+        ensures tables { AreTablesRight self.old.world.now self.old.met self.new.instances self.new.items.defs self.new.maps }
         ensures imports { OnOk result (FindsImports self.old.world.now self.new.items.defs functions.new) }
         ensures finds { FindsMore functions.old functions.new }
         ensures found { OnOk result (AllByRecursion (λ name. IsTrue (is_used self.old.world.now name) → IsSome (found name functions.new)) (root_function (key.now, item.now))) }
@@ -128,14 +128,14 @@ impl RootScope<'_, ComponentWorld> {
         requires items { items.now ≡ (items_of self.old.world.now).imports }
         requires used { (text : List ℕ) → is_some (found text used.now) ≡ is_used self.old.world.now text }
         requires types { imports_in self.old.items.defs ≡ first_imports self.old.world.now }
-        requires passed { ArePassed self.old.world.now self.old.last_type }
-        requires tables { AreTablesRight self.old.world.now self.old.last_type self.old.instances self.old.items.defs self.old.maps }
+        requires passed { ArePassed self.old.world.now self.old.met }
+        requires tables { AreTablesRight self.old.world.now self.old.met self.old.instances self.old.items.defs self.old.maps }
         ensures world { self.new.world ≡ self.old.world }
-        ensures next { self.new.last_type ≡ self.old.last_type }
+        ensures met { self.new.met ≡ self.old.met }
         ensures instances { self.new.instances ≡ self.old.instances }
         ensures extends { Extends self.old.items self.new.items }
         ensures grows { OnOk result (Grows self.old.world.now self.old.items.defs self.new.items.defs (map named_import (used_functions self.old.world.now))) }
-        ensures tables { AreTablesRight self.old.world.now self.old.last_type self.new.instances self.new.items.defs self.new.maps }
+        ensures tables { AreTablesRight self.old.world.now self.old.met self.new.instances self.new.items.defs self.new.maps }
         ensures imports { IfOk result (FindsImports self.old.world.now self.new.items.defs) }
         ensures found { IfOk result (FindsUsed self.old.world.now) }
         ensures cause { IfErr result IsRefusal }
@@ -154,14 +154,14 @@ impl RootScope<'_, ComponentWorld> {
     pub fn import_functions(&mut self) -> Result<Keyed<Text, u32>, BuildFault>
         requires valid { IsEncodable self.old.world.now }
         requires types { imports_in self.old.items.defs ≡ first_imports self.old.world.now }
-        requires passed { ArePassed self.old.world.now self.old.last_type }
-        requires tables { AreTablesRight self.old.world.now self.old.last_type self.old.instances self.old.items.defs self.old.maps }
+        requires passed { ArePassed self.old.world.now self.old.met }
+        requires tables { AreTablesRight self.old.world.now self.old.met self.old.instances self.old.items.defs self.old.maps }
         ensures world { self.new.world ≡ self.old.world }
-        ensures next { self.new.last_type ≡ self.old.last_type }
+        ensures met { self.new.met ≡ self.old.met }
         ensures instances { self.new.instances ≡ self.old.instances }
         ensures extends { Extends self.old.items self.new.items }
         ensures grows { OnOk result (Grows self.old.world.now self.old.items.defs self.new.items.defs (map named_import (used_functions self.old.world.now))) }
-        ensures tables { AreTablesRight self.old.world.now self.old.last_type self.new.instances self.new.items.defs self.new.maps }
+        ensures tables { AreTablesRight self.old.world.now self.old.met self.new.instances self.new.items.defs self.new.maps }
         ensures imports { IfOk result (FindsImports self.old.world.now self.new.items.defs) }
         ensures found { IfOk result (FindsUsed self.old.world.now) }
         ensures cause { IfErr result IsRefusal }

@@ -7,13 +7,14 @@
 //! What an imported interface exports is known by its instance: a type of it that the root names is an alias
 //! ([`RootScope::alias_type`]).
 //!
-//! While an exported interface is built, its types are defined at the root, too: with them its functions are lifted, and they
-//! are given to the component that exports them. Then the root forgets them. A type that it uses of an imported interface is an
-//! alias, as above, and stays known.
+//! The types of exported interfaces are defined at the root, too: with them the functions of an interface are lifted, and they
+//! are given to the component that exports them. Then the root forgets them, and knows the instance that exports them in their place: a
+//! type of it that another exported interface uses is an alias ([`RootScope::enter_export`]). A type that an exported interface uses
+//! of an imported one is an alias, as above, and stays known. [`MetTypes`] says which of all these types are at hand.
 //!
-//! In reading order: `root_scope` (the scope, and types in it), `aliases` (aliases of types of interfaces), `world_types`
+//! In reading order: `met_types` (which types are at hand), `root_scope` (the scope, and types in it), `aliases` (aliases of types of interfaces), `world_types`
 //! (imports of types), `used` (the functions that core modules use), `functions` (imports of functions), `exported_types` (the
-//! types of exported interfaces). In `specs/`: `RootScopes` (what the scope takes as given, and how it grows), `Growing` (lists
+//! types of exported interfaces). In `specs/`: `Met` (which types are at hand), `RootScopes` (what the scope takes as given, and how it grows), `Growing` (lists
 //! of definitions that grow), `Interfaces` (what is known of the interfaces that were imported), `Imports` (of the functions,
 //! and of the next import), `Forgetting` (what becomes of the tables when a type is forgotten).
 //!
@@ -29,9 +30,12 @@
 mod aliases;
 mod exported_types;
 mod functions;
+mod met_types;
+mod own_resources;
 mod root_scope;
 mod used;
 mod world_types;
 
 pub use exported_types::types_of;
+pub use met_types::MetTypes;
 pub use root_scope::{HasWorld, RootScope};

@@ -1,7 +1,7 @@
 //! The root of a component, as a scope of types.
 #![tactic(auto, using(crate::proofs::Growth::growing))]
 
-ghost use Rattle.std.specs.Prelude.{◌≡◌, ◌<◌, length, true, IfOk, IfErr, [], get_or, Some, None};
+ghost use Rattle.std.specs.Prelude.{◌≡◌, ◌<◌, ◌||◌, length, true, IfOk, IfErr, [], get_or, Some, None};
 ghost use Rattle.std.proofs.Common.{refl};
 ghost use Rattle.comp_bytes.specs.References.{defined_references, type_references};
 ghost use Rattle.comp_bytes.specs.declared.types.TypeDef.TheVariants as definitions;
@@ -20,10 +20,12 @@ ghost use Rattle.comp_worlds.specs.Encodable.{IsEncodable};
 ghost use Rattle.root_imports.specs.RootScopes.{root_setting, any_index, RootGrows, is_full, AreTablesRight, ArePassed};
 ghost use Rattle.root_imports.specs.Growing.{known_on, root_same, root_on};
 ghost use Rattle.root_imports.specs.Imports.{IsNeededFunction};
-ghost use Rattle.root_imports.specs.Interfaces.{AreInstancesKnown};
+ghost use Rattle.root_imports.specs.Interfaces.{AreInterfacesKnown};
+ghost use Rattle.root_imports.specs.Met.{nothing_met, is_exported_type, IsSuppliedFor};
 ghost use Rattle.comp_links.specs.Lists.{needed_types};
 ghost use Rattle.type_scopes.specs.Titles.{is_one_of};
 
+use crate::met_types::MetTypes;
 use byte_encoding::BuildFault;
 use comp_bytes::{DefinedType, ExternName, FuncTypeDef};
 use comp_items::ComponentItems;
@@ -57,8 +59,8 @@ pub struct RootScope<'a, W: HasWorld> {
     pub world: &'a W,
     pub items: ComponentItems,
     pub maps: TypeEncodingMaps,
-    /// The last type of the world that was imported: it and those before it in the resolve are in the tables.
-    pub last_type: Option<TypeId>,
+    /// The types of the world that are at hand: in the tables, or exported by instances of exported interfaces.
+    pub met: MetTypes,
     /// The instances of the interfaces that were imported.
     pub instances: Keyed<InterfaceId, u32>,
     /// The exported interface whose types are defined now, if any.
@@ -71,7 +73,7 @@ impl<'a, W: HasWorld> Drop for RootScope<'a, W> {
             world: _,
             items: _,
             maps: _,
-            last_type: _,
+            met: _,
             instances: _,
             interface: _,
         } = self;
@@ -84,7 +86,7 @@ impl<'a> RootScope<'a, ComponentWorld> {
         ensures world { result.world ≡ world.entry }
         ensures items { result.items ≡ nothing_built }
         ensures maps { result.maps ≡ no_maps }
-        ensures next { result.last_type ≡ None }
+        ensures met { result.met ≡ nothing_met }
         ensures instances { result.instances ≡ [] }
         ensures interface { result.interface ≡ None }
     {
@@ -92,7 +94,7 @@ impl<'a> RootScope<'a, ComponentWorld> {
             world,
             items: ComponentItems::new(alloc),
             maps: TypeEncodingMaps::new(alloc),
-            last_type: None,
+            met: MetTypes::new(alloc),
             instances: Keyed::new(alloc),
             interface: None,
         }
@@ -106,7 +108,7 @@ impl<'a> RootScope<'a, ComponentWorld> {
             world: _,
             items,
             maps: _,
-            last_type: _,
+            met: _,
             instances: _,
             interface: _,
         } = self;
@@ -123,14 +125,15 @@ impl<'a> RootScope<'a, ComponentWorld> {
         requires valid { IsEncodable self.old.world.now }
         requires present { HasFunction self.old.world.now.resolve function.now }
         requires needed { IsNeededFunction self.old.world.now interface function.now }
-        requires passed { ArePassed self.old.world.now self.old.last_type }
-        requires tables { AreTablesRight self.old.world.now self.old.last_type self.old.instances self.old.items.defs self.old.maps }
+        requires passed { ArePassed self.old.world.now self.old.met }
+        requires supplied { IsSuppliedFor self.old.world.now self.old.met interface }
+        requires tables { AreTablesRight self.old.world.now self.old.met self.old.instances self.old.items.defs self.old.maps }
         ensures typed { IfOk result (λ index. IsFunctionType self.new.items.defs index (type_of_function self.old.world.now function.now)) }
         ensures world { self.new.world ≡ self.old.world }
-        ensures next { self.new.last_type ≡ self.old.last_type }
+        ensures met { self.new.met ≡ self.old.met }
         ensures instances { self.new.instances ≡ self.old.instances }
         ensures grows { RootGrows self.old.world.now self.old.items self.new.items }
-        ensures tables { AreTablesRight self.old.world.now self.old.last_type self.new.instances self.new.items.defs self.new.maps }
+        ensures tables { AreTablesRight self.old.world.now self.old.met self.new.instances self.new.items.defs self.new.maps }
         ensures cause { IfErr result (IsCause is_full self.new.items.defs) }
     {
         let world = self.world;
@@ -141,7 +144,7 @@ impl<'a> RootScope<'a, ComponentWorld> {
 }
 
 impl<'a, W: HasWorld> ValtypeEncoder for RootScope<'a, W> {
-    ghost setting = { λ e. root_setting (W.world e.world.now) e.interface e.last_type };
+    ghost setting = { λ e. root_setting (W.world e.world.now) e.interface e.met };
 
     ghost scope = { λ e. scope_of e.items.defs };
 
@@ -149,21 +152,21 @@ impl<'a, W: HasWorld> ValtypeEncoder for RootScope<'a, W> {
 
     ghost with_maps = { λ e m. record e { maps = m } };
 
-    ghost follows = { λ old new. (new.world ≡ old.world) × (new.last_type ≡ old.last_type) × (new.instances ≡ old.instances) × RootGrows (W.world old.world.now) old.items new.items × (new.interface ≡ old.interface) };
+    ghost follows = { λ old new. (new.world ≡ old.world) × (new.met ≡ old.met) × (new.instances ≡ old.instances) × RootGrows (W.world old.world.now) old.items new.items × (new.interface ≡ old.interface) };
 
     ghost names = { λ e name index. any_index name index };
 
-    ghost offers = { λ e. AreInstancesKnown (W.world e.world.now) e.items.defs e.instances };
+    ghost offers = { λ e. AreInterfacesKnown (W.world e.world.now) e.items.defs e.met.exported e.instances };
 
     ghost refuses = { λ e count. is_full e.items.defs count };
 
     ghost follows_itself = { λ e. (refl, refl, refl, root_same (W.world e.world.now) e.items, refl) };
 
-    ghost follows_on = { λ a b c g h. root_on (λ r. W.world r.now) a.world b.world c.world a.last_type b.last_type c.last_type a.instances b.instances c.instances a.interface b.interface c.interface a.items b.items c.items g h };
+    ghost follows_on = { λ a b c g h. root_on (λ r. W.world r.now) a.world b.world c.world a.met b.met c.met a.instances b.instances c.instances a.interface b.interface c.interface a.items b.items c.items g h };
 
     ghost names_kept = { λ a b g name index h. h };
 
-    ghost offers_kept = { λ a b g known. known_on (λ r. W.world r.now) a.world b.world a.last_type b.last_type a.instances b.instances a.interface b.interface a.items b.items g known };
+    ghost offers_kept = { λ a b g known. known_on (λ r. W.world r.now) a.world b.world a.met b.met a.instances b.instances a.interface b.interface a.items b.items g known };
 
     ghost follows_maps = { λ e m. (refl, refl, refl, root_same (W.world e.world.now) e.items, refl) };
 
@@ -177,9 +180,9 @@ impl<'a, W: HasWorld> ValtypeEncoder for RootScope<'a, W> {
         requires present { AreTypes (length (scope_of self.old.items.defs)) (defined_references ty) }
         requires known { is_known (defined_tree (scope_of self.old.items.defs) ty) ≡ true }
         ensures makes { Makes (scope_of self.old.items.defs) (scope_of self.new.items.defs) result (OfValues (defined_tree (scope_of self.old.items.defs) ty)) }
-        ensures setting { root_setting (W.world self.new.world.now) self.new.interface self.new.last_type ≡ root_setting (W.world self.old.world.now) self.old.interface self.old.last_type }
+        ensures setting { root_setting (W.world self.new.world.now) self.new.interface self.new.met ≡ root_setting (W.world self.old.world.now) self.old.interface self.old.met }
         ensures maps { self.new.maps ≡ self.old.maps }
-        ensures follows { (self.new.world ≡ self.old.world) × (self.new.last_type ≡ self.old.last_type) × (self.new.instances ≡ self.old.instances) × RootGrows (W.world self.old.world.now) self.old.items self.new.items × (self.new.interface ≡ self.old.interface) }
+        ensures follows { (self.new.world ≡ self.old.world) × (self.new.met ≡ self.old.met) × (self.new.instances ≡ self.old.instances) × RootGrows (W.world self.old.world.now) self.old.items self.new.items × (self.new.interface ≡ self.old.interface) }
         ensures cause { IfErr result (IsCause is_full self.new.items.defs) }
     {
         self.items.defined_type(ty)
@@ -189,9 +192,9 @@ impl<'a, W: HasWorld> ValtypeEncoder for RootScope<'a, W> {
         requires present { AreTypes (length (scope_of self.old.items.defs)) (type_references (definitions.Func ty)) }
         requires known { is_known_function (function_tree (scope_of self.old.items.defs) ty) ≡ true }
         ensures makes { Makes (scope_of self.old.items.defs) (scope_of self.new.items.defs) result (OfFunctions (function_tree (scope_of self.old.items.defs) ty)) }
-        ensures setting { root_setting (W.world self.new.world.now) self.new.interface self.new.last_type ≡ root_setting (W.world self.old.world.now) self.old.interface self.old.last_type }
+        ensures setting { root_setting (W.world self.new.world.now) self.new.interface self.new.met ≡ root_setting (W.world self.old.world.now) self.old.interface self.old.met }
         ensures maps { self.new.maps ≡ self.old.maps }
-        ensures follows { (self.new.world ≡ self.old.world) × (self.new.last_type ≡ self.old.last_type) × (self.new.instances ≡ self.old.instances) × RootGrows (W.world self.old.world.now) self.old.items self.new.items × (self.new.interface ≡ self.old.interface) }
+        ensures follows { (self.new.world ≡ self.old.world) × (self.new.met ≡ self.old.met) × (self.new.instances ≡ self.old.instances) × RootGrows (W.world self.old.world.now) self.old.items self.new.items × (self.new.interface ≡ self.old.interface) }
         ensures cause { IfErr result (IsCause is_full self.new.items.defs) }
     {
         self.items.function_type(ty)
@@ -203,9 +206,9 @@ impl<'a, W: HasWorld> ValtypeEncoder for RootScope<'a, W> {
         ensures none { IfOk result (λ exported. exported ≡ None) }
         ensures names { IfOk result (λ exported. any_index name.name (exported_or exported index)) }
         ensures makes { MayMake (scope_of self.old.items.defs) (scope_of self.new.items.defs) result (get_or (scope_of self.old.items.defs) index OfOthers) }
-        ensures setting { root_setting (W.world self.new.world.now) self.new.interface self.new.last_type ≡ root_setting (W.world self.old.world.now) self.old.interface self.old.last_type }
+        ensures setting { root_setting (W.world self.new.world.now) self.new.interface self.new.met ≡ root_setting (W.world self.old.world.now) self.old.interface self.old.met }
         ensures maps { self.new.maps ≡ self.old.maps }
-        ensures follows { (self.new.world ≡ self.old.world) × (self.new.last_type ≡ self.old.last_type) × (self.new.instances ≡ self.old.instances) × RootGrows (W.world self.old.world.now) self.old.items self.new.items × (self.new.interface ≡ self.old.interface) }
+        ensures follows { (self.new.world ≡ self.old.world) × (self.new.met ≡ self.old.met) × (self.new.instances ≡ self.old.instances) × RootGrows (W.world self.old.world.now) self.old.items self.new.items × (self.new.interface ≡ self.old.interface) }
         ensures cause { IfErr result (IsCause is_full self.new.items.defs) }
     {
         let _ = (index, name);
@@ -216,27 +219,31 @@ impl<'a, W: HasWorld> ValtypeEncoder for RootScope<'a, W> {
     fn export_resource(&mut self, name: ExternName) -> Result<u32, BuildFault>
         ensures same { self.new ≡ self.old }
         ensures names { IfOk result (λ index. any_index name.name index) }
-        ensures makes { Makes (scope_of self.old.items.defs) (scope_of self.new.items.defs) result (OfValues (ResourceAt ((root_setting (W.world self.old.world.now) self.old.interface self.old.last_type).resource name.name))) }
-        ensures setting { root_setting (W.world self.new.world.now) self.new.interface self.new.last_type ≡ root_setting (W.world self.old.world.now) self.old.interface self.old.last_type }
+        ensures makes { Makes (scope_of self.old.items.defs) (scope_of self.new.items.defs) result (OfValues (ResourceAt ((root_setting (W.world self.old.world.now) self.old.interface self.old.met).resource name.name))) }
+        ensures setting { root_setting (W.world self.new.world.now) self.new.interface self.new.met ≡ root_setting (W.world self.old.world.now) self.old.interface self.old.met }
         ensures maps { self.new.maps ≡ self.old.maps }
-        ensures follows { (self.new.world ≡ self.old.world) × (self.new.last_type ≡ self.old.last_type) × (self.new.instances ≡ self.old.instances) × RootGrows (W.world self.old.world.now) self.old.items self.new.items × (self.new.interface ≡ self.old.interface) }
+        ensures follows { (self.new.world ≡ self.old.world) × (self.new.met ≡ self.old.met) × (self.new.instances ≡ self.old.instances) × RootGrows (W.world self.old.world.now) self.old.items self.new.items × (self.new.interface ≡ self.old.interface) }
         ensures cause { IfErr result (IsCause is_full self.new.items.defs) }
     {
         let _ = name;
         Err(BuildFault::Memory)
     }
 
-    /// The alias of a type that the instance of an imported interface exports.
+    /// The alias of a type that the instance of an interface exports: of an exported interface, or else of an imported one.
     fn import_type(&mut self, interface: InterfaceId, id: TypeId) -> Result<u32, BuildFault>
-        requires may { is_one_of (needed_types (W.world self.old.world.now) interface) id.index ≡ true }
-        requires offers { AreInstancesKnown (W.world self.old.world.now) self.old.items.defs self.old.instances }
-        ensures makes { Makes (scope_of self.old.items.defs) (scope_of self.new.items.defs) result (OfValues (tree_in (root_setting (W.world self.old.world.now) self.old.interface self.old.last_type) (Some (Id id)))) }
-        ensures setting { root_setting (W.world self.new.world.now) self.new.interface self.new.last_type ≡ root_setting (W.world self.old.world.now) self.old.interface self.old.last_type }
+        requires may { (is_one_of (needed_types (W.world self.old.world.now) interface) id.index || is_exported_type (W.world self.old.world.now) self.old.met interface id) ≡ true }
+        requires offers { AreInterfacesKnown (W.world self.old.world.now) self.old.items.defs self.old.met.exported self.old.instances }
+        ensures makes { Makes (scope_of self.old.items.defs) (scope_of self.new.items.defs) result (OfValues (tree_in (root_setting (W.world self.old.world.now) self.old.interface self.old.met) (Some (Id id)))) }
+        ensures setting { root_setting (W.world self.new.world.now) self.new.interface self.new.met ≡ root_setting (W.world self.old.world.now) self.old.interface self.old.met }
         ensures maps { self.new.maps ≡ self.old.maps }
-        ensures follows { (self.new.world ≡ self.old.world) × (self.new.last_type ≡ self.old.last_type) × (self.new.instances ≡ self.old.instances) × RootGrows (W.world self.old.world.now) self.old.items self.new.items × (self.new.interface ≡ self.old.interface) }
+        ensures follows { (self.new.world ≡ self.old.world) × (self.new.met ≡ self.old.met) × (self.new.instances ≡ self.old.instances) × RootGrows (W.world self.old.world.now) self.old.items self.new.items × (self.new.interface ≡ self.old.interface) }
         ensures cause { IfErr result (IsCause is_full self.new.items.defs) }
     {
-        self.alias_type(interface, id)
+        if self.met.has_instance(interface) {
+            self.alias_exported_type(interface, id)
+        } else {
+            self.alias_type(interface, id)
+        }
     }
 
     fn type_encoding_maps(&mut self) -> &mut TypeEncodingMaps {

@@ -21,8 +21,10 @@ ghost use Rattle.wit_types.specs.Allowing.{is_resource};
 ghost use Rattle.comp_trees.specs.DefinedScopes.{Denotes};
 ghost use Rattle.comp_inventories.specs.Inventories.{scope_of};
 ghost use Rattle.root_imports.specs.Interfaces.{AreInstancesKnown};
-ghost use Rattle.root_imports.specs.RootScopes.{next_of, AreTablesRight, ArePassed, IsRefusal, RootGrows};
+ghost use Rattle.root_imports.specs.Met.{nothing_met, next_of};
+ghost use Rattle.root_imports.specs.RootScopes.{AreTablesRight, ArePassed, IsRefusal, RootGrows};
 
+use crate::met_types::MetTypes;
 use crate::root_scope::RootScope;
 use byte_encoding::BuildFault;
 use comp_bytes::ExternName;
@@ -34,7 +36,7 @@ use wit_types::{TypeEncodingMaps, encode_definition, record_type_index};
 
 /// The index in these tables of a resource at the root of the world, once the types of the world are imported.
 fn resource_index(maps: &TypeEncodingMaps, id: TypeId) -> Option<u32>
-    ensures { (w : ComponentWorld) (last : Option TypeId) (instances : List (InterfaceId × ℕ)) (ds : List Def) → IsEncodable w → worlds.IsResource w.resolve.types id.index → interface_at w.resolve.types id.index ≡ None → ArePassed w last → AreTablesRight w last instances ds maps.now → IsSomeAnd result (λ index. terms.IsResource ds index (resource_of w id)) }
+    ensures { (w : ComponentWorld) (met : MetTypes) (instances : List (InterfaceId × ℕ)) (ds : List Def) → IsEncodable w → worlds.IsResource w.resolve.types id.index → interface_at w.resolve.types id.index ≡ None → ArePassed w met → AreTablesRight w met instances ds maps.now → IsSomeAnd result (λ index. terms.IsResource ds index (resource_of w id)) }
 {
     maps.type_index(id)
 }
@@ -65,31 +67,32 @@ impl RootScope<'_, ComponentWorld> {
         ensures world { self.new.world ≡ self.old.world }
         ensures items { self.new.items ≡ self.old.items }
         ensures instances { self.new.instances ≡ self.old.instances }
-        ensures last { self.new.last_type ≡ None }
+        ensures met { self.new.met ≡ nothing_met }
         ensures maps { self.new.maps ≡ no_maps }
-        ensures tables { AreTablesRight self.old.world.now self.new.last_type self.old.instances self.old.items.defs self.new.maps }
+        ensures tables { AreTablesRight self.old.world.now self.new.met self.old.instances self.old.items.defs self.new.maps }
     {
-        self.maps = TypeEncodingMaps::new(self.items.allocator());
-        self.last_type = None;
+        let alloc = self.items.allocator();
+        self.maps = TypeEncodingMaps::new(alloc);
+        self.met = MetTypes::new(alloc);
     }
 
     /// Records the index of a type of the world that was imported.
     fn record_world_type(&mut self, id: TypeId, index: u32) -> Result<(), AllocError>
         requires valid { IsEncodable self.old.world.now }
         requires present { id.index < length self.old.world.now.resolve.types }
-        requires order { IsNextId self.old.world.now (next_of self.old.last_type) id }
-        requires tables { AreTablesRight self.old.world.now self.old.last_type self.old.instances self.old.items.defs self.old.maps }
+        requires order { IsNextId self.old.world.now (next_of self.old.met.last) id }
+        requires tables { AreTablesRight self.old.world.now self.old.met self.old.instances self.old.items.defs self.old.maps }
         requires denotes { Denotes (scope_of self.old.items.defs) index (type_of_world self.old.world.now id) }
         ensures world { self.new.world ≡ self.old.world }
         ensures instances { self.new.instances ≡ self.old.instances }
-        ensures next { OnOk result (self.new.last_type ≡ Some id) }
+        ensures next { OnOk result (self.new.met.last ≡ Some id) }
         ensures extends { Extends self.old.items self.new.items }
         ensures grows { Grows self.old.world.now self.old.items.defs self.new.items.defs [] }
-        ensures tables { AreTablesRight self.old.world.now self.new.last_type self.new.instances self.new.items.defs self.new.maps }
+        ensures tables { AreTablesRight self.old.world.now self.new.met self.new.instances self.new.items.defs self.new.maps }
     {
         self.interface = None;
         record_type_index(self, id, index)?;
-        self.last_type = Some(id);
+        self.met.last = Some(id);
         Ok(())
     }
 
@@ -99,14 +102,14 @@ impl RootScope<'_, ComponentWorld> {
         requires present { id.index < length self.old.world.now.resolve.types }
         requires values { is_resource (kind_at self.old.world.now.resolve.types id.index) ≡ false }
         requires plain { name.version_suffix ≡ None }
-        requires next { IsNextTypeImport self.old.world.now (next_of self.old.last_type) self.old.items.defs name.name id }
-        requires tables { AreTablesRight self.old.world.now self.old.last_type self.old.instances self.old.items.defs self.old.maps }
+        requires next { IsNextTypeImport self.old.world.now (next_of self.old.met.last) self.old.items.defs name.name id }
+        requires tables { AreTablesRight self.old.world.now self.old.met self.old.instances self.old.items.defs self.old.maps }
         ensures world { self.new.world ≡ self.old.world }
         ensures instances { self.new.instances ≡ self.old.instances }
-        ensures next { OnOk result (self.new.last_type ≡ Some id) }
+        ensures next { OnOk result (self.new.met.last ≡ Some id) }
         ensures extends { Extends self.old.items self.new.items }
         ensures grows { OnOk result (Grows self.old.world.now self.old.items.defs self.new.items.defs (Imported (root_type name.name) ∷ [])) }
-        ensures tables { AreTablesRight self.old.world.now self.new.last_type self.new.instances self.new.items.defs self.new.maps }
+        ensures tables { AreTablesRight self.old.world.now self.new.met self.new.instances self.new.items.defs self.new.maps }
         ensures cause { IfErr result IsRefusal }
     {
         let world = self.world;
@@ -124,14 +127,14 @@ impl RootScope<'_, ComponentWorld> {
         requires present { id.index < length self.old.world.now.resolve.types }
         requires resource { is_resource (kind_at self.old.world.now.resolve.types id.index) ≡ true }
         requires plain { name.version_suffix ≡ None }
-        requires next { IsNextTypeImport self.old.world.now (next_of self.old.last_type) self.old.items.defs name.name id }
-        requires tables { AreTablesRight self.old.world.now self.old.last_type self.old.instances self.old.items.defs self.old.maps }
+        requires next { IsNextTypeImport self.old.world.now (next_of self.old.met.last) self.old.items.defs name.name id }
+        requires tables { AreTablesRight self.old.world.now self.old.met self.old.instances self.old.items.defs self.old.maps }
         ensures world { self.new.world ≡ self.old.world }
         ensures instances { self.new.instances ≡ self.old.instances }
-        ensures next { OnOk result (self.new.last_type ≡ Some id) }
+        ensures next { OnOk result (self.new.met.last ≡ Some id) }
         ensures extends { Extends self.old.items self.new.items }
         ensures grows { OnOk result (Grows self.old.world.now self.old.items.defs self.new.items.defs (Imported (root_type name.name) ∷ [])) }
-        ensures tables { AreTablesRight self.old.world.now self.new.last_type self.new.instances self.new.items.defs self.new.maps }
+        ensures tables { AreTablesRight self.old.world.now self.new.met self.new.instances self.new.items.defs self.new.maps }
         ensures cause { IfErr result IsRefusal }
     {
         let index = self.items.import_resource(name)?;
@@ -143,14 +146,14 @@ impl RootScope<'_, ComponentWorld> {
     fn import_world_type(&mut self, name: &Text, id: TypeId) -> Result<(), BuildFault>
         requires valid { IsEncodable self.old.world.now }
         requires present { id.index < length self.old.world.now.resolve.types }
-        requires next { IsNextTypeImport self.old.world.now (next_of self.old.last_type) self.old.items.defs name.now id }
-        requires tables { AreTablesRight self.old.world.now self.old.last_type self.old.instances self.old.items.defs self.old.maps }
+        requires next { IsNextTypeImport self.old.world.now (next_of self.old.met.last) self.old.items.defs name.now id }
+        requires tables { AreTablesRight self.old.world.now self.old.met self.old.instances self.old.items.defs self.old.maps }
         ensures world { self.new.world ≡ self.old.world }
         ensures instances { self.new.instances ≡ self.old.instances }
-        ensures next { OnOk result (self.new.last_type ≡ Some id) }
+        ensures next { OnOk result (self.new.met.last ≡ Some id) }
         ensures extends { Extends self.old.items self.new.items }
         ensures grows { OnOk result (Grows self.old.world.now self.old.items.defs self.new.items.defs (Imported (root_type name.now) ∷ [])) }
-        ensures tables { AreTablesRight self.old.world.now self.new.last_type self.new.instances self.new.items.defs self.new.maps }
+        ensures tables { AreTablesRight self.old.world.now self.new.met self.new.instances self.new.items.defs self.new.maps }
         ensures cause { IfErr result IsRefusal }
     {
         let world = self.world;
@@ -169,14 +172,14 @@ impl RootScope<'_, ComponentWorld> {
     fn import_type_item(&mut self, key: &WorldKey, item: &WorldItem) -> Result<(), BuildFault>
         requires valid { IsEncodable self.old.world.now }
         requires present { HasEntry self.old.world.now.resolve (key.now, item.now) }
-        requires next { IsNextType self.old.world.now (next_of self.old.last_type) self.old.items.defs (key.now, item.now) }
-        requires tables { AreTablesRight self.old.world.now self.old.last_type self.old.instances self.old.items.defs self.old.maps }
-        ensures next { OnOk result (next_of self.new.last_type ≡ next_after (next_of self.old.last_type) (key.now, item.now)) }
+        requires next { IsNextType self.old.world.now (next_of self.old.met.last) self.old.items.defs (key.now, item.now) }
+        requires tables { AreTablesRight self.old.world.now self.old.met self.old.instances self.old.items.defs self.old.maps }
+        ensures next { OnOk result (next_of self.new.met.last ≡ next_after (next_of self.old.met.last) (key.now, item.now)) }
         ensures world { self.new.world ≡ self.old.world }
         ensures instances { self.new.instances ≡ self.old.instances }
         ensures extends { Extends self.old.items self.new.items }
         ensures grows { OnOk result (Grows self.old.world.now self.old.items.defs self.new.items.defs (map (λ t. Imported (root_type t.0)) (world_type (key.now, item.now)))) }
-        ensures tables { AreTablesRight self.old.world.now self.new.last_type self.new.instances self.new.items.defs self.new.maps }
+        ensures tables { AreTablesRight self.old.world.now self.new.met self.new.instances self.new.items.defs self.new.maps }
         ensures cause { IfErr result IsRefusal }
     {
         match (key, item) {
@@ -190,8 +193,8 @@ impl RootScope<'_, ComponentWorld> {
     pub fn dropped_resource(&mut self, id: TypeId) -> Result<u32, BuildFault>
         requires valid { IsEncodable self.old.world.now }
         requires known { IsDropKnown self.old.world.now id }
-        requires passed { ArePassed self.old.world.now self.old.last_type }
-        requires tables { AreTablesRight self.old.world.now self.old.last_type self.old.instances self.old.items.defs self.old.maps }
+        requires passed { ArePassed self.old.world.now self.old.met }
+        requires tables { AreTablesRight self.old.world.now self.old.met self.old.instances self.old.items.defs self.old.maps }
         ensures same { self.new ≡ record self.old { items = self.new.items } }
         ensures grows { RootGrows self.old.world.now self.old.items self.new.items }
         ensures resource { IfOk result (λ index. terms.IsResource self.new.items.defs index (resource_of self.old.world.now id)) }
@@ -212,17 +215,17 @@ impl RootScope<'_, ComponentWorld> {
     pub fn import_types(&mut self) -> Result<(), BuildFault>
         requires valid { IsEncodable self.old.world.now }
         requires first { imports_in self.old.items.defs ≡ length (interface_entries self.old.world.now) }
-        requires tables { AreTablesRight self.old.world.now self.old.last_type self.old.instances self.old.items.defs self.old.maps }
+        requires tables { AreTablesRight self.old.world.now self.old.met self.old.instances self.old.items.defs self.old.maps }
         ensures world { self.new.world ≡ self.old.world }
         ensures instances { self.new.instances ≡ self.old.instances }
         ensures extends { Extends self.old.items self.new.items }
         ensures grows { OnOk result (Grows self.old.world.now self.old.items.defs self.new.items.defs (map (λ t. Imported (root_type t.0)) (imported_types self.old.world.now))) }
-        ensures tables { AreTablesRight self.old.world.now self.new.last_type self.new.instances self.new.items.defs self.new.maps }
-        ensures passed { OnOk result (ArePassed self.old.world.now self.new.last_type) }
+        ensures tables { AreTablesRight self.old.world.now self.new.met self.new.instances self.new.items.defs self.new.maps }
+        ensures passed { OnOk result (ArePassed self.old.world.now self.new.met) }
         ensures cause { IfErr result IsRefusal }
     {
         let world = self.world;
-        self.last_type = None;
+        self.met.last = None;
         for (key, item) in world.items().imports.iter() {
             self.import_type_item(key, item)?;
         }

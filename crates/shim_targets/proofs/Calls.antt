@@ -200,4 +200,7 @@ role_back w ok (imports.InterfaceFunc key id function abi) h encoding kind e =
     subst (λ k. role_of_kind w k ≡ Some (imports.InterfaceFunc key id function abi)) (same_Some (kinds.IndirectLowering (Some key) (record { name = function; abi = abi }) users.Main encoding) kind e)
     (ap (λ o. option_map (λ other. imports.InterfaceFunc key other function abi) (option_and_then interface_in o)) (interface_there w ok key id h.0))
 role_back w ok (imports.ImportedResourceDrop key interface id) h encoding kind e = absurd (none-some kind e)
+role_back w ok (imports.ExportedResourceDrop key id) h encoding kind e = absurd (none-some kind e)
+role_back w ok (imports.ExportedResourceRep key id) h encoding kind e = absurd (none-some kind e)
+role_back w ok (imports.ExportedResourceNew key id) h encoding kind e = absurd (none-some kind e)
 role_back w ok role h encoding kind e = absurd h

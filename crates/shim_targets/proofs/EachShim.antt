@@ -51,6 +51,9 @@ import_stands w ok name field (imports.InterfaceFunc key id function abi) there 
     let i : CoreImport = record { module_name = name; field = field; role = imports.InterfaceFunc key id function abi } in
     call_needs_stand w i (Some key) key function abi (interface_call w ok i there key id function abi refl h) ok there
 import_stands w ok name field (imports.ImportedResourceDrop key interface id) there h = tt
+import_stands w ok name field (imports.ExportedResourceDrop key id) there h = tt
+import_stands w ok name field (imports.ExportedResourceRep key id) there h = tt
+import_stands w ok name field (imports.ExportedResourceNew key id) there h = tt
 import_stands w ok name field role there h = absurd h
 
 -- ---- the destructors

@@ -98,6 +98,9 @@ import_needed w ok name field (imports.InterfaceFunc key id function abi) there 
     let lowered = interface_call w ok i there key id function abi refl h in
     record { shim = shim_with w i (Some key) key function abi lowered encoding; there = call_needed w i (Some key) key function abi lowered memory encoding encoded; same = kind_of_shim w i (Some key) key function abi lowered encoding kind is }
 import_needed w ok name field (imports.ImportedResourceDrop key interface id) there h encoding encoded memory kind is = absurd (none-some kind is)
+import_needed w ok name field (imports.ExportedResourceDrop key id) there h encoding encoded memory kind is = absurd (none-some kind is)
+import_needed w ok name field (imports.ExportedResourceRep key id) there h encoding encoded memory kind is = absurd (none-some kind is)
+import_needed w ok name field (imports.ExportedResourceNew key id) there h encoding encoded memory kind is = absurd (none-some kind is)
 import_needed w ok name field role there h encoding encoded memory kind is = absurd h
 
 pub shim_there : (w : ComponentWorld) → IsEncodable w → (i : CoreImport) → Contains (core_imports w) i → (encoding : StringEncoding) → import_encoding w i.role ≡ Some encoding → IsTrue (needs (lower_needs w i.role) 1) → (kind : ShimKind) →

@@ -36,6 +36,9 @@ pub role_without : (w : ComponentWorld) (role : Import) → IsImportRole w role 
 role_without w (imports.WorldFunc (keys.Name text) function abi) h e = called_without w.resolve.types abi (root_function_at (items_of w).imports (keys.Name text)) h.2 e
 role_without w (imports.InterfaceFunc key id function abi) h e = called_without w.resolve.types abi (found function (functions_of w.resolve id)) h.2 e
 role_without w (imports.ImportedResourceDrop key interface id) h e = refl
+role_without w (imports.ExportedResourceDrop key id) h e = refl
+role_without w (imports.ExportedResourceRep key id) h e = refl
+role_without w (imports.ExportedResourceNew key id) h e = refl
 role_without w role h e = absurd h
 
 pub no_options : (w : ComponentWorld) → IsEncodable w → (i : CoreImport) → Contains (core_imports w) i → needs (lower_needs w i.role) 1 ≡ false → lower_options w Main i.role ≡ []

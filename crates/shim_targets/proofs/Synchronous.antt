@@ -29,4 +29,7 @@ pub role_waits : (w : ComponentWorld) (role : Import) â†’ IsImportRole w role â†
 role_waits w (imports.WorldFunc (keys.Name text) function abi) h = called_waits w.resolve.types abi (root_function_at (items_of w).imports (keys.Name text)) h.2
 role_waits w (imports.InterfaceFunc key id function abi) h = called_waits w.resolve.types abi (found function (functions_of w.resolve id)) h.2
 role_waits w (imports.ImportedResourceDrop key interface id) h = refl
+role_waits w (imports.ExportedResourceDrop key id) h = refl
+role_waits w (imports.ExportedResourceRep key id) h = refl
+role_waits w (imports.ExportedResourceNew key id) h = refl
 role_waits w role h = absurd h

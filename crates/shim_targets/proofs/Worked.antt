@@ -264,6 +264,7 @@ is_encodable = record {
   tables = record { import_map = refl; live_type_imports = refl; exports_used = refl };
   resources = record { ordered = tt; each = λ n h. no_type n h.present };
   apart = (tt, tt);
+  required_apart = tt;
   types = λ n l. no_type n l;
   imports = (
     record { own = tt; ordered = tt; functions = (record { params = (omega arith, tt); result = omega arith }, tt) },

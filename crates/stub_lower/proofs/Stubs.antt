@@ -110,6 +110,7 @@ encodable_of bytes core = record {
   tables = record { import_map = refl; live_type_imports = refl; exports_used = refl };
   resources = record { ordered = tt; each = λ n h alone. no_resource n h };
   apart = none_twice;
+  required_apart = none_twice;
   types = λ n l. absurd (omega (arith, l));
   imports = (record { params = tt; result = omega arith }, tt);
   exports = tt;

@@ -1,6 +1,6 @@
 -- The table of the homes of types: an interface may be made of a type just where the type stays in it.
-use Rattle.std.proofs.Common.{arith, ◌≡◌, ◌<◌, ◌+◌, ◌==◌, ℕ, zero, suc, Bool, true, false, true≢false, not, ◌&&◌, ◌||◌, List, [], ◌∷◌, ◌++◌, length, get_or, map, drop, take, take_all, Option, Some, None, refl, sym, ap, ap₂, subst, ◌∙◌}
-use Rattle.std.specs.Prelude.{slice_get, is_none, is_some, if◌then◌else◌}
+use Rattle.std.proofs.Common.{arith, ◌≡◌, ◌<◌, ◌+◌, ◌==◌, ℕ, zero, suc, Bool, true, false, not, ◌&&◌, ◌||◌, List, [], ◌∷◌, ◌++◌, length, get_or, map, drop, take, take_all, Option, Some, None, refl, sym, ap, ap₂, subst, ◌∙◌}
+use Rattle.std.specs.Prelude.{slice_get, is_none, is_some}
 use Rattle.std.specs.List.{list_all}
 use Rattle.std.specs.Option.{option_and_then}
 use Rattle.std.proofs.lemmas.Bool.{eqb-true}
@@ -23,7 +23,6 @@ use Rattle.comp_worlds.specs.Encodable.{is_resource_kind, is_lent, is_of_interfa
 use Rattle.comp_worlds.specs.WorldContents.{interface_of_owner, interface_at, name_at}
 use Rattle.supported_worlds.specs.Homes.{fits, home_at, is_owned, is_unowned, is_own, AreJoined, IsOwnedHome, IsUnownedHome, IsOwnHome, IsHomeOfParts, IsNextHome, AreHomes}
 use Rattle.supported_worlds.specs.Lent.{lends, AreLent}
-use Rattle.supported_worlds.specs.Placed.{is_resource}
 use Rattle.supported_worlds.specs.declared.homes.Home.{Home}
 use Rattle.supported_worlds.specs.declared.homes.Home.TheVariants as homes
 use Rattle.supported_worlds.specs.declared.lent.Lent.{Lent}
@@ -110,24 +109,15 @@ module _ (lent : Bool) (id : InterfaceId) (t : TypeDef) where
   pub lent_type : (b : Bool) → b ≡ (lent && is_some t.name) → b ≡ true → IsOwnedHome lent id t homes.Anywhere
   lent_type b is holds = record {
     each = λ here.
-        let own : Bool = here.index == id.index && not (is_resource_kind t.kind) in
+        let own : Bool = here.index == id.index in
         sym (or_true own) ∙ ap (λ (c : Bool). own || c) (sym holds ∙ is);
   }
 
-  pub own_resource : (b resource : Bool) → b ≡ (lent && is_some t.name) → b ≡ false → resource ≡ is_resource t → resource ≡ true → IsOwnedHome lent id t homes.Nowhere
-  own_resource b resource is lacks kind holds = record {
+  pub own_type : (b : Bool) → b ≡ (lent && is_some t.name) → b ≡ false → IsOwnedHome lent id t (homes.Interface id)
+  own_type b is lacks = record {
     each = λ here.
-        and_false (here.index == id.index)
-        ∙ or_false (here.index == id.index && false)
-        ∙ ap₂ (λ (r : Bool) (c : Bool). here.index == id.index && not r || c) (sym holds ∙ kind) (sym lacks ∙ is);
-  }
-
-  pub own_values : (b resource : Bool) → b ≡ (lent && is_some t.name) → b ≡ false → resource ≡ is_resource t → resource ≡ false → IsOwnedHome lent id t (homes.Interface id)
-  own_values b resource is lacks kind holds = record {
-    each = λ here.
-        and_true (here.index == id.index)
-        ∙ or_false (here.index == id.index && true)
-        ∙ ap₂ (λ (r : Bool) (c : Bool). here.index == id.index && not r || c) (sym holds ∙ kind) (sym lacks ∙ is);
+        or_false (here.index == id.index)
+        ∙ ap (λ (c : Bool). here.index == id.index || c) (sym lacks ∙ is);
   }
 
 -- of one that belongs to none
@@ -148,7 +138,7 @@ module _ (lent : InterfaceId → Bool) (t : TypeDef) where
 -- ---- the next type
 
 abbrev owned_as : (InterfaceId → Bool) → InterfaceId → TypeDefKind → Option InterfaceId → Option (List ℕ) → Bool
-owned_as lent here kind owner name = elim owner [ Some id ↦ here.index == id.index && not (is_resource_kind kind) || (lent id && is_some name) | None ↦ is_none name && not (is_resource_kind kind) ]
+owned_as lent here kind owner name = elim owner [ Some id ↦ here.index == id.index || (lent id && is_some name) | None ↦ is_none name && not (is_resource_kind kind) ]
 
 own_at : (types : List TypeDef) (lent : InterfaceId → Bool) (n : ℕ) (d : TypeDef) (here : InterfaceId) → n < length types → is_own lent here (get_or types n d) ≡ is_of_interface types lent here n (kind_at types n)
 own_at types lent n d here l =
@@ -230,7 +220,7 @@ module _ (types : List TypeDef) (one other : InterfaceId → Bool) (same : (id :
     where
       by : (o : Option InterfaceId) → owned_as one here k o (name_at types n) ≡ owned_as other here k o (name_at types n)
       by None = refl
-      by (Some id) = ap (λ b. here.index == id.index && not (is_resource_kind k) || (b && is_some (name_at types n))) (same id)
+      by (Some id) = ap (λ b. here.index == id.index || (b && is_some (name_at types n))) (same id)
 
   same_part : (bs : List Bool) (p : Option Ty) → part_value (staying_in types one here) bs p ≡ part_value (staying_in types other here) bs p
   same_part bs None = refl

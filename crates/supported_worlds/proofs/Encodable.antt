@@ -1,5 +1,5 @@
 -- A world of which nothing is left out is one that the encoder takes.
-use Rattle.std.proofs.Common.{◌≡◌, None, refl, sym, subst}
+use Rattle.std.proofs.Common.{◌≡◌, ◌++◌, None, refl, sym, subst}
 use Rattle.std.specs.List.{flat_map}
 use Rattle.world_values.specs.Mentions.{same_interface, interfaces_of}
 use Rattle.comp_roles.specs.CoreImports.{imports_from}
@@ -10,7 +10,7 @@ use Rattle.comp_worlds.specs.declared.world.WorldParts.{WorldParts}
 use Rattle.comp_worlds.proofs.WholeTables.{whole_has_tables}
 use Rattle.supported_worlds.specs.Apart.{AreApart}
 use Rattle.supported_worlds.specs.Guarantees.{HasSoundParts}
-use Rattle.supported_worlds.specs.LeftOut.{items_of, left_out}
+use Rattle.supported_worlds.specs.LeftOut.{items_of, left_out, required_of}
 use Rattle.supported_worlds.proofs.Fresh.{distinct}
 use Rattle.supported_worlds.proofs.Order.{ordered, roles_placed}
 use Rattle.supported_worlds.proofs.Reporting.{IsEncoded, all_encoded, imports_pass}
@@ -25,7 +25,8 @@ whole_is_encodable p present encoded apart =
       sound = present.sound;
       tables = whole_has_tables p (whole_of p) refl;
       resources = encoded.resources;
-      apart = distinct same_interface (interfaces_of world.imports) encoded.apart;
+      apart = distinct same_interface (interfaces_of world.imports ++ interfaces_of world.exports) encoded.apart;
+      required_apart = distinct same_interface (required_of world.exports p.main_exports) encoded.required_apart;
       types = order.types;
       imports = order.imports;
       exports = order.exports;

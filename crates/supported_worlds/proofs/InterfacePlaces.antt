@@ -17,10 +17,10 @@ Line = List (Option InterfaceId)
 
 -- ---- equality of interfaces
 
-same_is : (a b : InterfaceId) → same_interface a b ≡ (a.index == b.index)
+pub same_is : (a b : InterfaceId) → same_interface a b ≡ (a.index == b.index)
 same_is a b = Prim.search rules
 
-flipped : (a b : InterfaceId) → same_interface a b ≡ same_interface b a
+pub flipped : (a b : InterfaceId) → same_interface a b ≡ same_interface b a
 flipped a b = Prim.search rules
 
 -- ---- a longer table

@@ -1,5 +1,5 @@
 -- The sets of the interfaces that a world imports and exports.
-use Rattle.std.proofs.Common.{◌≡◌, ◌∙◌, ap, ap₂, refl, ◌&&◌, ◌||◌, Bool, true, false, not, [], ◌∷◌}
+use Rattle.std.proofs.Common.{◌≡◌, ◌∙◌, ap, ap₂, refl, ◌||◌, Bool, true, false, [], ◌∷◌}
 use Rattle.std.specs.List.{list_any}
 use Rattle.comp_lists.specs.Tables.{with_first}
 use Rattle.wit_data.specs.contracts.ids.InterfaceIdEq.TheImpl.Laws.{laws-law as id_laws}
@@ -48,4 +48,4 @@ pub set_end : (all : Entries) (set : InterfaceSet) → InterfacesSoFar all [] se
 set_end all set h = record { each = λ id. or_false (has set id) ∙ h.each id }
 
 pub are_lent : (w : World) (imported exported : InterfaceSet) → HasInterfaces w.imports imported → HasInterfaces w.exports exported → AreLent w (record { imported = imported; exported = exported })
-are_lent w imported exported first second = record { each = λ id. ap₂ (λ a b. a && not b) (first.each id) (second.each id) }
+are_lent w imported exported first second = record { each = λ id. ap₂ (λ a b. a || b) (first.each id) (second.each id) }

@@ -2,12 +2,14 @@ mod AtHome
 mod Encodable
 mod ExportNames
 mod Fresh
+mod Gathered
 mod InPlace
 mod InterfacePlaces
 mod Interfaces
 mod Lending
 mod Lists
 mod Order
+mod OwnRoles
 mod Reporting
 mod Testing
 mod TypePlaces

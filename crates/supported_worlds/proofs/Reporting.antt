@@ -1,8 +1,11 @@
 -- When a world is refused: something of it is reported exactly where a cause holds.
-use Rattle.std.proofs.Common.{◌≡◌, ◌≢◌, ◌⊎◌, inl, inr, ℕ, Bool, true, false, true≢false, List, [], ◌∷◌, ◌++◌, Option, Some, None, Ok, Err, refl, sym, ap, ap₂, subst, ◌∙◌}
+use Rattle.std.proofs.Common.{◌≡◌, ◌≢◌, ◌⊎◌, inl, inr, ℕ, Bool, true, false, true≢false, not, ◌&&◌, ◌||◌, List, [], ◌∷◌, ◌++◌, Option, Some, None, Ok, Err, refl, sym, ap, ap₂, subst, ◌∙◌}
 use Rattle.std.specs.Prelude.{Contains, length, codes}
-use Rattle.std.specs.List.{AllByRecursion, flat_map}
+use Rattle.std.specs.List.{AllByRecursion, flat_map, list_any}
+use Rattle.std.specs.Map.{keys_of}
 use Rattle.std.specs.Option.{option_or}
+use Rattle.wit_data.specs.declared.ids.InterfaceId.{InterfaceId}
+use Rattle.wit_data.specs.declared.worlds.WorldKey.{WorldKey}
 use Rattle.comp_lists.proofs.Lists.{AllByRecursion-contains, Contains-map}
 use Rattle.wit_data.specs.declared.worlds.World.{World}
 use Rattle.world_values.specs.Mentions.{same_interface, interfaces_of}
@@ -20,17 +23,18 @@ use Rattle.record_faults.specs.declared.fault.Failure.{Failure}
 use Rattle.record_faults.specs.declared.fault.Failure.TheVariants as failures
 use Rattle.record_faults.specs.declared.fault.Refusal.{Refusal}
 use Rattle.record_faults.specs.declared.fault.Refusal.TheVariants as refusals
-use Rattle.supported_worlds.specs.LeftOut.{items_of, unless, import_item_left_out, export_item_left_out, twice_left_out, names_left_out, order_left_out, resources_left_out, export_left_out, group_left_out, world_left_out, module_left_out, adapters_left_out, modules_left_out, rest_left_out, named_left_out, left_out, unless_left_out, encoded}
+use Rattle.supported_worlds.specs.LeftOut.{items_of, unless, import_item_left_out, export_item_left_out, twice_left_out, names_left_out, order_left_out, resources_left_out, export_left_out, group_left_out, are_interfaces_apart, required_of, own_group_left_out, own_left_out, owned_left_out, world_left_out, module_left_out, adapters_left_out, modules_left_out, rest_left_out, named_left_out, left_out, unless_left_out, encoded}
 use Rattle.supported_worlds.specs.Distinct.{are_apart}
 use Rattle.supported_worlds.specs.Naming.{are_exports_named, AreExportsNamed}
 use Rattle.supported_worlds.specs.Placed.{places_of, is_world_placed, imported_numbers, are_in_place}
-use Rattle.supported_worlds.specs.PlaceTables.{AreInterfacePlaces, ArePlaces}
-use Rattle.supported_worlds.specs.declared.places.InterfacePlaces.{InterfacePlaces}
+use Rattle.supported_worlds.specs.PlaceTables.{ArePlaces}
 use Rattle.supported_worlds.specs.declared.places.Places.{Places}
-use Rattle.supported_worlds.specs.Causes.{role_left_out, IsLeftOut, imported, exported, twice, names, order, resources, import_role, export_role, whole_module, adapter}
+use Rattle.supported_worlds.specs.Causes.{role_left_out, own_role_out, IsLeftOut, own_role, imported, exported, twice, names, order, resources, import_role, export_role, whole_module, adapter}
 use Rattle.supported_worlds.proofs.ExportNames.{exports_named, names_pass}
 use Rattle.supported_worlds.proofs.Lists.{nothing, at_front, not_there, in_flat_map, neither, one_of, none_picked, one_picked}
-use Rattle.supported_worlds.proofs.InPlace.{imports_resources, in_place}
+use Rattle.supported_worlds.specs.Lent.{InterfaceSet}
+use Rattle.supported_worlds.specs.Sets.{IsSetOf}
+use Rattle.supported_worlds.proofs.InPlace.{both as both_true, imports_resources, in_place}
 use Rattle.supported_worlds.proofs.Order.{passes}
 
 -- ---- tables and tests
@@ -38,19 +42,51 @@ use Rattle.supported_worlds.proofs.Order.{passes}
 pub same_modules : (p : WorldParts) (w : World) (t : Places) (found : Option (List ℕ)) → ArePlaces p.resolve.types w.imports t → found ≡ modules_left_out p t.types t.interfaces.root → found ≡ modules_left_out p (places_of p.resolve.types w.imports) (length w.imports)
 same_modules p w t found h is = let i = h.interfaces in is ∙ ap₂ (modules_left_out p) h.types i.root
 
-pub is_twice : (w : World) (rest : Option (List ℕ)) → are_apart same_interface (interfaces_of w.imports) ≡ false → Some (codes "interface") ≡ option_or (twice_left_out w) rest
-is_twice w rest met = ap (λ b. option_or (unless b (codes "interface")) rest) (sym met)
+pub is_twice : (required : List WorldKey) (w : World) (rest : Option (List ℕ)) (apart : Bool) → apart ≡ are_interfaces_apart w → apart ≡ false → Some (codes "interface") ≡ option_or (twice_left_out required w) rest
+is_twice required w rest apart is met = ap (λ b. option_or (unless (b && are_apart same_interface (required_of w.exports required)) (codes "interface")) rest) (sym (sym is ∙ met))
 
-pub is_apart : (w : World) (i : InterfacePlaces) (found rest : Option (List ℕ)) → AreInterfacePlaces w.imports i → found ≡ rest → found ≡ option_or (twice_left_out w) rest
-is_apart w i found rest h is = is ∙ ap (λ b. option_or (unless b (codes "interface")) rest) (sym h.apart)
+pub required_twice : (required : List WorldKey) (w : World) (rest : Option (List ℕ)) → are_interfaces_apart w ≡ true → are_apart same_interface (required_of w.exports required) ≡ false → Some (codes "interface") ≡ option_or (twice_left_out required w) rest
+required_twice required w rest apart met = ap₂ (λ a b. option_or (unless (a && b) (codes "interface")) rest) (sym apart) (sym met)
+
+pub required_once : (required : List WorldKey) (w : World) (set : InterfaceSet) (found rest : Option (List ℕ)) → are_interfaces_apart w ≡ true → IsSetOf (required_of w.exports required) set → found ≡ rest → found ≡ option_or (twice_left_out required w) rest
+required_once required w set found rest apart h is = is ∙ ap₂ (λ a b. option_or (unless (a && b) (codes "interface")) rest) (sym apart) (sym h.apart)
+
+-- a role of an exported resource
+pub own_found : (p : WorldParts) (w : World) (set : InterfaceSet) (found rest : Option (List ℕ)) (what : List ℕ) → IsSetOf (required_of w.exports p.main_exports) set → found ≡ first_some (own_group_left_out p.resolve.types w.exports (keys_of set)) p.main.imports.modules → found ≡ Some what → Some what ≡ option_or (own_left_out p w) rest
+own_found p w set found rest what h is has = ap (λ o. option_or o rest) (sym has ∙ is ∙ ap (λ ks. first_some (own_group_left_out p.resolve.types w.exports ks) p.main.imports.modules) h.keys)
+
+pub own_passed : (p : WorldParts) (w : World) (set : InterfaceSet) (found own rest : Option (List ℕ)) → IsSetOf (required_of w.exports p.main_exports) set → own ≡ first_some (own_group_left_out p.resolve.types w.exports (keys_of set)) p.main.imports.modules → own ≡ None → found ≡ rest → found ≡ option_or (own_left_out p w) rest
+own_passed p w set found own rest h is none same = same ∙ ap (λ o. option_or o rest) (sym none ∙ is ∙ ap (λ ks. first_some (own_group_left_out p.resolve.types w.exports ks) p.main.imports.modules) h.keys)
+
+-- the first of two lists that are apart together
+first_apart : (xs ys : List InterfaceId) → are_apart same_interface (xs ++ ys) ≡ true → are_apart same_interface xs ≡ true
+first_apart [] ys h = refl
+first_apart (x ∷ xs) ys h =
+    let b = both_true (not (list_any (same_interface x) (xs ++ ys))) (are_apart same_interface (xs ++ ys)) h in
+    ap₂ (λ a b. a && b) (none_first xs ys b.0) (first_apart xs ys b.1)
+  where
+    none_first : (xs ys : List InterfaceId) → not (list_any (same_interface x) (xs ++ ys)) ≡ true → not (list_any (same_interface x) xs) ≡ true
+    none_first [] ys h = refl
+    none_first (z ∷ zs) ys h = by (same_interface x z) h (none_first zs ys)
+      where
+        by : (b : Bool) → not (b || list_any (same_interface x) (zs ++ ys)) ≡ true → (not (list_any (same_interface x) (zs ++ ys)) ≡ true → not (list_any (same_interface x) zs) ≡ true) → not (b || list_any (same_interface x) zs) ≡ true
+        by true h rest = h
+        by false h rest = rest h
+
+pub second_apart : (xs ys : List InterfaceId) → are_apart same_interface (xs ++ ys) ≡ true → are_apart same_interface ys ≡ true
+second_apart [] ys h = h
+second_apart (x ∷ xs) ys h = second_apart xs ys (both_true (not (list_any (same_interface x) (xs ++ ys))) (are_apart same_interface (xs ++ ys)) h).1
+
+pub imports_apart : (w : World) → are_interfaces_apart w ≡ true → are_apart same_interface (interfaces_of w.imports) ≡ true
+imports_apart w h = first_apart (interfaces_of w.imports) (interfaces_of w.exports) h
 
 -- where no item is left out, the other parts decide
-pub rest_decides : (p : WorldParts) (w : World) (found : Option (List ℕ)) → w ≡ items_of p → None ≡ world_left_out p.resolve w → found ≡ option_or (twice_left_out w) (named_left_out p w) → found ≡ left_out p
+pub rest_decides : (p : WorldParts) (w : World) (found : Option (List ℕ)) → w ≡ items_of p → None ≡ world_left_out p.resolve w → found ≡ option_or (twice_left_out p.main_exports w) (owned_left_out p w) → found ≡ left_out p
 unfolding left_out
 rest_decides p w found same none rest =
     rest
-    ∙ ap (λ o. option_or o (option_or (twice_left_out w) (named_left_out p w))) none
-    ∙ ap (λ (w : World). option_or (world_left_out p.resolve w) (option_or (twice_left_out w) (named_left_out p w))) same
+    ∙ ap (λ o. option_or o (option_or (twice_left_out p.main_exports w) (owned_left_out p w))) none
+    ∙ ap (λ (w : World). option_or (world_left_out p.resolve w) (option_or (twice_left_out p.main_exports w) (owned_left_out p w))) same
 
 -- ---- where nothing is reported
 
@@ -66,6 +102,10 @@ both P (x ∷ xs) ys h k = (h.0, both P xs ys h.1 k)
 abbrev pub group_out : WorldParts → List ℕ × ImportInstance → Option (List ℕ)
 group_out p group = group_left_out p.resolve.types (places_of p.resolve.types (items_of p).imports) (length (items_of p).imports) group
 
+-- by its exported resources
+abbrev pub own_group_out : WorldParts → List ℕ × ImportInstance → Option (List ℕ)
+own_group_out p group = own_group_left_out p.resolve.types (items_of p).exports (required_of (items_of p).exports p.main_exports) group
+
 -- each import of the groups is encoded
 pub imports_pass : (p : WorldParts) (groups : List (List ℕ × ImportInstance)) → AllByRecursion (λ g. group_out p g ≡ None) groups → AllByRecursion (λ i. role_left_out p i.role ≡ None) (flat_map imports_from groups)
 imports_pass p [] h = tt
@@ -78,16 +118,30 @@ pub no_adapters : (adapters : List (List ℕ × WorldAdapter)) → adapters_left
 no_adapters [] h = refl
 no_adapters (a ∷ more) h = nothing (codes "adapter") h
 
+-- and so is each of an exported resource
+pub own_pass : (p : WorldParts) (groups : List (List ℕ × ImportInstance)) → AllByRecursion (λ g. own_group_out p g ≡ None) groups → AllByRecursion (λ i. own_role_out p i.role ≡ None) (flat_map imports_from groups)
+own_pass p [] h = tt
+own_pass p ((name, instances.Names fields) ∷ groups) h =
+    both (λ i. own_role_out p i.role ≡ None) (imports_from (name, instances.Names fields)) (flat_map imports_from groups)
+    (own_fields_pass fields (none_picked (λ f. own_role_out p f.1) fields h.0)) (own_pass p groups h.1)
+  where
+    own_fields_pass : (fields : List (List ℕ × Import)) → AllByRecursion (λ f. own_role_out p f.1 ≡ None) fields → AllByRecursion (λ i. own_role_out p i.role ≡ None) (imports_from (name, instances.Names fields))
+    own_fields_pass [] h = tt
+    own_fields_pass (f ∷ fields) h = (h.0, own_fields_pass fields h.1)
+own_pass p ((name, instances.Whole which) ∷ groups) h = own_pass p groups h.1
+
 -- nothing of a world is left out
 pub record IsEncoded (p : WorldParts) : Type 0 where
   pub imports : AllByRecursion (λ e. import_item_left_out p.resolve e ≡ None) (items_of p).imports
   pub exports : AllByRecursion (λ e. export_item_left_out p.resolve e ≡ None) (items_of p).exports
-  pub apart : are_apart same_interface (interfaces_of (items_of p).imports) ≡ true
+  pub apart : are_interfaces_apart (items_of p) ≡ true
+  pub required_apart : are_apart same_interface (required_of (items_of p).exports p.main_exports) ≡ true
+  pub own_groups : AllByRecursion (λ g. own_group_out p g ≡ None) p.main.imports.modules
   pub named : AreExportsNamed p.resolve (items_of p).exports
   pub order : is_world_placed p.resolve (items_of p) ≡ true
   pub resources : ImportsResources (whole_of p)
   pub groups : AllByRecursion (λ g. group_out p g ≡ None) p.main.imports.modules
-  pub export_roles : AllByRecursion (λ e. export_left_out e.1 ≡ None) p.main.exports.exports
+  pub export_roles : AllByRecursion (λ e. export_left_out p.resolve.types e.1 ≡ None) p.main.exports.exports
   pub alone : p.adapters ≡ []
 
 pub all_encoded : (p : WorldParts) → left_out p ≡ None → IsEncoded p
@@ -98,8 +152,9 @@ all_encoded p h =
     let root = length world.imports in
     let a = neither (world_left_out p.resolve world) _ h in
     let w = neither (first_some (import_item_left_out p.resolve) world.imports) _ a.0 in
-    let t = neither (twice_left_out world) (named_left_out p world) a.1 in
-    let n = neither (names_left_out p.resolve world) (rest_left_out p world) t.1 in
+    let t = neither (twice_left_out p.main_exports world) (owned_left_out p world) a.1 in
+    let s = neither (own_left_out p world) (named_left_out p world) t.1 in
+    let n = neither (names_left_out p.resolve world) (rest_left_out p world) s.1 in
     let o = neither (order_left_out p.resolve world) _ n.1 in
     let r = neither (resources_left_out p.resolve.types world.imports) (modules_left_out p places root) o.1 in
     let b = neither (module_left_out p.resolve.types places root p.main) (adapters_left_out p.adapters) r.1 in
@@ -107,14 +162,21 @@ all_encoded p h =
     record {
       imports = none_picked (import_item_left_out p.resolve) world.imports w.0;
       exports = none_picked (export_item_left_out p.resolve) world.exports w.1;
-      apart = passes (are_apart same_interface (interfaces_of world.imports)) (codes "interface") t.0;
+      apart = (apart_of t.0).0;
+      required_apart = (apart_of t.0).1;
+      own_groups = none_picked (own_group_out p) p.main.imports.modules s.0;
       named = exports_named p.resolve world.exports (passes (are_exports_named p.resolve world.exports) (codes "interface") n.0);
       order = passes (is_world_placed p.resolve world) (codes "interface") o.0;
       resources = imports_resources (whole_of p) (passes (are_in_place p.resolve.types 0 (imported_numbers world.imports)) (codes "type") r.0);
       groups = none_picked (group_out p) p.main.imports.modules m.0;
-      export_roles = none_picked (λ e. export_left_out e.1) p.main.exports.exports m.1;
+      export_roles = none_picked (λ e. export_left_out p.resolve.types e.1) p.main.exports.exports m.1;
       alone = no_adapters p.adapters b.1;
     }
+  where
+    apart_of : twice_left_out p.main_exports (items_of p) ≡ None → (are_interfaces_apart (items_of p) ≡ true) × (are_apart same_interface (required_of (items_of p).exports p.main_exports) ≡ true)
+    apart_of h =
+        both_true (are_interfaces_apart (items_of p)) (are_apart same_interface (required_of (items_of p).exports p.main_exports))
+        (passes (are_interfaces_apart (items_of p) && are_apart same_interface (required_of (items_of p).exports p.main_exports)) (codes "interface") h)
 
 -- a function with no result for all elements has none for this one
 none_of : {X : Type 0} (reported : X → Option (List ℕ)) (xs : List X) (x : X) (what : List ℕ) → AllByRecursion (λ y. reported y ≡ None) xs → Contains xs x → reported x ≡ Some what → ⊥
@@ -123,13 +185,15 @@ none_of reported xs x what h m e = nothing what (sym e ∙ AllByRecursion-contai
 by_cases : (p : WorldParts) → IsEncoded p → (f : Refusal) → IsLeftOut p f → ⊥
 by_cases p h f (imported entry what m e) = none_of (import_item_left_out p.resolve) (items_of p).imports entry what h.imports m e
 by_cases p h f (exported entry what m e) = none_of (export_item_left_out p.resolve) (items_of p).exports entry what h.exports m e
-by_cases p h f (twice what e) = nothing what (sym e ∙ ap (λ b. unless b (codes "interface")) h.apart)
+by_cases p h f (twice what e) = nothing what (sym e ∙ ap₂ (λ a b. unless (a && b) (codes "interface")) h.apart h.required_apart)
 by_cases p h f (names lack) = lack h.named
 by_cases p h f (order what e) = nothing what (sym e ∙ ap (λ b. unless b (codes "interface")) h.order)
 by_cases p h f (resources lack) = lack h.resources
 by_cases p h f (import_role import what m e) =
     none_of (λ i. role_left_out p i.role) (flat_map imports_from p.main.imports.modules) import what (imports_pass p p.main.imports.modules h.groups) m e
-by_cases p h f (export_role entry what m e) = none_of (λ x. export_left_out x.1) p.main.exports.exports entry what h.export_roles m e
+by_cases p h f (own_role import what m e) =
+    none_of (λ i. own_role_out p i.role) (flat_map imports_from p.main.imports.modules) import what (own_pass p p.main.imports.modules h.own_groups) m e
+by_cases p h f (export_role entry what m e) = none_of (λ x. export_left_out p.resolve.types x.1) p.main.exports.exports entry what h.export_roles m e
 by_cases p h f (whole_module name which m) = none_of (group_out p) p.main.imports.modules (name, instances.Whole which) (codes "library") h.groups m refl
 by_cases p h f (adapter entry m) = not_there entry (subst (λ (as_list : List (List ℕ × WorldAdapter)). Contains as_list entry) h.alone m)
 
@@ -164,9 +228,9 @@ module _ (p : WorldParts) (what : List ℕ) where
   of_resources false is e = subst (λ (w : List ℕ). IsLeftOut p (refusals.LeftOut w)) (cc (e)) (resources (λ h. true≢false (sym (in_place (whole_of p) h) ∙ is)))
 
   of_module : module_left_out p.resolve.types (places_of p.resolve.types (items_of p).imports) (length (items_of p).imports) p.main ≡ Some what → IsLeftOut p (refusals.LeftOut what)
-  of_module e = elim (one_of (first_some (group_out p) p.main.imports.modules) (first_some (λ x. export_left_out x.1) p.main.exports.exports) what e) [
+  of_module e = elim (one_of (first_some (group_out p) p.main.imports.modules) (first_some (λ x. export_left_out p.resolve.types x.1) p.main.exports.exports) what e) [
     | inl a ↦ let t = one_picked (group_out p) p.main.imports.modules what a in of_group t.element t.there t.picks
-    | inr b ↦ let t = one_picked (λ x. export_left_out x.1) p.main.exports.exports what b in export_role t.element what t.there t.picks
+    | inr b ↦ let t = one_picked (λ x. export_left_out p.resolve.types x.1) p.main.exports.exports what b in export_role t.element what t.there t.picks
   ]
 
   of_modules : modules_left_out p (places_of p.resolve.types (items_of p).imports) (length (items_of p).imports) ≡ Some what → IsLeftOut p (refusals.LeftOut what)
@@ -189,15 +253,27 @@ module _ (p : WorldParts) (what : List ℕ) where
   after_twice (inl a) = of_names (are_exports_named p.resolve (items_of p).exports) refl a
   after_twice (inr b) = of_rest b
 
-  after_items : (twice_left_out (items_of p) ≡ Some what) ⊎ (named_left_out p (items_of p) ≡ Some what) → IsLeftOut p (refusals.LeftOut what)
+  of_own : (group : List ℕ × ImportInstance) → Contains p.main.imports.modules group → own_group_out p group ≡ Some what → IsLeftOut p (refusals.LeftOut what)
+  of_own (name, instances.Names fields) m e =
+      let t = one_picked (λ f. own_role_out p f.1) fields what e in
+      let import : CoreImport = record { module_name = name; field = t.element.0; role = t.element.1 } in
+      let there = Contains-map (λ f. record { module_name = name; field = f.0; role = f.1 }) fields t.element t.there in
+      own_role import what (in_flat_map imports_from p.main.imports.modules (name, instances.Names fields) import m.0 m.1 m.2 there) t.picks
+  of_own (name, instances.Whole which) m e = nothing what (sym e)
+
+  after_own : (own_left_out p (items_of p) ≡ Some what) ⊎ (named_left_out p (items_of p) ≡ Some what) → IsLeftOut p (refusals.LeftOut what)
+  after_own (inl a) = let t = one_picked (own_group_out p) p.main.imports.modules what a in of_own t.element t.there t.picks
+  after_own (inr b) = after_twice (one_of (names_left_out p.resolve (items_of p)) (rest_left_out p (items_of p)) what b)
+
+  after_items : (twice_left_out p.main_exports (items_of p) ≡ Some what) ⊎ (owned_left_out p (items_of p) ≡ Some what) → IsLeftOut p (refusals.LeftOut what)
   after_items (inl a) = twice what a
-  after_items (inr b) = after_twice (one_of (names_left_out p.resolve (items_of p)) (rest_left_out p (items_of p)) what b)
+  after_items (inr b) = after_own (one_of (own_left_out p (items_of p)) (named_left_out p (items_of p)) what b)
 
   reported : left_out p ≡ Some what → IsLeftOut p (refusals.LeftOut what)
   unfolding left_out
   reported e = elim (one_of (world_left_out p.resolve (items_of p)) _ what e) [
     | inl a ↦ of_world a
-    | inr b ↦ after_items (one_of (twice_left_out (items_of p)) (named_left_out p (items_of p)) what b)
+    | inr b ↦ after_items (one_of (twice_left_out p.main_exports (items_of p)) (owned_left_out p (items_of p)) what b)
   ]
 
 -- ---- the whole

@@ -32,10 +32,10 @@ use Rattle.comp_roles.specs.declared.imports.ImportInstance.{ImportInstance}
 use Rattle.comp_roles.specs.declared.imports.ImportInstance.TheVariants as instances
 use Rattle.comp_roles.specs.declared.offered.ImportType.{ImportType}
 use Rattle.world_values.specs.Items.{no_items, functions_of, functions_in, function_in, function_of_item, root_function_at}
-use Rattle.world_values.specs.Mentions.{interface_in}
+use Rattle.world_values.specs.Mentions.{interface_in, interfaces_of}
 use Rattle.comp_worlds.specs.Typed.{post_return_type, type_of_import, type_of_export, FitsImport, FitsExport}
 use Rattle.comp_worlds.specs.WorldContents.{root_function, exported_item, core_name_in}
-use Rattle.comp_worlds.specs.Worlds.{IsWorld, IsUserModule, IsImportItem, IsExportItem, IsResource, IsImportRole, IsImportGroup, ExportsFunctionOf, IsExportRole, IsRequired}
+use Rattle.comp_worlds.specs.Worlds.{IsWorld, IsUserModule, IsImportItem, IsExportItem, IsResource, IsImportRole, IsImportGroup, IsOwnResource, ExportsFunctionOf, IsExportRole, IsRequired}
 use Rattle.comp_worlds.specs.WorldTables.{whole_of}
 use Rattle.comp_worlds.specs.declared.world.WorldAdapter.{WorldAdapter}
 use Rattle.comp_worlds.specs.declared.world.WorldParts.{WorldParts}
@@ -44,15 +44,16 @@ use Rattle.record_core_types.specs.Asked.{imported_function, imported_interface,
 use Rattle.record_core_types.specs.Guarantees.{IsCalled, IsLifted, IsKept}
 use Rattle.record_resolve.specs.Resolved.{IsNamed, AreListed}
 use Rattle.supported_worlds.specs.Apart.{FieldsApart, AreApart}
-use Rattle.supported_worlds.specs.LeftOut.{items_of, import_item_left_out, export_item_left_out, export_left_out}
-use Rattle.supported_worlds.specs.Causes.{role_left_out}
-use Rattle.supported_worlds.specs.Placed.{places_of, is_resource, is_droppable}
+use Rattle.supported_worlds.specs.LeftOut.{items_of, import_item_left_out, export_item_left_out, export_left_out, required_of, unless}
+use Rattle.supported_worlds.specs.Causes.{role_left_out, own_role_out}
+use Rattle.supported_worlds.specs.Placed.{places_of, is_resource, is_droppable, is_resource_at, is_own_resource}
 use Rattle.supported_worlds.specs.Guarantees.{HasFoundImport, OffersExport, HasSoundParts}
 use Rattle.supported_worlds.proofs.Interfaces.{synchronous, synchronous_interface, own_are, other_key, one_found, entry_there, name_there as function_there, found_there}
 use Rattle.supported_worlds.proofs.Lists.{nothing, at_front, after, none_picked}
 use Rattle.supported_worlds.proofs.InPlace.{both, resource_kind}
 use Rattle.supported_worlds.proofs.Order.{passes}
-use Rattle.supported_worlds.proofs.Reporting.{group_out, IsEncoded}
+use Rattle.supported_worlds.proofs.OwnRoles.{owned_type, required_at, required_key}
+use Rattle.supported_worlds.proofs.Reporting.{second_apart, group_out, own_group_out, IsEncoded}
 
 abbrev Entries : Type 0
 Entries = List (WorldKey × WorldItem)
@@ -206,44 +207,64 @@ module _ (p : WorldParts) (present : HasSoundParts p) (encoded : IsEncoded p) (a
   has_function : (key : WorldKey) (id : InterfaceId) (name : List ℕ) → exported_interface p.resolve p.world key ≡ Some id → IsSome (function_of p.resolve id name) → ExportsFunctionOf (whole_of p) key id name
   has_function key id name is has = record { exported = exported_interface_is key id is; has = function_there name (functions_of p.resolve id) has }
 
-  import_role : (role : Import) → role_left_out p role ≡ None → IsCalled p.resolve p.world role → IsImportRole (whole_of p) role
-  import_role (imports.WorldFunc (keys.Name text) name GuestImport) h called =
+  -- a resource of an interface that main has to export
+  own_resource : (key : WorldKey) (id : TypeId) (what : List ℕ) → unless (is_own_resource p.resolve.types (items_of p).exports (required_of (items_of p).exports p.main_exports) key id) what ≡ None → IsOwnResource (whole_of p) key id
+  own_resource key id what h =
+      let types = p.resolve.types in
+      let es = (items_of p).exports in
+      let required = required_of es p.main_exports in
+      let t = owned_type types es required key id.index (passes (is_own_resource types es required key id) what h) in
+      let there = required_at es required key t.interface t.at in
+      record {
+        resource = t.resource;
+        interface = t.interface;
+        owner = t.owner;
+        exported = there.exported;
+        required = required_key es p.main_exports key t.interface (second_apart (interfaces_of (items_of p).imports) (interfaces_of es) encoded.apart) there;
+      }
+
+  import_role : (role : Import) → role_left_out p role ≡ None → own_role_out p role ≡ None → IsCalled p.resolve p.world role → IsImportRole (whole_of p) role
+  import_role (imports.WorldFunc (keys.Name text) name GuestImport) h own called =
       (name_there text (items_of p).imports (subst (λ (o : Option Function). IsSome o) (imported_is (keys.Name text)) called.1), called.0, refl)
-  import_role (imports.WorldFunc (keys.Interface id) name GuestImportAsync) h called = nothing _ h
-  import_role (imports.InterfaceFunc key id name GuestImport) h called =
+  import_role (imports.WorldFunc (keys.Interface id) name GuestImportAsync) h own called = nothing _ h
+  import_role (imports.InterfaceFunc key id name GuestImport) h own called =
       (entry_there key id (items_of p).imports (sym (interface_is key) ∙ called.0), function_there name (functions_of p.resolve id) called.1, refl)
-  import_role (imports.ImportedResourceDrop key interface id) h called =
+  import_role (imports.ImportedResourceDrop key interface id) h own called =
       let places = places_of p.resolve.types (items_of p).imports in
       let root = length (items_of p).imports in
       let b = both (option_map_or is_resource (slice_get p.resolve.types id.index) false) (nat_le (get_or places id.index 0) root) (passes (is_droppable p.resolve.types places root id) (codes "imported-drop") h) in
       dropped p.resolve.types id.index b.0
-  import_role role h called = nothing _ h
+  import_role (imports.ExportedResourceDrop key id) h own called = own_resource key id (codes "exported-drop") own
+  import_role (imports.ExportedResourceRep key id) h own called = own_resource key id (codes "exported-rep") own
+  import_role (imports.ExportedResourceNew key id) h own called = own_resource key id (codes "exported-new") own
+  import_role role h own called = nothing _ h
 
-  field_roles : (name : List ℕ) (fields : List (List ℕ × Import)) → AllByRecursion (λ f. role_left_out p f.1 ≡ None) fields
+  field_roles : (name : List ℕ) (fields : List (List ℕ × Import)) → AllByRecursion (λ f. role_left_out p f.1 ≡ None) fields → AllByRecursion (λ f. own_role_out p f.1 ≡ None) fields
       → AllByRecursion (λ i. IsCalled p.resolve p.world i.role) (imports_from (name, instances.Names fields)) → AllByRecursion (λ f. IsImportRole (whole_of p) f.1) fields
-  field_roles name [] h called = tt
-  field_roles name (f ∷ fields) h called = (import_role f.1 h.0 called.0, field_roles name fields h.1 called.1)
+  field_roles name [] h own called = tt
+  field_roles name (f ∷ fields) h own called = (import_role f.1 h.0 own.0 called.0, field_roles name fields h.1 own.1 called.1)
 
-  import_group : (group : List ℕ × ImportInstance) → group_out p group ≡ None → FieldsApart group.1 → AllByRecursion (λ i. IsCalled p.resolve p.world i.role) (imports_from group)
+  import_group : (group : List ℕ × ImportInstance) → group_out p group ≡ None → own_group_out p group ≡ None → FieldsApart group.1 → AllByRecursion (λ i. IsCalled p.resolve p.world i.role) (imports_from group)
       → IsImportGroup (whole_of p) group
-  import_group (name, instances.Names fields) h alone called = (alone, field_roles name fields (none_picked (λ f. role_left_out p f.1) fields h) called)
-  import_group (name, instances.Whole which) h alone called = nothing _ h
+  import_group (name, instances.Names fields) h own alone called = (alone, field_roles name fields (none_picked (λ f. role_left_out p f.1) fields h) (none_picked (λ f. own_role_out p f.1) fields own) called)
+  import_group (name, instances.Whole which) h own alone called = nothing _ h
 
-  import_groups : (groups : List (List ℕ × ImportInstance)) → AllByRecursion (λ g. group_out p g ≡ None) groups → AllByRecursion (λ g. FieldsApart g.1) groups
+  import_groups : (groups : List (List ℕ × ImportInstance)) → AllByRecursion (λ g. group_out p g ≡ None) groups → AllByRecursion (λ g. own_group_out p g ≡ None) groups → AllByRecursion (λ g. FieldsApart g.1) groups
       → AllByRecursion (λ i. IsCalled p.resolve p.world i.role) (flat_map imports_from groups) → AllByRecursion (IsImportGroup (whole_of p)) groups
-  import_groups [] h alone called = tt
-  import_groups (g ∷ groups) h alone called = (
-    import_group g h.0 alone.0 (AllByRecursion-front (λ i. IsCalled p.resolve p.world i.role) (imports_from g) (flat_map imports_from groups) called),
-    import_groups groups h.1 alone.1 (AllByRecursion-back (λ i. IsCalled p.resolve p.world i.role) (imports_from g) (flat_map imports_from groups) called),
+  import_groups [] h own alone called = tt
+  import_groups (g ∷ groups) h own alone called = (
+    import_group g h.0 own.0 alone.0 (AllByRecursion-front (λ i. IsCalled p.resolve p.world i.role) (imports_from g) (flat_map imports_from groups) called),
+    import_groups groups h.1 own.1 alone.1 (AllByRecursion-back (λ i. IsCalled p.resolve p.world i.role) (imports_from g) (flat_map imports_from groups) called),
   )
 
-  export_role : (role : Export) → export_left_out role ≡ None → IsLifted p.resolve p.world role → IsExportRole (whole_of p) role
+  export_role : (role : Export) → export_left_out p.resolve.types role ≡ None → IsLifted p.resolve p.world role → IsExportRole (whole_of p) role
   export_role (exports.WorldFunc (keys.Name text) name GuestExport) h lifted =
       (name_there text (items_of p).exports (subst (λ (o : Option Function). IsSome o) (exported_is (keys.Name text)) lifted.1), lifted.0, refl)
   export_role (exports.WorldFunc (keys.Interface id) name GuestExport) h lifted = nothing _ h
   export_role (exports.InterfaceFunc key id name GuestExport) h lifted = (has_function key id name lifted.0 lifted.1, refl)
   export_role (exports.InterfaceFuncPostReturn key name) h lifted = (lifted.0, has_function key lifted.0 name lifted.1 lifted.2)
   export_role (exports.WorldFuncPostReturn (keys.Name text)) h lifted = name_there text (items_of p).exports (subst (λ (o : Option Function). IsSome o) (exported_is (keys.Name text)) lifted)
+  export_role (exports.ResourceDtor id) h lifted = dropped p.resolve.types id.index (passes (is_resource_at p.resolve.types id) (codes "dtor") h)
   export_role (exports.Memory type) h lifted = tt
   export_role exports.GeneralPurposeRealloc h lifted = tt
   export_role exports.GeneralPurposeImportRealloc h lifted = tt
@@ -251,7 +272,7 @@ module _ (p : WorldParts) (present : HasSoundParts p) (encoded : IsEncoded p) (a
   export_role exports.ReallocForAdapter h lifted = tt
   export_role role h lifted = nothing _ h
 
-  export_roles : (all : List (List ℕ × Export)) → AllByRecursion (λ e. export_left_out e.1 ≡ None) all → AllByRecursion (λ e. IsLifted p.resolve p.world e.1) all
+  export_roles : (all : List (List ℕ × Export)) → AllByRecursion (λ e. export_left_out p.resolve.types e.1 ≡ None) all → AllByRecursion (λ e. IsLifted p.resolve p.world e.1) all
       → AllByRecursion (λ e. IsExportRole (whole_of p) e.1) all
   export_roles [] h lifted = tt
   export_roles (e ∷ all) h lifted = (export_role e.1 h.0 lifted.0, export_roles all h.1 lifted.1)
@@ -263,6 +284,9 @@ module _ (p : WorldParts) (present : HasSoundParts p) (encoded : IsEncoded p) (a
   import_typed (imports.InterfaceFunc key id function abi) h =
       mapped_there (called_type p.resolve abi) (found function (functions_of p.resolve id)) (found_there function (functions_of p.resolve id) h.1.0 h.1.1 h.1.2)
   import_typed (imports.ImportedResourceDrop key interface id) h = refl
+  import_typed (imports.ExportedResourceDrop key id) h = refl
+  import_typed (imports.ExportedResourceRep key id) h = refl
+  import_typed (imports.ExportedResourceNew key id) h = refl
   import_typed role h = absurd h
 
   found_import : AllByRecursion (IsImportGroup (whole_of p)) p.main.imports.modules → (i : ImportType) → HasFoundImport p i → FitsImport p.resolve (items_of p) p.main i
@@ -312,7 +336,7 @@ module _ (p : WorldParts) (present : HasSoundParts p) (encoded : IsEncoded p) (a
 
   main_is : IsUserModule (whole_of p) p.main p.main_exports
   main_is =
-      let groups = import_groups p.main.imports.modules encoded.groups apart.groups.fields present.called in
+      let groups = import_groups p.main.imports.modules encoded.groups encoded.own_groups apart.groups.fields present.called in
       let roles = export_roles p.main.exports.exports encoded.export_roles present.lifted in
       record {
         core = present.core;

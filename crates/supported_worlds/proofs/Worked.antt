@@ -18,6 +18,7 @@ use Rattle.wit_data.specs.declared.types.TypeDefKind.{TypeDefKind}
 use Rattle.wit_data.specs.declared.types.TypeDefKind.TheVariants as kinds
 use Rattle.wit_data.specs.declared.types.TypeOwner.TheVariants as owners
 use Rattle.wit_data.specs.declared.worlds.World.{World}
+use Rattle.wit_data.specs.declared.worlds.WorldItem.{WorldItem}
 use Rattle.wit_data.specs.declared.worlds.WorldItem.TheVariants as items
 use Rattle.wit_data.specs.declared.worlds.WorldKey.{WorldKey}
 use Rattle.wit_data.specs.declared.worlds.WorldKey.TheVariants as keys
@@ -28,7 +29,7 @@ use Rattle.comp_roles.specs.declared.imports.ImportInstance.TheVariants as insta
 use Rattle.comp_roles.specs.declared.libraries.Item.{Item}
 use Rattle.comp_roles.specs.declared.libraries.MainOrAdapter.TheVariants as modules
 use Rattle.supported_worlds.specs.Kinds.{import_kind}
-use Rattle.supported_worlds.specs.LeftOut.{import_item_left_out, interface_left_out, world_left_out, twice_left_out, names_left_out, order_left_out, resources_left_out, import_left_out, export_left_out, group_left_out}
+use Rattle.supported_worlds.specs.LeftOut.{import_item_left_out, interface_left_out, world_left_out, twice_left_out, names_left_out, order_left_out, resources_left_out, import_left_out, export_left_out, group_left_out, own_role_left_out}
 use Rattle.supported_worlds.specs.Placed.{places_of}
 
 abbrev a_type : TypeId
@@ -302,16 +303,17 @@ list_of_own_types_is_exported : order_left_out (resolve_of (an_interface_type �
 unfolding values_from
 list_of_own_types_is_exported = refl
 
--- not of a resource of its own, of a named type of the world, or of a type that is made of one
-exported_resource_is_reported : order_left_out (resolve_of (of_first (codes "r") kinds.Resource ∷ []) (interface_of ((codes "r", a_type) ∷ []) plain ∷ [])) (exporting (keys.Name (codes "i")) an_interface) ≡ Some (codes "interface")
+-- and of a resource of its own
+own_resource_is_exported : order_left_out (resolve_of (of_first (codes "r") kinds.Resource ∷ []) (interface_of ((codes "r", a_type) ∷ []) plain ∷ [])) (exporting (keys.Name (codes "i")) an_interface) ≡ None
 unfolding values_from
-exported_resource_is_reported = refl
+own_resource_is_exported = refl
 
+-- not of a named type of the world, or of a type that is made of one
 list_of_names_is_reported : order_left_out (resolve_of (of_world (kinds.Stream None) ∷ unnamed (kinds.«List» (Id a_type)) ∷ []) (interface_of [] (function Freestanding (Id another_type ∷ []) None) ∷ [])) (exporting (keys.Name (codes "i")) an_interface) ≡ Some (codes "interface")
 unfolding values_from
 list_of_names_is_reported = refl
 
--- of types that are made of ones of another interface, which the world imports alone
+-- of types that are made of ones of another interface, which the world imports
 abbrev of_two : TypeDefKind → List TypeDef
 of_two kind = of_second (codes "s") kind ∷ of_first (codes "t") (kinds.«List» (Id a_type)) ∷ []
 
@@ -330,14 +332,18 @@ used_resource_is_exported : order_left_out (resolve_of (of_two kinds.Resource) f
 unfolding values_from
 used_resource_is_exported = refl
 
--- not where that interface is exported too, whatever the order, or exported alone
-type_of_an_exported_interface_is_reported : order_left_out (resolve_of (of_two (kinds.Stream None)) first_and_second) (importing_and_exporting (another_interface ∷ []) (an_interface ∷ another_interface ∷ [])) ≡ Some (codes "interface")
+-- also where that interface is exported, whatever the order, but not where it is neither
+type_of_a_later_export_is_exported : order_left_out (resolve_of (of_two (kinds.Stream None)) first_and_second) (importing_and_exporting [] (an_interface ∷ another_interface ∷ [])) ≡ None
 unfolding values_from
-type_of_an_exported_interface_is_reported = refl
+type_of_a_later_export_is_exported = refl
 
-type_of_an_earlier_export_is_reported : order_left_out (resolve_of (of_two (kinds.Stream None)) first_and_second) (importing_and_exporting [] (another_interface ∷ an_interface ∷ [])) ≡ Some (codes "interface")
+resource_of_an_earlier_export_is_exported : order_left_out (resolve_of (of_two kinds.Resource) first_and_second) (importing_and_exporting [] (another_interface ∷ an_interface ∷ [])) ≡ None
 unfolding values_from
-type_of_an_earlier_export_is_reported = refl
+resource_of_an_earlier_export_is_exported = refl
+
+type_of_no_interface_there_is_reported : order_left_out (resolve_of (of_two (kinds.Stream None)) first_and_second) (importing_and_exporting [] (an_interface ∷ [])) ≡ Some (codes "interface")
+unfolding values_from
+type_of_no_interface_there_is_reported = refl
 
 -- nor are its types listed in another order
 own_types_in_another_order_are_reported : order_left_out
@@ -347,11 +353,25 @@ unfolding values_from
 own_types_in_another_order_are_reported = refl
 
 -- an interface that is imported under two names
-twice_imported_is_reported : twice_left_out (record { imports = (keys.Interface an_interface, items.Interface an_interface) ∷ (keys.Name (codes "i"), items.Interface an_interface) ∷ []; exports = [] }) ≡ Some (codes "interface")
+twice_imported_is_reported : twice_left_out [] (record { imports = (keys.Interface an_interface, items.Interface an_interface) ∷ (keys.Name (codes "i"), items.Interface an_interface) ∷ []; exports = [] }) ≡ Some (codes "interface")
 twice_imported_is_reported = refl
 
-two_interfaces_are_apart : twice_left_out (importing_interfaces (an_interface ∷ another_interface ∷ [])) ≡ None
+two_interfaces_are_apart : twice_left_out [] (importing_interfaces (an_interface ∷ another_interface ∷ [])) ≡ None
 two_interfaces_are_apart = refl
+
+-- one that is imported and exported, or exported under two names
+imported_and_exported_is_reported : twice_left_out [] (importing_and_exporting (an_interface ∷ another_interface ∷ []) (an_interface ∷ [])) ≡ Some (codes "interface")
+imported_and_exported_is_reported = refl
+
+twice_exported_is_reported : twice_left_out [] (importing_and_exporting [] (an_interface ∷ another_interface ∷ an_interface ∷ [])) ≡ Some (codes "interface")
+twice_exported_is_reported = refl
+
+-- or that main has to export twice
+twice_required_is_reported : twice_left_out (keys.Interface an_interface ∷ keys.Interface an_interface ∷ []) (importing_and_exporting [] (an_interface ∷ [])) ≡ Some (codes "interface")
+twice_required_is_reported = refl
+
+once_required_is_apart : twice_left_out (keys.Interface an_interface ∷ f ∷ []) (importing_and_exporting (another_interface ∷ []) (an_interface ∷ [])) ≡ None
+once_required_is_apart = refl
 
 -- ---- resources
 
@@ -426,21 +446,47 @@ drop_behind_the_root_is_reported = refl
 drop_of_nothing_is_reported : import_left_out (of_world kinds.Resource ∷ []) (0 ∷ []) 0 (imports.ImportedResourceDrop f None another_type) ≡ Some (codes "imported-drop")
 drop_of_nothing_is_reported = refl
 
-async_lift_is_reported : export_left_out (exports.WorldFunc f (codes "f") GuestExportAsync) ≡ Some (codes "async")
+async_lift_is_reported : export_left_out [] (exports.WorldFunc f (codes "f") GuestExportAsync) ≡ Some (codes "async")
 async_lift_is_reported = refl
 
 -- a function of an exported interface is called synchronously, and may have a post-return
-interface_lift_is_encoded : export_left_out (exports.InterfaceFunc f an_interface (codes "f") GuestExport) ≡ None
+interface_lift_is_encoded : export_left_out [] (exports.InterfaceFunc f an_interface (codes "f") GuestExport) ≡ None
 interface_lift_is_encoded = refl
 
-async_interface_lift_is_reported : export_left_out (exports.InterfaceFunc f an_interface (codes "f") GuestExportAsync) ≡ Some (codes "async")
+async_interface_lift_is_reported : export_left_out [] (exports.InterfaceFunc f an_interface (codes "f") GuestExportAsync) ≡ Some (codes "async")
 async_interface_lift_is_reported = refl
 
-interface_post_return_is_encoded : export_left_out (exports.InterfaceFuncPostReturn f (codes "f")) ≡ None
+interface_post_return_is_encoded : export_left_out [] (exports.InterfaceFuncPostReturn f (codes "f")) ≡ None
 interface_post_return_is_encoded = refl
 
-realloc_is_encoded : export_left_out exports.GeneralPurposeRealloc ≡ None
+realloc_is_encoded : export_left_out [] exports.GeneralPurposeRealloc ≡ None
 realloc_is_encoded = refl
+
+-- the destructor of a resource, and of what is none
+destructor_is_encoded : export_left_out (of_first (codes "r") kinds.Resource ∷ []) (exports.ResourceDtor a_type) ≡ None
+destructor_is_encoded = refl
+
+destructor_of_values_is_reported : export_left_out (an_interface_type ∷ []) (exports.ResourceDtor a_type) ≡ Some (codes "dtor")
+destructor_of_values_is_reported = refl
+
+-- the roles of a resource of an exported interface, of one that main doesn't have to export, at another key, and of what is no resource
+abbrev exported_first : List (WorldKey × WorldItem)
+exported_first = (importing_interfaces (an_interface ∷ another_interface ∷ [])).imports
+
+abbrev a_resource : List TypeDef
+a_resource = of_first (codes "r") kinds.Resource ∷ []
+
+own_drop_is_encoded : own_role_left_out a_resource exported_first (an_interface ∷ []) (imports.ExportedResourceDrop (keys.Interface an_interface) a_type) ≡ None
+own_drop_is_encoded = refl
+
+unrequired_drop_is_reported : own_role_left_out a_resource exported_first (another_interface ∷ []) (imports.ExportedResourceDrop (keys.Interface an_interface) a_type) ≡ Some (codes "exported-drop")
+unrequired_drop_is_reported = refl
+
+new_of_another_interface_is_reported : own_role_left_out a_resource exported_first (an_interface ∷ another_interface ∷ []) (imports.ExportedResourceNew (keys.Interface another_interface) a_type) ≡ Some (codes "exported-new")
+new_of_another_interface_is_reported = refl
+
+representation_of_values_is_reported : own_role_left_out (an_interface_type ∷ []) exported_first (an_interface ∷ []) (imports.ExportedResourceRep (keys.Interface an_interface) a_type) ≡ Some (codes "exported-rep")
+representation_of_values_is_reported = refl
 
 -- of the imports from one module the first that is left out is reported
 first_field_is_reported : group_left_out [] [] 0 (codes "$root", instances.Names ((codes "f", imports.WorldFunc f (codes "f") GuestImport) ∷ (codes "s", imports.WaitableSetNew) ∷ (codes "i", imports.BackpressureInc) ∷ [])) ≡ Some (codes "waitable-set-new")

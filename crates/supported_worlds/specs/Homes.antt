@@ -35,7 +35,7 @@ pub record AreJoined (one other home : Home) : Type 0 where
 -- the home of a type, whatever its parts are: of one that belongs to an interface, where exported interfaces may use its types if it
 -- is lent; of one that belongs to none; and of any type
 abbrev pub is_owned : Bool → InterfaceId → InterfaceId → TypeDef → Bool
-is_owned lent here id t = here.index == id.index && not (is_resource_kind t.kind) || (lent && is_some t.name)
+is_owned lent here id t = here.index == id.index || (lent && is_some t.name)
 
 abbrev pub is_unowned : TypeDef → Bool
 is_unowned t = is_none t.name && not (is_resource_kind t.kind)

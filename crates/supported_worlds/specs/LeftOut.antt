@@ -1,11 +1,14 @@
 -- Which parts of a world are encoded yet: synchronous functions that it imports or exports at its root, imported interfaces of
--- types and of synchronous functions, exported interfaces of types of their own that are no resources and of synchronous
--- functions made of these and of named types of interfaces that are imported alone, types that it imports, in their order and
--- with all resources of the root among them, core imports and exports with the role of such a function, core imports that drop a
--- resource, and core exports that are a post-return, a memory or a realloc. All else is left out, and reported by the name of its
--- kind. (The names are those of this project's record.)
-use Rattle.std.specs.Prelude.{ℕ, Bool, List, [], ◌∷◌, length, codes, Option, Some, None, Result, Ok, Err, get_or, if◌then◌else◌}
+-- types and of synchronous functions, exported interfaces of types of their own and of synchronous functions made of these and of
+-- named types of interfaces that are imported or exported, types that it imports, in their order and with all resources of the root
+-- among them, core imports and exports with the role of such a function, core imports that drop a resource, or make or read a handle of
+-- one that main has to export, and core exports that are a post-return, a destructor, a memory or a realloc. All else is left out, and
+-- reported by the name of its kind. (The names are those of this project's record.)
+use Rattle.std.specs.Prelude.{ℕ, Bool, ◌&&◌, ◌++◌, List, [], ◌∷◌, length, codes, Option, Some, None, Result, Ok, Err, get_or, if◌then◌else◌}
+use Rattle.std.specs.List.{flat_map}
+use Rattle.std.specs.Map.{lookup}
 use Rattle.std.specs.Option.{option_or}
+use Rattle.wit_data.specs.Keys.{is_same_key}
 use Rattle.wit_data.specs.declared.functions.AbiVariant.TheVariants.{GuestImport, GuestExport, GuestImportAsync}
 use Rattle.wit_data.specs.declared.functions.FunctionKind.{FunctionKind}
 use Rattle.wit_data.specs.declared.functions.FunctionKind.TheVariants as functions
@@ -26,6 +29,8 @@ use Rattle.comp_roles.specs.declared.imports.ImportInstance.{ImportInstance}
 use Rattle.comp_roles.specs.declared.imports.ImportInstance.TheVariants as instances
 use Rattle.world_values.specs.Items.{no_items, functions_of}
 use Rattle.world_values.specs.Mentions.{same_interface, interfaces_of}
+use Rattle.comp_worlds.specs.Encodable.{Entries}
+use Rattle.comp_worlds.specs.ExportOrder.{interface_among}
 use Rattle.comp_worlds.specs.WorldTables.{whole_of}
 use Rattle.comp_worlds.specs.declared.world.ComponentWorld.{ComponentWorld}
 use Rattle.comp_worlds.specs.declared.world.ValidatedModule.{ValidatedModule}
@@ -37,7 +42,7 @@ use Rattle.record_faults.specs.declared.fault.Refusal.TheVariants as refusals
 use Rattle.supported_worlds.specs.Distinct.{are_apart}
 use Rattle.supported_worlds.specs.Kinds.{import_kind, export_kind}
 use Rattle.supported_worlds.specs.Naming.{are_exports_named}
-use Rattle.supported_worlds.specs.Placed.{places_of, is_world_placed, imported_numbers, are_in_place, is_droppable}
+use Rattle.supported_worlds.specs.Placed.{places_of, is_world_placed, imported_numbers, are_in_place, is_droppable, is_own_resource, is_resource_at}
 
 -- ---- items of a world
 
@@ -70,16 +75,24 @@ import_item_left_out r entry = export_item_left_out r entry
 abbrev pub unless : Bool → List ℕ → Option (List ℕ)
 unless passes what = if passes then None else Some what
 
--- the world's imports, where one interface is among them twice
-abbrev pub twice_left_out : World → Option (List ℕ)
-twice_left_out w = unless (are_apart same_interface (interfaces_of w.imports)) (codes "interface")
+-- whether no interface is imported or exported twice, nor both
+abbrev pub are_interfaces_apart : World → Bool
+are_interfaces_apart w = are_apart same_interface (interfaces_of w.imports ++ interfaces_of w.exports)
+
+-- the interfaces that main has to export, by their keys
+abbrev pub required_of : Entries → List WorldKey → List InterfaceId
+required_of es required = flat_map (λ key. interface_among (lookup (is_same_key key) es)) required
+
+-- the world, where an interface is imported or exported twice, or both, or main has to export one twice
+abbrev pub twice_left_out : List WorldKey → World → Option (List ℕ)
+twice_left_out required w = unless (are_interfaces_apart w && are_apart same_interface (required_of w.exports required)) (codes "interface")
 
 -- the world's exports, where an interface among them has no name, or that of another
 abbrev pub names_left_out : Resolve → World → Option (List ℕ)
 names_left_out r w = unless (are_exports_named r w.exports) (codes "interface")
 
--- the world, where a type or a function is made of types of a later place, or an exported interface of resources, of named types
--- of the world, or of types of another interface that isn't imported or is exported too
+-- the world, where a type or a function is made of types of a later place, or an exported interface of named types of the world, or
+-- of types of another interface that is neither imported nor exported
 abbrev pub order_left_out : Resolve → World → Option (List ℕ)
 order_left_out r w = unless (is_world_placed r w) (codes "interface")
 
@@ -89,32 +102,43 @@ resources_left_out types entries = unless (are_in_place types 0 (imported_number
 
 -- ---- roles
 
--- an import of main, unless it is a function at the root or of an interface that is called synchronously, or drops a resource;
--- by the places of the types, and that of the root
+-- an import of main, unless it is a function at the root or of an interface that is called synchronously, or drops a resource, by the
+-- places of the types, and that of the root; or has a role that an exported resource may have
 abbrev pub import_left_out : List TypeDef → List ℕ → ℕ → Import → Option (List ℕ)
 import_left_out types places root (imports.WorldFunc (keys.Name text) name GuestImport) = None
 import_left_out types places root (imports.WorldFunc key name GuestImportAsync) = Some (codes "async")
 import_left_out types places root (imports.InterfaceFunc key id name GuestImport) = None
 import_left_out types places root (imports.InterfaceFunc key id name GuestImportAsync) = Some (codes "async")
 import_left_out types places root (imports.ImportedResourceDrop key interface id) = unless (is_droppable types places root id) (codes "imported-drop")
+import_left_out types places root (imports.ExportedResourceDrop key id) = None
+import_left_out types places root (imports.ExportedResourceRep key id) = None
+import_left_out types places root (imports.ExportedResourceNew key id) = None
 import_left_out types places root role = Some (import_kind role)
 
+-- such a role, unless it is of a resource of an interface that main has to export at the key
+abbrev pub own_role_left_out : List TypeDef → Entries → List InterfaceId → Import → Option (List ℕ)
+own_role_left_out types es required (imports.ExportedResourceDrop key id) = unless (is_own_resource types es required key id) (codes "exported-drop")
+own_role_left_out types es required (imports.ExportedResourceRep key id) = unless (is_own_resource types es required key id) (codes "exported-rep")
+own_role_left_out types es required (imports.ExportedResourceNew key id) = unless (is_own_resource types es required key id) (codes "exported-new")
+own_role_left_out types es required role = None
+
 -- an export of main, unless it is a function at the root or of an interface that is called synchronously, the post-return of one,
--- a memory, or a realloc
-abbrev pub export_left_out : Export → Option (List ℕ)
-export_left_out (exports.WorldFunc (keys.Name text) name GuestExport) = None
-export_left_out (exports.WorldFunc (keys.Interface id) name GuestExport) = Some (codes "world-func")
-export_left_out (exports.WorldFunc key name abi) = Some (codes "async")
-export_left_out (exports.InterfaceFunc key id name GuestExport) = None
-export_left_out (exports.InterfaceFunc key id name abi) = Some (codes "async")
-export_left_out (exports.WorldFuncPostReturn (keys.Name text)) = None
-export_left_out (exports.InterfaceFuncPostReturn key name) = None
-export_left_out (exports.Memory type) = None
-export_left_out exports.GeneralPurposeRealloc = None
-export_left_out exports.GeneralPurposeImportRealloc = None
-export_left_out exports.GeneralPurposeExportRealloc = None
-export_left_out exports.ReallocForAdapter = None
-export_left_out role = Some (export_kind role)
+-- the destructor of a resource, a memory, or a realloc
+abbrev pub export_left_out : List TypeDef → Export → Option (List ℕ)
+export_left_out types (exports.WorldFunc (keys.Name text) name GuestExport) = None
+export_left_out types (exports.WorldFunc (keys.Interface id) name GuestExport) = Some (codes "world-func")
+export_left_out types (exports.WorldFunc key name abi) = Some (codes "async")
+export_left_out types (exports.InterfaceFunc key id name GuestExport) = None
+export_left_out types (exports.InterfaceFunc key id name abi) = Some (codes "async")
+export_left_out types (exports.WorldFuncPostReturn (keys.Name text)) = None
+export_left_out types (exports.InterfaceFuncPostReturn key name) = None
+export_left_out types (exports.ResourceDtor id) = unless (is_resource_at types id) (codes "dtor")
+export_left_out types (exports.Memory type) = None
+export_left_out types exports.GeneralPurposeRealloc = None
+export_left_out types exports.GeneralPurposeImportRealloc = None
+export_left_out types exports.GeneralPurposeExportRealloc = None
+export_left_out types exports.ReallocForAdapter = None
+export_left_out types role = Some (export_kind role)
 
 -- the imports from one module: the first that is left out, or all of them where a whole module provides them
 abbrev pub instance_left_out : List TypeDef → List ℕ → ℕ → ImportInstance → Option (List ℕ)
@@ -123,6 +147,17 @@ instance_left_out types places root (instances.Whole which) = Some (codes "libra
 
 abbrev pub group_left_out : List TypeDef → List ℕ → ℕ → List ℕ × ImportInstance → Option (List ℕ)
 group_left_out types places root group = instance_left_out types places root group.1
+
+-- the first such role of an exported resource that is left out
+abbrev pub own_instance_left_out : List TypeDef → Entries → List InterfaceId → ImportInstance → Option (List ℕ)
+own_instance_left_out types es required (instances.Names fields) = first_some (λ f. own_role_left_out types es required f.1) fields
+own_instance_left_out types es required (instances.Whole which) = None
+
+abbrev pub own_group_left_out : List TypeDef → Entries → List InterfaceId → List ℕ × ImportInstance → Option (List ℕ)
+own_group_left_out types es required group = own_instance_left_out types es required group.1
+
+abbrev pub own_left_out : WorldParts → World → Option (List ℕ)
+own_left_out p w = first_some (own_group_left_out p.resolve.types w.exports (required_of w.exports p.main_exports)) p.main.imports.modules
 
 -- ---- the whole
 
@@ -137,7 +172,7 @@ world_left_out r w = option_or (first_some (import_item_left_out r) w.imports) (
 -- the first import or export of a module that is left out
 abbrev pub module_left_out : List TypeDef → List ℕ → ℕ → ValidatedModule → Option (List ℕ)
 module_left_out types places root m =
-    option_or (first_some (group_left_out types places root) m.imports.modules) (first_some (λ e. export_left_out e.1) m.exports.exports)
+    option_or (first_some (group_left_out types places root) m.imports.modules) (first_some (λ e. export_left_out types e.1) m.exports.exports)
 
 -- an adapter, if there is one
 abbrev pub adapters_left_out : List (List ℕ × WorldAdapter) → Option (List ℕ)
@@ -159,9 +194,13 @@ rest_left_out p w = option_or (order_left_out p.resolve w) (after_order p w)
 abbrev pub named_left_out : WorldParts → World → Option (List ℕ)
 named_left_out p w = option_or (names_left_out p.resolve w) (rest_left_out p w)
 
+-- the same, of one with roles of exported resources
+abbrev pub owned_left_out : WorldParts → World → Option (List ℕ)
+owned_left_out p w = option_or (own_left_out p w) (named_left_out p w)
+
 -- what of a world is not encoded yet: of its items first
 unfoldable pub left_out : WorldParts → Option (List ℕ)
-left_out p = option_or (world_left_out p.resolve (items_of p)) (option_or (twice_left_out (items_of p)) (named_left_out p (items_of p)))
+left_out p = option_or (world_left_out p.resolve (items_of p)) (option_or (twice_left_out p.main_exports (items_of p)) (owned_left_out p (items_of p)))
 
 -- the refusal of what is left out
 abbrev pub refused : List ℕ → Failure

@@ -1,6 +1,5 @@
--- The interfaces whose types exported interfaces may use: those that a world imports, and doesn't export too (component model,
--- WIT: worlds, `use`).
-use Rattle.std.specs.Prelude.{◌≡◌, ◌&&◌, Bool, not, List, is_some}
+-- The interfaces whose types exported interfaces may use: those that a world imports or exports (component model, WIT: worlds, `use`).
+use Rattle.std.specs.Prelude.{◌≡◌, ◌||◌, Bool, List, is_some}
 use Rattle.std.specs.List.{list_any}
 use Rattle.std.specs.Map.{lookup}
 use Rattle.wit_data.specs.declared.ids.InterfaceId.{InterfaceId}
@@ -21,7 +20,7 @@ pub record HasInterfaces (es : Entries) (set : InterfaceSet) : Type 0 where
 
 -- whether the types of an interface may be used, by the sets of the interfaces that are imported and of those that are exported
 abbrev pub lends : Lent → InterfaceId → Bool
-lends l id = has l.imported id && not (has l.exported id)
+lends l id = has l.imported id || has l.exported id
 
 -- these are the sets of a world
 pub record AreLent (w : World) (l : Lent) : Type 0 where

@@ -1,6 +1,7 @@
 pub mod Kinds
 pub mod Distinct
 pub mod Lent
+pub mod Sets
 pub mod Homes
 pub mod Placed
 pub mod Naming

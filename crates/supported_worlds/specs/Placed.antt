@@ -1,9 +1,10 @@
 -- Whether a world imports interfaces and types in an order in which each type comes after those of which it is made, and
--- exports interfaces of their own types, of named ones of interfaces that it only imports, and of types without names alone
+-- exports interfaces of their own types, of named ones of interfaces that it imports or exports, and of types without names alone
 -- (component model, WIT: types, resources, interfaces, `use`).
 use Rattle.std.specs.Prelude.{ℕ, zero, suc, Bool, true, false, ◌==◌, nat_le, not, ◌&&◌, ◌||◌, List, [], ◌∷◌, length, map, drop, get_or, slice_get, Option, Some, None, is_some, is_none}
 use Rattle.std.specs.List.{list_all, list_any, flat_map}
-use Rattle.std.specs.Option.{option_map_or}
+use Rattle.std.specs.Map.{lookup}
+use Rattle.std.specs.Option.{option_map_or, option_and_then}
 use Rattle.std.specs.Str.{bytes_eq}
 use Rattle.comp_lists.specs.Found.{found}
 use Rattle.wit_data.specs.declared.functions.Function.{Function}
@@ -18,11 +19,13 @@ use Rattle.wit_data.specs.declared.types.TypeDefKind.TheVariants as kinds
 use Rattle.wit_data.specs.declared.worlds.World.{World}
 use Rattle.wit_data.specs.declared.worlds.WorldItem.{WorldItem}
 use Rattle.wit_data.specs.declared.worlds.WorldItem.TheVariants as items
+use Rattle.wit_data.specs.declared.worlds.WorldKey.{WorldKey}
+use Rattle.wit_data.specs.Keys.{is_same_key}
 use Rattle.wit_data.specs.Live.{named_types}
 use Rattle.wit_data.specs.Parts.{parts}
 use Rattle.wit_data.specs.Values.{kind_at, values}
 use Rattle.world_values.specs.Items.{functions_of}
-use Rattle.world_values.specs.Mentions.{interface_types}
+use Rattle.world_values.specs.Mentions.{interface_types, interface_in, same_interface}
 use Rattle.comp_worlds.specs.Encodable.{Entries, place_in, placing, is_resource_kind, is_lent, stays_in}
 use Rattle.comp_worlds.specs.WorldContents.{world_type, interface_of_owner, interface_at, name_at}
 
@@ -153,3 +156,18 @@ are_in_place types k ns = ascend_from k ns && have_resources ns k (drop k types)
 -- whether the handles of a type are dropped: it is a resource that has the place of the root or an earlier one
 abbrev pub is_droppable : List TypeDef → List ℕ → ℕ → TypeId → Bool
 is_droppable types places root id = option_map_or is_resource (slice_get types id.index) false && nat_le (get_or places id.index 0) root
+
+-- whether a type is a resource
+abbrev pub is_resource_at : List TypeDef → TypeId → Bool
+is_resource_at types id = option_map_or is_resource (slice_get types id.index) false
+
+-- whether an interface is exported at a key, and is one of those that main has to export; by the world's exports, and by these
+abbrev pub is_required_at : Entries → List InterfaceId → WorldKey → InterfaceId → Bool
+is_required_at es required key id = option_map_or (same_interface id) (option_and_then interface_in (lookup (is_same_key key) es)) false && list_any (same_interface id) required
+
+-- whether a type is a resource of such an interface
+abbrev pub is_own_at : Entries → List InterfaceId → WorldKey → TypeDef → Bool
+is_own_at es required key t = is_resource t && option_map_or (is_required_at es required key) (interface_of_owner t.owner) false
+
+abbrev pub is_own_resource : List TypeDef → Entries → List InterfaceId → WorldKey → TypeId → Bool
+is_own_resource types es required key id = option_map_or (is_own_at es required key) (slice_get types id.index) false

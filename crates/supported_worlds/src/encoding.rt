@@ -1,6 +1,6 @@
 //! A world made of its parts, where all of it is encoded yet.
 
-ghost use Rattle.std.specs.Prelude.{◌≡◌, ◌≢◌, ◌<◌, length, IfOk, IfErr, IsOk, None};
+ghost use Rattle.std.specs.Prelude.{◌≡◌, ◌≢◌, ◌<◌, true, length, IfOk, IfErr, IsOk, None};
 ghost use Rattle.std.specs.Option.{option_copied, option_or};
 ghost use Rattle.wit_data.specs.Sound.{IsSound, HasWorld};
 ghost use Rattle.comp_worlds.specs.Encodable.{IsEncodable};
@@ -10,22 +10,27 @@ ghost use Rattle.record_faults.specs.declared.fault.Failure.TheVariants as failu
 ghost use Rattle.record_faults.specs.declared.fault.Refusal.{Refusal as RefusalValue};
 ghost use Rattle.supported_worlds.specs.Apart.{AreApart, GroupsApart};
 ghost use Rattle.supported_worlds.specs.Causes.{IsLeftOut};
-ghost use Rattle.supported_worlds.specs.LeftOut.{items_of, twice_left_out, adapters_left_out, modules_left_out, after_order, rest_left_out, named_left_out, left_out, refused, encoded};
+ghost use Rattle.supported_worlds.specs.Distinct.{are_apart};
+ghost use Rattle.supported_worlds.specs.LeftOut.{items_of, are_interfaces_apart, required_of, twice_left_out, adapters_left_out, modules_left_out, after_order, rest_left_out, named_left_out, owned_left_out, left_out, refused, encoded};
+ghost use Rattle.supported_worlds.specs.Sets.{IsSetOf};
+ghost use Rattle.world_values.specs.Mentions.{same_interface, interfaces_of};
 ghost use Rattle.supported_worlds.specs.Guarantees.{HasSoundParts};
 ghost use Rattle.supported_worlds.specs.Placed.{places_of};
 ghost use Rattle.supported_worlds.specs.PlaceTables.{ArePlaces};
 
 use crate::items::world_left_out;
 use crate::naming::names_left_out;
+use crate::owned::own_left_out;
 use crate::placed::order_left_out;
 use crate::places::{Places, interface_places, with_types};
 use crate::resources::resources_left_out;
 use crate::roles::module_left_out;
+use crate::sets::{are_interfaces_apart, required_set};
 use comp_lists::{Keyed, Text};
 use comp_worlds::{ComponentWorld, WorldAdapter, WorldParts};
 use record_faults::{Failure, Refusal};
 use std::alloc::{AllocError, Global};
-use wit_data::World;
+use wit_data::{InterfaceId, World};
 use world_tables::world_of_parts;
 
 /// The refusal of what is not encoded yet.
@@ -133,16 +138,17 @@ fn named_left_out(
     }
 }
 
-/// What of a world is left out apart from its items.
-#[tactic(auto, using(crate::proofs::Reporting::is_twice, crate::proofs::Reporting::is_apart, crate::proofs::TypePlaces::in_world))]
-fn parts_left_out(
+/// The same, of a world that imports no interface twice.
+#[tactic(auto, using(crate::proofs::TypePlaces::in_world))]
+fn in_places_left_out(
     alloc: Global,
     parts: &WorldParts,
     world: &World,
 ) -> Result<Option<&'static str>, AllocError>
     requires sound { IsSound parts.now.resolve }
     requires present { HasWorld parts.now.resolve world.now }
-    ensures reported { IfOk result (λ o. option_copied o ≡ option_or (twice_left_out world.now) (named_left_out parts.now world.now)) }
+    requires apart { are_apart same_interface (interfaces_of world.now.imports) ≡ true }
+    ensures reported { IfOk result (λ o. option_copied o ≡ named_left_out parts.now world.now) }
     ensures apart { IfOk result (λ o. option_copied o ≡ None → GroupsApart parts.now.main.imports.modules) }
 {
     match interface_places(alloc, &world.imports)? {
@@ -151,8 +157,70 @@ fn parts_left_out(
             let found = named_left_out(alloc, parts, world, &places)?;
             Ok(found)
         }
+        None => unreachable!(),
+    }
+}
+
+/// The same, with the roles of exported resources, by the set of the interfaces that main has to export.
+#[tactic(auto, using(crate::proofs::Reporting::own_found, crate::proofs::Reporting::own_passed))]
+fn owned_left_out(
+    alloc: Global,
+    parts: &WorldParts,
+    world: &World,
+    required: &Keyed<InterfaceId, ()>,
+) -> Result<Option<&'static str>, AllocError>
+    requires sound { IsSound parts.now.resolve }
+    requires present { HasWorld parts.now.resolve world.now }
+    requires apart { are_apart same_interface (interfaces_of world.now.imports) ≡ true }
+    requires required { IsSetOf (required_of world.now.exports parts.now.main_exports) required.now }
+    ensures reported { IfOk result (λ o. option_copied o ≡ owned_left_out parts.now world.now) }
+    ensures apart { IfOk result (λ o. option_copied o ≡ None → GroupsApart parts.now.main.imports.modules) }
+{
+    let types = parts.resolve.types.as_slice();
+    match own_left_out(types, &world.exports, required, &parts.main.imports.modules) {
+        Some(what) => Ok(Some(what)),
+        None => in_places_left_out(alloc, parts, world),
+    }
+}
+
+/// The same, of a world whose imported and exported interfaces are apart.
+#[tactic(auto, using(crate::proofs::Reporting::required_twice, crate::proofs::Reporting::required_once, crate::proofs::Reporting::imports_apart))]
+fn required_left_out(
+    alloc: Global,
+    parts: &WorldParts,
+    world: &World,
+) -> Result<Option<&'static str>, AllocError>
+    requires sound { IsSound parts.now.resolve }
+    requires present { HasWorld parts.now.resolve world.now }
+    requires apart { are_interfaces_apart world.now ≡ true }
+    ensures reported { IfOk result (λ o. option_copied o ≡ option_or (twice_left_out parts.now.main_exports world.now) (owned_left_out parts.now world.now)) }
+    ensures apart { IfOk result (λ o. option_copied o ≡ None → GroupsApart parts.now.main.imports.modules) }
+{
+    match required_set(alloc, &world.exports, parts.main_exports.as_slice())? {
+        Some(required) => {
+            let found = owned_left_out(alloc, parts, world, &required)?;
+            Ok(found)
+        }
         None => Ok(Some("interface")),
     }
+}
+
+/// What of a world is left out apart from its items.
+#[tactic(auto, using(crate::proofs::Reporting::is_twice))]
+fn parts_left_out(
+    alloc: Global,
+    parts: &WorldParts,
+    world: &World,
+) -> Result<Option<&'static str>, AllocError>
+    requires sound { IsSound parts.now.resolve }
+    requires present { HasWorld parts.now.resolve world.now }
+    ensures reported { IfOk result (λ o. option_copied o ≡ option_or (twice_left_out parts.now.main_exports world.now) (owned_left_out parts.now world.now)) }
+    ensures apart { IfOk result (λ o. option_copied o ≡ None → GroupsApart parts.now.main.imports.modules) }
+{
+    if !are_interfaces_apart(alloc, world)? {
+        return Ok(Some("interface"));
+    }
+    required_left_out(alloc, parts, world)
 }
 
 /// What of a world is not encoded yet; where nothing is left out, no key occurs twice.
@@ -199,16 +267,17 @@ fn unless_left_out(alloc: Global, parts: WorldParts) -> Result<ComponentWorld, F
 ///
 /// It refuses with `LeftOut` and the kind of something of the world that is not encoded yet: `async`
 /// for an asynchronous function, imported, exported, or of an interface; `type` for an exported type;
-/// `interface` where an interface is imported twice, where an exported one has no name or that of
-/// another, or uses a resource, a named type of the world, or a type of another interface that the world
-/// doesn't import or that it exports too, where a type or a function is made of types that come later in
-/// the order of the imports, or where an interface and its types don't name each other or are out of
-/// order; `type` where the imported types are out of order or lack a resource; the kind of a role of main's imports or exports, `library`, or `adapter`.
+/// `interface` where an interface is imported or exported twice, or both, where main has to export one
+/// twice, where an exported one has no name or that of another, or uses a named type of the world or a type
+/// of another interface that the world neither imports nor exports, where a type or a function is made of
+/// types that come later in the order of the imports, or where an interface and its types don't name each
+/// other or are out of order; `type` where the imported types are out of order or lack a resource; the kind
+/// of a role of main's imports or exports, `library`, or `adapter`.
 /// A synchronous function at the root or of an imported interface is encoded whatever its types are. The
 /// only other refusal is out of memory. On top of `world_of_parts` it takes time linear in the number of
 /// items, of interfaces' types and functions, of the parameters of functions, of types and their parts,
 /// of core imports and of core exports, and in the names of exported interfaces; and memory for a place
-/// and a home a type, for two entries an import and two an exported interface, and for the types that an
+/// and a home a type, for a few entries an import and an exported interface, and for the types that an
 /// exported interface names, beside the refusal's text.
 #[tactic(auto, using(crate::proofs::Reporting::no_cause, crate::proofs::Reporting::has_cause))]
 pub fn encoded_world(alloc: Global, parts: WorldParts) -> Result<ComponentWorld, Failure>

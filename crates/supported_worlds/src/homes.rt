@@ -20,11 +20,11 @@ use wit_data::{InterfaceId, Type, TypeDef, TypeOwner, World, part_count_of, part
 #[derive(Clone, Copy)]
 pub(crate) enum Home {
     /// Any: the type is one of values that has no name and belongs to no interface, or it has a name and belongs to an interface that
-    /// is only imported.
+    /// is imported or exported.
     Anywhere,
     /// This one, to which the type belongs, or a part of it.
     Interface(InterfaceId),
-    /// None: a resource of an exported interface, a type of the world, or one with parts of two interfaces.
+    /// None: a type of the world, a resource without a name, or a type with parts of two such interfaces.
     Nowhere,
 }
 
@@ -109,17 +109,15 @@ fn is_lent_type(lent: &Lent, id: InterfaceId, def: &TypeDef) -> bool
 }
 
 /// The home of a type that belongs to an interface.
-#[tactic(auto, using(crate::proofs::AtHome::lent_type, crate::proofs::AtHome::own_resource, crate::proofs::AtHome::own_values))]
+#[tactic(auto, using(crate::proofs::AtHome::lent_type, crate::proofs::AtHome::own_type))]
 fn home_of_owned(lent: &Lent, id: InterfaceId, def: &TypeDef) -> Home
     ensures { IsOwnedHome (lends lent.now id) id def.now result }
 {
     if is_lent_type(lent, id, def) {
-        return Home::Anywhere;
+        Home::Anywhere
+    } else {
+        Home::Interface(id)
     }
-    if is_resource(def) {
-        return Home::Nowhere;
-    }
-    Home::Interface(id)
 }
 
 /// Whether any interface may be made of a type that belongs to none: it has no name and is no resource.

@@ -1,4 +1,4 @@
-//! The interfaces whose types exported interfaces may use: those that a world imports, and doesn't export too.
+//! The interfaces whose types exported interfaces may use: those that a world imports or exports.
 //!
 //! The sets of both are made once for a world. Whether the types of an interface may be used is then two look-ups.
 
@@ -56,5 +56,5 @@ pub(crate) fn lent_interfaces(alloc: Global, world: &World) -> Result<Lent, Allo
 pub(crate) fn lends(lent: &Lent, id: InterfaceId) -> bool
     ensures { result ≡ lends lent.now id }
 {
-    lent.imported.contains_key(&id) && !lent.exported.contains_key(&id)
+    lent.imported.contains_key(&id) || lent.exported.contains_key(&id)
 }

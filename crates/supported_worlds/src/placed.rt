@@ -61,7 +61,7 @@ fn name_at(types: &[TypeDef], id: usize) -> &Option<Text>
 }
 
 /// The interface to which a type belongs, if it belongs to one.
-fn interface_of_owner(owner: TypeOwner) -> Option<InterfaceId>
+pub(crate) fn interface_of_owner(owner: TypeOwner) -> Option<InterfaceId>
     ensures { result ≡ interface_of_owner owner }
 {
     match owner {

@@ -5,7 +5,7 @@ ghost use Rattle.std.specs.List.{AllByRecursion, list_any};
 ghost use Rattle.std.specs.Option.{option_copied};
 ghost use Rattle.wit_data.specs.Sound.{HasEntry};
 ghost use Rattle.supported_worlds.specs.LeftOut.{resources_left_out};
-ghost use Rattle.supported_worlds.specs.Placed.{is_resource, is_root_resource, imported_numbers, are_in_place, is_droppable};
+ghost use Rattle.supported_worlds.specs.Placed.{is_resource, is_root_resource, imported_numbers, are_in_place, is_droppable, is_resource_at};
 ghost use Rattle.supported_worlds.specs.Places.{Follows, FollowsImport};
 
 use crate::places::place_at;
@@ -111,6 +111,16 @@ pub(crate) fn is_droppable(types: &[TypeDef], places: &[usize], root: usize, id:
 {
     match types.get(id.index) {
         Some(def) => is_resource(def) && place_at(places, Some(Type::Id(id))) <= root,
+        None => false,
+    }
+}
+
+/// Whether a type is a resource.
+pub(crate) fn is_resource_at(types: &[TypeDef], id: TypeId) -> bool
+    ensures { result ≡ is_resource_at types.now id }
+{
+    match types.get(id.index) {
+        Some(def) => is_resource(def),
         None => false,
     }
 }

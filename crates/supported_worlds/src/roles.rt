@@ -8,11 +8,11 @@ ghost use Rattle.std.specs.Str.{bytes_eq};
 ghost use Rattle.comp_roles.specs.Lookups.{first_some};
 ghost use Rattle.supported_worlds.specs.Apart.{FieldsApart, GroupsApart};
 ghost use Rattle.supported_worlds.specs.LeftOut.{unless, import_left_out, export_left_out, instance_left_out, group_left_out, module_left_out};
-ghost use Rattle.supported_worlds.specs.Placed.{is_droppable};
+ghost use Rattle.supported_worlds.specs.Placed.{is_droppable, is_resource_at};
 
 use crate::kinds::{export_kind, import_kind};
 use crate::places::Places;
-use crate::resources::is_droppable;
+use crate::resources::{is_droppable, is_resource_at};
 use comp_lists::{Keyed, Text};
 use comp_roles::{Export, Import, ImportInstance};
 use comp_worlds::ValidatedModule;
@@ -38,12 +38,26 @@ fn import_left_out(types: &[TypeDef], places: &Places, role: &Import) -> Option<
         Import::InterfaceFunc(_, _, _, AbiVariant::GuestImport) => None,
         Import::InterfaceFunc(_, _, _, AbiVariant::GuestImportAsync) => Some("async"),
         Import::ImportedResourceDrop(_, _, id) => drop_left_out(types, places, *id),
+        Import::ExportedResourceDrop(..)
+        | Import::ExportedResourceRep(..)
+        | Import::ExportedResourceNew(..) => None,
         _ => Some(import_kind(role)),
     }
 }
 
-fn export_left_out(role: &Export) -> Option<&'static str>
-    ensures { option_copied result ≡ export_left_out role.now }
+/// The destructor of a type, unless it is a resource.
+fn destructor_left_out(types: &[TypeDef], id: TypeId) -> Option<&'static str>
+    ensures { option_copied result ≡ unless (is_resource_at types.now id) (codes "dtor") }
+{
+    if is_resource_at(types, id) {
+        None
+    } else {
+        Some("dtor")
+    }
+}
+
+fn export_left_out(types: &[TypeDef], role: &Export) -> Option<&'static str>
+    ensures { option_copied result ≡ export_left_out types.now role.now }
 {
     match role {
         Export::WorldFunc(WorldKey::Name(_), _, AbiVariant::GuestExport) => None,
@@ -51,6 +65,7 @@ fn export_left_out(role: &Export) -> Option<&'static str>
         Export::WorldFunc(..) => Some("async"),
         Export::InterfaceFunc(_, _, _, AbiVariant::GuestExport) => None,
         Export::InterfaceFunc(..) => Some("async"),
+        Export::ResourceDtor(id) => destructor_left_out(types, *id),
         Export::WorldFuncPostReturn(WorldKey::Name(_))
         | Export::InterfaceFuncPostReturn(..)
         | Export::Memory(_)
@@ -112,11 +127,11 @@ fn groups_left_out(
     None
 }
 
-fn exports_left_out(exports: &Keyed<Text, Export>) -> Option<&'static str>
-    ensures { option_copied result ≡ first_some (λ e. export_left_out e.1) exports.now }
+fn exports_left_out(types: &[TypeDef], exports: &Keyed<Text, Export>) -> Option<&'static str>
+    ensures { option_copied result ≡ first_some (λ e. export_left_out types.now e.1) exports.now }
 {
     for (_, role) in exports.iter() {
-        if let Some(what) = export_left_out(role) {
+        if let Some(what) = export_left_out(types, role) {
             return Some(what);
         }
     }
@@ -134,6 +149,6 @@ pub(crate) fn module_left_out(
 {
     match groups_left_out(types, places, &main.imports.modules) {
         Some(what) => Some(what),
-        None => exports_left_out(&main.exports.exports),
+        None => exports_left_out(types, &main.exports.exports),
     }
 }

@@ -53,7 +53,7 @@ loop-key-preserved c =
       tt,
       tt,
       of.world ∙ same,
-      of.next ∙ count,
+      of.met ∙ count,
       interfaces_step (naming_of c.args.names.now) w c.args.root.now.items mid.items new.items mid.instances new.instances e c.next.new.self (subst (λ (es : List (WorldKey × WorldItem)). InterfacesSoFar (naming_of c.args.names.now) c.args.root.now.world.now c.args.root.now.items c.loop-key.root.items c.loop-key.root.instances es) c.in-Some.ensures.steps c.loop-key.invariant.4) of.extends (subst (λ r. Grows r.now mid.items.defs new.items.defs (flat_map (import_marked (naming_of c.args.names.now) r.now) (interface_entry r.now e))) same of.grows)
           (subst (λ r. FindsInterfaces r.now new.items.defs new.instances) same of.finds) of.still (subst (λ r. IsFoundItem r.now new.instances e) same of.found),
     )
@@ -64,7 +64,7 @@ returns-clause-grows c = interfaces_done (naming_of c.args.names.now) c.args.roo
 pub returns-clause-known : goal.returns-clause-known
 returns-clause-known c =
     interfaces_known (naming_of c.args.names.now) c.args.root.now.world.now c.args.root.now.items c.loop-key.root.items c.loop-key.root.instances
-    (subst (λ (es : List (WorldKey × WorldItem)). InterfacesSoFar (naming_of c.args.names.now) c.args.root.now.world.now c.args.root.now.items c.loop-key.root.items c.loop-key.root.instances es) c.in-None.ensures.steps.0 c.loop-key.invariant.4) c.requires.valid.tables
+    (subst (λ (es : List (WorldKey × WorldItem)). InterfacesSoFar (naming_of c.args.names.now) c.args.root.now.world.now c.args.root.now.items c.loop-key.root.items c.loop-key.root.instances es) c.in-None.ensures.steps.0 c.loop-key.invariant.4) c.requires.valid
 
 pub returns-in_err-import_interface_item-clause-extends : goal.returns-in_err-import_interface_item-clause-extends
 returns-in_err-import_interface_item-clause-extends c = extends_then c.args.root.now.items c.loop-key.root.items c.import_interface_item.new.root.items c.loop-key.invariant.4.extends c.import_interface_item.ensures.extends

@@ -8,5 +8,5 @@ invariant-loop-key l =
     goal.iterator-loop-key.can_next l.key-iterator ×
     goal.iterator-loop-key.is_finite l.key-iterator ×
     (l.root.world ≡ l.fn.root.world) ×
-    (l.root.last_type ≡ l.fn.root.last_type) ×
+    (l.root.met ≡ l.fn.root.met) ×
     InterfacesSoFar (naming_of l.fn.names) l.fn.root.world.now l.fn.root.items l.root.items l.root.instances l.key-iterator

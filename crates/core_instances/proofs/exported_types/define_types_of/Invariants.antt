@@ -1,4 +1,4 @@
-use Rattle.core_instances.proofs.Defining.{ListedSoFar}
+use Rattle.core_instances.proofs.Entering.{ListedSoFar}
 use Rattle.core_instances.proofs.exported_types.define_types_of.Given as goal
 
 abbrev pub invariant-loop-entry : goal.invariant-loop-entry

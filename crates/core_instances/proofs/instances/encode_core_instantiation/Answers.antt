@@ -1,4 +1,4 @@
-use Rattle.std.proofs.Common.{◌≡◌, ◌∙◌, [], ◌∷◌, Option, ℕ, ap, sym, subst}
+use Rattle.std.proofs.Common.{◌≡◌, ◌∙◌, [], ◌∷◌, ◌++◌, Option, ℕ, ap, sym, subst}
 use Rattle.std.specs.Option.{option_copied}
 use Rattle.comp_roles.specs.Reallocs.{is_import_realloc, realloc_for}
 use Rattle.core_options.specs.MainOptions.{memory_name}
@@ -8,64 +8,86 @@ use Rattle.comp_items.proofs.Extending.{extends_none}
 use Rattle.comp_items.proofs.Kept.{instance-kept}
 use Rattle.comp_items.proofs.Remembering.{longer}
 use Rattle.comp_links.specs.Roles.{IsEncodedImport}
-use Rattle.comp_terms.specs.Rules.{Grows, InstanceOf}
+use Rattle.comp_terms.specs.Rules.{Grows, InstanceOf, resources_marked}
 use Rattle.comp_worlds.specs.WorldContents.{core_imports}
-use Rattle.comp_worlds.specs.declared.world.ComponentWorld.{ComponentWorld}
 use Rattle.comp_worlds.specs.Encodable.{IsEncodable}
 use Rattle.main_fixup.specs.Filling.{AreFillSources, HasShimOptions}
 use Rattle.main_fixup.specs.declared.sources.FillSources.{FillSources}
 use Rattle.main_instance.specs.Sources.{AreSources, IsShimInstance}
 use Rattle.main_instance.specs.declared.instances.ImportSources.{ImportSources}
 use Rattle.root_imports.specs.Growing.{Grows-then, longer_by}
-use Rattle.root_imports.specs.Keeping.{Root, RootKept}
+use Rattle.root_imports.specs.Keeping.{Root, RootMoved}
+use Rattle.root_imports.specs.declared.met_types.MetTypes.{MetTypes}
+use Rattle.comp_worlds.specs.ExportOrder.{AreExportsInOrder}
+use Rattle.comp_links.specs.Lists.{required_functions}
+use Rattle.core_options.specs.Causes.{IsCause, IsCauseAmong}
+use Rattle.core_options.proofs.OptionTerms.{refused_with}
+use Rattle.core_options.proofs.Refusals.{among_more}
+use Rattle.interface_needs.proofs.Lists.{contains_none}
+use Rattle.core_instances.specs.ExportedTypes.{AreShimSources}
+use Rattle.root_imports.specs.Met.{AreExportsMet}
 use Rattle.root_imports.specs.RootScopes.{AreTablesRight}
-use Rattle.root_imports.proofs.Keeping.{kept_none, kept_items, kept_then}
+use Rattle.root_imports.proofs.Keeping.{kept_none, kept_items, moved_items, moved_kept, moved_then}
 use Rattle.world_shims.specs.WorldShims.{shims_of}
-use Rattle.core_instances.specs.Instances.{IsFirstModule, IsFixupNextIf, MayAddFixup, AreImportsMade}
+use Rattle.core_instances.specs.Instances.{IsFirstModule, IsFixupNextIf, MayAddFixup}
 use Rattle.core_instances.proofs.Made.{sources_after, fills_after, made_after, shim_instance-kept, first-kept}
 use Rattle.core_instances.proofs.Needs.{all_lowered}
-use Rattle.core_instances.proofs.Ordering.{first_after, shims_after, fixup_next, all_added}
+use Rattle.core_instances.proofs.Ordering.{first_after, none_after, shims_after, fixup_next, all_added}
 use Rattle.core_instances.proofs.instances.encode_core_instantiation.Goals as goal
 
 -- ---- the root after the first steps
 
-kept_shims : (old a : Root) → AreTablesRight old.world.now old.last_type old.instances old.items.defs old.maps → a ≡ record old { items = a.items } → Extends old.items a.items → RootKept old.world.now old a
-kept_shims old a tables same extends = kept_items old.world.now old old a (kept_none old.world.now old tables) same extends
+moved_shims : (old a : Root) → AreTablesRight old.world.now old.met old.instances old.items.defs old.maps → a ≡ record old { items = a.items } → Extends old.items a.items → RootMoved old.world.now old a
+moved_shims old a tables same extends = moved_kept old.world.now old a (kept_items old.world.now old old a (kept_none old.world.now old tables) same extends)
 
-kept_types : (old a b : Root) → RootKept old.world.now old a → RootKept a.world.now a b → RootKept old.world.now old b
-kept_types old a b k h = kept_then old.world.now old a b k (subst (λ x. RootKept x.now a b) k.world h)
+moved_types : (old a b : Root) → RootMoved old.world.now old a → RootMoved a.world.now a b → RootMoved old.world.now old b
+moved_types old a b k h = moved_then old.world.now old a b k (subst (λ x. RootMoved x.now a b) k.world h)
 
 -- those of the shims and of the types
-typed : (old a b : Root) → AreTablesRight old.world.now old.last_type old.instances old.items.defs old.maps → a ≡ record old { items = a.items } → Extends old.items a.items → RootKept a.world.now a b → RootKept old.world.now old b
-typed old a b tables same extends h = kept_types old a b (kept_shims old a tables same extends) h
+typed : (old a b : Root) → AreTablesRight old.world.now old.met old.instances old.items.defs old.maps → a ≡ record old { items = a.items } → Extends old.items a.items → RootMoved a.world.now a b → RootMoved old.world.now old b
+typed old a b tables same extends h = moved_types old a b (moved_shims old a tables same extends) h
 
-typed_grows : (old a b : Root) → a ≡ record old { items = a.items } → Grows a.world.now a.items.defs b.items.defs [] → Grows old.world.now a.items.defs b.items.defs []
-typed_grows old a b same h = subst (λ (r : Root). Grows r.world.now a.items.defs b.items.defs []) same h
+typed_grows : (old a b : Root) → a ≡ record old { items = a.items } → Grows a.world.now a.items.defs b.items.defs (resources_marked a.world.now) → Grows old.world.now a.items.defs b.items.defs (resources_marked old.world.now)
+typed_grows old a b same h = subst (λ (r : Root). Grows r.world.now a.items.defs b.items.defs (resources_marked r.world.now)) same h
 
 -- and those up to main's instance
-main_grows : (old a b d : Root) → a ≡ record old { items = a.items } → RootKept old.world.now old b → Grows a.world.now a.items.defs b.items.defs [] → Grows b.world.now b.items.defs d.items.defs (InstanceOf 0 ∷ []) →
-    Grows old.world.now a.items.defs d.items.defs (InstanceOf 0 ∷ [])
+main_grows : (old a b d : Root) → a ≡ record old { items = a.items } → RootMoved old.world.now old b → Grows a.world.now a.items.defs b.items.defs (resources_marked a.world.now) → Grows b.world.now b.items.defs d.items.defs (InstanceOf 0 ∷ []) →
+    Grows old.world.now a.items.defs d.items.defs (resources_marked old.world.now ++ InstanceOf 0 ∷ [])
 main_grows old a b d same k types instance = Grows-then (typed_grows old a b same types) (subst (λ x. Grows x.now b.items.defs d.items.defs (InstanceOf 0 ∷ [])) k.world instance)
 
-pub returns-in_err-shim_instance-clause-kept : goal.returns-in_err-shim_instance-clause-kept
-returns-in_err-shim_instance-clause-kept c =
-    kept_shims c.args.root.now c.encode_shim_instantiation.new.root c.requires.made.tables c.in_err-shim_instance.ensures.same c.in_err-shim_instance.ensures.extends
+pub returns-in_err-shim_instance-clause-moved : goal.returns-in_err-shim_instance-clause-moved
+returns-in_err-shim_instance-clause-moved c =
+    moved_shims c.args.root.now c.encode_shim_instantiation.new.root c.requires.made.tables c.in_err-shim_instance.ensures.same c.in_err-shim_instance.ensures.extends
 
 pub define_exported_types-requires : goal.define_exported_types-requires
 define_exported_types-requires c =
     let w = c.args.root.now.world.now in
+    let old = c.args.root.now.items.defs in
     let a : Root = c.encode_shim_instantiation.new.root in
-    let k : RootKept w c.args.root.now a = kept_shims c.args.root.now a c.requires.made.tables c.in_ok-shim_instance.ensures.same c.in_ok-shim_instance.ensures.extends in
+    let e = c.in_ok-shim_instance.ensures in
+    let o : Option ℕ = c.in_ok-shim_instance.shim_instance in
+    let k : RootMoved w c.args.root.now a = moved_shims c.args.root.now a c.requires.made.tables e.same e.extends in
     record {
       valid = subst (λ x. IsEncodable x.now) (sym k.world) c.requires.made.valid;
-      tables = subst (λ x. AreTablesRight x.now a.last_type a.instances a.items.defs a.maps) (sym k.world) (subst (λ l. AreTablesRight w l a.instances a.items.defs a.maps) (sym k.next) k.tables);
+      shims = subst (λ x. AreShimSources x.now a.items.defs (record { shims = record { ref_ptr = (c.shims-3-1.given, 0); now = c.in_ok-shims.shims }; instance = o })) (sym k.world)
+          (record { shims = c.in_ok-shims.ensures.ok; instance = shims_after w c.args.debug_names old a.items.defs o e.added });
+      tables = subst (λ x. AreTablesRight x.now a.met a.instances a.items.defs a.maps) (sym k.world) k.tables;
+      none = none_after w c.args.debug_names old a.items.defs o e.added c.requires.alone.none;
     }
 
-pub returns-in_err-define_exported_types-clause-kept : goal.returns-in_err-define_exported_types-clause-kept
-returns-in_err-define_exported_types-clause-kept c =
+pub returns-in_err-define_exported_types-clause-moved : goal.returns-in_err-define_exported_types-clause-moved
+returns-in_err-define_exported_types-clause-moved c =
+    let a : Root = c.encode_shim_instantiation.new.root in
+    moved_types c.args.root.now a c.define_exported_types.new.root (moved_shims c.args.root.now a c.requires.made.tables c.in_ok-shim_instance.ensures.same c.in_ok-shim_instance.ensures.extends) c.in_err-define_exported_types.ensures.moved
+
+pub returns-in_err-define_exported_types-clause-cause : goal.returns-in_err-define_exported_types-clause-cause
+returns-in_err-define_exported_types-clause-cause c =
     let w = c.args.root.now.world.now in
     let a : Root = c.encode_shim_instantiation.new.root in
-    kept_types c.args.root.now a c.define_exported_types.new.root (kept_shims c.args.root.now a c.requires.made.tables c.in_ok-shim_instance.ensures.same c.in_ok-shim_instance.ensures.extends) c.in_err-define_exported_types.ensures.kept
+    let k : RootMoved w c.args.root.now a = moved_shims c.args.root.now a c.requires.made.tables c.in_ok-shim_instance.ensures.same c.in_ok-shim_instance.ensures.extends in
+    let e = c.in_err-define_exported_types.field-0.0 in
+    refused_with c.from_residual-in_err-define_exported_types.result e (IsCause w) c.from_residual-in_err-define_exported_types.ensures.1
+    (among_more w [] (core_imports w) [] (required_functions w) (λ i k. contains_none i k) (λ r k. contains_none r k) e (subst (λ x. IsCauseAmong x.now [] [] e) k.world c.in_err-define_exported_types.ensures.cause))
 
 pub instantiate_main_module-requires-clause-sources : goal.instantiate_main_module-requires-clause-sources
 instantiate_main_module-requires-clause-sources c =
@@ -74,11 +96,12 @@ instantiate_main_module-requires-clause-sources c =
     let mid = c.encode_shim_instantiation.new.root.items in
     let b : Root = c.define_exported_types.new.root in
     let e = c.in_ok-shim_instance.ensures in
-    let k : RootKept w c.args.root.now b = typed c.args.root.now c.encode_shim_instantiation.new.root c.define_exported_types.new.root c.requires.made.tables c.in_ok-shim_instance.ensures.same c.in_ok-shim_instance.ensures.extends c.in_ok-define_exported_types.ensures.kept in
+    let k : RootMoved w c.args.root.now b = typed c.args.root.now c.encode_shim_instantiation.new.root c.define_exported_types.new.root c.requires.made.tables c.in_ok-shim_instance.ensures.same c.in_ok-shim_instance.ensures.extends c.in_ok-define_exported_types.ensures.moved in
     let o : Option ℕ = c.in_ok-shim_instance.shim_instance in
+    let a_world : c.encode_shim_instantiation.new.root.world ≡ c.args.root.now.world = ap (λ (r : Root). r.world) e.same in
     let there : IsShimInstance w b.items.defs o = shim_instance-kept w (longer_by (typed_grows c.args.root.now c.encode_shim_instantiation.new.root c.define_exported_types.new.root c.in_ok-shim_instance.ensures.same c.in_ok-define_exported_types.ensures.grows)) o (shims_after w c.args.debug_names old.defs mid.defs o e.added) in
-    let s : ImportSources = record { functions = c.args.functions; shims = record { ref_ptr = (c.shims-3-1.given, 0); now = c.in_ok-shims.shims }; shim_instance = o } in
-    subst (λ x. AreSources x.now s b.last_type b.items.defs b.maps b.instances) (sym k.world) (sources_after (extends_none b.items) s (made_after c.args.root.now b k c.requires.made) c.in_ok-shims.ensures.ok there)
+    let s : ImportSources = record { functions = c.args.functions; shims = record { ref_ptr = (c.shims-4-1.given, 0); now = c.in_ok-shims.shims }; shim_instance = o } in
+    subst (λ x. AreSources x.now s b.met b.items.defs b.maps b.instances) (sym k.world) (sources_after (extends_none b.items) s (made_after c.args.root.now b k c.requires.made) (subst (λ x. AreExportsMet x.now b.met) a_world c.in_ok-define_exported_types.ensures.met) c.in_ok-shims.ensures.ok there)
 
 pub instantiate_main_module-requires-clause-first : goal.instantiate_main_module-requires-clause-first
 instantiate_main_module-requires-clause-first c =
@@ -86,12 +109,12 @@ instantiate_main_module-requires-clause-first c =
     let old = c.args.root.now.items.defs in
     let mid = c.encode_shim_instantiation.new.root.items.defs in
     let b : Root = c.define_exported_types.new.root in
-    let k : RootKept w c.args.root.now b = typed c.args.root.now c.encode_shim_instantiation.new.root c.define_exported_types.new.root c.requires.made.tables c.in_ok-shim_instance.ensures.same c.in_ok-shim_instance.ensures.extends c.in_ok-define_exported_types.ensures.kept in
+    let k : RootMoved w c.args.root.now b = typed c.args.root.now c.encode_shim_instantiation.new.root c.define_exported_types.new.root c.requires.made.tables c.in_ok-shim_instance.ensures.same c.in_ok-shim_instance.ensures.extends c.in_ok-define_exported_types.ensures.moved in
     subst (λ x. IsFirstModule x.now b.items.defs) (sym k.world) (first-kept (longer_by (typed_grows c.args.root.now c.encode_shim_instantiation.new.root c.define_exported_types.new.root c.in_ok-shim_instance.ensures.same c.in_ok-define_exported_types.ensures.grows)) (first_after w c.args.debug_names old mid c.in_ok-shim_instance.shim_instance c.in_ok-shim_instance.ensures.added c.requires.alone.first))
 
-pub returns-in_err-instance-clause-kept : goal.returns-in_err-instance-clause-kept
-returns-in_err-instance-clause-kept c =
-    kept_items c.args.root.now.world.now c.args.root.now c.define_exported_types.new.root c.instantiate_main_module.new.root (typed c.args.root.now c.encode_shim_instantiation.new.root c.define_exported_types.new.root c.requires.made.tables c.in_ok-shim_instance.ensures.same c.in_ok-shim_instance.ensures.extends c.in_ok-define_exported_types.ensures.kept) c.in_err-instance.ensures.same c.in_err-instance.ensures.extends
+pub returns-in_err-instance-clause-moved : goal.returns-in_err-instance-clause-moved
+returns-in_err-instance-clause-moved c =
+    moved_items c.args.root.now.world.now c.args.root.now c.define_exported_types.new.root c.instantiate_main_module.new.root (typed c.args.root.now c.encode_shim_instantiation.new.root c.define_exported_types.new.root c.requires.made.tables c.in_ok-shim_instance.ensures.same c.in_ok-shim_instance.ensures.extends c.in_ok-define_exported_types.ensures.moved) c.in_err-instance.ensures.same c.in_err-instance.ensures.extends
 
 pub encode_indirect_lowerings-requires-clause-sources : goal.encode_indirect_lowerings-requires-clause-sources
 encode_indirect_lowerings-requires-clause-sources c =
@@ -99,14 +122,14 @@ encode_indirect_lowerings-requires-clause-sources c =
     let b : Root = c.define_exported_types.new.root in
     let new = c.instantiate_main_module.new.root.items in
     let f = c.in_ok-instance.ensures in
-    let k : RootKept w c.args.root.now b = typed c.args.root.now c.encode_shim_instantiation.new.root c.define_exported_types.new.root c.requires.made.tables c.in_ok-shim_instance.ensures.same c.in_ok-shim_instance.ensures.extends c.in_ok-define_exported_types.ensures.kept in
+    let k : RootMoved w c.args.root.now b = typed c.args.root.now c.encode_shim_instantiation.new.root c.define_exported_types.new.root c.requires.made.tables c.in_ok-shim_instance.ensures.same c.in_ok-shim_instance.ensures.extends c.in_ok-define_exported_types.ensures.moved in
     let s : FillSources = record { functions = c.args.functions; options = record { instance = c.in_ok-instance.instance; memory = c.memory_name.result; realloc = c.import_realloc_for.result } } in
     let world : c.instantiate_main_module.new.root.world ≡ c.args.root.now.world = ap (λ (r : Root). r.world) f.same ∙ k.world in
     let memory : option_copied c.memory_name.result ≡ memory_name w = subst (λ x. option_copied c.memory_name.result ≡ memory_name x.now) world c.memory_name.ensures in
     let realloc : option_copied c.import_realloc_for.result ≡ realloc_for is_import_realloc w.main.exports.exports =
     subst (λ x. option_copied c.import_realloc_for.result ≡ realloc_for is_import_realloc x.now.main.exports.exports) world c.import_realloc_for.ensures in
-    subst (λ (r : Root). AreFillSources r.world.now s r.last_type new.defs r.maps r.instances) (sym f.same)
-    (subst (λ x. AreFillSources x.now s b.last_type new.defs b.maps b.instances) (sym k.world) (fills_after f.extends s (made_after c.args.root.now b k c.requires.made) f.made memory realloc))
+    subst (λ (r : Root). AreFillSources r.world.now s r.met new.defs r.maps r.instances) (sym f.same)
+    (subst (λ x. AreFillSources x.now s b.met new.defs b.maps b.instances) (sym k.world) (fills_after f.extends s (made_after c.args.root.now b k c.requires.made) f.made memory realloc))
 
 pub encode_indirect_lowerings-requires-clause-next : goal.encode_indirect_lowerings-requires-clause-next
 encode_indirect_lowerings-requires-clause-next c =
@@ -115,24 +138,24 @@ encode_indirect_lowerings-requires-clause-next c =
     let mid = c.encode_shim_instantiation.new.root.items.defs in
     let new = c.instantiate_main_module.new.root.items.defs in
     let o : Option ℕ = c.in_ok-shim_instance.shim_instance in
-    let k : RootKept w c.args.root.now c.define_exported_types.new.root = typed c.args.root.now c.encode_shim_instantiation.new.root c.define_exported_types.new.root c.requires.made.tables c.in_ok-shim_instance.ensures.same c.in_ok-shim_instance.ensures.extends c.in_ok-define_exported_types.ensures.kept in
+    let k : RootMoved w c.args.root.now c.define_exported_types.new.root = typed c.args.root.now c.encode_shim_instantiation.new.root c.define_exported_types.new.root c.requires.made.tables c.in_ok-shim_instance.ensures.same c.in_ok-shim_instance.ensures.extends c.in_ok-define_exported_types.ensures.moved in
     let world : c.instantiate_main_module.new.root.world ≡ c.args.root.now.world = ap (λ (r : Root). r.world) c.in_ok-instance.ensures.same ∙ k.world in
     subst (λ x. IsFixupNextIf x.now new o) (sym world) (fixup_next w c.requires.made.valid c.args.debug_names old mid new o c.requires.alone c.in_ok-shim_instance.ensures.added (main_grows c.args.root.now c.encode_shim_instantiation.new.root c.define_exported_types.new.root c.instantiate_main_module.new.root c.in_ok-shim_instance.ensures.same k c.in_ok-define_exported_types.ensures.grows c.in_ok-instance.ensures.grows))
 
-pub returns-in_err-encode_indirect_lowerings-clause-kept : goal.returns-in_err-encode_indirect_lowerings-clause-kept
-returns-in_err-encode_indirect_lowerings-clause-kept c =
+pub returns-in_err-encode_indirect_lowerings-clause-moved : goal.returns-in_err-encode_indirect_lowerings-clause-moved
+returns-in_err-encode_indirect_lowerings-clause-moved c =
     let w = c.args.root.now.world.now in
     let b : Root = c.define_exported_types.new.root in
     let d : Root = c.instantiate_main_module.new.root in
-    kept_items w c.args.root.now d c.encode_indirect_lowerings.new.root (kept_items w c.args.root.now b d (typed c.args.root.now c.encode_shim_instantiation.new.root c.define_exported_types.new.root c.requires.made.tables c.in_ok-shim_instance.ensures.same c.in_ok-shim_instance.ensures.extends c.in_ok-define_exported_types.ensures.kept) c.in_ok-instance.ensures.same c.in_ok-instance.ensures.extends) c.in_err-encode_indirect_lowerings.ensures.same
+    moved_items w c.args.root.now d c.encode_indirect_lowerings.new.root (moved_items w c.args.root.now b d (typed c.args.root.now c.encode_shim_instantiation.new.root c.define_exported_types.new.root c.requires.made.tables c.in_ok-shim_instance.ensures.same c.in_ok-shim_instance.ensures.extends c.in_ok-define_exported_types.ensures.moved) c.in_ok-instance.ensures.same c.in_ok-instance.ensures.extends) c.in_err-encode_indirect_lowerings.ensures.same
     c.in_err-encode_indirect_lowerings.ensures.extends
 
-pub returns-clause-kept : goal.returns-clause-kept
-returns-clause-kept c =
+pub returns-clause-moved : goal.returns-clause-moved
+returns-clause-moved c =
     let w = c.args.root.now.world.now in
     let b : Root = c.define_exported_types.new.root in
     let d : Root = c.instantiate_main_module.new.root in
-    kept_items w c.args.root.now d c.encode_indirect_lowerings.new.root (kept_items w c.args.root.now b d (typed c.args.root.now c.encode_shim_instantiation.new.root c.define_exported_types.new.root c.requires.made.tables c.in_ok-shim_instance.ensures.same c.in_ok-shim_instance.ensures.extends c.in_ok-define_exported_types.ensures.kept) c.in_ok-instance.ensures.same c.in_ok-instance.ensures.extends) c.in_ok-encode_indirect_lowerings.ensures.same
+    moved_items w c.args.root.now d c.encode_indirect_lowerings.new.root (moved_items w c.args.root.now b d (typed c.args.root.now c.encode_shim_instantiation.new.root c.define_exported_types.new.root c.requires.made.tables c.in_ok-shim_instance.ensures.same c.in_ok-shim_instance.ensures.extends c.in_ok-define_exported_types.ensures.moved) c.in_ok-instance.ensures.same c.in_ok-instance.ensures.extends) c.in_ok-encode_indirect_lowerings.ensures.same
     c.in_ok-encode_indirect_lowerings.ensures.extends
 
 pub returns-clause-added : goal.returns-clause-added
@@ -144,7 +167,7 @@ returns-clause-added c =
     let new = c.encode_indirect_lowerings.new.root.items.defs in
     let o : Option ℕ = c.in_ok-shim_instance.shim_instance in
     let d = c.args.debug_names in
-    let k : RootKept w c.args.root.now c.define_exported_types.new.root = typed c.args.root.now c.encode_shim_instantiation.new.root c.define_exported_types.new.root c.requires.made.tables c.in_ok-shim_instance.ensures.same c.in_ok-shim_instance.ensures.extends c.in_ok-define_exported_types.ensures.kept in
+    let k : RootMoved w c.args.root.now c.define_exported_types.new.root = typed c.args.root.now c.encode_shim_instantiation.new.root c.define_exported_types.new.root c.requires.made.tables c.in_ok-shim_instance.ensures.same c.in_ok-shim_instance.ensures.extends c.in_ok-define_exported_types.ensures.moved in
     let world : c.instantiate_main_module.new.root.world ≡ c.args.root.now.world = ap (λ (r : Root). r.world) c.in_ok-instance.ensures.same ∙ k.world in
     let filled : MayAddFixup w d late new o = subst (λ x. MayAddFixup x.now d late new o) world c.in_ok-encode_indirect_lowerings.ensures.added in
     all_added w d old mid late new o c.in_ok-shim_instance.ensures.added (main_grows c.args.root.now c.encode_shim_instantiation.new.root c.define_exported_types.new.root c.instantiate_main_module.new.root c.in_ok-shim_instance.ensures.same k c.in_ok-define_exported_types.ensures.grows c.in_ok-instance.ensures.grows) filled
@@ -154,13 +177,21 @@ returns-clause-made c = instance-kept (longer c.in_ok-encode_indirect_lowerings.
 
 pub returns-clause-encoded : goal.returns-clause-encoded
 returns-clause-encoded c =
-    let k : RootKept c.args.root.now.world.now c.args.root.now c.define_exported_types.new.root = typed c.args.root.now c.encode_shim_instantiation.new.root c.define_exported_types.new.root c.requires.made.tables c.in_ok-shim_instance.ensures.same c.in_ok-shim_instance.ensures.extends c.in_ok-define_exported_types.ensures.kept in
+    let k : RootMoved c.args.root.now.world.now c.args.root.now c.define_exported_types.new.root = typed c.args.root.now c.encode_shim_instantiation.new.root c.define_exported_types.new.root c.requires.made.tables c.in_ok-shim_instance.ensures.same c.in_ok-shim_instance.ensures.extends c.in_ok-define_exported_types.ensures.moved in
     subst (λ x. AllByRecursion (λ i. IsEncodedImport x.now i.role) (core_imports x.now)) k.world c.in_ok-instance.ensures.encoded
 
 pub returns-clause-lowered : goal.returns-clause-lowered
 returns-clause-lowered c =
     let w = c.args.root.now.world.now in
-    let k : RootKept w c.args.root.now c.define_exported_types.new.root = typed c.args.root.now c.encode_shim_instantiation.new.root c.define_exported_types.new.root c.requires.made.tables c.in_ok-shim_instance.ensures.same c.in_ok-shim_instance.ensures.extends c.in_ok-define_exported_types.ensures.kept in
+    let k : RootMoved w c.args.root.now c.define_exported_types.new.root = typed c.args.root.now c.encode_shim_instantiation.new.root c.define_exported_types.new.root c.requires.made.tables c.in_ok-shim_instance.ensures.same c.in_ok-shim_instance.ensures.extends c.in_ok-define_exported_types.ensures.moved in
     let world : c.instantiate_main_module.new.root.world ≡ c.args.root.now.world = ap (λ (r : Root). r.world) c.in_ok-instance.ensures.same ∙ k.world in
     let offered : AllByRecursion (HasShimOptions w) (shims_of w) = subst (λ x. AllByRecursion (HasShimOptions x.now) (shims_of x.now)) world c.in_ok-encode_indirect_lowerings.ensures.offered in
     all_lowered w c.requires.made.valid offered (subst (λ x. AllByRecursion (λ i. IsEncodedImport x.now i.role) (core_imports x.now)) k.world c.in_ok-instance.ensures.encoded)
+
+pub returns-clause-ordered : goal.returns-clause-ordered
+returns-clause-ordered c = subst (λ x. AreExportsInOrder x.now) (ap (λ (r : Root). r.world) c.in_ok-shim_instance.ensures.same) c.in_ok-define_exported_types.ensures.ordered
+
+pub returns-clause-met : goal.returns-clause-met
+returns-clause-met c =
+    let same : c.encode_indirect_lowerings.new.root.met ≡ c.define_exported_types.new.root.met = ap (λ (r : Root). r.met) c.in_ok-encode_indirect_lowerings.ensures.same ∙ ap (λ (r : Root). r.met) c.in_ok-instance.ensures.same in
+    subst (λ (m : MetTypes). AreExportsMet c.args.root.now.world.now m) (sym same) (subst (λ x. AreExportsMet x.now c.define_exported_types.new.root.met) (ap (λ (r : Root). r.world) c.in_ok-shim_instance.ensures.same) c.in_ok-define_exported_types.ensures.met)

@@ -7,8 +7,8 @@ returns-in_err-name-clause-kept c = kept_none c.args.root.now.world.now c.args.r
 
 pub returns-in_err-index-clause-kept : goal.returns-in_err-index-clause-kept
 returns-in_err-index-clause-kept c =
-    let e = c.in_err-index.ensures in kept_typed c.args.root.now.world.now c.args.root.now c.exported_type.new.self e.world e.next e.instances e.grows e.tables
+    let e = c.in_err-index.ensures in kept_typed c.args.root.now.world.now c.args.root.now c.exported_type.new.self e.world e.met e.instances e.grows e.tables
 
 pub returns-clause-kept : goal.returns-clause-kept
 returns-clause-kept c =
-    let e = c.in_ok-index.ensures in kept_typed c.args.root.now.world.now c.args.root.now c.exported_type.new.self e.world e.next e.instances e.grows e.tables
+    let e = c.in_ok-index.ensures in kept_typed c.args.root.now.world.now c.args.root.now c.exported_type.new.self e.world e.met e.instances e.grows e.tables

@@ -19,4 +19,5 @@ export_items-requires-clause-exports c = record {
   realloc = c.lift_realloc.ensures;
   tables = c.requires.tables;
   passed = c.requires.passed;
+  ordered = c.requires.ordered;
 }

@@ -28,7 +28,7 @@ loop-shim-init c =
 
 pub fill-requires-clause-sources : goal.fill-requires-clause-sources
 fill-requires-clause-sources c =
-    subst (λ (r : Root). AreFillSources r.world.now c.args.sources.now r.last_type c.loop-shim.root.items.defs r.maps r.instances) (sym c.loop-shim.invariant.2) (sources-kept c.loop-shim.invariant.3.extends c.requires.sources)
+    subst (λ (r : Root). AreFillSources r.world.now c.args.sources.now r.met c.loop-shim.root.items.defs r.maps r.instances) (sym c.loop-shim.invariant.2) (sources-kept c.loop-shim.invariant.3.extends c.requires.sources)
 
 pub fill-requires-clause-stands : goal.fill-requires-clause-stands
 fill-requires-clause-stands c =

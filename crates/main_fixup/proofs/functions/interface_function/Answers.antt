@@ -13,7 +13,7 @@ use Rattle.main_fixup.proofs.functions.interface_function.Goals as goal
 pub unwrap-instance-requires : goal.unwrap-instance-requires
 unwrap-instance-requires c =
     let s = c.requires.sources in
-    let found : IsSome (lookup (same_id.eq-value.it c.args.interface) c.args.root.now.instances) = interface_found c.args.root.now.world.now c.args.root.now.items.defs c.args.root.now.instances c.args.interface c.args.name.now s.tables.offers c.requires.used in
+    let found : IsSome (lookup (same_id.eq-value.it c.args.interface) c.args.root.now.instances) = interface_found c.args.root.now.world.now c.args.root.now.items.defs c.args.root.now.instances c.args.interface c.args.name.now s.tables.offers.imports c.requires.used in
     search rules
 
 pub returns-clause-grows : goal.returns-clause-grows
@@ -23,7 +23,7 @@ returns-clause-grows c =
     let old = c.args.root.now.items.defs in
     let instance = c.unwrap-instance.result.now in
     let at : lookup (same_id.eq-value.it c.args.interface) c.args.root.now.instances ≡ Some instance = search rules in
-    let h : IsInterfaceFunction w old instance c.args.interface c.args.name.now = used_function w old c.args.root.now.instances c.args.interface instance c.args.name.now s.tables.offers.finds c.requires.used at in
+    let h : IsInterfaceFunction w old instance c.args.interface c.args.name.now = used_function w old c.args.root.now.instances c.args.interface instance c.args.name.now s.tables.offers.imports.finds c.requires.used at in
     Grows-by (defs.Item (items.Alias (aliases.Export exports.Func instance c.args.name.now))) (ap (λ (b : Built). b.defs) c.in_ok-index.ensures.adds.1) (aliased h)
 
 pub returns-clause-function : goal.returns-clause-function
@@ -33,7 +33,7 @@ returns-clause-function c =
     let old = c.args.root.now.items.defs in
     let instance = c.unwrap-instance.result.now in
     let at : lookup (same_id.eq-value.it c.args.interface) c.args.root.now.instances ≡ Some instance = search rules in
-    let h : IsInterfaceFunction w old instance c.args.interface c.args.name.now = used_function w old c.args.root.now.instances c.args.interface instance c.args.name.now s.tables.offers.finds c.requires.used at in
+    let h : IsInterfaceFunction w old instance c.args.interface c.args.name.now = used_function w old c.args.root.now.instances c.args.interface instance c.args.name.now s.tables.offers.imports.finds c.requires.used at in
     record {
       origin = record { number = h.import.number; inner = Some c.args.name.now };
       type = h.type;

@@ -7,4 +7,4 @@ abbrev pub invariant-loop-role : goal.invariant-loop-role
 invariant-loop-role l =
     goal.iterator-loop-role.can_next l.role-iterator ×
     goal.iterator-loop-role.is_finite l.role-iterator ×
-    (first_some (λ e. export_left_out e.1) l.role-iterator ≡ first_some (λ e. export_left_out e.1) l.exports)
+    (first_some (λ e. export_left_out l.types e.1) l.role-iterator ≡ first_some (λ e. export_left_out l.types e.1) l.exports)

@@ -1,6 +1,7 @@
 use Rattle.std.proofs.Common.{◌≡◌, ap}
 use Rattle.comp_builder.specs.Built.{Built}
-use Rattle.comp_items.proofs.Kept.{drops}
+use Rattle.comp_links.specs.Targets.{Drop}
+use Rattle.comp_items.proofs.Kept.{acts_on_resource}
 use Rattle.comp_items.proofs.Remembering.{items-by}
 use Rattle.comp_items.proofs.items.ComponentItems.drop_resource.Goals as goal
 
@@ -10,4 +11,4 @@ invariant_of-self-2 c = items-by _ (ap (λ (b : Built). b.defs) c.in_ok-index.en
 pub returns-clause-dropped : goal.returns-clause-dropped
 returns-clause-dropped c =
     let same : c.self.inside.component ≡ c.args.self.now = c.self.view_is in
-    drops c.args.self.now.defs c.intrinsic.new.self.defs c.in_ok-index.index c.args.ty (rw (← same) (ap (λ (b : Built). b.defs) c.in_ok-index.ensures.adds.1)) c.in_ok-index.ensures.at
+    acts_on_resource c.args.self.now.defs c.intrinsic.new.self.defs c.in_ok-index.index Drop c.args.ty (rw (← same) (ap (λ (b : Built). b.defs) c.in_ok-index.ensures.adds.1)) c.in_ok-index.ensures.at

@@ -1,4 +1,4 @@
-use Rattle.std.proofs.Common.{Some, subst, sym}
+use Rattle.std.proofs.Common.{◌≡◌, ◌∙◌, Some, ap, subst, sym}
 use Rattle.std.specs.List.{AllByRecursion}
 use Rattle.comp_links.specs.Roles.{IsEncodedImport}
 use Rattle.comp_worlds.specs.WorldContents.{core_imports}
@@ -8,15 +8,25 @@ use Rattle.core_options.specs.MainOptions.{HasLowerOptions}
 use Rattle.root_imports.specs.declared.root_scope.RootScope.{RootScope}
 use Rattle.comp_state.specs.Encoding.{Encoding, AreImported}
 use Rattle.comp_state.specs.Tables.{IsEncoding}
-use Rattle.comp_state.specs.declared.state.Step.TheVariants.{Instantiated}
-use Rattle.comp_state.proofs.Growth.{encoding-typed, encoding-instantiated}
+use Rattle.comp_state.specs.declared.state.Step.TheVariants.{Imported, Instantiated}
+use Rattle.comp_terms.specs.Exports.{exports_in}
+use Rattle.comp_worlds.specs.ExportOrder.{AreExportsInOrder}
+use Rattle.main_exports.proofs.AtHand.{at_hand_start}
+use Rattle.comp_state.specs.declared.state.Step.{Step}
+use Rattle.comp_state.proofs.Growth.{encoding-instantiated, encoding-moved}
 use Rattle.comp_state.proofs.state.EncodingState.encode_core_instantiation.Goals as goal
 
 abbrev Root : Type 0
 Root = RootScope ComponentWorld
 
+imported_now : {step : Step} → step ≡ Imported → AreImported step
+imported_now e = subst AreImported (sym e) tt
+
+not_yet : {X : Type 0} {step : Step} → step ≡ Imported → step ≡ Instantiated → X
+not_yet i e = let same = sym i ∙ e in cc
+
 pub encode_core_instantiation-requires-clause-made : goal.encode_core_instantiation-requires-clause-made
-encode_core_instantiation-requires-clause-made c = c.self.invariant.imported (subst (λ (e : Encoding). AreImported e.step) (sym c.self.view_is) c.requires.imported)
+encode_core_instantiation-requires-clause-made c = c.self.invariant.imported (imported_now (ap (λ (e : Encoding). e.step) c.self.view_is ∙ c.requires.imported))
 
 pub encode_core_instantiation-requires-clause-alone : goal.encode_core_instantiation-requires-clause-alone
 encode_core_instantiation-requires-clause-alone c = subst (λ (e : Encoding). IsMainAlone e.world e.built.defs) (sym c.self.view_is) c.requires.alone
@@ -25,19 +35,23 @@ pub invariant_of-self : goal.invariant_of-self
 invariant_of-self c =
     let in' = c.self.inside in
     let r : Root = c.encode_core_instantiation.new.root in
-    let k = c.in_err-main.ensures.kept in
-    subst (λ x. IsEncoding x.now r.last_type r.items.defs r.maps r.instances in'.step in'.functions in'.main) (sym k.world)
-    (subst (λ l. IsEncoding in'.root.world.now l r.items.defs r.maps r.instances in'.step in'.functions in'.main) (sym k.next) (encoding-typed k.extends k.tables c.self.invariant))
+    let k = c.in_err-main.ensures.moved in
+    subst (λ x. IsEncoding x.now r.met r.items.defs r.maps r.instances in'.step in'.functions in'.main) (sym k.world)
+    (encoding-moved k.extends k.tables k.last (not_yet (ap (λ (e : Encoding). e.step) c.self.view_is ∙ c.requires.imported)) c.self.invariant)
 
 pub invariant_of-self-2 : goal.invariant_of-self-2
 invariant_of-self-2 c =
     let in' = c.self.inside in
+    let w = in'.root.world.now in
     let r : Root = c.encode_core_instantiation.new.root in
-    let k = c.in_ok-main.ensures.kept in
-    let typed : IsEncoding in'.root.world.now in'.root.last_type r.items.defs r.maps r.instances in'.step in'.functions in'.main = encoding-typed k.extends k.tables c.self.invariant in
-    subst (λ x. IsEncoding x.now r.last_type r.items.defs r.maps r.instances Instantiated in'.functions (Some c.in_ok-main.main)) (sym k.world)
-    (subst (λ l. IsEncoding in'.root.world.now l r.items.defs r.maps r.instances Instantiated in'.functions (Some c.in_ok-main.main)) (sym k.next)
-    (encoding-instantiated c.in_ok-main.main (subst (λ (e : Encoding). AreImported e.step) (sym c.self.view_is) c.requires.imported) c.in_ok-main.ensures.made typed))
+    let k = c.in_ok-main.ensures.moved in
+    let step = ap (λ (e : Encoding). e.step) c.self.view_is ∙ c.requires.imported in
+    let moved : IsEncoding w r.met r.items.defs r.maps r.instances in'.step in'.functions in'.main = encoding-moved k.extends k.tables k.last (not_yet step) c.self.invariant in
+    subst (λ x. IsEncoding x.now r.met r.items.defs r.maps r.instances Instantiated in'.functions (Some c.in_ok-main.main)) (sym k.world)
+    (encoding-instantiated c.in_ok-main.main (imported_now step) c.in_ok-main.ensures.made (record { ordered = c.in_ok-main.ensures.ordered; at_hand = at_hand_start w r.met (exports_in r.items.defs) c.in_ok-main.ensures.met }) moved)
+
+pub returns-clause-ordered : goal.returns-clause-ordered
+returns-clause-ordered c = subst (λ (e : Encoding). AreExportsInOrder e.world) c.self.view_is c.in_ok-main.ensures.ordered
 
 pub returns-clause-added : goal.returns-clause-added
 returns-clause-added c = subst (λ (e : Encoding). AddsInstances e.world e.built.defs c.encode_core_instantiation.new.root.items.defs) c.self.view_is c.in_ok-main.ensures.added

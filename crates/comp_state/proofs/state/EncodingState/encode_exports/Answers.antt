@@ -9,7 +9,7 @@ use Rattle.core_options.specs.Causes.{IsCause, IsEncodedExport}
 use Rattle.core_options.specs.MainOptions.{HasLiftOptions}
 use Rattle.comp_state.specs.Tables.{IsEncoding}
 use Rattle.comp_state.specs.Encoding.{Encoding, naming_in}
-use Rattle.comp_state.proofs.Growth.{encoding-typed, imports_made, main_known, main_made}
+use Rattle.comp_state.proofs.Growth.{encoding-moved, imports_made, main_known, main_made}
 use Rattle.comp_state.proofs.state.EncodingState.encode_exports.Goals as goal
 
 pub unwrap-main-requires : goal.unwrap-main-requires
@@ -30,24 +30,30 @@ export_all-requires-clause-passed c = (imports_made c.self.invariant (ap (λ (e 
 pub export_all-requires-clause-none : goal.export_all-requires-clause-none
 export_all-requires-clause-none c = ap (λ (e : Encoding). exports_in e.built.defs) c.self.view_is ∙ c.requires.none
 
+pub export_all-requires-clause-ordered : goal.export_all-requires-clause-ordered
+export_all-requires-clause-ordered c = (c.self.invariant.exports (ap (λ (e : Encoding). e.step) c.self.view_is ∙ c.requires.instantiated)).ordered
+
+pub export_all-requires-clause-at_hand : goal.export_all-requires-clause-at_hand
+export_all-requires-clause-at_hand c = (c.self.invariant.exports (ap (λ (e : Encoding). e.step) c.self.view_is ∙ c.requires.instantiated)).at_hand
+
 pub invariant_of-self : goal.invariant_of-self
 invariant_of-self c =
     let new = c.export_all.new.root in
     let in' = c.self.inside in
-    let kept = c.export_all.ensures.kept in
-    let typed : IsEncoding in'.root.world.now in'.root.last_type new.items.defs new.maps new.instances in'.step in'.functions in'.main = encoding-typed kept.extends kept.tables c.self.invariant in
-    subst (λ n. IsEncoding new.world.now n new.items.defs new.maps new.instances in'.step in'.functions in'.main) (sym kept.next)
-    (subst (λ r. IsEncoding r.now in'.root.last_type new.items.defs new.maps new.instances in'.step in'.functions in'.main) (sym kept.world) typed)
+    let moved = c.export_all.ensures.moved in
+    let ordered = (c.self.invariant.exports (ap (λ (e : Encoding). e.step) c.self.view_is ∙ c.requires.instantiated)).ordered in
+    subst (λ r. IsEncoding r.now new.met new.items.defs new.maps new.instances in'.step in'.functions in'.main) (sym moved.world)
+    (encoding-moved moved.extends moved.tables moved.last (λ s. record { ordered = ordered; at_hand = c.export_all.ensures.at_hand }) c.self.invariant)
 
 pub returns-clause-same : goal.returns-clause-same
 returns-clause-same c =
     let new = c.export_all.new.root in
     let in' = c.self.inside in
     let after : Encoding → Encoding = λ e. record e { built = new.items } in
-    ap (λ r. record { world = r.now; canonical = in'.names.canonical; renamed = in'.names.renamed.now; built = new.items; step = in'.step }) c.export_all.ensures.kept.world ∙ ap after c.self.view_is
+    ap (λ r. record { world = r.now; canonical = in'.names.canonical; renamed = in'.names.renamed.now; built = new.items; step = in'.step }) c.export_all.ensures.moved.world ∙ ap after c.self.view_is
 
 pub returns-clause-extends : goal.returns-clause-extends
-returns-clause-extends c = subst (λ (e : Encoding). Extends e.built c.export_all.new.root.items) c.self.view_is c.export_all.ensures.kept.extends
+returns-clause-extends c = subst (λ (e : Encoding). Extends e.built c.export_all.new.root.items) c.self.view_is c.export_all.ensures.moved.extends
 
 pub returns-clause-grows : goal.returns-clause-grows
 returns-clause-grows c =

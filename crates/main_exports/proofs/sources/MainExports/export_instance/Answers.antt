@@ -1,4 +1,4 @@
-use Rattle.std.proofs.Common.{◌≡◌, ◌∙◌, ℕ, List, [], ◌∷◌, ◌++◌, refl, ap, subst, sym}
+use Rattle.std.proofs.Common.{◌≡◌, ◌∙◌, ℕ, List, [], ◌∷◌, ◌++◌, Some, refl, ap, subst, sym}
 use Rattle.std.specs.List.{AllByRecursion, IsDistinct, slice_get}
 use Rattle.std.specs.Map.{keys_of}
 use Rattle.std.specs.Str.{bytes_eq}
@@ -22,10 +22,10 @@ use Rattle.nested_components.specs.Types.{IsAtHome}
 use Rattle.root_imports.specs.Growing.{Grows-then}
 use Rattle.world_values.specs.Items.{functions_of}
 use Rattle.root_imports.specs.Keeping.{Root, RootKept}
-use Rattle.main_exports.specs.Exports.{AreMainFunctions, AreArgumentsFor, IsInstantiated, IsNestedOf, functions_of_key, nested_mark}
+use Rattle.main_exports.specs.Exports.{AreMainFunctions, AreArgumentsFor, AreArgumentsOf, IsInstantiated, IsNestedOf, functions_of_key, nested_mark}
 use Rattle.main_exports.proofs.Exporting.{exports_same, exports_nested, interface_there, interface_at_home, entries_sound, entries_required, key_sound, marked_as}
 use Rattle.root_imports.proofs.Keeping.{kept_items}
-use Rattle.main_exports.proofs.Instances.{arguments_for, nested_for, functions_as, instance_exported, mark_expected}
+use Rattle.main_exports.proofs.Instances.{arguments_for, nested_for, functions_as, instance_exported, mark_expected, listed_exported}
 use Rattle.main_exports.proofs.sources.MainExports.export_instance.Goals as goal
 
 abbrev Entries : Type 0
@@ -45,7 +45,7 @@ interface_component-requires c =
     let id = c.args.id in
     let same = c.functions_of-functions.ensures.functions in
     let apart : IsDistinct bytes_eq (keys_of (functions_of w.resolve id)) = subst (λ (l : Entries). IsDistinct bytes_eq (keys_of l)) same c.functions_of-functions.ensures.apart in
-    let home : IsAtHome w.resolve.types id (named_types w.resolve id) (functions_of w.resolve id) = interface_at_home w ok key id c.requires.item in (
+    let home : IsAtHome w.resolve.types id (named_types w.resolve id) (functions_of w.resolve id) = interface_at_home w ok key id c.requires.item (exports_in c.args.root.now.items.defs) c.requires.next c.requires.exports.ordered in (
       refl,
       (
         ok.sound,
@@ -128,19 +128,19 @@ export-requires-clause-right c =
     c.in_ok-arguments.arguments mid.items.defs new.items.defs (longer c.in_ok-instance.ensures.extends) c.in_ok-arguments.ensures.given c.in_ok-instance.instance
     (ap (slice_get w.main_exports) many ∙ c.requires.next) (subst (λ (is : List Item). IsInstantiated new.items.defs is c.in_ok-arguments.arguments c.in_ok-instance.instance) c.into_items.ensures c.in_ok-instance.ensures.made))
 
-pub returns-in_err-export-clause-kept : goal.returns-in_err-export-clause-kept
-returns-in_err-export-clause-kept c =
+pub returns-in_err-exported-clause-kept : goal.returns-in_err-exported-clause-kept
+returns-in_err-exported-clause-kept c =
     let w = c.args.root.now.world.now in
     let old : Root = c.args.root.now in
     let made : RootKept w old c.nested_instance.new.root = kept_items w old c.interface_arguments.new.root c.nested_instance.new.root c.in_ok-arguments.ensures.kept c.in_ok-instance.ensures.same c.in_ok-instance.ensures.extends in
-    kept_items w old c.nested_instance.new.root c.export.new.root made c.in_err-export.ensures.same c.in_err-export.ensures.extends
+    kept_items w old c.nested_instance.new.root c.export.new.root made c.in_err-exported.ensures.same c.in_err-exported.ensures.extends
 
 pub returns-clause-kept : goal.returns-clause-kept
 returns-clause-kept c =
     let w = c.args.root.now.world.now in
     let old : Root = c.args.root.now in
     let made : RootKept w old c.nested_instance.new.root = kept_items w old c.interface_arguments.new.root c.nested_instance.new.root c.in_ok-arguments.ensures.kept c.in_ok-instance.ensures.same c.in_ok-instance.ensures.extends in
-    kept_items w old c.nested_instance.new.root c.export.new.root made c.in_ok-export.ensures.same c.in_ok-export.ensures.extends
+    kept_items w old c.nested_instance.new.root c.export.new.root made c.in_ok-exported.ensures.same c.in_ok-exported.ensures.extends
 
 pub returns-clause-grows : goal.returns-clause-grows
 returns-clause-grows c =
@@ -155,7 +155,7 @@ returns-clause-grows c =
     let world : new.world ≡ c.args.root.now.world = ap (λ (r : Root). r.world) c.in_ok-instance.ensures.same ∙ c.in_ok-arguments.ensures.kept.world in
     let second : Grows w mid new.items.defs (nested_mark definitions ∷ []) = subst (λ x. Grows x.now mid new.items.defs (nested_mark definitions ∷ [])) c.in_ok-arguments.ensures.kept.world c.in_ok-instance.ensures.grows in
     let last : Grows w new.items.defs end (Exported (record { name = name_of n w.resolve key; sort = sorts.Instance }) ∷ []) =
-    subst (λ x. Grows x.now new.items.defs end (Exported (record { name = name_of n x.now.resolve key; sort = sorts.Instance }) ∷ [])) world c.in_ok-export.ensures.grows in
+    subst (λ x. Grows x.now new.items.defs end (Exported (record { name = name_of n x.now.resolve key; sort = sorts.Instance }) ∷ [])) world c.in_ok-exported.ensures.grows in
     let mark : nested_mark definitions ∷ [] ≡ nested_mark c.in_ok-nested.nested.items ∷ [] = ap (λ (is : List Item). nested_mark is ∷ []) c.into_items.ensures in
     let nested : IsNestedOf w (named_types w.resolve c.args.id) c.functions_of-functions.result.now c.in_ok-nested.nested =
     subst (λ (ts : List (List ℕ × TypeId)). IsNestedOf w ts c.functions_of-functions.result.now c.in_ok-nested.nested) c.listed_types-types.ensures.types c.in_ok-nested.ensures.nested in
@@ -175,3 +175,18 @@ returns-clause-encoded c =
     let w = c.args.root.now.world.now in
     let functions = functions_as w c.requires.exports.valid c.args.key.now c.args.id c.requires.item c.functions_of-functions.result.now c.functions_of-functions.ensures.functions in
     subst (AllByRecursion (IsEncodedExport w)) (sym functions) c.in_ok-arguments.ensures.encoded
+
+pub returns-clause-exports : goal.returns-clause-exports
+returns-clause-exports c =
+    let w = c.args.root.now.world.now in
+    let mid : Root = c.interface_arguments.new.root in
+    let new : Root = c.nested_instance.new.root in
+    let listed : IsNestedOf w (named_types w.resolve c.args.id) c.functions_of-functions.result.now c.in_ok-nested.nested =
+    subst (λ (ts : List (List ℕ × TypeId)). IsNestedOf w ts c.functions_of-functions.result.now c.in_ok-nested.nested) c.listed_types-types.ensures.types c.in_ok-nested.ensures.nested in
+    let nested : IsNestedOf w (named_types w.resolve c.args.id) (functions_of w.resolve c.args.id) c.in_ok-nested.nested =
+    subst (λ (l : Entries). IsNestedOf w (named_types w.resolve c.args.id) l c.in_ok-nested.nested) c.functions_of-functions.ensures.functions listed in
+    let types_apart : IsDistinct bytes_eq (keys_of (named_types w.resolve c.args.id)) =
+    subst (λ (ts : List (List ℕ × TypeId)). IsDistinct bytes_eq (keys_of ts)) c.listed_types-types.ensures.types c.listed_types-types.ensures.apart in
+    let given : AreArgumentsOf w mid.items.defs c.args.key.now (functions_of w.resolve c.args.id) c.in_ok-nested.nested c.in_ok-arguments.arguments =
+    subst (λ (l : Entries). AreArgumentsOf w mid.items.defs c.args.key.now l c.in_ok-nested.nested c.in_ok-arguments.arguments) c.functions_of-functions.ensures.functions c.in_ok-arguments.ensures.given in
+    listed_exported w c.args.key.now c.args.id c.in_ok-nested.nested nested c.in_ok-arguments.arguments mid.items.defs new.items.defs c.export.new.root.items.defs given types_apart c.into_items.result c.into_items.ensures c.in_ok-instance.instance c.in_ok-exported.exported c.in_ok-instance.ensures.entry c.in_ok-exported.ensures.added

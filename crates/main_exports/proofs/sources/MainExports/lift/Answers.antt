@@ -26,7 +26,7 @@ core_entry-requires-clause-exports c =
     let old : Root = c.args.root.now in
     let typed : Root = c.function_type.new.self in
     let e = c.in_ok-ty.ensures in
-    let kept : RootKept w old typed = kept_typed w old typed e.world e.next e.instances e.grows e.tables in
+    let kept : RootKept w old typed = kept_typed w old typed e.world e.met e.instances e.grows e.tables in
     subst (λ x. AreExports x.now c.args.self.now typed) (sym e.world) (exports-kept w c.args.self.now old typed kept c.requires.exports)
 
 pub returns-in_err-core-clause-kept : goal.returns-in_err-core-clause-kept
@@ -35,7 +35,7 @@ returns-in_err-core-clause-kept c =
     let old : Root = c.args.root.now in
     let typed : Root = c.function_type.new.self in
     let e = c.in_ok-ty.ensures in
-    kept_items w old typed c.core_entry.new.root (kept_typed w old typed e.world e.next e.instances e.grows e.tables) c.in_err-core.ensures.same c.in_err-core.ensures.extends
+    kept_items w old typed c.core_entry.new.root (kept_typed w old typed e.world e.met e.instances e.grows e.tables) c.in_err-core.ensures.same c.in_err-core.ensures.extends
 
 pub lift_options-requires-clause-exports : goal.lift_options-requires-clause-exports
 lift_options-requires-clause-exports c =
@@ -44,7 +44,7 @@ lift_options-requires-clause-exports c =
     let typed : Root = c.function_type.new.self in
     let entered : Root = c.core_entry.new.root in
     let e = c.in_ok-ty.ensures in
-    let kept : RootKept w old entered = kept_items w old typed entered (kept_typed w old typed e.world e.next e.instances e.grows e.tables) c.in_ok-core.ensures.same c.in_ok-core.ensures.extends in
+    let kept : RootKept w old entered = kept_items w old typed entered (kept_typed w old typed e.world e.met e.instances e.grows e.tables) c.in_ok-core.ensures.same c.in_ok-core.ensures.extends in
     subst (λ x. AreExports x.now c.args.self.now entered) (sym kept.world) (exports-kept w c.args.self.now old entered kept c.requires.exports)
 
 pub returns-in_err-options-clause-kept : goal.returns-in_err-options-clause-kept
@@ -54,7 +54,7 @@ returns-in_err-options-clause-kept c =
     let typed : Root = c.function_type.new.self in
     let entered : Root = c.core_entry.new.root in
     let e = c.in_ok-ty.ensures in
-    let kept : RootKept w old entered = kept_items w old typed entered (kept_typed w old typed e.world e.next e.instances e.grows e.tables) c.in_ok-core.ensures.same c.in_ok-core.ensures.extends in
+    let kept : RootKept w old entered = kept_items w old typed entered (kept_typed w old typed e.world e.met e.instances e.grows e.tables) c.in_ok-core.ensures.same c.in_ok-core.ensures.extends in
     kept_items w old entered c.lift_options.new.root kept c.in_err-options.ensures.same c.in_err-options.ensures.extends
 
 pub returns-in_err-index-clause-kept : goal.returns-in_err-index-clause-kept
@@ -65,7 +65,7 @@ returns-in_err-index-clause-kept c =
     let entered : Root = c.core_entry.new.root in
     let named : Root = c.lift_options.new.root in
     let e = c.in_ok-ty.ensures in
-    let kept : RootKept w old entered = kept_items w old typed entered (kept_typed w old typed e.world e.next e.instances e.grows e.tables) c.in_ok-core.ensures.same c.in_ok-core.ensures.extends in
+    let kept : RootKept w old entered = kept_items w old typed entered (kept_typed w old typed e.world e.met e.instances e.grows e.tables) c.in_ok-core.ensures.same c.in_ok-core.ensures.extends in
     let listed : RootKept w old named = kept_items w old entered named kept c.in_ok-options.ensures.same c.in_ok-options.ensures.extends in
     kept_items w old named (record named { items = c.lift_function.new.self }) listed refl (extends_same named.items c.lift_function.new.self c.in_err-index.ensures.adds.0)
 
@@ -77,7 +77,7 @@ returns-clause-kept c =
     let entered : Root = c.core_entry.new.root in
     let named : Root = c.lift_options.new.root in
     let e = c.in_ok-ty.ensures in
-    let kept : RootKept w old entered = kept_items w old typed entered (kept_typed w old typed e.world e.next e.instances e.grows e.tables) c.in_ok-core.ensures.same c.in_ok-core.ensures.extends in
+    let kept : RootKept w old entered = kept_items w old typed entered (kept_typed w old typed e.world e.met e.instances e.grows e.tables) c.in_ok-core.ensures.same c.in_ok-core.ensures.extends in
     let listed : RootKept w old named = kept_items w old entered named kept c.in_ok-options.ensures.same c.in_ok-options.ensures.extends in
     let last : Extends named.items c.lift_function.new.self = search rules in
     kept_items w old named (record named { items = c.lift_function.new.self }) listed refl last

@@ -1,5 +1,6 @@
 use Rattle.std.proofs.Common.{ap}
 use Rattle.comp_builder.specs.Built.{Built}
+use Rattle.main_exports.proofs.GivenTypes.{nested_entry}
 use Rattle.main_exports.proofs.Instances.{adds_instance}
 use Rattle.main_exports.proofs.sources.MainExports.nested_instance.Goals as goal
 
@@ -14,3 +15,8 @@ returns-clause-made c = record {
   instance = c.in_ok-index.ensures.at;
   made = Rattle.comp_items.proofs.Kept.at-kept (record { more = _; grown = ap (λ (b : Built). b.defs) c.in_ok-index.ensures.adds.1 }) c.in_ok-component.ensures.at;
 }
+
+pub returns-clause-entry : goal.returns-clause-entry
+returns-clause-entry c =
+    nested_entry c.args.root.now.items.defs c.nested_component.new.self.defs c.nested_instance.new.self.defs c.args.definitions c.in_ok-component.component c.in_ok-index.index c.args.arguments
+    (ap (λ (b : Built). b.defs) c.in_ok-component.ensures.adds.1) c.in_ok-component.ensures.at (ap (λ (b : Built). b.defs) c.in_ok-index.ensures.adds.1) c.in_ok-index.ensures.adds.0

@@ -48,7 +48,7 @@ loop-module-preserved c =
 
 pub argument-requires-clause-sources : goal.argument-requires-clause-sources
 argument-requires-clause-sources c =
-    subst (λ (r : Root). AreSources r.world.now c.args.self.now r.last_type c.loop-module.root.items.defs r.maps r.instances) (sym c.loop-module.invariant.2) (sources-kept c.loop-module.invariant.3.extends c.requires.sources)
+    subst (λ (r : Root). AreSources r.world.now c.args.self.now r.met c.loop-module.root.items.defs r.maps r.instances) (sym c.loop-module.invariant.2) (sources-kept c.loop-module.invariant.3.extends c.requires.sources)
 
 pub argument-requires-clause-present : goal.argument-requires-clause-present
 argument-requires-clause-present c =

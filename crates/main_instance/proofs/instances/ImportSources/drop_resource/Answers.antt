@@ -4,6 +4,7 @@ use Rattle.comp_bytes.specs.declared.def.Item.TheVariants as items
 use Rattle.comp_bytes.specs.declared.def.Def.TheVariants as defs
 use Rattle.comp_builder.specs.Built.{Built}
 use Rattle.comp_links.specs.Lists.{resource_of}
+use Rattle.comp_links.specs.Targets.{Drop}
 use Rattle.comp_terms.specs.Rules.{Grows}
 use Rattle.comp_terms.specs.Terms as terms
 use Rattle.root_imports.specs.Growing.{Grows-by, Grows-then}
@@ -20,4 +21,4 @@ returns-clause-grows c =
 pub returns-clause-dropped : goal.returns-clause-dropped
 returns-clause-dropped c =
     let w = c.args.root.now.world.now in
-    record { term = terms.Dropping (resource_of w c.args.id); is = c.in_ok-index.ensures.dropped (resource_of w c.args.id) c.in_ok-ty.ensures.resource; asked = refl }
+    record { term = terms.OfResource Drop (resource_of w c.args.id); is = c.in_ok-index.ensures.dropped (resource_of w c.args.id) c.in_ok-ty.ensures.resource; asked = (refl, refl) }

@@ -49,7 +49,7 @@ loop-field-preserved c =
 
 pub entry-requires-clause-sources : goal.entry-requires-clause-sources
 entry-requires-clause-sources c =
-    subst (λ (r : Root). AreSources r.world.now c.args.self.now r.last_type c.loop-field.root.items.defs r.maps r.instances) (sym c.loop-field.invariant.2) (sources-kept c.loop-field.invariant.3.extends c.requires.sources)
+    subst (λ (r : Root). AreSources r.world.now c.args.self.now r.met c.loop-field.root.items.defs r.maps r.instances) (sym c.loop-field.invariant.2) (sources-kept c.loop-field.invariant.3.extends c.requires.sources)
 
 pub entry-requires-clause-present : goal.entry-requires-clause-present
 entry-requires-clause-present c =

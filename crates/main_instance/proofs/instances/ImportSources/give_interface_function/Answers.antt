@@ -15,7 +15,7 @@ Root = RootScope ComponentWorld
 
 pub lower_interface_function-requires-clause-sources : goal.lower_interface_function-requires-clause-sources
 lower_interface_function-requires-clause-sources c =
-    subst (λ (r : Root). AreSources r.world.now c.args.self.now r.last_type c.shim_of_call.new.root.items.defs r.maps r.instances) (sym c.in_ok-index.ensures.same) (sources-kept c.in_ok-index.ensures.extends c.requires.sources)
+    subst (λ (r : Root). AreSources r.world.now c.args.self.now r.met c.shim_of_call.new.root.items.defs r.maps r.instances) (sym c.in_ok-index.ensures.same) (sources-kept c.in_ok-index.ensures.extends c.requires.sources)
 
 pub lower_interface_function-requires-clause-imported : goal.lower_interface_function-requires-clause-imported
 lower_interface_function-requires-clause-imported c =

@@ -17,7 +17,7 @@ Root = RootScope ComponentWorld
 
 pub lower_function-requires-clause-sources : goal.lower_function-requires-clause-sources
 lower_function-requires-clause-sources c =
-    subst (λ (r : Root). AreSources r.world.now c.args.self.now r.last_type c.shim_of_call.new.root.items.defs r.maps r.instances) (sym c.in_ok-index.ensures.same) (sources-kept c.in_ok-index.ensures.extends c.requires.sources)
+    subst (λ (r : Root). AreSources r.world.now c.args.self.now r.met c.shim_of_call.new.root.items.defs r.maps r.instances) (sym c.in_ok-index.ensures.same) (sources-kept c.in_ok-index.ensures.extends c.requires.sources)
 
 pub lower_function-requires-clause-used : goal.lower_function-requires-clause-used
 lower_function-requires-clause-used c =

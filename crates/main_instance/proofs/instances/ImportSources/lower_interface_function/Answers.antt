@@ -20,7 +20,7 @@ use Rattle.main_instance.proofs.instances.ImportSources.lower_interface_function
 pub unwrap-instance-requires : goal.unwrap-instance-requires
 unwrap-instance-requires c =
     let s = c.requires.sources in
-    let found : IsSome (lookup (same_id.eq-value.it c.args.interface) c.args.root.now.instances) = interface_found c.args.root.now.world.now c.args.root.now.items.defs c.args.root.now.instances c.args.interface c.args.name.now s.tables.offers c.requires.imported in
+    let found : IsSome (lookup (same_id.eq-value.it c.args.interface) c.args.root.now.instances) = interface_found c.args.root.now.world.now c.args.root.now.items.defs c.args.root.now.instances c.args.interface c.args.name.now s.tables.offers.imports c.requires.imported in
     search rules
 
 pub returns-clause-grows : goal.returns-clause-grows
@@ -30,7 +30,7 @@ returns-clause-grows c =
     let old = c.args.root.now.items.defs in
     let instance = c.unwrap-instance.result.now in
     let at : lookup (same_id.eq-value.it c.args.interface) c.args.root.now.instances ≡ Some instance = search rules in
-    let h : IsInterfaceFunction w old instance c.args.interface c.args.name.now = used_function w old c.args.root.now.instances c.args.interface instance c.args.name.now s.tables.offers.finds c.requires.imported at in
+    let h : IsInterfaceFunction w old instance c.args.interface c.args.name.now = used_function w old c.args.root.now.instances c.args.interface instance c.args.name.now s.tables.offers.imports.finds c.requires.imported at in
     let origin : Origin = record { number = h.import.number; inner = Some c.args.name.now } in
     let is : IsImportedFunction c.alias_function.new.self.defs c.in_ok-aliased.aliased origin h.type = c.in_ok-aliased.ensures.imported h.import.number h.import.outer h.import.members h.type h.import.imported h.exported.typed in
     let one : Grows w old c.alias_function.new.self.defs [] = Grows-by (defs.Item (items.Alias (aliases.Export exports.Func instance c.args.name.now))) (ap (λ (b : Built). b.defs) c.in_ok-aliased.ensures.adds.1) (aliased h) in
@@ -46,7 +46,7 @@ returns-clause-lowered c =
     let mid = c.alias_function.new.self.defs in
     let instance = c.unwrap-instance.result.now in
     let at : lookup (same_id.eq-value.it c.args.interface) c.args.root.now.instances ≡ Some instance = search rules in
-    let h : IsInterfaceFunction w old instance c.args.interface c.args.name.now = used_function w old c.args.root.now.instances c.args.interface instance c.args.name.now s.tables.offers.finds c.requires.imported at in
+    let h : IsInterfaceFunction w old instance c.args.interface c.args.name.now = used_function w old c.args.root.now.instances c.args.interface instance c.args.name.now s.tables.offers.imports.finds c.requires.imported at in
     let origin : Origin = record { number = h.import.number; inner = Some c.args.name.now } in
     let is : IsImportedFunction mid c.in_ok-aliased.aliased origin h.type = c.in_ok-aliased.ensures.imported h.import.number h.import.outer h.import.members h.type h.import.imported h.exported.typed in
     let none : AllZip (IsOption mid) c.new-options.result [] = subst (λ (os : List CanonicalOption). AllZip (IsOption mid) os []) (sym c.new-options.ensures) tt in

@@ -1,6 +1,7 @@
-use Rattle.std.proofs.Common.{rules}
+use Rattle.std.proofs.Common.{subst, rules}
 use Rattle.comp_worlds.specs.Worlds.{IsImportRole}
 use Rattle.interface_needs.proofs.RootItems.{drop_known}
+use Rattle.comp_roles.specs.declared.imports.Import.{Import}
 use Rattle.main_instance.proofs.Serving.{import_role}
 use Rattle.main_instance.proofs.instances.ImportSources.materialize_import.Goals as goal
 
@@ -9,6 +10,24 @@ drop_resource-requires-clause-known c =
     let w = c.args.root.now.world.now in
     let drop = c.in-ImportedResourceDrop in
     drop_known w c.requires.sources.valid (record { module_name = c.args.module.now; field = c.args.field.now; role = c.args.import.now }) drop.field-0 drop.field-1 drop.id c.requires.present drop.is
+
+pub drop_own-requires-clause-own : goal.drop_own-requires-clause-own
+drop_own-requires-clause-own c =
+    let w = c.args.root.now.world.now in
+    let it = c.in-ExportedResourceDrop in
+    record { key = it.field-0; own = subst (λ (role : Import). IsImportRole w role) it.is (import_role w c.requires.sources.valid c.args.module.now c.args.field.now c.args.import.now c.requires.present) }
+
+pub rep_of_own-requires-clause-own : goal.rep_of_own-requires-clause-own
+rep_of_own-requires-clause-own c =
+    let w = c.args.root.now.world.now in
+    let it = c.in-ExportedResourceRep in
+    record { key = it.field-0; own = subst (λ (role : Import). IsImportRole w role) it.is (import_role w c.requires.sources.valid c.args.module.now c.args.field.now c.args.import.now c.requires.present) }
+
+pub new_of_own-requires-clause-own : goal.new_of_own-requires-clause-own
+new_of_own-requires-clause-own c =
+    let w = c.args.root.now.world.now in
+    let it = c.in-ExportedResourceNew in
+    record { key = it.field-0; own = subst (λ (role : Import). IsImportRole w role) it.is (import_role w c.requires.sources.valid c.args.module.now c.args.field.now c.args.import.now c.requires.present) }
 
 pub unreachable-requires : goal.unreachable-requires
 unreachable-requires c =

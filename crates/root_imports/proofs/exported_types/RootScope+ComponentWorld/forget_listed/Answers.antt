@@ -27,12 +27,12 @@ forget_type-requires-clause-forgettable c =
     let rest = c.next.new.self in
     let so_far : ForgetsSoFar w.resolve.types c.args.types.now ((c.in-Some.entry.0.now, c.in-Some.entry.1.now) ∷ rest) c.loop-entry.self.maps =
     subst (λ (es : List (List ℕ × TypeId)). ForgetsSoFar c.args.self.now.world.now.resolve.types c.args.types.now es c.loop-entry.self.maps) c.in-Some.ensures.steps c.loop-entry.invariant.3 in
-    subst (λ (s : Root). IsForgettable s.world.now c.in-Some.entry.1.now) (sym c.loop-entry.invariant.2)
-    (forgets_next (λ e. IsForgettable w e.1) w.resolve.types c.args.types.now rest (c.in-Some.entry.0.now, c.in-Some.entry.1.now) c.loop-entry.self.maps c.requires.forgettable so_far)
+    subst (λ (s : Root). IsForgettable s.world.now s.met c.in-Some.entry.1.now) (sym c.loop-entry.invariant.2)
+    (forgets_next (λ e. IsForgettable w c.args.self.now.met e.1) w.resolve.types c.args.types.now rest (c.in-Some.entry.0.now, c.in-Some.entry.1.now) c.loop-entry.self.maps c.requires.forgettable so_far)
 
 pub forget_type-requires-clause-tables : goal.forget_type-requires-clause-tables
 forget_type-requires-clause-tables c =
-    subst (λ (s : Root). AreTablesRight s.world.now s.last_type s.instances s.items.defs c.loop-entry.self.maps) (sym c.loop-entry.invariant.2) c.loop-entry.invariant.4
+    subst (λ (s : Root). AreTablesRight s.world.now s.met s.instances s.items.defs c.loop-entry.self.maps) (sym c.loop-entry.invariant.2) c.loop-entry.invariant.4
 
 pub loop-entry-preserved : goal.loop-entry-preserved
 loop-entry-preserved c =
@@ -47,7 +47,7 @@ loop-entry-preserved c =
       tt,
       c.forget_type.ensures.same ∙ ap (λ (s : Root). record s { maps = c.forget_type.new.self.maps }) same,
       forgets_step old.world.now.resolve.types c.args.types.now c.next.new.self e mid.maps new.maps so_far (subst (λ (s : Root). Forgets s.world.now.resolve.types c.in-Some.entry.1.now c.loop-entry.self.maps c.forget_type.new.self.maps) same c.forget_type.ensures.forgets),
-      subst (λ (s : Root). AreTablesRight s.world.now s.last_type s.instances s.items.defs c.forget_type.new.self.maps) same c.forget_type.ensures.tables,
+      subst (λ (s : Root). AreTablesRight s.world.now s.met s.instances s.items.defs c.forget_type.new.self.maps) same c.forget_type.ensures.tables,
     )
 
 pub returns-clause-forgotten : goal.returns-clause-forgotten

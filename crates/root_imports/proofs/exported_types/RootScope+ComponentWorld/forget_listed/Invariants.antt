@@ -9,4 +9,4 @@ invariant-loop-entry l =
     goal.iterator-loop-entry.is_finite l.entry-iterator ×
     (l.self ≡ record l.fn.self { maps = l.self.maps }) ×
     ForgetsSoFar l.fn.self.world.now.resolve.types l.types l.entry-iterator l.self.maps ×
-    AreTablesRight l.fn.self.world.now l.fn.self.last_type l.fn.self.instances l.fn.self.items.defs l.self.maps
+    AreTablesRight l.fn.self.world.now l.fn.self.met l.fn.self.instances l.fn.self.items.defs l.self.maps

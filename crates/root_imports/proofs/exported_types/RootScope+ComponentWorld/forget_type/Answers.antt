@@ -5,4 +5,4 @@ use Rattle.root_imports.proofs.exported_types.RootScope+ComponentWorld.forget_ty
 pub returns-clause-tables : goal.returns-clause-tables
 returns-clause-tables c =
     let old = c.args.self.now in
-    tables_left old.world.now old.last_type old.instances old.items.defs c.args.id (kind_at old.world.now.resolve.types c.args.id.index) old.maps c.forget_in.new.maps c.requires.forgettable c.forget_in.ensures.forgets c.forget_in.ensures.removed c.requires.tables
+    tables_left old.world.now old.met old.instances old.items.defs c.args.id (kind_at old.world.now.resolve.types c.args.id.index) old.maps c.forget_in.new.maps c.requires.forgettable c.forget_in.ensures.forgets c.forget_in.ensures.removed c.requires.tables

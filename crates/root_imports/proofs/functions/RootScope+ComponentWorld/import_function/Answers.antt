@@ -31,7 +31,7 @@ returns-clause-grows c =
 
 pub returns-clause-tables : goal.returns-clause-tables
 returns-clause-tables c =
-    tables_kept c.args.self.now.world.now c.args.self.now.last_type c.function_type.new.self.instances c.function_type.new.self.items c.import_function.new.self c.function_type.new.self.maps
+    tables_kept c.args.self.now.world.now c.args.self.now.met c.function_type.new.self.instances c.function_type.new.self.items c.import_function.new.self c.function_type.new.self.maps
     (extends_adds c.function_type.new.self.items c.import_function.new.self c.import_function.result spaces.Func (import c) None c.import_function.ensures.adds) c.in_ok-ty.ensures.tables
 
 pub returns-clause-imported : goal.returns-clause-imported

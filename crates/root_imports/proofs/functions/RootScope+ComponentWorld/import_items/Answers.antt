@@ -39,11 +39,11 @@ import_function_item-requires-clause-next c =
 
 pub import_function_item-requires-clause-passed : goal.import_function_item-requires-clause-passed
 import_function_item-requires-clause-passed c =
-    subst (λ x. ArePassed x.now c.loop-key.self.last_type) (sym c.loop-key.invariant.2) (subst (λ n. ArePassed c.args.self.now.world.now n) (sym c.loop-key.invariant.3) c.requires.passed)
+    subst (λ x. ArePassed x.now c.loop-key.self.met) (sym c.loop-key.invariant.2) (subst (λ n. ArePassed c.args.self.now.world.now n) (sym c.loop-key.invariant.3) c.requires.passed)
 
 pub import_function_item-requires-clause-tables : goal.import_function_item-requires-clause-tables
 import_function_item-requires-clause-tables c =
-    subst (λ x. AreTablesRight x.now c.loop-key.self.last_type c.loop-key.self.instances c.loop-key.self.items.defs c.loop-key.self.maps) (sym c.loop-key.invariant.2)
+    subst (λ x. AreTablesRight x.now c.loop-key.self.met c.loop-key.self.instances c.loop-key.self.items.defs c.loop-key.self.maps) (sym c.loop-key.invariant.2)
     (subst (λ n. AreTablesRight c.args.self.now.world.now n c.loop-key.self.instances c.loop-key.self.items.defs c.loop-key.self.maps) (sym c.loop-key.invariant.3) c.loop-key.invariant.4)
 
 pub loop-key-preserved : goal.loop-key-preserved
@@ -59,8 +59,8 @@ loop-key-preserved c =
       tt,
       tt,
       of.world ∙ same,
-      of.next ∙ count,
-      subst (λ n. AreTablesRight c.args.self.now.world.now n new.instances new.items.defs new.maps) count (subst (λ x. AreTablesRight x.now c.loop-key.self.last_type new.instances new.items.defs new.maps) same of.tables),
+      of.met ∙ count,
+      subst (λ n. AreTablesRight c.args.self.now.world.now n new.instances new.items.defs new.maps) count (subst (λ x. AreTablesRight x.now c.loop-key.self.met new.instances new.items.defs new.maps) same of.tables),
       imports_step w c.args.self.now.items mid new.items c.loop-key.functions fs e c.next.new.self (subst (λ (es : List (WorldKey × WorldItem)). ImportsSoFar c.args.self.now.world.now c.args.self.now.items c.loop-key.self.items c.loop-key.functions es) c.in-Some.ensures.steps c.loop-key.invariant.5) of.extends (subst (λ x. Grows x.now mid.defs new.items.defs (names_marked x.now (root_function e))) same of.grows)
           (subst (λ x. FindsImports x.now new.items.defs fs) same of.imports) of.finds (subst (λ x. AllByRecursion (λ name. IsTrue (is_used x.now name) → IsSome (found name fs)) (root_function e)) same of.found),
       of.instances ∙ c.loop-key.invariant.6,

@@ -8,7 +8,7 @@ invariant-loop-key l =
     goal.iterator-loop-key.can_next l.key-iterator ×
     goal.iterator-loop-key.is_finite l.key-iterator ×
     (l.self.world ≡ l.fn.self.world) ×
-    (l.self.last_type ≡ l.fn.self.last_type) ×
-    AreTablesRight l.fn.self.world.now l.fn.self.last_type l.self.instances l.self.items.defs l.self.maps ×
+    (l.self.met ≡ l.fn.self.met) ×
+    AreTablesRight l.fn.self.world.now l.fn.self.met l.self.instances l.self.items.defs l.self.maps ×
     ImportsSoFar l.fn.self.world.now l.fn.self.items l.self.items l.functions l.key-iterator ×
     (l.self.instances ≡ l.fn.self.instances)

@@ -18,7 +18,7 @@ alias_type-requires-clause-found c =
     let interface = c.in-Some.interface in
     let at : interface_at w.resolve.types c.args.id.index ≡ Some interface = search rules in
     let need = c.requires.known.needed interface at in
-    let k = c.requires.tables.offers in
+    let k = c.requires.tables.offers.imports in
     is_there (lookup (same_id.eq-value.it interface) c.args.self.now.instances) (k.needed.each interface (k.imported interface c.args.id need.needed) (needed_named w interface c.args.id.index need.needed))
 
 pub unwrap-requires : goal.unwrap-requires
@@ -26,7 +26,7 @@ unwrap-requires c =
     let s = c.args.self.now in
     let at : interface_at s.world.now.resolve.types c.args.id.index ≡ None = search rules in
     is_found (λ index. IsResource s.items.defs index (resource_of s.world.now c.args.id)) c.resource_index.result
-    (c.resource_index.ensures s.world.now s.last_type s.instances s.items.defs c.requires.valid c.requires.known.resource at c.requires.passed c.requires.tables)
+    (c.resource_index.ensures s.world.now s.met s.instances s.items.defs c.requires.valid c.requires.known.resource at c.requires.passed c.requires.tables)
 
 pub returns-in_ok-index-in-Some-clause-resource : goal.returns-in_ok-index-in-Some-clause-resource
 returns-in_ok-index-in-Some-clause-resource c =
@@ -44,4 +44,4 @@ returns-in-None-clause-resource c =
     let at : interface_at s.world.now.resolve.types c.args.id.index ≡ None = search rules in
     let it : c.resource_index.result ≡ Some c.unwrap.result = search rules in
     found_is (λ index. IsResource s.items.defs index (resource_of s.world.now c.args.id)) c.resource_index.result c.unwrap.result it
-    (c.resource_index.ensures s.world.now s.last_type s.instances s.items.defs c.requires.valid c.requires.known.resource at c.requires.passed c.requires.tables)
+    (c.resource_index.ensures s.world.now s.met s.instances s.items.defs c.requires.valid c.requires.known.resource at c.requires.passed c.requires.tables)

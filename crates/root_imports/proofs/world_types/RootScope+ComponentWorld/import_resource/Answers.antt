@@ -24,13 +24,13 @@ pub returns-in_err-index-clause-tables : goal.returns-in_err-index-clause-tables
 returns-in_err-index-clause-tables c =
     let old = c.args.self.now in
     let g : Extends old.items c.import_resource.new.self = extends_adds old.items c.import_resource.new.self c.import_resource.result spaces.Type (defs.Item (items.Import c.args.name descriptions.SubResource)) None c.import_resource.ensures.adds in
-    tables_kept old.world.now old.last_type old.instances old.items c.import_resource.new.self old.maps g c.requires.tables
+    tables_kept old.world.now old.met old.instances old.items c.import_resource.new.self old.maps g c.requires.tables
 
 pub record_world_type-requires-clause-tables : goal.record_world_type-requires-clause-tables
 record_world_type-requires-clause-tables c =
     let old = c.args.self.now in
     let g : Extends old.items c.import_resource.new.self = extends_adds old.items c.import_resource.new.self c.import_resource.result spaces.Type (defs.Item (items.Import c.args.name descriptions.SubResource)) None c.import_resource.ensures.adds in
-    tables_kept old.world.now old.last_type old.instances old.items c.import_resource.new.self old.maps g c.requires.tables
+    tables_kept old.world.now old.met old.instances old.items c.import_resource.new.self old.maps g c.requires.tables
 
 pub record_world_type-requires-clause-denotes : goal.record_world_type-requires-clause-denotes
 record_world_type-requires-clause-denotes c =

@@ -8,7 +8,8 @@ use Rattle.comp_worlds.specs.WorldContents.{items_of, world_type}
 use Rattle.comp_links.specs.Lists.{root_type}
 use Rattle.comp_terms.specs.Rules.{Grows, Imported}
 use Rattle.comp_items.proofs.Extending.{extends_then}
-use Rattle.root_imports.specs.RootScopes.{next_of, AreTablesRight}
+use Rattle.root_imports.specs.Met.{next_of}
+use Rattle.root_imports.specs.RootScopes.{AreTablesRight}
 use Rattle.root_imports.specs.Imports.{IsNextType}
 use Rattle.root_imports.proofs.Passing.{tables_first}
 use Rattle.root_imports.proofs.Looking.{entry_sound}
@@ -23,21 +24,21 @@ loop-key-init c =
       tt,
       tt,
       refl,
-      tables_first w c.args.self.now.last_type c.args.self.now.instances c.args.self.now.items.defs c.args.self.now.maps c.requires.tables,
+      tables_first w c.args.self.now.met c.args.self.now.instances c.args.self.now.items.defs c.args.self.now.maps c.requires.tables,
       subst (λ (es : List (WorldKey × WorldItem)). TypesSoFar w c.args.self.now.items c.args.self.now.items 0 es) (sym items) (types_start w c.args.self.now.items 0 c.requires.valid c.requires.first refl),
       refl,
     )
 
 pub import_type_item-requires-clause-present : goal.import_type_item-requires-clause-present
 import_type_item-requires-clause-present c =
-    let b : TypesSoFar c.args.self.now.world.now c.args.self.now.items c.loop-key.self.items (next_of c.loop-key.self.last_type) ((c.in-Some.key.now, c.in-Some.item.now) ∷ c.next.new.self) =
-    subst (λ (es : List (WorldKey × WorldItem)). TypesSoFar c.args.self.now.world.now c.args.self.now.items c.loop-key.self.items (next_of c.loop-key.self.last_type) es) c.in-Some.ensures.steps c.loop-key.invariant.4 in
+    let b : TypesSoFar c.args.self.now.world.now c.args.self.now.items c.loop-key.self.items (next_of c.loop-key.self.met.last) ((c.in-Some.key.now, c.in-Some.item.now) ∷ c.next.new.self) =
+    subst (λ (es : List (WorldKey × WorldItem)). TypesSoFar c.args.self.now.world.now c.args.self.now.items c.loop-key.self.items (next_of c.loop-key.self.met.last) es) c.in-Some.ensures.steps c.loop-key.invariant.4 in
     subst (λ x. HasEntry x.now.resolve (c.in-Some.key.now, c.in-Some.item.now)) (sym c.loop-key.invariant.2) (entry_sound c.args.self.now.world.now c.requires.valid b.done c.next.new.self (c.in-Some.key.now, c.in-Some.item.now) b.split)
 
 pub import_type_item-requires-clause-next : goal.import_type_item-requires-clause-next
 import_type_item-requires-clause-next c =
-    subst (λ x. IsNextType x.now (next_of c.loop-key.self.last_type) c.loop-key.self.items.defs (c.in-Some.key.now, c.in-Some.item.now)) (sym c.loop-key.invariant.2)
-    (next_type c.args.self.now.world.now c.args.self.now.items c.loop-key.self.items (next_of c.loop-key.self.last_type) (c.in-Some.key.now, c.in-Some.item.now) c.next.new.self (subst (λ (es : List (WorldKey × WorldItem)). TypesSoFar c.args.self.now.world.now c.args.self.now.items c.loop-key.self.items (next_of c.loop-key.self.last_type) es) c.in-Some.ensures.steps c.loop-key.invariant.4))
+    subst (λ x. IsNextType x.now (next_of c.loop-key.self.met.last) c.loop-key.self.items.defs (c.in-Some.key.now, c.in-Some.item.now)) (sym c.loop-key.invariant.2)
+    (next_type c.args.self.now.world.now c.args.self.now.items c.loop-key.self.items (next_of c.loop-key.self.met.last) (c.in-Some.key.now, c.in-Some.item.now) c.next.new.self (subst (λ (es : List (WorldKey × WorldItem)). TypesSoFar c.args.self.now.world.now c.args.self.now.items c.loop-key.self.items (next_of c.loop-key.self.met.last) es) c.in-Some.ensures.steps c.loop-key.invariant.4))
 
 pub loop-key-preserved : goal.loop-key-preserved
 loop-key-preserved c =
@@ -50,20 +51,20 @@ loop-key-preserved c =
       tt,
       tt,
       of.world ∙ same,
-      subst (λ x. AreTablesRight x.now new.last_type new.instances new.items.defs new.maps) same of.tables,
-      types_step w c.args.self.now.items mid new.items (next_of c.loop-key.self.last_type) (next_of new.last_type) e c.next.new.self (subst (λ (es : List (WorldKey × WorldItem)). TypesSoFar c.args.self.now.world.now c.args.self.now.items c.loop-key.self.items (next_of c.loop-key.self.last_type) es) c.in-Some.ensures.steps c.loop-key.invariant.4) of.extends (subst (λ x. Grows x.now mid.defs new.items.defs (map (λ (t : List ℕ × TypeId). Imported (root_type t.0)) (world_type e))) same of.grows) of.next,
+      subst (λ x. AreTablesRight x.now new.met new.instances new.items.defs new.maps) same of.tables,
+      types_step w c.args.self.now.items mid new.items (next_of c.loop-key.self.met.last) (next_of new.met.last) e c.next.new.self (subst (λ (es : List (WorldKey × WorldItem)). TypesSoFar c.args.self.now.world.now c.args.self.now.items c.loop-key.self.items (next_of c.loop-key.self.met.last) es) c.in-Some.ensures.steps c.loop-key.invariant.4) of.extends (subst (λ x. Grows x.now mid.defs new.items.defs (map (λ (t : List ℕ × TypeId). Imported (root_type t.0)) (world_type e))) same of.grows) of.next,
       of.instances ∙ c.loop-key.invariant.5,
     )
 
 pub returns-clause-grows : goal.returns-clause-grows
 returns-clause-grows c =
-    types_done c.args.self.now.world.now c.args.self.now.items c.loop-key.self.items (next_of c.loop-key.self.last_type)
-    (subst (λ (es : List (WorldKey × WorldItem)). TypesSoFar c.args.self.now.world.now c.args.self.now.items c.loop-key.self.items (next_of c.loop-key.self.last_type) es) c.in-None.ensures.steps.0 c.loop-key.invariant.4)
+    types_done c.args.self.now.world.now c.args.self.now.items c.loop-key.self.items (next_of c.loop-key.self.met.last)
+    (subst (λ (es : List (WorldKey × WorldItem)). TypesSoFar c.args.self.now.world.now c.args.self.now.items c.loop-key.self.items (next_of c.loop-key.self.met.last) es) c.in-None.ensures.steps.0 c.loop-key.invariant.4)
 
 pub returns-clause-passed : goal.returns-clause-passed
 returns-clause-passed c =
-    types_passed c.args.self.now.world.now c.args.self.now.items c.loop-key.self.items c.loop-key.self.last_type
-    (subst (λ (es : List (WorldKey × WorldItem)). TypesSoFar c.args.self.now.world.now c.args.self.now.items c.loop-key.self.items (next_of c.loop-key.self.last_type) es) c.in-None.ensures.steps.0 c.loop-key.invariant.4)
+    types_passed c.args.self.now.world.now c.args.self.now.items c.loop-key.self.items c.loop-key.self.met
+    (subst (λ (es : List (WorldKey × WorldItem)). TypesSoFar c.args.self.now.world.now c.args.self.now.items c.loop-key.self.items (next_of c.loop-key.self.met.last) es) c.in-None.ensures.steps.0 c.loop-key.invariant.4)
 
 pub returns-in_err-import_type_item-clause-extends : goal.returns-in_err-import_type_item-clause-extends
 returns-in_err-import_type_item-clause-extends c = extends_then c.args.self.now.items c.loop-key.self.items c.import_type_item.new.self.items c.loop-key.invariant.4.extends c.import_type_item.ensures.extends

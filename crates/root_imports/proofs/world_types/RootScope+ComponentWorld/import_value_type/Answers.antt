@@ -18,8 +18,10 @@ use Rattle.comp_terms.specs.Terms.{imports_in}
 use Rattle.comp_worlds.specs.Encodable.{IsEncodable}
 use Rattle.root_imports.specs.Growing.{Grows-by, Grows-then}
 use Rattle.root_imports.specs.Imports.{IsNextId}
-use Rattle.root_imports.specs.Interfaces.{AreInstancesKnown}
-use Rattle.root_imports.specs.RootScopes.{next_of, AreTablesRight}
+use Rattle.root_imports.specs.Interfaces.{AreInterfacesKnown}
+use Rattle.root_imports.specs.Met.{next_of}
+use Rattle.root_imports.specs.RootScopes.{AreTablesRight}
+use Rattle.root_imports.specs.declared.met_types.MetTypes.{MetTypes}
 use Rattle.root_imports.proofs.Allowing.{root_defines}
 use Rattle.root_imports.proofs.Resources.{world_type_listed}
 use Rattle.root_imports.proofs.Growth.{other_interface, tables_in, tables_kept}
@@ -28,21 +30,21 @@ use Rattle.root_imports.proofs.Naming.{by_name}
 use Rattle.root_imports.proofs.world_types.RootScope+ComponentWorld.import_value_type.Goals as goal
 
 pub encode_definition-requires-clause-defined : goal.encode_definition-requires-clause-defined
-encode_definition-requires-clause-defined c = root_defines c.args.self.now.world.now c.requires.valid c.args.self.now.last_type c.args.id c.requires.values c.requires.next.order (world_type_listed c.args.self.now.world.now c.requires.valid c.args.id c.requires.present c.requires.next.listed)
+encode_definition-requires-clause-defined c = root_defines c.args.self.now.world.now c.requires.valid c.args.self.now.met c.args.id c.requires.values c.requires.next.order (world_type_listed c.args.self.now.world.now c.requires.valid c.args.id c.requires.present c.requires.next.listed)
 
 pub returns-in_err-index-clause-tables : goal.returns-in_err-index-clause-tables
 returns-in_err-index-clause-tables c =
     let new = c.encode_definition.new.encoder in
-    subst (λ r. AreTablesRight r.now new.last_type new.instances new.items.defs new.maps) c.encode_definition.ensures.follows.0
-    (other_interface new.world.now new.interface None new.last_type (scope_of new.items.defs) (AreInstancesKnown new.world.now new.items.defs new.instances) new.maps c.encode_definition.ensures.faithful)
+    subst (λ r. AreTablesRight r.now new.met new.instances new.items.defs new.maps) c.encode_definition.ensures.follows.0
+    (other_interface new.world.now new.interface None new.met (scope_of new.items.defs) (AreInterfacesKnown new.world.now new.items.defs new.met.exported new.instances) new.maps c.encode_definition.ensures.faithful)
 
 pub returns-in_err-index-2-clause-tables : goal.returns-in_err-index-2-clause-tables
 returns-in_err-index-2-clause-tables c =
     let mid = c.encode_definition.new.encoder in
     let g : Extends mid.items c.import_type.new.self = extends_adds mid.items c.import_type.new.self c.import_type.result spaces.Type (defs.Item (items.Import c.args.name (descriptions.TypeEqual c.in_ok-index.index))) None c.import_type.ensures.adds in
-    let before : AreTablesRight c.args.self.now.world.now c.args.self.now.last_type mid.instances mid.items.defs mid.maps =
-    tables_in c.args.self.now.world.now mid.world.now None c.args.self.now.last_type mid.instances mid.items.defs mid.maps _ c.in_ok-index.ensures.setting (ap (λ r. r.now) c.in_ok-index.ensures.follows.0) c.in_ok-index.ensures.faithful in
-    let after : AreTablesRight c.args.self.now.world.now c.args.self.now.last_type mid.instances c.import_type.new.self.defs mid.maps = tables_kept c.args.self.now.world.now c.args.self.now.last_type mid.instances mid.items c.import_type.new.self mid.maps g before in
+    let before : AreTablesRight c.args.self.now.world.now c.args.self.now.met mid.instances mid.items.defs mid.maps =
+    tables_in c.args.self.now.world.now mid.world.now None c.args.self.now.met mid.met mid.instances mid.items.defs mid.maps _ c.in_ok-index.ensures.setting (ap (λ r. r.now) c.in_ok-index.ensures.follows.0) c.in_ok-index.ensures.follows.1 c.in_ok-index.ensures.faithful in
+    let after : AreTablesRight c.args.self.now.world.now c.args.self.now.met mid.instances c.import_type.new.self.defs mid.maps = tables_kept c.args.self.now.world.now c.args.self.now.met mid.instances mid.items c.import_type.new.self mid.maps g before in
     subst (λ n. AreTablesRight c.args.self.now.world.now n mid.instances c.import_type.new.self.defs mid.maps) (sym c.in_ok-index.ensures.follows.1) after
 
 pub record_world_type-requires-clause-valid : goal.record_world_type-requires-clause-valid
@@ -51,14 +53,14 @@ record_world_type-requires-clause-valid c = subst (λ r. IsEncodable r.now) (sym
 pub record_world_type-requires-clause-order : goal.record_world_type-requires-clause-order
 record_world_type-requires-clause-order c =
     let mid = c.encode_definition.new.encoder in
-    subst (λ r. IsNextId r.now (next_of mid.last_type) c.args.id) (sym c.in_ok-index.ensures.follows.0) (subst (λ n. IsNextId c.args.self.now.world.now (next_of n) c.args.id) (sym c.in_ok-index.ensures.follows.1) c.requires.next.order)
+    subst (λ r. IsNextId r.now (next_of mid.met.last) c.args.id) (sym c.in_ok-index.ensures.follows.0) (subst (λ (m : MetTypes). IsNextId c.args.self.now.world.now (next_of m.last) c.args.id) (sym c.in_ok-index.ensures.follows.1) c.requires.next.order)
 
 pub record_world_type-requires-clause-tables : goal.record_world_type-requires-clause-tables
 record_world_type-requires-clause-tables c =
     let mid = c.encode_definition.new.encoder in
     let g : Extends mid.items c.import_type.new.self = extends_adds mid.items c.import_type.new.self c.import_type.result spaces.Type (defs.Item (items.Import c.args.name (descriptions.TypeEqual c.in_ok-index.index))) None c.import_type.ensures.adds in
-    tables_kept mid.world.now mid.last_type mid.instances mid.items c.import_type.new.self mid.maps g
-    (other_interface mid.world.now mid.interface None mid.last_type (scope_of mid.items.defs) (AreInstancesKnown mid.world.now mid.items.defs mid.instances) mid.maps c.in_ok-index.ensures.faithful)
+    tables_kept mid.world.now mid.met mid.instances mid.items c.import_type.new.self mid.maps g
+    (other_interface mid.world.now mid.interface None mid.met (scope_of mid.items.defs) (AreInterfacesKnown mid.world.now mid.items.defs mid.met.exported mid.instances) mid.maps c.in_ok-index.ensures.faithful)
 
 pub record_world_type-requires-clause-denotes : goal.record_world_type-requires-clause-denotes
 record_world_type-requires-clause-denotes c =

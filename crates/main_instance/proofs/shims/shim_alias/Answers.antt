@@ -10,15 +10,14 @@ use Rattle.shim_plan.specs.Plans.{shim_of}
 use Rattle.world_shims.specs.WorldShims.{shims_of}
 use Rattle.main_instance.specs.Sources.{IsShimInstance}
 use Rattle.main_instance.proofs.Giving.{shim_alias_grows}
-use Rattle.main_instance.proofs.instances.ImportSources.shim.Goals as goal
+use Rattle.main_instance.proofs.shims.shim_alias.Goals as goal
 
 pub returns-clause-grows : goal.returns-clause-grows
 returns-clause-grows c =
     let w = c.args.root.now.world.now in
-    let s = c.requires.sources in
-    let there : shim_of c.args.kind.now (shims_of w) ≡ Some c.in-Some.shim.now = ap (shim_of c.args.kind.now) (sym s.shims) ∙ search rules in
-    let known : c.args.self.now.shim_instance ≡ Some c.unwrap-instance.result = search rules in
-    let made : IsInstanceOf c.args.root.now.items.defs c.unwrap-instance.result (shims_number w) = subst (IsShimInstance w c.args.root.now.items.defs) known s.shim_instance in
+        let there : shim_of c.args.kind.now (shims_of w) ≡ Some c.in-Some.shim.now = ap (shim_of c.args.kind.now) (sym c.requires.shims) ∙ search rules in
+    let known : c.args.shim_instance ≡ Some c.unwrap-instance.result = search rules in
+    let made : IsInstanceOf c.args.root.now.items.defs c.unwrap-instance.result (shims_number w) = subst (IsShimInstance w c.args.root.now.items.defs) known c.requires.made in
     let adds : MayAdd c.args.root.now.items.defs c.named_function.new.self.defs (defs.Item (items.Alias (aliases.CoreExport kinds.Func c.unwrap-instance.result c.in-Some.shim.now.name))) =
     subst (λ n. MayAdd c.args.root.now.items.defs c.named_function.new.self.defs (defs.Item (items.Alias (aliases.CoreExport kinds.Func c.unwrap-instance.result n)))) c.as_str-2.ensures c.in_ok-index.ensures.adds in
-    shim_alias_grows w s.valid c.args.root.now.items.defs c.named_function.new.self.defs c.args.kind.now c.in-Some.shim.now c.unwrap-instance.result there made adds
+    shim_alias_grows w c.requires.valid c.args.root.now.items.defs c.named_function.new.self.defs c.args.kind.now c.in-Some.shim.now c.unwrap-instance.result there made adds

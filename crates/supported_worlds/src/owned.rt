@@ -1,0 +1,173 @@
+//! Which roles of main's imports that are of resources of exported interfaces are not encoded yet.
+
+ghost use Rattle.std.specs.Prelude.{◌≡◌, false, codes};
+ghost use Rattle.std.specs.List.{list_any};
+ghost use Rattle.std.specs.Map.{keys_of};
+ghost use Rattle.std.specs.Option.{option_copied, option_map_or};
+ghost use Rattle.comp_roles.specs.Lookups.{first_some};
+ghost use Rattle.world_values.specs.Mentions.{same_interface};
+ghost use Rattle.comp_worlds.specs.WorldContents.{interface_of_owner};
+ghost use Rattle.supported_worlds.specs.LeftOut.{unless, own_role_left_out, own_instance_left_out, own_group_left_out};
+ghost use Rattle.supported_worlds.specs.Placed.{is_required_at, is_own_at, is_own_resource};
+
+use crate::placed::interface_of_owner;
+use crate::resources::is_resource;
+use crate::sets::exported_at;
+use comp_lists::{Keyed, Text};
+use comp_roles::{Import, ImportInstance};
+use wit_data::{InterfaceId, TypeDef, TypeId, TypeOwner, WorldItem, WorldKey};
+
+/// Whether an interface is in a set.
+#[tactic(auto, using(crate::proofs::Gathered::has_any))]
+fn is_required(required: &Keyed<InterfaceId, ()>, id: InterfaceId) -> bool
+    ensures { result ≡ list_any (same_interface id) (keys_of required.now) }
+{
+    let there = required.contains_key(&id);
+    there
+}
+
+/// Whether an interface is exported at a key, and main has to export it.
+fn is_required_at(
+    exports: &Keyed<WorldKey, WorldItem>,
+    required: &Keyed<InterfaceId, ()>,
+    key: &WorldKey,
+    id: InterfaceId,
+) -> bool
+    ensures { result ≡ is_required_at exports.now (keys_of required.now) key.now id }
+{
+    match exported_at(exports, key) {
+        Some(other) => id == other && is_required(required, id),
+        None => false,
+    }
+}
+
+/// Whether the owner of a type is such an interface.
+fn is_required_owner(
+    exports: &Keyed<WorldKey, WorldItem>,
+    required: &Keyed<InterfaceId, ()>,
+    key: &WorldKey,
+    owner: TypeOwner,
+) -> bool
+    ensures { result ≡ option_map_or (is_required_at exports.now (keys_of required.now) key.now) (interface_of_owner owner) false }
+{
+    match interface_of_owner(owner) {
+        Some(id) => is_required_at(exports, required, key, id),
+        None => false,
+    }
+}
+
+/// Whether a type is a resource of such an interface.
+fn is_own_at(
+    exports: &Keyed<WorldKey, WorldItem>,
+    required: &Keyed<InterfaceId, ()>,
+    key: &WorldKey,
+    def: &TypeDef,
+) -> bool
+    ensures { result ≡ is_own_at exports.now (keys_of required.now) key.now def.now }
+{
+    is_resource(def) && is_required_owner(exports, required, key, def.owner)
+}
+
+fn is_own_resource(
+    types: &[TypeDef],
+    exports: &Keyed<WorldKey, WorldItem>,
+    required: &Keyed<InterfaceId, ()>,
+    key: &WorldKey,
+    id: TypeId,
+) -> bool
+    ensures { result ≡ is_own_resource types.now exports.now (keys_of required.now) key.now id }
+{
+    match types.get(id.index) {
+        Some(def) => is_own_at(exports, required, key, def),
+        None => false,
+    }
+}
+
+/// A role of a resource, unless that is one of an interface that main has to export.
+fn unless_own(
+    types: &[TypeDef],
+    exports: &Keyed<WorldKey, WorldItem>,
+    required: &Keyed<InterfaceId, ()>,
+    key: &WorldKey,
+    id: TypeId,
+    what: &'static str,
+) -> Option<&'static str>
+    ensures { option_copied result ≡ unless (is_own_resource types.now exports.now (keys_of required.now) key.now id) what.now }
+{
+    if is_own_resource(types, exports, required, key, id) {
+        None
+    } else {
+        Some(what)
+    }
+}
+
+fn own_role_left_out(
+    types: &[TypeDef],
+    exports: &Keyed<WorldKey, WorldItem>,
+    required: &Keyed<InterfaceId, ()>,
+    role: &Import,
+) -> Option<&'static str>
+    ensures { option_copied result ≡ own_role_left_out types.now exports.now (keys_of required.now) role.now }
+{
+    match role {
+        Import::ExportedResourceDrop(key, id) => {
+            unless_own(types, exports, required, key, *id, "exported-drop")
+        }
+        Import::ExportedResourceRep(key, id) => {
+            unless_own(types, exports, required, key, *id, "exported-rep")
+        }
+        Import::ExportedResourceNew(key, id) => {
+            unless_own(types, exports, required, key, *id, "exported-new")
+        }
+        _ => None,
+    }
+}
+
+/// The first such role among the fields that are imported from one module.
+fn own_fields_left_out(
+    types: &[TypeDef],
+    exports: &Keyed<WorldKey, WorldItem>,
+    required: &Keyed<InterfaceId, ()>,
+    fields: &Keyed<Text, Import>,
+) -> Option<&'static str>
+    ensures { option_copied result ≡ first_some (λ f. own_role_left_out types.now exports.now (keys_of required.now) f.1) fields.now }
+{
+    for (_, role) in fields.iter() {
+        if let Some(what) = own_role_left_out(types, exports, required, role) {
+            return Some(what);
+        }
+    }
+    None
+}
+
+fn own_instance_left_out(
+    types: &[TypeDef],
+    exports: &Keyed<WorldKey, WorldItem>,
+    required: &Keyed<InterfaceId, ()>,
+    instance: &ImportInstance,
+) -> Option<&'static str>
+    ensures { option_copied result ≡ own_instance_left_out types.now exports.now (keys_of required.now) instance.now }
+{
+    match instance {
+        ImportInstance::Names(fields) => own_fields_left_out(types, exports, required, fields),
+        ImportInstance::Whole(_) => None,
+    }
+}
+
+/// The first role of main's imports that is of a resource of an exported interface, unless that is one of an interface that main has
+/// to export at the role's key.
+pub(crate) fn own_left_out(
+    types: &[TypeDef],
+    exports: &Keyed<WorldKey, WorldItem>,
+    required: &Keyed<InterfaceId, ()>,
+    groups: &Keyed<Text, ImportInstance>,
+) -> Option<&'static str>
+    ensures { option_copied result ≡ first_some (own_group_left_out types.now exports.now (keys_of required.now)) groups.now }
+{
+    for (_, instance) in groups.iter() {
+        if let Some(what) = own_instance_left_out(types, exports, required, instance) {
+            return Some(what);
+        }
+    }
+    None
+}
