@@ -15,7 +15,7 @@ use Rattle.main_instance.proofs.shims.shim_alias.Goals as goal
 pub returns-clause-grows : goal.returns-clause-grows
 returns-clause-grows c =
     let w = c.args.root.now.world.now in
-        let there : shim_of c.args.kind.now (shims_of w) ≡ Some c.in-Some.shim.now = ap (shim_of c.args.kind.now) (sym c.requires.shims) ∙ search rules in
+    let there : shim_of c.args.kind.now (shims_of w) ≡ Some c.in-Some.shim.now = ap (shim_of c.args.kind.now) (sym c.requires.shims) ∙ search rules in
     let known : c.args.shim_instance ≡ Some c.unwrap-instance.result = search rules in
     let made : IsInstanceOf c.args.root.now.items.defs c.unwrap-instance.result (shims_number w) = subst (IsShimInstance w c.args.root.now.items.defs) known c.requires.made in
     let adds : MayAdd c.args.root.now.items.defs c.named_function.new.self.defs (defs.Item (items.Alias (aliases.CoreExport kinds.Func c.unwrap-instance.result c.in-Some.shim.now.name))) =
