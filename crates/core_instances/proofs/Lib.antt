@@ -11,3 +11,4 @@ mod OwnTypes
 mod ExportKeys
 mod ExportNames
 pub mod Defining
+mod Foreign
