@@ -13,7 +13,7 @@ use Rattle.world_values.specs.declared.gathered.GatheredAdapter.{GatheredAdapter
 use Rattle.comp_encoder.specs.Encoder.{Encoder}
 use Rattle.comp_encoder.specs.Refusals.{ModuleCause, IsModuleRefusal}
 use Rattle.comp_encoder.specs.declared.fault.EncodeFault.{EncodeFault}
-use Rattle.comp_encoder.specs.declared.fault.EncodeFault.TheVariants.{Memory, Lower, UnknownAdapter, AdapterTwice}
+use Rattle.comp_encoder.specs.declared.fault.EncodeFault.TheVariants.{Memory, Lower, UnknownAdapter}
 
 -- the adapters that were added, by their names, in order
 abbrev pub Adapters : Type 0 → Type 0
@@ -40,7 +40,6 @@ module _ {B : Type 0} (adapters : Adapters B) where
 abbrev pub IsAddRefusal : {B F : Type 0} → Adapters B → List ℕ → Option LibraryInfo → EncodeFault F → Type 0
 IsAddRefusal adapters name info Memory = ⊤
 IsAddRefusal adapters name info (UnknownAdapter library unknown) = (library ≡ name) × (unknown_adapter adapters info ≡ Some unknown)
-IsAddRefusal adapters name info (AdapterTwice twice) = (twice ≡ name) × IsSome (found name adapters)
 IsAddRefusal adapters name info fault = ⊥
 
 module _ {L B F : Type 0} (l : lower.Ghosts L B F) where
@@ -53,4 +52,3 @@ module _ {L B F : Type 0} (l : lower.Ghosts L B F) where
   pub record NoAdapterCause (e : Encoder L B) (name bytes : List ℕ) (info : Option LibraryInfo) : Type 0 where
     pub accepted : (f : F) → ¬ ModuleCause l e bytes f
     pub known : unknown_adapter e.gathered.adapters info ≡ None
-    pub new : found name e.gathered.adapters ≡ None

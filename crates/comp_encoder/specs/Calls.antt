@@ -1,6 +1,8 @@
 -- What the calls of an encoder make of it: its initial state, and its state after each call that succeeds. The rules are this
 -- project's own: the component model's standard defines components, and not how they are made.
 use Rattle.std.specs.Prelude.{Bool, List, [], ◌∷◌, ℕ, ◌++◌, Option, Some, None, true, false}
+use Rattle.std.specs.Str.{bytes_eq}
+use Rattle.indexmap.specs.IndexMap.{insert_entry}
 use Rattle.comp_roles.specs.declared.libraries.LibraryInfo.{LibraryInfo}
 use Rattle.world_values.specs.declared.gathered.Part.{Part}
 use Rattle.world_values.specs.declared.gathered.ExportKey.{ExportKey}
@@ -55,7 +57,7 @@ module _ {L B F : Type 0} (l : lower.Ghosts L B F) where
   abbrev pub after_adapter : Encoder L B → List ℕ → List ℕ → Option LibraryInfo → Encoder L B
   after_adapter e name bytes info =
       let read = read_part e bytes in
-      record e { gathered = record e.gathered { adapters = e.gathered.adapters ++ (name, record { part = read.0; library_info = info }) ∷ []; combined = read.1 } }
+      record e { gathered = record e.gathered { adapters = insert_entry bytes_eq e.gathered.adapters name (record { part = read.0; library_info = info }); combined = read.1 } }
 
   -- the encoder with `validate` on or off
   abbrev pub validating : Encoder L B → Bool → Encoder L B

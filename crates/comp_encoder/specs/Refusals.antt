@@ -17,7 +17,7 @@ use Rattle.comp_encoder.specs.declared.output.OutputFault.TheVariants as outputs
 use Rattle.core_options.specs.declared.fault.StateFault.{StateFault}
 use Rattle.core_options.specs.declared.fault.StateFault.TheVariants as state
 use Rattle.comp_encoder.specs.declared.fault.EncodeFault.{EncodeFault}
-use Rattle.comp_encoder.specs.declared.fault.EncodeFault.TheVariants.{Memory, NoModule, Lower, UnknownAdapter, CanonicalNames, NoMemory, NoRealloc, NoEncoding, LaterExport, Output, TooMany, AdapterTwice}
+use Rattle.comp_encoder.specs.declared.fault.EncodeFault.TheVariants.{Memory, NoModule, Lower, UnknownAdapter, CanonicalNames, NoMemory, NoRealloc, NoEncoding, LaterExport, Output, TooMany}
 
 -- a canonical name that is shared as a fault of the encoder
 abbrev pub of_shared : {F : Type 0} → SharedName → EncodeFault F
@@ -63,7 +63,6 @@ module _ {L B F : Type 0} (l : lower.Ghosts L B F) where
   IsModuleRefusal e bytes (LaterExport interface used) = ⊥
   IsModuleRefusal e bytes (Output fault) = ⊥
   IsModuleRefusal e bytes (TooMany excess) = ⊥
-  IsModuleRefusal e bytes (AdapterTwice name) = ⊥
 
   -- a refusal of `encode` is out of memory, or has its cause
   abbrev pub IsEncodeRefusal : Encoder L B → EncodeFault F → Type 0
@@ -79,7 +78,6 @@ module _ {L B F : Type 0} (l : lower.Ghosts L B F) where
   IsEncodeRefusal e (Output fault) = IsTrue e.gathered.options.validate × IsCheckCause (naming e) (l.prepared e.lower e.gathered) fault
   IsEncodeRefusal e (TooMany excess) = 2 ^ 32 ≤ excess
   IsEncodeRefusal e (UnknownAdapter library name) = ⊥
-  IsEncodeRefusal e (AdapterTwice name) = ⊥
 
   -- no cause of a refusal holds for the world of what was gathered
   pub record NoWorldCause (e : Encoder L B) : Type 0 where

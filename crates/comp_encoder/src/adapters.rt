@@ -1,15 +1,16 @@
 //! The table of adapters: how one is added, and which adapters the arguments of a library name.
 
-ghost use Rattle.std.specs.Prelude.{◌≡◌, ◌∷◌, ◌++◌, [], Some, None, IfErr, IsOk, OnOk, OnErr};
+ghost use Rattle.std.specs.Prelude.{◌≡◌, None, IfErr, IsOk, OnOk, OnErr};
 ghost use Rattle.std.specs.Option.{option_copied};
-ghost use Rattle.comp_lists.specs.Found.{found};
+ghost use Rattle.std.specs.Str.{bytes_eq};
+ghost use Rattle.indexmap.specs.IndexMap.{insert_entry};
 ghost use Rattle.comp_roles.specs.Lookups.{first_some};
 ghost use Rattle.comp_encoder.specs.Adapters.{unknown_module, unknown_in, unknown_adapter, IsAddRefusal};
 
 use crate::fault::EncodeFault;
 use comp_lists::{Keyed, Text};
 use comp_roles::{Instance, Item, LibraryArgument, LibraryInfo, MainOrAdapter};
-use std::alloc::Global;
+use std::alloc::{AllocError, Global};
 use world_values::GatheredAdapter;
 
 /// The name of the adapter that is named, where none of that name was added.
@@ -107,22 +108,17 @@ pub(crate) fn check_arguments<B, F>(
     }
 }
 
-/// Adds an adapter at the end of the table.
-pub(crate) fn put_adapter<B: Drop, F>(
+/// Adds an adapter. One of a name that is there takes the place of the other.
+pub(crate) fn put_adapter<B: Drop>(
     alloc: Global,
     adapters: &mut Keyed<Text, GatheredAdapter<B>>,
     name: &str,
     adapter: GatheredAdapter<B>,
-) -> Result<(), EncodeFault<F>>
-    ensures ok { OnOk result (adapters.new ≡ adapters.old ++ (name.now, adapter) ∷ []) }
+) -> Result<(), AllocError>
+    ensures ok { OnOk result (adapters.new ≡ insert_entry bytes_eq adapters.old name.now adapter) }
     ensures err { OnErr result (adapters.new ≡ adapters.old) }
-    ensures refused { IsOk result → found name.now adapters.old ≡ None }
-    ensures cause { IfErr result (IsAddRefusal adapters.old name.now adapter.library_info) }
 {
     let name = Text::from_str(alloc, name)?;
-    if adapters.contains_key(&name) {
-        return Err(EncodeFault::AdapterTwice { name });
-    }
-    adapters.insert(name, adapter)?;
+    adapters.set(name, adapter)?;
     Ok(())
 }

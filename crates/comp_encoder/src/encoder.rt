@@ -253,10 +253,10 @@ impl<L: Lower> ComponentEncoder<L> {
     }
 
     /// Takes an adapter under a name: a further core module with the metadata that the lower layer reads from it. It comes after
-    /// those that were added before.
+    /// those that were added before; where an adapter or a library of this name was added before, it takes that one's place.
     ///
-    /// It refuses when out of memory, where the lower layer refuses the bytes, or their metadata together with the earlier modules',
-    /// and where an adapter or a library of this name was added before. A refusal leaves the encoder unchanged.
+    /// It refuses when out of memory, and where the lower layer refuses the bytes, or their metadata together with the earlier
+    /// modules'. A refusal leaves the encoder unchanged.
     pub fn add_adapter(&mut self, name: &str, bytes: &[u8]) -> Result<(), EncodeFault<L::Fault>>
         ensures ok { OnOk result (self.new ≡ after_adapter L.Lower self.old name.now bytes.now None) }
         ensures err { OnErr result (self.new ≡ self.old) }

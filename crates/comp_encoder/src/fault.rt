@@ -75,11 +75,6 @@ pub enum EncodeFault<F> {
     TooMany {
         excess: Excess,
     },
-    /// An adapter or a library of this name was added before.
-    #[error("E18 AdapterTwice name={name}")]
-    AdapterTwice {
-        name: Text,
-    },
 }
 
 impl<F> From<AllocError> for EncodeFault<F> {

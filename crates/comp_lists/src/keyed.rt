@@ -5,7 +5,7 @@ ghost use Rattle.std.specs.Option.{option_copied};
 ghost use Rattle.std.specs.Map.{lookup, keys_of};
 ghost use Rattle.std.specs.Map.Iter.{ShowsInOrder, deref_pair};
 ghost use Rattle.std.specs.List.{IsDistinct};
-ghost use Rattle.indexmap.specs.IndexMap.{swap_remove_entry};
+ghost use Rattle.indexmap.specs.IndexMap.{insert_entry, swap_remove_entry};
 ghost use Rattle.comp_lists.specs.Tables.{with_first};
 
 use indexmap::IndexMap;
@@ -91,6 +91,16 @@ impl<K: Eq + Hash + Drop, V: Drop> Keyed<K, V> {
             return Ok(());
         }
         self.insert(key, value)
+    }
+
+    /// Sets the value of a key. A key that is there keeps its place, and a new one comes last. Where memory is refused, the table is
+    /// as it was.
+    pub fn set(&mut self, key: K, new_value: V) -> Result<(), AllocError>
+        ensures ok { OnOk result (self.new ≡ insert_entry K.eq self.old key new_value) }
+        ensures err { OnErr result (self.new ≡ self.old) }
+    {
+        self.map.insert(key, new_value)?;
+        Ok(())
     }
 
     /// Removes the entry of a key, if it has one: the last entry takes its place.

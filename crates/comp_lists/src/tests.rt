@@ -90,3 +90,22 @@ fn an_entry_is_removed(rt: HostRuntime) {
     let left = left_in_table(rt.alloc()).expect(&rt, "memory");
     assert!(rt; left == (Some(3), None));
 }
+
+/// The values of a table in its order, after that of its first key was set again.
+fn set_in_place(alloc: Global) -> Result<Seq<u32>, AllocError> {
+    let mut table: Keyed<Text, u32> = Keyed::new(alloc);
+    table.set(Text::from_str(alloc, "b")?, 1)?;
+    table.set(Text::from_str(alloc, "a")?, 2)?;
+    table.set(Text::from_str(alloc, "b")?, 3)?;
+    let mut values = Seq::new(alloc);
+    for (_, value) in table.iter() {
+        values.push(*value)?;
+    }
+    Ok(values)
+}
+
+#[test]
+fn a_value_is_set_in_its_place(rt: HostRuntime) {
+    let values = set_in_place(rt.alloc()).expect(&rt, "memory");
+    assert_eq!(rt; values.as_slice(), [3, 2].as_slice());
+}

@@ -181,16 +181,16 @@ fn adapters_are_gathered_in_order(rt: HostRuntime) {
 }
 
 #[test]
-fn an_adapter_is_added_once(rt: HostRuntime) {
+fn an_adapter_of_a_name_that_is_there_takes_its_place(rt: HostRuntime) {
     let again = Call {
         name: "a",
         bytes: LONGER,
-        arguments: None,
+        arguments: Some(&["b"]),
     };
     let answers = after_calls(rt.alloc(), &[A, B, again]).expect(&rt, "memory");
     assert_eq!(rt;
         answers.as_str(),
-        "no fault; no fault; no fault; E18 AdapterTwice name=\"a\"; E3 Lower: S3 Gathered adapters=\"a=8 b=11\""
+        "no fault; no fault; no fault; no fault; E3 Lower: S3 Gathered adapters=\"a=11+1 b=11\""
     );
 }
 
