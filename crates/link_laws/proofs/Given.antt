@@ -734,7 +734,7 @@ module _ (w : ComponentWorld) (shims : Option ShimsAt) (m : Machine) where
   groups_named arguments gs h = AllZip-weaker (λ a g o. (o.named, o.each)) arguments gs h
 
   -- each import of main finds what was planned for it
-  pub given_there : (numbers : List ℕ) → MayHaveShims w m.store numbers shims → (arguments : List (List ℕ × List Export)) → AllZip (IsOffered w shims m.store) arguments w.main.imports.modules → (i : ImportType) → IsFunctionImport w i →
+  pub given_there : (numbers : List ℕ) → MayHaveShims w m.store numbers shims → (arguments : List (List ℕ × List Export)) → AllZip (IsOffered w shims m.store) arguments w.main.imports.modules → (i : ImportType) → IsFunctionImport w w.main i →
       (t : Thing) × (given_to m arguments i ≡ Some t) × IsPlanned w shims m.store t i
   given_there numbers there arguments h i p =
       let roles : List (List ℕ × ImportInstance) = w.main.imports.modules in

@@ -46,7 +46,7 @@ use Rattle.link_laws.specs.Linking.{module_meanings}
 use Rattle.link_laws.proofs.Zips.{all_some-each}
 use Rattle.link_laws.proofs.Stores.{IsOpaqueOf, ShimsAt, IsModuleInstance, IsInlineInstance, IsFilledWith, AreFilled, AreShims, IsServedAs, IsNamedEntry, ExportsShims, MayHaveShims, main_module, IsPlanned, IsPlannedUser, NumberedFrom, AreResources, Agrees}
 use Rattle.link_laws.proofs.Given.{thing_there, purpose_there, purpose_opaque, not_shims, of_shims, module_there, IsOffered, address_there, arguments_there, given_there}
-use Rattle.link_laws.proofs.Plain.{only, nothing_in, IsFunctionImport, function_imports, only_main, listed_main}
+use Rattle.link_laws.proofs.Plain.{only, nothing_in, IsFunctionImport, function_imports, module_right, only_main, listed_main}
 use Rattle.link_laws.proofs.UserExports.{Exports, Alike, all_exports, all_alike, same_exports, each_export}
 use Rattle.link_laws.proofs.Kept.{IsFilledWith-kept, ShimsKept, shims_same, MayHaveShims-kept, Keeps, things_kept, IsPlannedUser-kept, AreKeyExports-kept, AreResources-kept}
 
@@ -139,12 +139,12 @@ module _ {w : ComponentWorld} {earlier : List Def} {c : Scope} {s : Store} (a : 
       let each : AllZip (IsArgumentFor w Main earlier) arguments roles = subst (λ (o : WorldModule). AllZip (IsArgumentFor w o.of earlier) arguments o.found.imports.modules) (sym of_main.1) h.each in
       let args : (ys : List (List ℕ × List Export)) × (all_some (map (core_argument m0) arguments) ≡ Some ys) × AllZip (IsOffered w a.shims s) ys roles =
       arguments_there a m0 refl refl ok arguments roles ok.main.import_roles each in
-      let plain : AllByRecursion (IsFunctionImport w) is = function_imports w ok in
+      let plain : AllByRecursion (IsFunctionImport w w.main) is = function_imports w (main_module w) (module_right w ok 0 (main_module w) refl) in
       let found : (ts : List Thing) × (all_some (map (given_to (machine c s no_answers) args.0) is) ≡ Some ts) × AllZip (IsPlanned w a.shims s) ts is =
       all_some-each (IsPlanned w a.shims s) (given_to (machine c s no_answers) args.0) is
       (AllByRecursion-weaker (given_there w a.shims (machine c s no_answers) numbers a.with_shims args.0 args.2) is plain) in
       let given : (now : Now) → all_some (map (given_to (machine c s now) args.0) is) ≡ Some found.0 = λ now.
-      ap (λ l. all_some l) (given_same w c s now args.0 is plain) ∙ found.1 in
+      ap (λ l. all_some l) (given_same w w.main c s now args.0 is plain) ∙ found.1 in
       let instance : ModuleInstance = record { module_number = 0; given = found.0; exports = own } in
       let t : Thing = record { space = spaces.CoreInstance; address = length m1.store.core_instances } in
       let s' : Store = record m1.store { core_instances = m1.store.core_instances ++ own ∷ []; module_instances = m1.store.module_instances ++ instance ∷ [] } in

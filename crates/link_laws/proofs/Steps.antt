@@ -53,6 +53,7 @@ use Rattle.wit_data.specs.declared.functions.AbiVariant.TheVariants.{GuestImport
 use Rattle.comp_inventories.proofs.Inventories.{inventory-push}
 use Rattle.core_types.specs.declared.types.FuncType.{FuncType}
 use Rattle.comp_worlds.specs.declared.world.ComponentWorld.{ComponentWorld}
+use Rattle.comp_worlds.specs.declared.world.ValidatedModule.{ValidatedModule}
 use Rattle.core_types.specs.declared.types.ValType.{ValType}
 use Rattle.core_runs.specs.Values.{Value}
 use Rattle.core_types.specs.declared.types.ValType.TheVariants.{I32}
@@ -253,13 +254,13 @@ given_one : (c : Scope) (s : Store) (now : Now) (type : FuncType) (o : Option Th
 given_one c s now type None = refl
 given_one c s now type (Some t) = matching_same c s now type t.space t.address
 
-pub given_same : (w : ComponentWorld) (c : Scope) (s : Store) (now : Now) (arguments : List (List ℕ × List Export)) (is : List ImportType) → AllByRecursion (IsFunctionImport w) is →
+pub given_same : (w : ComponentWorld) (m : ValidatedModule) (c : Scope) (s : Store) (now : Now) (arguments : List (List ℕ × List Export)) (is : List ImportType) → AllByRecursion (IsFunctionImport w m) is →
     map (given_to (machine c s now) arguments) is ≡ map (given_to (machine c s no_answers) arguments) is
-given_same w c s now arguments [] h = refl
-given_same w c s now arguments (i ∷ is) h =
+given_same w m c s now arguments [] h = refl
+given_same w m c s now arguments (i ∷ is) h =
     let SameFor : ExternType → Type 0 =
     λ ty. option_and_then (matching (machine c s now) ty) (argument_for arguments (type_kind ty) i.module_name i.field) ≡ option_and_then (matching (machine c s no_answers) ty) (argument_for arguments (type_kind ty) i.module_name i.field) in
-    ap₂ (λ x xs. x ∷ xs) (subst SameFor (sym h.0.typed) (given_one c s now h.0.type (argument_for arguments kinds.Func i.module_name i.field))) (given_same w c s now arguments is h.1)
+    ap₂ (λ x xs. x ∷ xs) (subst SameFor (sym h.0.typed) (given_one c s now h.0.type (argument_for arguments kinds.Func i.module_name i.field))) (given_same w m c s now arguments is h.1)
 
 -- one event more is among all of them
 pub few : (es : List Event) (g : ℕ) (rest : List Def) (now : Now) → IsNow es g now → length (seen now (Instantiated 0)).moments ≤ length (es ++ (Instantiated 0 ∷ seen_by rest))
