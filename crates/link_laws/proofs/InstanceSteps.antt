@@ -32,7 +32,7 @@ use Rattle.comp_runs.specs.Machine.{Scope, Machine, address_at, is_of, all_some}
 use Rattle.comp_runs.specs.Instances.{ExportTypes, exported_by, with_exports, with_module_instance, given_to, new_user, ModuleMeaning, OfUser, OfGenerated}
 use Rattle.comp_runs.specs.Running.{core_argument, run}
 use Rattle.instance_laws.proofs.Held.{keeps_same, keeps_more, keeps_grown}
-use Rattle.link_laws.proofs.Steps.{machine, IsNow, IsGood, good_answered, quiet, users_among, Steps, filter-push, with_thing, numbered_at, no_answers, given_same, few, one_event, cells, length-cells, export_beside, not_last, not_fixup, agrees_with, seen_by}
+use Rattle.link_laws.proofs.Steps.{machine, IsNow, IsGood, good_answered, quiet, users_among, Steps, filter-push, with_thing, numbered_at, no_answers, given_same, few, one_event, cells, length-cells, export_beside, not_last, agrees_with, seen_by}
 use Rattle.shim_runs.proofs.Placed.{shims_kept}
 use Rattle.shim_runs.proofs.ShimInstance.{shims_run}
 use Rattle.shim_runs.proofs.FixupInstance.{fixup_run}
@@ -45,7 +45,7 @@ use Rattle.link_laws.specs.Composition.{GeneratedModules, generated_sections, at
 use Rattle.link_laws.specs.Linking.{module_meanings}
 use Rattle.link_laws.proofs.Zips.{all_some-each}
 use Rattle.link_laws.proofs.Stores.{IsOpaqueOf, ShimsAt, IsModuleInstance, IsInlineInstance, IsFilledWith, AreFilled, AreShims, IsServedAs, IsNamedEntry, ExportsShims, MayHaveShims, main_module, IsPlanned, IsPlannedUser, NumberedFrom, AreResources, Agrees}
-use Rattle.link_laws.proofs.Given.{thing_there, purpose_there, purpose_opaque, not_shims, of_shims, module_there, IsOffered, address_there, arguments_there, given_there}
+use Rattle.link_laws.proofs.Given.{thing_there, purpose_there, purpose_opaque, main_below, not_shims, not_fixup, of_shims, module_there, IsOffered, address_there, arguments_there, given_there}
 use Rattle.link_laws.proofs.Plain.{only, nothing_in, IsFunctionImport, function_imports, module_right, only_main, listed_main}
 use Rattle.link_laws.proofs.UserExports.{Exports, Alike, all_exports, all_alike, same_exports, each_export}
 use Rattle.link_laws.proofs.Kept.{IsFilledWith-kept, ShimsKept, shims_same, MayHaveShims-kept, Keeps, things_kept, IsPlannedUser-kept, AreKeyExports-kept, AreResources-kept}
@@ -138,7 +138,7 @@ module _ {w : ComponentWorld} {earlier : List Def} {c : Scope} {s : Store} (a : 
       let of_main : (number ≡ 0) × (main_module w ≡ h.of) = listed_main w ok number h.of h.listed in
       let each : AllZip (IsArgumentFor w Main earlier) arguments roles = subst (λ (o : WorldModule). AllZip (IsArgumentFor w o.of earlier) arguments o.found.imports.modules) (sym of_main.1) h.each in
       let args : (ys : List (List ℕ × List Export)) × (all_some (map (core_argument m0) arguments) ≡ Some ys) × AllZip (IsOffered w a.shims s) ys roles =
-      arguments_there a m0 refl refl ok arguments roles ok.main.import_roles each in
+      arguments_there a m0 refl refl arguments roles ok.main.import_roles each in
       let plain : AllByRecursion (IsFunctionImport w w.main) is = function_imports w (main_module w) (module_right w ok 0 (main_module w) refl) in
       let found : (ts : List Thing) × (all_some (map (given_to (machine c s no_answers) args.0) is) ≡ Some ts) × AllZip (IsPlanned w a.shims s) ts is =
       all_some-each (IsPlanned w a.shims s) (given_to (machine c s no_answers) args.0) is
@@ -167,9 +167,9 @@ module _ {w : ComponentWorld} {earlier : List Def} {c : Scope} {s : Store} (a : 
       (subst (AllByRecursion (IsPlannedUser w a.shims s')) (sym users) (AllByRecursion-weaker (IsPlannedUser-kept w k a.shims a.shims here) s.module_instances a.served))
       (IsPlannedUser-kept w k a.shims a.shims here instance (λ is_main. found.2)) in
       let exporting : (at : ShimsAt) → AllByRecursion (ExportsShims w at) s.module_instances → AllByRecursion (ExportsShims w at) (m1.store.module_instances ++ instance ∷ []) =
-      λ at e. AllByRecursion-push (ExportsShims w at) m1.store.module_instances instance (subst (AllByRecursion (ExportsShims w at)) (sym users) e) (λ is_shims. absurd (not_shims w is_shims)) in
+      λ at e. AllByRecursion-push (ExportsShims w at) m1.store.module_instances instance (subst (AllByRecursion (ExportsShims w at)) (sym users) e) (λ is_shims. absurd (not_shims w 0 (main_below w) is_shims)) in
       let there : MayHaveShims w s' (numbers ++ 0 ∷ []) a.shims =
-      MayHaveShims-kept k w numbers (0 ∷ []) a.shims more.tables (λ yes. not_last numbers (shims_number w) (not_shims w) yes) (λ yes. not_last numbers (fixup_number w) (not_fixup w) yes) exporting a.with_shims in
+      MayHaveShims-kept k w numbers (0 ∷ []) a.shims more.tables (λ yes. not_last numbers (shims_number w) (not_shims w 0 (main_below w)) yes) (λ yes. not_last numbers (fixup_number w) (not_fixup w 0 (main_below w)) yes) exporting a.with_shims in
       let alike : (after : Now) → length after.globals ≡ g → Alike (machine c s after) m0 = λ after count. record { store = refl; globals = count ∙ sym (length-cells g) } in
       let new : (after : Now) → length after.globals ≡ g → new_user 0 es found.0 (machine c s after) ≡ machine (with_thing c t c.imports) s' (with_exports user es (machine c s after)).now = λ after count.
       ap₂ (λ l m. with_module_instance (record { module_number = 0; given = found.0; exports = l }) m)
@@ -207,7 +207,7 @@ module _ {w : ComponentWorld} {earlier : List Def} {c : Scope} {s : Store} (a : 
                   of = refl;
                 };
                 same = refl;
-                each = inl (refl, AllZip-weaker (export_beside m1.store s'.core_instances s'.module_instances user) own es (each_export user es m0));
+                each = inl (record { of = main_module w; listed = refl; each = AllZip-weaker (export_beside m1.store s'.core_instances s'.module_instances user) own es (each_export user es m0) });
               };
             })
             (tt, tt, tt)
@@ -263,7 +263,7 @@ module _ {w : ComponentWorld} {earlier : List Def} {c : Scope} {s : Store} (a : 
         with_thing c t c.imports,
         s',
         g,
-        quiet w gen d c s g (with_thing c t c.imports) s' (users_of_generated number (not_shims w)) (λ rest now. rw (module_address number h.scoped, shims_meaning w gen ok there) (r.runs now [] (run (module_meanings w gen) rest))),
+        quiet w gen d c s g (with_thing c t c.imports) s' (users_of_generated number (not_shims w 0 (main_below w))) (λ rest now. rw (module_address number h.scoped, shims_meaning w gen ok there) (r.runs now [] (run (module_meanings w gen) rest))),
         agrees_with a g gen d (with_thing c t c.imports) s' t (Some at) new refl k
             (record {
               space = refl;
@@ -281,7 +281,7 @@ module _ {w : ComponentWorld} {earlier : List Def} {c : Scope} {s : Store} (a : 
             (map-append (λ (u : ModuleInstance). u.module_number) s.module_instances (instance ∷ []))
             (AllByRecursion-push (IsPlannedUser w (Some at) s') s.module_instances instance
             (AllByRecursion-weaker (IsPlannedUser-kept w k a.shims (Some at) new) s.module_instances a.served)
-            (λ is_main. absurd (not_shims w (sym is_main))))
+            (λ is_main. absurd (not_shims w 0 (main_below w) (sym is_main))))
             are
             (sym (append-nil (map (λ (e : Export). e.name) c.exports)))
             (AreKeyExports-kept w k w.main_exports c.exports a.lifted)
@@ -292,10 +292,10 @@ module _ {w : ComponentWorld} {earlier : List Def} {c : Scope} {s : Store} (a : 
   -- ---- the fixup
 
   -- what the shims stand for, among the entries of an inline instance
-  fill_there : IsWorld w → (e : CoreInlineExport) (shim : Shim) (x : Export) → IsFillFor w earlier e shim → IsNamedEntry c.items e x → IsFilling w s shim x
-  fill_there ok e shim x h n =
+  fill_there : (e : CoreInlineExport) (shim : Shim) (x : Export) → IsFillFor w earlier e shim → IsNamedEntry c.items e x → IsFilling w s shim x
+  fill_there e shim x h n =
       let kind : kind_space e.kind ≡ spaces.CoreFunc = ap kind_space h.function in
-      let i : (y : ℕ) × (address_at spaces.CoreFunc e.index c.items ≡ Some y) × IsServedAs w s y (target_of w h.purpose) = purpose_there a ok e.index shim h.purpose h.stands_for h.serves in
+      let i : (y : ℕ) × (address_at spaces.CoreFunc e.index c.items ≡ Some y) × IsServedAs w s y (target_of w h.purpose) = purpose_there a e.index shim h.purpose h.stands_for h.serves in
       let at : address_at spaces.CoreFunc e.index c.items ≡ Some x.address = subst (λ space. address_at space e.index c.items ≡ Some x.address) kind n.at in
       let serves : IsServedAs w s x.address (target_of w h.purpose) = subst (λ y. IsServedAs w s y (target_of w h.purpose)) (same_Some i.0 x.address (sym i.1 ∙ at)) i.2 in
       let o : (item : CoreItem) × IsOpaqueOf s x.address (type_of_shim shim) item = purpose_opaque w s x.address shim h.purpose h.stands_for serves in (
@@ -303,13 +303,13 @@ module _ {w : ComponentWorld} {earlier : List Def} {c : Scope} {s : Store} (a : 
         record { purpose = h.purpose; stands_for = h.stands_for; serves = serves },
       )
 
-  fills_there : IsWorld w → (es : List CoreInlineExport) (shims : List Shim) (xs : List Export) → AllZip (IsFillFor w earlier) es shims → AllZip (IsNamedEntry c.items) es xs → AllZip (IsFilling w s) shims xs
-  fills_there ok [] [] [] h n = tt
-  fills_there ok (e ∷ es) (shim ∷ shims) (x ∷ xs) h n = (fill_there ok e shim x h.0 n.0, fills_there ok es shims xs h.1 n.1)
-  fills_there ok [] (shim ∷ shims) xs h n = absurd h
-  fills_there ok (e ∷ es) [] xs h n = absurd h
-  fills_there ok [] [] (x ∷ xs) h n = absurd n
-  fills_there ok (e ∷ es) (shim ∷ shims) [] h n = absurd n
+  fills_there : (es : List CoreInlineExport) (shims : List Shim) (xs : List Export) → AllZip (IsFillFor w earlier) es shims → AllZip (IsNamedEntry c.items) es xs → AllZip (IsFilling w s) shims xs
+  fills_there [] [] [] h n = tt
+  fills_there (e ∷ es) (shim ∷ shims) (x ∷ xs) h n = (fill_there e shim x h.0 n.0, fills_there es shims xs h.1 n.1)
+  fills_there [] (shim ∷ shims) xs h n = absurd h
+  fills_there (e ∷ es) [] xs h n = absurd h
+  fills_there [] [] (x ∷ xs) h n = absurd n
+  fills_there (e ∷ es) (shim ∷ shims) [] h n = absurd n
 
   pub step_fixup : IsWorld w → IsGenerated w gen → (number : ℕ) (arguments : List CoreArgument) → InstantiatesFixup w earlier number arguments → Steps w gen earlier c s g (defs.Item (items.CoreInstantiate number arguments))
   step_fixup ok there number arguments h =
@@ -344,7 +344,7 @@ module _ {w : ComponentWorld} {earlier : List Def} {c : Scope} {s : Store} (a : 
       actual = inline.2.exports
 
       filling : AllZip (IsFilling w s) shims actual
-      filling = fills_there ok h.fills.entries shims actual h.fills.each inline.2.each
+      filling = fills_there h.fills.entries shims actual h.fills.each inline.2.each
 
       -- it is the first fixup
       first : Contains numbers (fixup_number w) → ⊥
@@ -427,7 +427,7 @@ module _ {w : ComponentWorld} {earlier : List Def} {c : Scope} {s : Store} (a : 
         with_thing c t c.imports,
         s',
         g,
-        quiet w gen d c s g (with_thing c t c.imports) s' (users_of_generated (fixup_number w) (not_fixup w)) (λ rest now. rw (module_address (fixup_number w) (subst (λ n. n < items_in spaces.CoreModule earlier) h.numbered h.scoped), fixup_meaning w gen ok there, arguments_held now) (r.runs now (run (module_meanings w gen) rest))),
+        quiet w gen d c s g (with_thing c t c.imports) s' (users_of_generated (fixup_number w) (not_fixup w 0 (main_below w))) (λ rest now. rw (module_address (fixup_number w) (subst (λ n. n < items_in spaces.CoreModule earlier) h.numbered h.scoped), fixup_meaning w gen ok there, arguments_held now) (r.runs now (run (module_meanings w gen) rest))),
         agrees_with a g gen d (with_thing c t c.imports) s' t a.shims here refl k
             (record {
               space = refl;
@@ -459,8 +459,8 @@ module _ {w : ComponentWorld} {earlier : List Def} {c : Scope} {s : Store} (a : 
   pub step_instantiate : IsWorld w → (number : ℕ) (arguments : List CoreArgument) → ((0 ≡ number → ⊥) → IsGenerated w gen) → InstantiatesModule w earlier number arguments → Steps w gen earlier c s g (defs.Item (items.CoreInstantiate number arguments))
   step_instantiate ok number arguments there (inl h) = step_user ok number arguments h
   step_instantiate ok number arguments there (inr (inl h)) =
-      let generated : IsGenerated w gen = there (λ e. not_shims w (e ∙ h.numbered)) in
+      let generated : IsGenerated w gen = there (λ e. not_shims w 0 (main_below w) (e ∙ h.numbered)) in
       let own : InstantiatesShims w earlier (shims_number w) [] = subst (InstantiatesShims w earlier (shims_number w)) h.closed (subst (λ n. InstantiatesShims w earlier n arguments) h.numbered h) in
       subst (λ n. Steps w gen earlier c s g (defs.Item (items.CoreInstantiate n arguments))) (sym h.numbered)
       (subst (λ l. Steps w gen earlier c s g (defs.Item (items.CoreInstantiate (shims_number w) l))) (sym h.closed) (step_shims ok generated own))
-  step_instantiate ok number arguments there (inr (inr h)) = step_fixup ok (there (λ e. not_fixup w (e ∙ h.numbered))) number arguments h
+  step_instantiate ok number arguments there (inr (inr h)) = step_fixup ok (there (λ e. not_fixup w 0 (main_below w) (e ∙ h.numbered))) number arguments h

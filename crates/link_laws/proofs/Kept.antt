@@ -51,7 +51,7 @@ use Rattle.wit_data.specs.declared.worlds.WorldKey.{WorldKey}
 use Rattle.wit_data.specs.declared.worlds.WorldItem.{WorldItem}
 use Rattle.wit_data.specs.declared.worlds.WorldItem.TheVariants as world_items
 use Rattle.link_laws.proofs.Zips.{mapped_some, AllByRecursion-join}
-use Rattle.link_laws.proofs.Stores.{IsOpaqueOf, IsUserItem, IsUserExport, IsInstance, ShimsAt, AreShimExports, AreModuleExports, IsModuleInstance, IsNamedEntry, IsTypeAt, IsHeldOption, IsArgumentHeld, ItemIs, DefIs, Means, IsEntryItem, IsTypeEntry, IsFunctionEntry, IsInstanceThing, IsMainExport, IsFirstMemory, IsOptionFunction, IsOptionHeld, IsLoweringOf, IsServedAs, IsShimGiven, Serves, IsPlanned, IsPlannedUser, IsFilledWith, AreFilled, ExportsShims, AreShims, MayHaveShims, IsLiftedFrom, main_key, main_function, IsRequiredAt, IsAmong, IsTypeAmong, IsItemExport, IsKeyExport, AreKeyExports, IsDestructorGiven, IsDestroyedBy, IsOwnResource, IsOwnIfDefined, AreResources, HasNumber}
+use Rattle.link_laws.proofs.Stores.{IsOpaqueOf, IsUserItem, IsUserExport, IsInstance, ShimsAt, AreShimExports, AreModuleExports, IsModuleInstance, IsNamedEntry, IsTypeAt, IsHeldOption, IsArgumentHeld, ItemIs, DefIs, Means, IsEntryItem, IsTypeEntry, IsFunctionEntry, IsInstanceThing, IsFunctionExported, IsFirstMemory, IsOptionHeld, IsLoweringOf, IsServedAs, IsShimGiven, Serves, IsPlanned, IsPlannedUser, IsFilledWith, AreFilled, ExportsShims, AreShims, MayHaveShims, IsLiftedFrom, main_key, main_function, IsRequiredAt, IsAmong, IsTypeAmong, IsItemExport, IsKeyExport, AreKeyExports, IsDestructorGiven, IsDestroyedBy, IsOwnResource, IsOwnIfDefined, AreResources, HasNumber}
 
 -- every entry of the old scope and store is unchanged in the new ones
 pub record Keeps (a b : List Thing) (s t : Store) : Type 0 where
@@ -292,20 +292,17 @@ module _ {a b : List Thing} {s t : Store} (k : Keeps a b s t) where
   IsLoweringOf-kept : (address : ℕ) (origin : Origin) (type : FunctionTree) (held : List HeldOption) → IsLoweringOf s address origin type held → IsLoweringOf t address origin type held
   IsLoweringOf-kept address origin type held h = record { of = h.of; is = IsOpaque-kept h.is; imported = k.functions.at h.of (Imported origin type) h.imported }
 
-  pub IsMainExport-kept : {address : ℕ} {name : List ℕ} → IsMainExport s address name → IsMainExport t address name
-  IsMainExport-kept {address} {name} h = record { user = h.user; type = h.type; is = IsOpaque-kept h.is; of = IsInstance-kept h.of }
+  IsFunctionExported-kept : {w : ComponentWorld} {address : ℕ} {export_ref : ExportRef} → IsFunctionExported w s address export_ref → IsFunctionExported w t address export_ref
+  IsFunctionExported-kept h = record { number = h.number; of = h.of; user = h.user; instance = IsInstance-kept h.instance; type = h.type; is = IsOpaque-kept h.is; offered = h.offered }
 
   IsFirstMemory-kept : (w : ComponentWorld) (address : ℕ) → IsFirstMemory w s address → IsFirstMemory w t address
   IsFirstMemory-kept w address h = record { name = h.name; type = h.type; first = h.first; is = record { user = h.is.user; instance = h.is.instance; present = k.users.at h.is.user h.is.instance h.is.present; of = h.is.of; exported = h.is.exported } }
 
-  IsOptionFunction-kept : {address : ℕ} {export_ref : ExportRef} → IsOptionFunction s address export_ref → IsOptionFunction t address export_ref
-  IsOptionFunction-kept h = record { of = h.of; is = IsMainExport-kept h.is }
-
   IsOptionHeld-kept : (w : ComponentWorld) (held : HeldOption) (o : TargetOption) → IsOptionHeld w s held o → IsOptionHeld w t held o
   IsOptionHeld-kept w (HeldMemory a) targets.Memory h = IsFirstMemory-kept w a h
-  IsOptionHeld-kept w (HeldRealloc a) (targets.Realloc export_ref) h = IsOptionFunction-kept h
-  IsOptionHeld-kept w (HeldPostReturn a) (targets.PostReturn export_ref) h = IsOptionFunction-kept h
-  IsOptionHeld-kept w (HeldCallback a) (targets.Callback export_ref) h = IsOptionFunction-kept h
+  IsOptionHeld-kept w (HeldRealloc a) (targets.Realloc export_ref) h = IsFunctionExported-kept h
+  IsOptionHeld-kept w (HeldPostReturn a) (targets.PostReturn export_ref) h = IsFunctionExported-kept h
+  IsOptionHeld-kept w (HeldCallback a) (targets.Callback export_ref) h = IsFunctionExported-kept h
   IsOptionHeld-kept w held o h = h
 
   pub IsServedAs-kept : (w : ComponentWorld) (address : ℕ) (target : Target) → IsServedAs w s address target → IsServedAs w t address target
@@ -319,11 +316,7 @@ module _ {a b : List Thing} {s t : Store} (k : Keeps a b s t) where
     with_options = AllZip-weaker (IsOptionHeld-kept w) h.held options h.with_options;
   }
   IsServedAs-kept w address (OfResource function id) h = record { of = h.of; is = IsOpaque-kept h.is; held = IsHeldAs-kept k.types (OfValues (ResourceAt (resource_of w id))) h.of h.held }
-  IsServedAs-kept w address (ExportOf export_ref) h = record {
-    of = h.of;
-    is = record { user = h.is.user; type = h.is.type; is = IsOpaque-kept h.is.is; of = IsInstance-kept h.is.of };
-    offered = h.offered;
-  }
+  IsServedAs-kept w address (ExportOf export_ref) h = IsFunctionExported-kept h
   IsServedAs-kept w address target h = absurd h
 
   Serves-kept : (w : ComponentWorld) (old new : Option ShimsAt) → ShimsKept old new → (address : ℕ) (role : Import) → Serves w old s address role → Serves w new t address role
@@ -361,7 +354,7 @@ module _ {a b : List Thing} {s t : Store} (k : Keeps a b s t) where
     core = h.core;
     held = h.held;
     is = k.functions.at address (Lifting h.core h.held type) h.is;
-    of = IsMainExport-kept h.of;
+    of = IsFunctionExported-kept h.of;
     with_options = AllZip-weaker (IsOptionHeld-kept w) h.held options h.with_options;
   }
 
@@ -374,7 +367,7 @@ module _ {a b : List Thing} {s t : Store} (k : Keeps a b s t) where
 
 module _ (w : ComponentWorld) (old new : Option ShimsAt) (shims : ShimsKept old new) (ds es : List Def) (defined : (space : Space) (index : ℕ) (d : Def) → IsAt ds space index d → IsAt es space index d) {a b : List Thing} {s t : Store} (k : Keeps a b s t) where
   module_exports-kept : (user number : ℕ) (exports : List Export) → AreModuleExports w old s user number exports → AreModuleExports w new t user number exports
-  module_exports-kept user number exports (inl h) = inl (h.0, AllZip-weaker (exports-kept k user) exports w.main.offered h.1)
+  module_exports-kept user number exports (inl h) = inl (record { of = h.of; listed = h.listed; each = AllZip-weaker (exports-kept k user) exports h.of.found.offered h.each })
   module_exports-kept user number exports (inr (inl h)) = inr (inl (shim_exports-kept w old new shims number exports h))
   module_exports-kept user number exports (inr (inr h)) = inr (inr h)
 

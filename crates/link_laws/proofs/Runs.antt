@@ -43,7 +43,7 @@ use Rattle.link_laws.specs.Meeting.{task_hook}
 use Rattle.link_laws.specs.Composition.{GeneratedModules, generated_sections, IsComposed, numbers_from, instance_order, at_root, item_instantiates}
 use Rattle.link_laws.specs.Linking.{module_meanings, outcome, EndsAt, StartCall, start_calls, initialization, questions, LetsRun, IsLinked, imported_among, TypesServed, IsShim, TrapsAtOnce, BeforeFixup, Links}
 use Rattle.link_laws.proofs.Stores.{ShimsAt, ExportsShims, MayHaveShims, IsTypeEntry, IsFunctionEntry, IsInstanceThing, Agrees}
-use Rattle.link_laws.proofs.Given.{not_shims, scope_there}
+use Rattle.link_laws.proofs.Given.{main_below, not_shims, scope_there}
 use Rattle.link_laws.proofs.Plain.{only, nothing_in, only_main, no_initialize}
 use Rattle.link_laws.proofs.InstanceSteps.{IsGenerated, generated_for, step_instantiate}
 use Rattle.link_laws.proofs.Steps.{no_modules, machine, IsNow, IsGood, users_among, users_in, asks, events_of, seen_by, Steps, step_type, step_instance_type, step_import, step_import_type, step_import_resource, step_import_instance, step_alias_function, step_alias_type, step_lower, step_new, step_rep, step_drop, step_lift, step_inline_instance, step_alias, step_module, step_custom}
@@ -61,7 +61,7 @@ module _ {w : ComponentWorld} {earlier : List Def} {c : Scope} {s : Store} (a : 
   step ok (defs.Item (items.CoreModule bytes)) may h = step_module a g gen bytes
   step ok (defs.Item (items.CoreInstantiate number arguments)) may h = step_instantiate a g gen ok number arguments may.0 h
   step ok (defs.Item (items.CoreExports entries)) may h = step_inline_instance a g gen entries h
-  step ok (defs.Item (items.Alias (aliases.CoreExport kind instance name))) may h = step_alias a g gen ok kind instance name h
+  step ok (defs.Item (items.Alias (aliases.CoreExport kind instance name))) may h = step_alias a g gen kind instance name h
   step ok (defs.Item (items.Alias (aliases.Export exports.Func instance name))) may h = step_alias_function a g gen instance name h
   step ok (defs.Item (items.Alias (aliases.Export exports.Type instance name))) may h = step_alias_type a g gen instance name h
   step ok (defs.Item (items.Type t)) may h = step_type a g gen t h
@@ -76,8 +76,8 @@ module _ {w : ComponentWorld} {earlier : List Def} {c : Scope} {s : Store} (a : 
   step ok (defs.Item (items.Import name descriptions.SubResource)) may h = step_import_resource a g gen name
   step ok (defs.Item (items.Import name (descriptions.Instance index))) may h = step_import_instance a g gen name index h.outer h.members h.is h.right
   step ok (defs.Item (items.Instantiate component arguments)) may h = step_nested a g gen component arguments h
-  step ok (defs.Item (items.Export name sorts.Func index None)) may h = step_export_function a g gen ok name index h
-  step ok (defs.Item (items.Export name sorts.Instance index None)) may h = step_export_instance a g gen ok name index h
+  step ok (defs.Item (items.Export name sorts.Func index None)) may h = step_export_function a g gen name index h
+  step ok (defs.Item (items.Export name sorts.Instance index None)) may h = step_export_instance a g gen name index h
   step ok (defs.Item (items.Custom name contents)) may h = step_custom a g gen name contents
   step ok (defs.Component inner) may h = step_component a g gen inner
   step ok _ may h = absurd h
@@ -175,7 +175,7 @@ start w =
 -- where the shims are made, they are filled at the end
 filled_at_end : (w : ComponentWorld) (m : Machine) (o : Option GeneratedBytes) (shims : Option ShimsAt) → (numbers : List ℕ) → numbers ≡ numbers_listed w o → MayHaveShims w m.store numbers shims → (ok : IsWorld w) → FilledAtEnd w ok m shims
 filled_at_end w m o None numbers same h ok = tt
-filled_at_end w m None (Some at) numbers same h ok = absurd (not_shims w (only 0 (shims_number w) (subst (λ l. Contains l (shims_number w)) same h.there)))
+filled_at_end w m None (Some at) numbers same h ok = absurd (not_shims w 0 (main_below w) (only 0 (shims_number w) (subst (λ l. Contains l (shims_number w)) same h.there)))
 filled_at_end w m (Some b) (Some at) numbers same h ok = (h.made, h.filled (subst (λ l. Contains l (fixup_number w)) (sym same) (2, omega arith, refl)), h.room)
 
 -- the end of a run is linked

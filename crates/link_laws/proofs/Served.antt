@@ -52,11 +52,11 @@ use Rattle.comp_runs.specs.Store.{Thing, Export, HeldOption, HeldEncoding, HeldM
 use Rattle.comp_runs.specs.Machine.{Machine, export_in, export_of}
 use Rattle.nested_laws.proofs.Kept.{is_function}
 use Rattle.nested_laws.proofs.Exports.{front, other_space}
-use Rattle.link_laws.specs.Meeting.{CoreMeets, CoreExportMeets, task_hook, hooks_round, MemoryMeets, IsMainMemory, MeetsOption, ItemIsExport, ItemIsLowering, IsResourceHeld, ItemIsOfResource, Meets, MeetsIn, entry_kind, IsExportOf}
+use Rattle.link_laws.specs.Meeting.{CoreMeets, CoreExportMeets, task_hook, hooks_round, MemoryMeets, IsMainMemory, MeetsOption, ItemIsExport, ItemIsLowering, IsResourceHeld, ItemIsOfResource, Meets, MeetsIn, entry_kind}
 use Rattle.instance_laws.proofs.Held.{tree_of_held}
 use Rattle.link_laws.specs.Linking.{IsServed, AreServed, UsersServed, IsProvided, IsTypeProvided, DestructorMeets, IsDefined, IsNumberDefined, exports_at}
 use Rattle.link_laws.proofs.Zips.{AllByRecursion-join, each_at}
-use Rattle.link_laws.proofs.Stores.{IsOpaqueOf, IsInstance, ShimsAt, resource_core, IsLoweredFor, IsFunctionOf, IsExportServed, IsServedAs, Serves, IsFilledWith, AreFilled, main_module, IsPlanned, IsPlannedUser, IsMainExport, IsFirstMemory, IsOptionFunction, IsOptionHeld, main_key, main_function, IsRequiredAt, IsFunctionExport, IsAmong, IsInterfaceExport, IsItemExport, IsKeyExport, AreKeyExports, type_at_key, IsTypeAmong, IsDestroyedBy, IsOwnResource, IsOwnIfDefined, AreResources, HasNumber}
+use Rattle.link_laws.proofs.Stores.{IsOpaqueOf, ShimsAt, resource_core, IsLoweredFor, IsFunctionOf, IsFunctionExported, IsServedAs, Serves, IsFilledWith, AreFilled, main_module, IsPlanned, IsPlannedUser, IsFirstMemory, IsOptionHeld, main_key, main_function, IsRequiredAt, IsFunctionExport, IsAmong, IsInterfaceExport, IsItemExport, IsKeyExport, AreKeyExports, type_at_key, IsTypeAmong, IsDestroyedBy, IsOwnResource, IsOwnIfDefined, AreResources, HasNumber}
 use Rattle.link_laws.proofs.Given.{by_parts, purpose_opaque, one_purpose}
 use Rattle.link_laws.proofs.Plain.{listed_main, no_hook, no_memory_imported, function_key}
 use Rattle.comp_worlds.specs.WorldContents.{exported_item}
@@ -124,26 +124,17 @@ module _ (w : ComponentWorld) (ok : IsWorld w) (m : Machine) where
 -- ---- options
 
 module _ (w : ComponentWorld) (ok : IsWorld w) (m : Machine) where
-  is_export : (user : ℕ) (export_ref : ExportRef) → export_ref.of ≡ Main → IsInstance m.store user 0 → IsExportOf w m user export_ref.name export_ref
-  is_export user export_ref of h = record {
-    number = 0;
-    is = record { made = h.instance; present = h.present; of = h.of };
-    of = record { world_module = main_module w; listed = refl; same = sym of };
+  -- what a user module exports is that export of an instance of it
+  function_item : {address : ℕ} {export_ref : ExportRef} (h : IsFunctionExported w m.store address export_ref) → ItemIsExport w m export_ref (ExportedBy h.user export_ref.name)
+  function_item h = record {
+    number = h.number;
+    is = record { made = h.instance.instance; present = h.instance.present; of = h.instance.of };
+    of = h.of;
     same_name = refl;
   }
 
-  main_export : (address : ℕ) (export_ref : ExportRef) → export_ref.of ≡ Main → IsMainExport m.store address export_ref.name → (type : FuncType) × (item : CoreItem) × IsOpaqueOf m.store address type item × ItemIsExport w m export_ref item
-  main_export address export_ref of h = (
-    h.type,
-    ExportedBy h.user export_ref.name,
-    h.is,
-    is_export h.user export_ref of h.of,
-  )
-
-  function_meets : (kind : Bracketed) (address : ℕ) (export_ref : ExportRef) → IsOptionFunction m.store address export_ref → CoreExportMeets w m (Some kind) address export_ref
-  function_meets kind address export_ref h =
-      let x : (type : FuncType) × (item : CoreItem) × IsOpaqueOf m.store address type item × ItemIsExport w m export_ref item = main_export address export_ref h.of h.is in
-      opaque_meets w ok m (Some kind) address x.0 x.1 (ItemIsExport w m export_ref) x.2 x.3
+  function_meets : (kind : Bracketed) (address : ℕ) (export_ref : ExportRef) → IsFunctionExported w m.store address export_ref → CoreExportMeets w m (Some kind) address export_ref
+  function_meets kind address export_ref h = opaque_meets w ok m (Some kind) address h.type (ExportedBy h.user export_ref.name) (ItemIsExport w m export_ref) h.is (function_item h)
 
   memory_meets : (address : ℕ) → IsFirstMemory w m.store address → IsMainMemory w m address
   memory_meets address h =
@@ -191,9 +182,9 @@ module _ (w : ComponentWorld) (ok : IsWorld w) (m : Machine) where
       forwarding_meets w ok m None address at (resource_core function) (IntrinsicOf (intrinsic_of function h.of)) (ItemIsOfResource m function (resource_of w id)) same h.is
       (named_function function (resource_of w id) h.of (ap (λ o. elim o [ None ↦ OfOthers | Some i ↦ item_tree i ]) h.held.present ∙ h.held.denotes))
 
-  export_meets : (kind : Option Bracketed) (address at : ℕ) (export_ref : ExportRef) (h : IsExportServed w m.store at export_ref) → Forwards w ok m address at h.is.type → CoreExportMeets w m kind address export_ref
+  export_meets : (kind : Option Bracketed) (address at : ℕ) (export_ref : ExportRef) (h : IsFunctionExported w m.store at export_ref) → Forwards w ok m address at h.type → CoreExportMeets w m kind address export_ref
   export_meets kind address at export_ref h same =
-      forwarding_meets w ok m kind address at h.is.type (ExportedBy h.is.user export_ref.name) (ItemIsExport w m export_ref) same h.is.is (is_export w ok m h.is.user export_ref h.of h.is.of)
+      forwarding_meets w ok m kind address at h.type (ExportedBy h.user export_ref.name) (ItemIsExport w m export_ref) same h.is (function_item w ok m h)
 
   -- a function meets what another one is, where it forwards to that
   function_meets_as : (t : Thing) (at : ℕ) (target : Target) → t.space ≡ spaces.CoreFunc → ((type : FuncType) (item : CoreItem) → IsOpaqueOf m.store at type item → Forwards w ok m t.address at type) → IsServedAs w m.store at target → Meets w m (resource_of w) t target
@@ -205,7 +196,7 @@ module _ (w : ComponentWorld) (ok : IsWorld w) (m : Machine) where
       (resource_meets t.address at function id h (same (resource_core function) (IntrinsicOf (intrinsic_of function h.of)) h.is))
   function_meets_as t at (ExportOf export_ref) space same h =
       subst (λ space. MeetsIn w m (resource_of w) space t.address (ExportOf export_ref)) (sym space)
-      (export_meets None t.address at export_ref h (same h.is.type (ExportedBy h.is.user export_ref.name) h.is.is))
+      (export_meets None t.address at export_ref h (same h.type (ExportedBy h.user export_ref.name) h.is))
   function_meets_as t at target space same h = absurd h
 
   -- the shims are filled at the end
@@ -256,7 +247,7 @@ module _ (w : ComponentWorld) (ok : IsWorld w) (m : Machine) where
   destructor_meets None filled (Some address) (Some name) h = absurd h
   destructor_meets (Some at) filled (Some address) (Some name) h =
       let x : ForwardsFor address (ExportOf (record { of = Main; name = name })) = shim_forwards address at h.place h.shim (OfDestructor name) filled h.listed h.stands_for h.is in
-      export_meets (Some brackets.Destructor) address x.function (record { of = Main; name = name }) x.serves (x.same x.serves.is.type (ExportedBy x.serves.is.user name) x.serves.is.is)
+      export_meets (Some brackets.Destructor) address x.function (record { of = Main; name = name }) x.serves (x.same x.serves.type (ExportedBy x.serves.user name) x.serves.is)
   destructor_meets shims filled None (Some name) h = absurd h
   destructor_meets shims filled (Some address) None h = absurd h
 
@@ -383,7 +374,7 @@ module _ (n : Naming) (w : ComponentWorld) (ok : IsWorld w) (apart : AreExportsA
   lift_met key name address h found =
       let lifted_with : List TargetOption = lift_options w (main_function key name) in
       let export_ref : ExportRef = record { of = Main; name = h.name } in
-      let entry : (type : FuncType) × (item : CoreItem) × IsOpaqueOf m.store h.is.core type item × ItemIsExport w m export_ref item = main_export w ok m h.is.core export_ref refl h.is.of in
+      let entry : IsFunctionExported w m.store h.is.core export_ref = h.is.of in
       record {
         address = address;
         target = Lifted export_ref lifted_with;
@@ -395,7 +386,7 @@ module _ (n : Naming) (w : ComponentWorld) (ok : IsWorld w) (apart : AreExportsA
           core = h.is.core;
           held = h.is.held;
           is = h.is.is;
-          enters = opaque_meets w ok m (Some (entry_kind lifted_with)) h.is.core entry.0 entry.1 (ItemIsExport w m export_ref) entry.2 entry.3;
+          enters = function_meets w ok m (entry_kind lifted_with) h.is.core export_ref entry;
           same = AllZip-weaker (option_meets w ok m) h.is.held lifted_with h.is.with_options;
         };
       }

@@ -35,14 +35,13 @@ use Rattle.comp_bytes.specs.declared.def.CoreInlineExport.{CoreInlineExport}
 use Rattle.comp_bytes.specs.declared.def.Item.TheVariants as items
 use Rattle.comp_bytes.specs.declared.def.Def.{Def}
 use Rattle.comp_bytes.specs.declared.def.Def.TheVariants as defs
-use Rattle.comp_worlds.specs.Worlds.{IsWorld}
 use Rattle.comp_trees.specs.Trees.{Origin, Resource, ImportedAt, DefinedAt, ResourceAt, Tree, FunctionTree, is_known}
 use Rattle.comp_trees.specs.DefinedTrees.{TypeTree, OfValues, OfFunctions, OfOthers, value_tree, function_tree, defined_tree}
 use Rattle.comp_trees.specs.DefinedScopes.{type_tree}
 use Rattle.nested_terms.specs.Nested.{type_named}
 use Rattle.comp_inventories.specs.Inventories.{Inventory, OfInstances, InstanceEntry, Denoting, ImportedInstance, NestedInstance, OtherInstance, entry_tree, no_type, type_if_named, type_of_instance, function_of_instance, instance_imported, types_made, functions_made, instances_made, imports_made, resources_made, surroundings_of, inventory, scope_of}
 use Rattle.comp_trees.specs.Members.{AreMembersRight}
-use Rattle.comp_terms.specs.Generated.{shims_number, fixup_number}
+use Rattle.comp_terms.specs.Generated.{shims_number}
 use Rattle.comp_terms.specs.Terms.{IsInstanceOf, IsResource, intrinsic_of, imports_in}
 use Rattle.world_shims.specs.WorldShims.{shims_of}
 use Rattle.shim_runs.specs.ShimRuns.{instance_exports}
@@ -61,7 +60,6 @@ use Rattle.core_runs.specs.Store.{Opaque, Answer, Gives, Traps, Event, Instantia
 use Rattle.core_runs.specs.Execution.{answered, seen, renewed}
 use Rattle.comp_runs.specs.Store.{Thing, Export, HeldOption, HeldEncoding, HeldMemory, HeldRealloc, HeldPostReturn, HeldAsync, HeldCallback, CoreItem, Lowering, IntrinsicOf, Function, Imported, Lifting, TypeItem, TreeOf, ImportedResource, OwnResource, item_tree, tree_held, own_resources as resources_among, InstanceTypeOf, ModuleInstance, Store}
 use Rattle.comp_links.specs.Targets.{ResourceFunction, New, Rep, Drop}
-use Rattle.comp_links.specs.Modules.{WorldModule}
 use Rattle.comp_links.specs.Lists.{own_resources}
 use Rattle.comp_links.specs.Links.{destructor_of}
 use Rattle.comp_roles.specs.declared.offered.ExternType.{ExternType}
@@ -80,9 +78,9 @@ use Rattle.instance_laws.proofs.Importing.{instance_type_made, import_runs, alia
 use Rattle.link_laws.specs.Composition.{GeneratedModules, at_root, item_instantiates}
 use Rattle.link_laws.specs.Linking.{module_meanings, LetsRun}
 use Rattle.link_laws.proofs.Zips.{all_some-self}
-use Rattle.link_laws.proofs.Stores.{IsOpaqueOf, IsUserItem, IsUserExport, IsUserInstance, ShimsAt, IsModuleInstance, IsNamedEntry, ExportsShims, MayHaveShims, IsTypeAt, resource_core, IsResourceItem, DefIs, Means, makes, IsTypeEntry, entry_of, IsFunctionEntry, IsInstanceThing, main_module, IsPlannedUser, IsAliasedItem, IsHeldOption, NumberedFrom, Agrees, AreKeyExports, IsDestroyedBy, IsOwnResource, AreResources}
+use Rattle.link_laws.proofs.Stores.{IsOpaqueOf, IsUserItem, IsUserExport, IsUserInstance, ShimsAt, IsModuleInstance, IsNamedEntry, ExportsShims, MayHaveShims, IsTypeAt, resource_core, IsResourceItem, DefIs, Means, makes, IsTypeEntry, entry_of, IsFunctionEntry, IsInstanceThing, IsPlannedUser, IsAliasedItem, IsHeldOption, NumberedFrom, Agrees, AreKeyExports, IsDestroyedBy, IsOwnResource, AreResources}
 use Rattle.link_laws.proofs.Given.{of_shims, module_there, address_there, all_held, scope_there, entry_there, held_there, type_there, instance_type_there, instance_there, imported_there, user_there, space_of_kind, offered_there, destructor_shim}
-use Rattle.link_laws.proofs.Plain.{only, IsFunctionImport, listed_main}
+use Rattle.link_laws.proofs.Plain.{only, IsFunctionImport}
 use Rattle.link_laws.proofs.Kept.{ShimsKept, shims_same, MayHaveShims-kept, keeps_all, IsHeldOption-kept, Keeps, address_at-append, things_kept, keeps_store, keeps_type, keeps_function, keeps_opaque, keeps_core_instance, keeps_module, Means-kept, IsTypeEntry-kept, IsFunctionEntry-kept, IsInstanceThing-kept, IsPlannedUser-kept, AreKeyExports-kept, AreResources-more, AreResources-push}
 
 -- a list without generated modules
@@ -202,9 +200,6 @@ not_last numbers n other h = by (Contains-append_cases numbers (0 ∷ []) n h)
     by : Contains numbers n ⊎ Contains (0 ∷ []) n → Contains numbers n
     by (inl k) = k
     by (inr k) = absurd (other (only 0 n k))
-
-pub not_fixup : (w : ComponentWorld) → 0 ≡ fixup_number w → ⊥
-not_fixup w e = let no : 0 ≡ suc (shims_number w) = e in absurd (omega (arith, no))
 
 -- an opaque function is at the address at which it was added, and its known item is the one given
 opaque_there : (item : CoreItem) (type : FuncType) (s : Store) → IsOpaqueOf (with_opaque item type s) (length s.code.functions) type item
@@ -718,19 +713,26 @@ module _ {w : ComponentWorld} {earlier : List Def} {c : Scope} {s : Store} (a : 
       })
       (tt, tt, tt) refl refl refl refl refl refl a.imports a.resources
 
-  -- what an alias of an export of main finds
-  user_found : IsWorld w → (kind : ExportKind) (instance : ℕ) (name : List ℕ) → AliasesUser w earlier kind instance name → FindsExport w earlier c s kind instance name
-  user_found ok kind instance name h =
-      let number : h.number ≡ 0 = (listed_main w ok h.number h.of h.listed).0 in
-      let main : main_module w ≡ h.of = (listed_main w ok h.number h.of h.listed).1 in
-      let of : IsInstanceOf earlier instance 0 = subst (IsInstanceOf earlier instance) number h.is in
-      let m : (x : ℕ) × (address_at spaces.CoreInstance instance c.items ≡ Some x) × IsUserInstance w s x = user_there a of in
-      let offered : found name w.main.offered ≡ Some h.type = subst (λ (o : WorldModule). found name o.found.offered ≡ Some h.type) (sym main) h.offered in
-      let x = offered_there a m.0 m.2 name h.type offered in
+  -- what an alias of an export of a user module finds
+  user_found : (kind : ExportKind) (instance : ℕ) (name : List ℕ) → AliasesUser w earlier kind instance name → FindsExport w earlier c s kind instance name
+  user_found kind instance name h =
+      let m : (x : ℕ) × (address_at spaces.CoreInstance instance c.items ≡ Some x) × IsUserInstance s h.number h.of x = user_there a h.of h.listed h.is in
+      let x = offered_there a h.number h.of m.0 m.2 name h.type h.offered in
       record {
         export = x.0;
         space = x.2 ∙ space_of_kind kind h.type h.of_kind;
-        is = record { number = 0; of = of; names = inl (record { number_is = refl; type = h.type; offered = offered; of_kind = h.of_kind }); from = m.0; exports = m.2.exports; export = x.0; at = m.1; present = m.2.present; found = x.1; is = refl };
+        is = record {
+          number = h.number;
+          of = h.is;
+          names = inl (record { of = h.of; listed = h.listed; type = h.type; offered = h.offered; of_kind = h.of_kind });
+          from = m.0;
+          exports = m.2.exports;
+          export = x.0;
+          at = m.1;
+          present = m.2.present;
+          found = x.1;
+          is = refl;
+        };
         found = x.1;
       }
 
@@ -749,9 +751,9 @@ module _ {w : ComponentWorld} {earlier : List Def} {c : Scope} {s : Store} (a : 
         found = there;
       }
 
-  alias_found : IsWorld w → (kind : ExportKind) (instance : ℕ) (name : List ℕ) → AliasesUser w earlier kind instance name ⊎ AliasesShim w earlier kind instance name → FindsExport w earlier c s kind instance name
-  alias_found ok kind instance name (inl h) = user_found ok kind instance name h
-  alias_found ok kind instance name (inr h) = subst (λ k. FindsExport w earlier c s k instance name) (sym h.function) (shim_found instance name (subst (λ k. AliasesShim w earlier k instance name) h.function h))
+  alias_found : (kind : ExportKind) (instance : ℕ) (name : List ℕ) → AliasesUser w earlier kind instance name ⊎ AliasesShim w earlier kind instance name → FindsExport w earlier c s kind instance name
+  alias_found kind instance name (inl h) = user_found kind instance name h
+  alias_found kind instance name (inr h) = subst (λ k. FindsExport w earlier c s k instance name) (sym h.function) (shim_found instance name (subst (λ k. AliasesShim w earlier k instance name) h.function h))
 
   -- the same, in a scope with one item more
   aliased_item : (kind : ExportKind) (instance : ℕ) (name : List ℕ) (f : FindsExport w earlier c s kind instance name) (d : Def) (t : Thing) → IsAliasedItem w (earlier ++ d ∷ []) (c.items ++ t ∷ []) s kind instance name f.export.address
@@ -768,23 +770,23 @@ module _ {w : ComponentWorld} {earlier : List Def} {c : Scope} {s : Store} (a : 
     is = f.is.is;
   }
 
-  pub step_alias : IsWorld w → (kind : ExportKind) (instance : ℕ) (name : List ℕ) → AliasesUser w earlier kind instance name ⊎ AliasesShim w earlier kind instance name → Steps w gen earlier c s g (defs.Item (items.Alias (aliases.CoreExport kind instance name)))
-  step_alias ok kinds.Func instance name h =
+  pub step_alias : (kind : ExportKind) (instance : ℕ) (name : List ℕ) → AliasesUser w earlier kind instance name ⊎ AliasesShim w earlier kind instance name → Steps w gen earlier c s g (defs.Item (items.Alias (aliases.CoreExport kind instance name)))
+  step_alias kinds.Func instance name h =
       let d : Def = defs.Item (items.Alias (aliases.CoreExport kinds.Func instance name)) in
-      let f : FindsExport w earlier c s kinds.Func instance name = alias_found ok kinds.Func instance name h in
+      let f : FindsExport w earlier c s kinds.Func instance name = alias_found kinds.Func instance name h in
       let t : Thing = record { space = spaces.CoreFunc; address = f.export.address } in
       quiet_step d c.imports s t (λ rest now. rw (f.is.at, f.is.present, f.found, f.space) refl) (keeps_store c.items t s)
       (record { space = refl; is = aliased_item kinds.Func instance name f d t }) (tt, tt, tt) refl refl refl refl refl refl a.imports a.resources
-  step_alias ok kinds.Memory instance name h =
+  step_alias kinds.Memory instance name h =
       let d : Def = defs.Item (items.Alias (aliases.CoreExport kinds.Memory instance name)) in
-      let f : FindsExport w earlier c s kinds.Memory instance name = alias_found ok kinds.Memory instance name h in
+      let f : FindsExport w earlier c s kinds.Memory instance name = alias_found kinds.Memory instance name h in
       let t : Thing = record { space = spaces.CoreMemory; address = f.export.address } in
       quiet_step d c.imports s t (λ rest now. rw (f.is.at, f.is.present, f.found, f.space) refl) (keeps_store c.items t s)
       (record { space = refl; is = aliased_item kinds.Memory instance name f d t }) (tt, tt, tt) refl refl refl refl refl refl a.imports a.resources
-  step_alias ok kinds.Table instance name (inl h) = absurd h.of_kind
-  step_alias ok kinds.Table instance name (inr h) = let no = h.function in cc
-  step_alias ok kinds.Global instance name (inl h) = absurd h.of_kind
-  step_alias ok kinds.Global instance name (inr h) = let no = h.function in cc
+  step_alias kinds.Table instance name (inl h) = absurd h.of_kind
+  step_alias kinds.Table instance name (inr h) = let no = h.function in cc
+  step_alias kinds.Global instance name (inl h) = absurd h.of_kind
+  step_alias kinds.Global instance name (inr h) = let no = h.function in cc
 
   pub step_module : (bytes : List ℕ) → Steps w gen earlier c s g (defs.Item (items.CoreModule bytes))
   step_module bytes =
