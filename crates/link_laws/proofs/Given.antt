@@ -1,4 +1,4 @@
--- What the definitions so far have added to the store, and what main's imports find among the arguments.
+-- What the definitions so far have added to the store, and what the imports of user modules find among the arguments.
 use Rattle.std.proofs.Common.{◌≡◌, ◌∙◌, ◌⊎◌, inl, inr, ◌+◌, ◌^◌, suc, arith, ℕ, ◌<◌, Bool, true, false, cond, true≢false, List, [], ◌∷◌, length, map, filter, get_or, refl, sym, ap, ap₂, subst, Option, Some, None, is_some}
 use Rattle.std.proofs.lemmas.List.{length-map}
 use Rattle.std.proofs.lemmas.List.Sums.{length-filter}
@@ -48,7 +48,7 @@ use Rattle.comp_roles.specs.declared.offered.ExternType.{ExternType}
 use Rattle.comp_roles.specs.declared.offered.ExternType.TheVariants as externs
 use Rattle.comp_roles.specs.declared.offered.ImportType.{ImportType}
 use Rattle.wit_data.specs.declared.ids.TypeId.{TypeId}
-use Rattle.comp_links.specs.Targets.{Main, WorldFunction, ExportRef, TargetOption, OfRoot, OfInterface, Lowered, ExportOf, OfResource, ResourceFunction, New, Rep, Drop, Lifted}
+use Rattle.comp_links.specs.Targets.{UserModule, Main, WorldFunction, ExportRef, TargetOption, OfRoot, OfInterface, Lowered, ExportOf, OfResource, ResourceFunction, New, Rep, Drop, Lifted}
 use Rattle.comp_links.specs.Targets as targets
 use Rattle.comp_links.specs.Modules.{WorldModule, user_modules}
 use Rattle.comp_links.specs.Lists.{IsOriginOf, resource_of}
@@ -75,7 +75,7 @@ use Rattle.instance_laws.proofs.Held.{trees_of_held, held_of_entries, IsTypeTher
 use Rattle.link_laws.proofs.Zips.{AllZip-filter, AllZip-back, mapped_some, filter-both, all_some-zip, found-zip, found-each}
 use Rattle.comp_worlds.proofs.Roles.{bound_some}
 use Rattle.link_laws.proofs.Plain.{IsFunctionImport, lowered_type, same_signature-refl, function_type_in, named_main, fields_right}
-use Rattle.link_laws.proofs.Stores.{IsOpaqueOf, IsUserItem, IsUserExport, IsUserInstance, IsNamedEntry, IsInlineInstance, ShimsAt, AreModuleExports, IsModuleInstance, NamesUser, IsLoweredItem, IsTypeAt, IsResourceItem, IsLiftedItem, IsAliasedItem, DefIs, Means, makes, IsTypeEntry, entry_of, IsFunctionEntry, IsInstanceThing, IsLoweredFor, IsFunctionOf, IsFunctionExported, IsServedAs, resource_core, IsShimGivenAt, IsShimGiven, Serves, MayHaveShims, main_module, IsPlanned, IsFirstMemory, IsHeldOption, IsOptionHeld, IsCoreExportAt, IsLiftedFrom, IsDestructorAt, IsDestructorGiven, Agrees}
+use Rattle.link_laws.proofs.Stores.{IsOpaqueOf, IsUserItem, IsUserExport, IsUserInstance, IsNamedEntry, IsInlineInstance, ShimsAt, AreModuleExports, IsModuleInstance, NamesUser, IsLoweredItem, IsTypeAt, IsResourceItem, IsLiftedItem, IsAliasedItem, DefIs, Means, makes, IsTypeEntry, entry_of, IsFunctionEntry, IsInstanceThing, IsLoweredFor, IsFunctionOf, IsFunctionExported, IsServedAs, resource_core, IsShimGivenAt, IsShimGiven, TakesShims, Serves, MayHaveShims, main_module, IsPlanned, IsFirstMemory, IsHeldOption, IsOptionHeld, IsCoreExportAt, IsLiftedFrom, IsDestructorAt, IsDestructorGiven, Agrees}
 
 makes-space : (space : Space) (d : Def) → is_space space (space_of d) ≡ true → makes d ≡ true
 makes-space space d e = by (space_of d) e
@@ -84,16 +84,16 @@ makes-space space d e = by (space_of d) e
     by None e = cc
     by (Some t) e = refl
 
--- the item of the export satisfies this field
-pub record IsFieldExport (w : ComponentWorld) (shims : Option ShimsAt) (s : Store) (e : Export) (field : List ℕ × Import) : Type 0 where
+-- the item of the export satisfies this field of the imports of a user module
+pub record IsFieldExport (w : ComponentWorld) (shims : Option ShimsAt) (s : Store) (of : UserModule) (e : Export) (field : List ℕ × Import) : Type 0 where
   pub named : e.name ≡ field.0
   pub space : e.space ≡ spaces.CoreFunc
-  pub serves : Serves w shims s e.address field.1
+  pub serves : Serves w shims s of e.address field.1
 
 -- the argument has an export for each field of this module, as planned
-pub record IsOffered (w : ComponentWorld) (shims : Option ShimsAt) (s : Store) (a : List ℕ × List Export) (group : List ℕ × ImportInstance) : Type 0 where
+pub record IsOffered (w : ComponentWorld) (shims : Option ShimsAt) (s : Store) (of : UserModule) (a : List ℕ × List Export) (group : List ℕ × ImportInstance) : Type 0 where
   pub named : a.0 ≡ group.0
-  pub each : AllZip (IsFieldExport w shims s) a.1 (fields_of group.1)
+  pub each : AllZip (IsFieldExport w shims s of) a.1 (fields_of group.1)
 
 -- an export that is found has the name
 pub found_name : (name : List ℕ) (es : List Export) (e : Export) → export_named name es ≡ Some e → e.name ≡ name
@@ -578,15 +578,15 @@ module _ {w : ComponentWorld} {earlier : List Def} {c : Scope} {s : Store} (a : 
   resource_function_there kinds.Global index function id (terms.OfResource same resource) is asked = absurd is
   resource_function_there kind index function id term is asked = absurd asked
 
-  pub item_there : (kind : ExportKind) (index : ℕ) (role : Import) → IsImportRole w role → IsItemFor w earlier (kind_space kind) index (link_of w Main role) →
-      (kind ≡ kinds.Func) × (x : ℕ) × (address_at spaces.CoreFunc index c.items ≡ Some x) × IsServedAs w s x (link_of w Main role)
-  item_there kind index (imports.WorldFunc (keys.Name text) function abi) right h = lowering_there kind index (OfRoot text) (lower_options w Main (imports.WorldFunc (keys.Name text) function abi)) h.term h.is h.asked
-  item_there kind index (imports.InterfaceFunc key interface function abi) right h = lowering_there kind index (OfInterface interface function) (lower_options w Main (imports.InterfaceFunc key interface function abi)) h.term h.is h.asked
-  item_there kind index (imports.ImportedResourceDrop key interface id) right h = resource_function_there kind index Drop id h.term h.is h.asked
-  item_there kind index (imports.ExportedResourceDrop key id) right h = resource_function_there kind index Drop id h.term h.is h.asked
-  item_there kind index (imports.ExportedResourceRep key id) right h = resource_function_there kind index Rep id h.term h.is h.asked
-  item_there kind index (imports.ExportedResourceNew key id) right h = resource_function_there kind index New id h.term h.is h.asked
-  item_there kind index role right h = absurd right
+  pub item_there : (of : UserModule) (kind : ExportKind) (index : ℕ) (role : Import) → IsImportRole w role → IsItemFor w earlier (kind_space kind) index (link_of w of role) →
+      (kind ≡ kinds.Func) × (x : ℕ) × (address_at spaces.CoreFunc index c.items ≡ Some x) × IsServedAs w s x (link_of w of role)
+  item_there of kind index (imports.WorldFunc (keys.Name text) function abi) right h = lowering_there kind index (OfRoot text) (lower_options w of (imports.WorldFunc (keys.Name text) function abi)) h.term h.is h.asked
+  item_there of kind index (imports.InterfaceFunc key interface function abi) right h = lowering_there kind index (OfInterface interface function) (lower_options w of (imports.InterfaceFunc key interface function abi)) h.term h.is h.asked
+  item_there of kind index (imports.ImportedResourceDrop key interface id) right h = resource_function_there kind index Drop id h.term h.is h.asked
+  item_there of kind index (imports.ExportedResourceDrop key id) right h = resource_function_there kind index Drop id h.term h.is h.asked
+  item_there of kind index (imports.ExportedResourceRep key id) right h = resource_function_there kind index Rep id h.term h.is h.asked
+  item_there of kind index (imports.ExportedResourceNew key id) right h = resource_function_there kind index New id h.term h.is h.asked
+  item_there of kind index role right h = absurd right
 
   -- so has a function that a user module exports
   export_there : (index : ℕ) (export_ref : ExportRef) → IsItemFor w earlier spaces.CoreFunc index (ExportOf export_ref) →
@@ -600,18 +600,8 @@ module _ {w : ComponentWorld} {earlier : List Def} {c : Scope} {s : Store} (a : 
   -- and what a shim stands for
   pub purpose_there : (index : ℕ) (shim : Shim) (p : Purpose) → HasPurpose w shim p → IsItemFor w earlier spaces.CoreFunc index (target_of w p) →
       (x : ℕ) × (address_at spaces.CoreFunc index c.items ≡ Some x) × IsServedAs w s x (target_of w p)
-  purpose_there index shim (OfImport role) stands h = let x = item_there kinds.Func index role stands.right h in (x.1, x.2, x.3)
+  purpose_there index shim (OfImport role) stands h = let x = item_there Main kinds.Func index role stands.right h in (x.1, x.2, x.3)
   purpose_there index shim (OfDestructor name) stands h = export_there index (record { of = Main; name = name }) h
-
-  -- so has what is given for an import: that item, or a shim
-  given_item_there : (kind : ExportKind) (index : ℕ) (role : Import) → IsImportRole w role → IsGivenFor w Main earlier (kind_space kind) index role →
-      (kind ≡ kinds.Func) × (x : ℕ) × (address_at spaces.CoreFunc index c.items ≡ Some x) × Serves w a.shims s x role
-  given_item_there kind index role right (inl h) = let x = item_there kind index role right h in (x.0, x.1, x.2, inl x.3)
-  given_item_there kind index role right (inr h) =
-      let within : h.place < length (shims_of w) = slice_get_within (shims_of w) h.place h.shim h.listed in
-      let x = shim_exported within h.is in
-      let given : IsShimGivenAt w x.2 x.0 role = record { place = h.place; shim = h.shim; listed = h.listed; stands_for = h.stands_for; is = x.4 } in
-      (func_kind kind h.in_space, x.0, x.1, inr (subst (λ o. IsShimGiven w o x.0 role) (sym x.3) given))
 
   -- so has a shim that stands for a destructor
   pub destructor_shim : (index : ℕ) (name : List ℕ) → IsDestructorFor w earlier index name → (x : ℕ) × (address_at spaces.CoreFunc index c.items ≡ Some x) × IsDestructorGiven w a.shims x name
@@ -621,42 +611,54 @@ module _ {w : ComponentWorld} {earlier : List Def} {c : Scope} {s : Store} (a : 
       let given : IsDestructorAt w x.2 x.0 name = record { place = h.place; shim = h.shim; listed = h.listed; stands_for = h.stands_for; is = x.4 } in
       (x.0, x.1, subst (λ o. IsDestructorGiven w o x.0 name) (sym x.3) given)
 
+-- what a user module is given, to which the shims may be given
+module _ {w : ComponentWorld} {earlier : List Def} {c : Scope} {s : Store} (a : Agrees w earlier c s) (of : UserModule) (takes : TakesShims w of) where
+  -- what is given for an import has an address: it is the item that the link table names, or a shim
+  given_item_there : (kind : ExportKind) (index : ℕ) (role : Import) → IsImportRole w role → IsGivenFor w of earlier (kind_space kind) index role →
+      (kind ≡ kinds.Func) × (x : ℕ) × (address_at spaces.CoreFunc index c.items ≡ Some x) × Serves w a.shims s of x role
+  given_item_there kind index role right (inl h) = let x = item_there a of kind index role right h in (x.0, x.1, x.2, inl x.3)
+  given_item_there kind index role right (inr h) =
+      let within : h.place < length (shims_of w) = slice_get_within (shims_of w) h.place h.shim h.listed in
+      let x = shim_exported a within h.is in
+      let given : IsShimGivenAt w x.2 of x.0 role = record { place = h.place; shim = h.shim; listed = h.listed; stands_for = h.stands_for; same = takes role; is = x.4 } in
+      (func_kind kind h.in_space, x.0, x.1, inr (subst (λ o. IsShimGiven w o of x.0 role) (sym x.3) given))
+
   -- the entries of an inline instance, as they were put into the store
-  fields_there : (es : List CoreInlineExport) (xs : List Export) (fs : List (List ℕ × Import)) → AllByRecursion (λ f. IsImportRole w f.1) fs → AllZip (IsEntryFor w Main earlier) es fs → AllZip (IsNamedEntry c.items) es xs →
-      AllZip (IsFieldExport w a.shims s) xs fs
+  fields_there : (es : List CoreInlineExport) (xs : List Export) (fs : List (List ℕ × Import)) → AllByRecursion (λ f. IsImportRole w f.1) fs → AllZip (IsEntryFor w of earlier) es fs → AllZip (IsNamedEntry c.items) es xs →
+      AllZip (IsFieldExport w a.shims s of) xs fs
   fields_there [] [] [] r h n = tt
   fields_there (e ∷ es) (x ∷ xs) (f ∷ fs) r h n =
-      let i : (e.kind ≡ kinds.Func) × (y : ℕ) × (address_at spaces.CoreFunc e.index c.items ≡ Some y) × Serves w a.shims s y f.1 = given_item_there e.kind e.index f.1 r.0 h.0.serves in
+      let i : (e.kind ≡ kinds.Func) × (y : ℕ) × (address_at spaces.CoreFunc e.index c.items ≡ Some y) × Serves w a.shims s of y f.1 = given_item_there e.kind e.index f.1 r.0 h.0.serves in
       let kind : kind_space e.kind ≡ spaces.CoreFunc = ap kind_space i.0 in
       let at : address_at spaces.CoreFunc e.index c.items ≡ Some x.address = subst (λ space. address_at space e.index c.items ≡ Some x.address) kind n.0.at in
       let same : i.1 ≡ x.address = same_Some i.1 x.address (sym i.2 ∙ at) in
-      (record { named = n.0.named ∙ h.0.named; space = n.0.space ∙ kind; serves = subst (λ y. Serves w a.shims s y f.1) same i.3 }, fields_there es xs fs r.1 h.1 n.1)
+      (record { named = n.0.named ∙ h.0.named; space = n.0.space ∙ kind; serves = subst (λ y. Serves w a.shims s of y f.1) same i.3 }, fields_there es xs fs r.1 h.1 n.1)
   fields_there [] (x ∷ xs) fs r h n = absurd n
   fields_there (e ∷ es) [] fs r h n = absurd n
   fields_there [] [] (f ∷ fs) r h n = absurd h
   fields_there (e ∷ es) (x ∷ xs) [] r h n = absurd h
 
   module _ (m : Machine) (items : m.scope.items ≡ c.items) (instances : m.store.core_instances ≡ s.core_instances) where
-    argument_there : (x : CoreArgument) (g : List ℕ × ImportInstance) → IsImportGroup w g → IsArgumentFor w Main earlier x g → (y : List ℕ × List Export) × (core_argument m x ≡ Some y) × IsOffered w a.shims s y g
+    argument_there : (x : CoreArgument) (g : List ℕ × ImportInstance) → IsImportGroup w g → IsArgumentFor w of earlier x g → (y : List ℕ × List Export) × (core_argument m x ≡ Some y) × IsOffered w a.shims s of y g
     argument_there x g right h =
-        let b : (y : ℕ) × (address_at spaces.CoreInstance x.instance c.items ≡ Some y) × IsInlineInstance c.items s h.serves.entries y = thing_there h.serves.made in
+        let b : (y : ℕ) × (address_at spaces.CoreInstance x.instance c.items ≡ Some y) × IsInlineInstance c.items s h.serves.entries y = thing_there a h.serves.made in
         ((x.name, b.2.exports), rw (items, b.1, instances, b.2.present) refl, record { named = h.named; each = fields_there h.serves.entries b.2.exports (fields_of g.1) (fields_right w g right) h.serves.each b.2.each })
 
     abbrev IsArgument : CoreArgument → List ℕ × ImportInstance → Type 0
-    IsArgument x g = IsImportGroup w g × IsArgumentFor w Main earlier x g
+    IsArgument x g = IsImportGroup w g × IsArgumentFor w of earlier x g
 
-    with_groups : (xs : List CoreArgument) (gs : List (List ℕ × ImportInstance)) → AllByRecursion (IsImportGroup w) gs → AllZip (IsArgumentFor w Main earlier) xs gs → AllZip IsArgument xs gs
+    with_groups : (xs : List CoreArgument) (gs : List (List ℕ × ImportInstance)) → AllByRecursion (IsImportGroup w) gs → AllZip (IsArgumentFor w of earlier) xs gs → AllZip IsArgument xs gs
     with_groups [] [] r h = tt
     with_groups (x ∷ xs) (g ∷ gs) r h = ((r.0, h.0), with_groups xs gs r.1 h.1)
     with_groups [] (g ∷ gs) r h = absurd h
     with_groups (x ∷ xs) [] r h = absurd h
 
-    -- the arguments of main's instantiation
-    pub arguments_there : (xs : List CoreArgument) (gs : List (List ℕ × ImportInstance)) → AllByRecursion (IsImportGroup w) gs → AllZip (IsArgumentFor w Main earlier) xs gs →
-        (ys : List (List ℕ × List Export)) × (all_some (map (core_argument m) xs) ≡ Some ys) × AllZip (IsOffered w a.shims s) ys gs
-    arguments_there xs gs r h = all_some-zip (IsOffered w a.shims s) (core_argument m) IsArgument (λ x g k. argument_there x g k.0 k.1) xs gs (with_groups xs gs r h)
+    -- the arguments of the module's instantiation
+    pub arguments_there : (xs : List CoreArgument) (gs : List (List ℕ × ImportInstance)) → AllByRecursion (IsImportGroup w) gs → AllZip (IsArgumentFor w of earlier) xs gs →
+        (ys : List (List ℕ × List Export)) × (all_some (map (core_argument m) xs) ≡ Some ys) × AllZip (IsOffered w a.shims s of) ys gs
+    arguments_there xs gs r h = all_some-zip (IsOffered w a.shims s of) (core_argument m) IsArgument (λ x g k. argument_there x g k.0 k.1) xs gs (with_groups xs gs r h)
 
--- ---- what main's imports find
+-- ---- what the imports of a user module find
 
 -- a function of a resource's handles is opaque, and has its core type
 resource_opaque : (s : Store) (address : ℕ) (function : ResourceFunction) (resource : Resource) (type : FuncType) → Some (externs.Func (resource_core function)) ≡ Some (externs.Func type) → IsFunctionOf s address function resource →
@@ -666,29 +668,29 @@ resource_opaque s address function resource type fits h =
     (item, subst (λ t. IsOpaqueOf s address t item) (ap (function_type_in type) (same_Some (externs.Func (resource_core function)) (externs.Func type) fits)) h.is)
 
 -- what serves a role is opaque, and has the core type that the role requires
-pub served_opaque : (w : ComponentWorld) (s : Store) (address : ℕ) (role : Import) (type : FuncType) → IsImportRole w role → type_of_import w.resolve (items_of w) role ≡ Some (externs.Func type) →
-    IsServedAs w s address (link_of w Main role) → (item : CoreItem) × IsOpaqueOf s address type item
-served_opaque w s address (imports.WorldFunc (keys.Name text) function abi) type right fits h =
+pub served_opaque : (w : ComponentWorld) (s : Store) (of : UserModule) (address : ℕ) (role : Import) (type : FuncType) → IsImportRole w role → type_of_import w.resolve (items_of w) role ≡ Some (externs.Func type) →
+    IsServedAs w s address (link_of w of role) → (item : CoreItem) × IsOpaqueOf s address type item
+served_opaque w s of address (imports.WorldFunc (keys.Name text) function abi) type right fits h =
     let asked : called_type w.resolve GuestImport h.typed.wit ≡ externs.Func type =
     same_Some (called_type w.resolve GuestImport h.typed.wit) (externs.Func type)
     (sym (ap (option_map (called_type w.resolve GuestImport)) h.typed.imported) ∙ (ap (λ abi. option_map (called_type w.resolve abi) (root_function_at (items_of w).imports (keys.Name text))) (sym right.2) ∙ fits)) in
     let typed : externs.Func (core_signature h.type []) ≡ externs.Func type = lowered_type w h.type h.typed.wit h.typed.typed ∙ asked in
     (Lowering h.lowered.of h.held, subst (λ t. IsOpaqueOf s address t (Lowering h.lowered.of h.held)) (ap (function_type_in type) typed) h.lowered.is)
-served_opaque w s address (imports.InterfaceFunc key id function abi) type right fits h =
+served_opaque w s of address (imports.InterfaceFunc key id function abi) type right fits h =
     let asked : called_type w.resolve GuestImport h.typed.wit ≡ externs.Func type =
     same_Some (called_type w.resolve GuestImport h.typed.wit) (externs.Func type)
     (sym (ap (option_map (called_type w.resolve GuestImport)) h.typed.imported) ∙ (ap (λ abi. option_map (called_type w.resolve abi) (found function (functions_of w.resolve id))) (sym right.2) ∙ fits)) in
     let typed : externs.Func (core_signature h.type []) ≡ externs.Func type = lowered_type w h.type h.typed.wit h.typed.typed ∙ asked in
     (Lowering h.lowered.of h.held, subst (λ t. IsOpaqueOf s address t (Lowering h.lowered.of h.held)) (ap (function_type_in type) typed) h.lowered.is)
-served_opaque w s address (imports.ImportedResourceDrop key interface id) type right fits h = resource_opaque s address Drop (resource_of w id) type fits h
-served_opaque w s address (imports.ExportedResourceDrop key id) type right fits h = resource_opaque s address Drop (resource_of w id) type fits h
-served_opaque w s address (imports.ExportedResourceRep key id) type right fits h = resource_opaque s address Rep (resource_of w id) type fits h
-served_opaque w s address (imports.ExportedResourceNew key id) type right fits h = resource_opaque s address New (resource_of w id) type fits h
-served_opaque w s address role type right fits h = absurd right
+served_opaque w s of address (imports.ImportedResourceDrop key interface id) type right fits h = resource_opaque s address Drop (resource_of w id) type fits h
+served_opaque w s of address (imports.ExportedResourceDrop key id) type right fits h = resource_opaque s address Drop (resource_of w id) type fits h
+served_opaque w s of address (imports.ExportedResourceRep key id) type right fits h = resource_opaque s address Rep (resource_of w id) type fits h
+served_opaque w s of address (imports.ExportedResourceNew key id) type right fits h = resource_opaque s address New (resource_of w id) type fits h
+served_opaque w s of address role type right fits h = absurd right
 
 -- what a shim hands on to is opaque, and has the shim's core type
 pub purpose_opaque : (w : ComponentWorld) (s : Store) (address : ℕ) (shim : Shim) (p : Purpose) → HasPurpose w shim p → IsServedAs w s address (target_of w p) → (item : CoreItem) × IsOpaqueOf s address (type_of_shim shim) item
-purpose_opaque w s address shim (OfImport role) stands h = served_opaque w s address role (type_of_shim shim) stands.right stands.typed h
+purpose_opaque w s address shim (OfImport role) stands h = served_opaque w s Main address role (type_of_shim shim) stands.right stands.typed h
 purpose_opaque w s address shim (OfDestructor name) stands h =
     let offered : found name w.main.offered ≡ Some (externs.Func h.type) = subst (λ (o : WorldModule). found name o.found.offered ≡ Some (externs.Func h.type)) (sym (named_main w h.number h.of).1) h.offered in
     let typed : externs.Func h.type ≡ externs.Func (type_of_shim shim) = same_Some (externs.Func h.type) (externs.Func (type_of_shim shim)) (sym offered ∙ stands.typed) in
@@ -707,13 +709,13 @@ record IsServedFunction (s : Store) (address : ℕ) (type : FuncType) : Type 0 w
   pub present : slice_get s.code.functions address ≡ Some function
   pub typed : signature_of function ≡ type
 
-served_function : (w : ComponentWorld) (s : Store) (numbers : List ℕ) (shims : Option ShimsAt) (address : ℕ) (role : Import) (type : FuncType) → MayHaveShims w s numbers shims → IsImportRole w role →
-    type_of_import w.resolve (items_of w) role ≡ Some (externs.Func type) → Serves w shims s address role → IsServedFunction s address type
-served_function w s numbers shims address role type there right fits (inl h) =
-    let o : (item : CoreItem) × IsOpaqueOf s address type item = served_opaque w s address role type right fits h in
+served_function : (w : ComponentWorld) (s : Store) (numbers : List ℕ) (shims : Option ShimsAt) (of : UserModule) (address : ℕ) (role : Import) (type : FuncType) → MayHaveShims w s numbers shims → IsImportRole w role →
+    type_of_import w.resolve (items_of w) role ≡ Some (externs.Func type) → Serves w shims s of address role → IsServedFunction s address type
+served_function w s numbers shims of address role type there right fits (inl h) =
+    let o : (item : CoreItem) × IsOpaqueOf s address type item = served_opaque w s of address role type right fits h in
     record { function = Opaque o.1.what type; present = o.1.present; typed = refl }
-served_function w s numbers None address role type there right fits (inr h) = absurd h
-served_function w s numbers (Some at) address role type there right fits (inr h) =
+served_function w s numbers None of address role type there right fits (inr h) = absurd h
+served_function w s numbers (Some at) of address role type there right fits (inr h) =
     let shim : IsShimAt s.code at.table (at.address + h.place) (0 + h.place) (type_of_shim h.shim) = shim_at s.code at.table 0 at.address (shims_of w) h.place h.shim there.made h.listed in
     record {
       function = _;
@@ -726,39 +728,39 @@ matches_function : (m : Machine) (t : Thing) (type : FuncType) → t.space ≡ s
 matches_function m t type space h = rw (space, h.present, h.typed, same_signature-refl type) refl
 
 -- an import that has a role is to be given what the link table says of the role
-linked_in : (w : ComponentWorld) (instance : ImportInstance) (field : List ℕ) (role : Import) → found field (fields_of instance) ≡ Some role → link_in w Main field instance ≡ Some (link_of w Main role)
-linked_in w (instances.Names fields) field role e = ap (option_map (link_of w Main)) e
-linked_in w (instances.Whole which) field role e = absurd (none-some role e)
+linked_in : (w : ComponentWorld) (of : UserModule) (instance : ImportInstance) (field : List ℕ) (role : Import) → found field (fields_of instance) ≡ Some role → link_in w of field instance ≡ Some (link_of w of role)
+linked_in w of (instances.Names fields) field role e = ap (option_map (link_of w of)) e
+linked_in w of (instances.Whole which) field role e = absurd (none-some role e)
 
-module _ (w : ComponentWorld) (shims : Option ShimsAt) (m : Machine) where
+module _ (w : ComponentWorld) (shims : Option ShimsAt) (of : WorldModule) (m : Machine) where
   -- an export serves the role of a field; the exports of an argument serve those of a module's imports
   abbrev IsFor : Export → Import → Type 0
-  IsFor e role = (e.space ≡ spaces.CoreFunc) × Serves w shims m.store e.address role
+  IsFor e role = (e.space ≡ spaces.CoreFunc) × Serves w shims m.store of.of e.address role
 
   abbrev AreFor : List Export → ImportInstance → Type 0
-  AreFor es instance = AllZip (IsFieldExport w shims m.store) es (fields_of instance)
+  AreFor es instance = AllZip (IsFieldExport w shims m.store of.of) es (fields_of instance)
 
-  fields_named : (es : List Export) (fs : List (List ℕ × Import)) → AllZip (IsFieldExport w shims m.store) es fs →
+  fields_named : (es : List Export) (fs : List (List ℕ × Import)) → AllZip (IsFieldExport w shims m.store of.of) es fs →
       AllZip (λ (x : List ℕ × Export) (z : List ℕ × Import). (x.0 ≡ z.0) × IsFor x.1 z.1) (map (λ (e : Export). (e.name, e)) es) fs
   fields_named [] [] h = tt
   fields_named (e ∷ es) (f ∷ fs) h = ((h.0.named, (h.0.space, h.0.serves)), fields_named es fs h.1)
   fields_named [] (f ∷ fs) h = absurd h
   fields_named (e ∷ es) [] h = absurd h
 
-  groups_named : (arguments : List (List ℕ × List Export)) (gs : List (List ℕ × ImportInstance)) → AllZip (IsOffered w shims m.store) arguments gs →
+  groups_named : (arguments : List (List ℕ × List Export)) (gs : List (List ℕ × ImportInstance)) → AllZip (IsOffered w shims m.store of.of) arguments gs →
       AllZip (λ (x : List ℕ × List Export) (z : List ℕ × ImportInstance). (x.0 ≡ z.0) × AreFor x.1 z.1) arguments gs
   groups_named arguments gs h = AllZip-weaker (λ a g o. (o.named, o.each)) arguments gs h
 
-  -- each import of main finds what was planned for it
-  pub given_there : (numbers : List ℕ) → MayHaveShims w m.store numbers shims → (arguments : List (List ℕ × List Export)) → AllZip (IsOffered w shims m.store) arguments w.main.imports.modules → (i : ImportType) → IsFunctionImport w w.main i →
-      (t : Thing) × (given_to m arguments i ≡ Some t) × IsPlanned w shims m.store t i
+  -- each import of the module finds what was planned for it
+  pub given_there : (numbers : List ℕ) → MayHaveShims w m.store numbers shims → (arguments : List (List ℕ × List Export)) → AllZip (IsOffered w shims m.store of.of) arguments of.found.imports.modules → (i : ImportType) → IsFunctionImport w of.found i →
+      (t : Thing) × (given_to m arguments i ≡ Some t) × IsPlanned w shims m.store of t i
   given_there numbers there arguments h i p =
-      let roles : List (List ℕ × ImportInstance) = w.main.imports.modules in
+      let roles : List (List ℕ × ImportInstance) = of.found.imports.modules in
       let g = bound_some (λ (o : ImportInstance). found i.field (fields_of o)) (found i.module_name roles) p.role p.has_role in
       let a = found-zip AreFor i.module_name arguments roles g.0 (groups_named arguments roles h) g.1 in
       let e = found-zip IsFor i.field (map (λ (e : Export). (e.name, e)) a.0) (fields_of g.0) p.role (fields_named a.0 (fields_of g.0) a.2) g.2 in
       let x : Export = e.0 in
       let t : Thing = record { space = x.space; address = x.address } in
-      let function : IsServedFunction m.store x.address p.type = served_function w m.store numbers shims x.address p.role p.type there p.right p.fits e.2.1 in
-      let said : link_at w (main_module w) i.module_name i.field ≡ Some (link_of w Main p.role) = ap (option_and_then (link_in w Main i.field)) g.1 ∙ linked_in w g.0 i.field p.role g.2 in
+      let function : IsServedFunction m.store x.address p.type = served_function w m.store numbers shims of.of x.address p.role p.type there p.right p.fits e.2.1 in
+      let said : link_at w of i.module_name i.field ≡ Some (link_of w of.of p.role) = ap (option_and_then (link_in w of.of i.field)) g.1 ∙ linked_in w of.of g.0 i.field p.role g.2 in
       (t, rw (p.typed, a.1, e.1, at_some x e.2.0) (matches_function m t p.type e.2.0 function), record { role = p.role; said = said; space = e.2.0; serves = e.2.1 })

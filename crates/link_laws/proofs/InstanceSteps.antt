@@ -45,8 +45,8 @@ use Rattle.link_laws.specs.Composition.{GeneratedModules, generated_sections, at
 use Rattle.link_laws.specs.Linking.{module_meanings}
 use Rattle.link_laws.proofs.Zips.{all_some-each}
 use Rattle.link_laws.proofs.Stores.{IsOpaqueOf, ShimsAt, IsModuleInstance, IsInlineInstance, IsFilledWith, AreFilled, AreShims, IsServedAs, IsNamedEntry, ExportsShims, MayHaveShims, main_module, IsPlanned, IsPlannedUser, NumberedFrom, AreResources, Agrees}
-use Rattle.link_laws.proofs.Given.{thing_there, purpose_there, purpose_opaque, main_below, not_shims, not_fixup, of_shims, module_there, IsOffered, address_there, arguments_there, given_there}
-use Rattle.link_laws.proofs.Plain.{only, nothing_in, IsFunctionImport, function_imports, module_right, only_main, listed_main}
+use Rattle.link_laws.proofs.Given.{thing_there, purpose_there, purpose_opaque, main_below, user_below, not_shims, not_fixup, of_shims, module_there, IsOffered, address_there, arguments_there, given_there}
+use Rattle.link_laws.proofs.Plain.{only, nothing_in, IsFunctionImport, function_imports, module_right, takes_shims, only_main, listed_main}
 use Rattle.link_laws.proofs.UserExports.{Exports, Alike, all_exports, all_alike, same_exports, each_export}
 use Rattle.link_laws.proofs.Kept.{IsFilledWith-kept, ShimsKept, shims_same, MayHaveShims-kept, Keeps, things_kept, IsPlannedUser-kept, AreKeyExports-kept, AreResources-kept}
 
@@ -137,12 +137,12 @@ module _ {w : ComponentWorld} {earlier : List Def} {c : Scope} {s : Store} (a : 
       let own : List Export = exported_by user es m0 in
       let of_main : (number ≡ 0) × (main_module w ≡ h.of) = listed_main w ok number h.of h.listed in
       let each : AllZip (IsArgumentFor w Main earlier) arguments roles = subst (λ (o : WorldModule). AllZip (IsArgumentFor w o.of earlier) arguments o.found.imports.modules) (sym of_main.1) h.each in
-      let args : (ys : List (List ℕ × List Export)) × (all_some (map (core_argument m0) arguments) ≡ Some ys) × AllZip (IsOffered w a.shims s) ys roles =
-      arguments_there a m0 refl refl arguments roles ok.main.import_roles each in
+      let args : (ys : List (List ℕ × List Export)) × (all_some (map (core_argument m0) arguments) ≡ Some ys) × AllZip (IsOffered w a.shims s Main) ys roles =
+      arguments_there a Main (takes_shims w ok 0 (main_module w) refl) m0 refl refl arguments roles ok.main.import_roles each in
       let plain : AllByRecursion (IsFunctionImport w w.main) is = function_imports w (main_module w) (module_right w ok 0 (main_module w) refl) in
-      let found : (ts : List Thing) × (all_some (map (given_to (machine c s no_answers) args.0) is) ≡ Some ts) × AllZip (IsPlanned w a.shims s) ts is =
-      all_some-each (IsPlanned w a.shims s) (given_to (machine c s no_answers) args.0) is
-      (AllByRecursion-weaker (given_there w a.shims (machine c s no_answers) numbers a.with_shims args.0 args.2) is plain) in
+      let found : (ts : List Thing) × (all_some (map (given_to (machine c s no_answers) args.0) is) ≡ Some ts) × AllZip (IsPlanned w a.shims s (main_module w)) ts is =
+      all_some-each (IsPlanned w a.shims s (main_module w)) (given_to (machine c s no_answers) args.0) is
+      (AllByRecursion-weaker (given_there w a.shims (main_module w) (machine c s no_answers) numbers a.with_shims args.0 args.2) is plain) in
       let given : (now : Now) → all_some (map (given_to (machine c s now) args.0) is) ≡ Some found.0 = λ now.
       ap (λ l. all_some l) (given_same w w.main c s now args.0 is plain) ∙ found.1 in
       let instance : ModuleInstance = record { module_number = 0; given = found.0; exports = own } in
@@ -165,7 +165,7 @@ module _ {w : ComponentWorld} {earlier : List Def} {c : Scope} {s : Store} (a : 
       let planned : AllByRecursion (IsPlannedUser w a.shims s') (m1.store.module_instances ++ instance ∷ []) =
       AllByRecursion-push (IsPlannedUser w a.shims s') m1.store.module_instances instance
       (subst (AllByRecursion (IsPlannedUser w a.shims s')) (sym users) (AllByRecursion-weaker (IsPlannedUser-kept w k a.shims a.shims here) s.module_instances a.served))
-      (IsPlannedUser-kept w k a.shims a.shims here instance (λ is_main. found.2)) in
+      (IsPlannedUser-kept w k a.shims a.shims here instance (λ of listed. subst (λ (o : WorldModule). AllZip (IsPlanned w a.shims s o) found.0 o.found.imported) (same_Some (main_module w) of listed) found.2)) in
       let exporting : (at : ShimsAt) → AllByRecursion (ExportsShims w at) s.module_instances → AllByRecursion (ExportsShims w at) (m1.store.module_instances ++ instance ∷ []) =
       λ at e. AllByRecursion-push (ExportsShims w at) m1.store.module_instances instance (subst (AllByRecursion (ExportsShims w at)) (sym users) e) (λ is_shims. absurd (not_shims w 0 (main_below w) is_shims)) in
       let there : MayHaveShims w s' (numbers ++ 0 ∷ []) a.shims =
@@ -281,7 +281,7 @@ module _ {w : ComponentWorld} {earlier : List Def} {c : Scope} {s : Store} (a : 
             (map-append (λ (u : ModuleInstance). u.module_number) s.module_instances (instance ∷ []))
             (AllByRecursion-push (IsPlannedUser w (Some at) s') s.module_instances instance
             (AllByRecursion-weaker (IsPlannedUser-kept w k a.shims (Some at) new) s.module_instances a.served)
-            (λ is_main. absurd (not_shims w 0 (main_below w) (sym is_main))))
+            (λ of listed. absurd (not_shims w number (user_below w number of listed) refl)))
             are
             (sym (append-nil (map (λ (e : Export). e.name) c.exports)))
             (AreKeyExports-kept w k w.main_exports c.exports a.lifted)
@@ -445,7 +445,7 @@ module _ {w : ComponentWorld} {earlier : List Def} {c : Scope} {s : Store} (a : 
             (map-append (λ (u : ModuleInstance). u.module_number) s.module_instances (instance ∷ []))
             (AllByRecursion-push (IsPlannedUser w a.shims s') s.module_instances instance
             (AllByRecursion-weaker (IsPlannedUser-kept w k a.shims a.shims here) s.module_instances a.served)
-            (λ is_main. let no : suc (shims_number w) ≡ 0 = is_main in absurd (omega (arith, no))))
+            (λ of listed. absurd (not_fixup w (fixup_number w) (user_below w (fixup_number w) of listed) refl)))
             (subst (MayHaveShims w s' (numbers ++ fixup_number w ∷ [])) (sym found.1) are)
             (sym (append-nil (map (λ (e : Export). e.name) c.exports)))
             (AreKeyExports-kept w k w.main_exports c.exports a.lifted)

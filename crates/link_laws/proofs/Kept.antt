@@ -31,8 +31,9 @@ use Rattle.comp_roles.specs.declared.imports.Import.{Import}
 use Rattle.comp_roles.specs.declared.offered.ImportType.{ImportType}
 use Rattle.comp_worlds.specs.WorldContents.{exported_item}
 use Rattle.comp_worlds.specs.declared.world.ComponentWorld.{ComponentWorld}
-use Rattle.comp_links.specs.Targets.{Main, ExportRef, TargetOption, Target, Lowered, ExportOf, OfResource}
+use Rattle.comp_links.specs.Targets.{UserModule, ExportRef, TargetOption, Target, Lowered, ExportOf, OfResource}
 use Rattle.comp_links.specs.Targets as targets
+use Rattle.comp_links.specs.Modules.{WorldModule}
 use Rattle.comp_links.specs.Lists.{resource_of, RequiredFunction, functions_required, RequiredType, types_required, type_of_world}
 use Rattle.comp_links.specs.Links.{link_of, destructor_of}
 use Rattle.shim_plan.specs.declared.shims.Shim.{Shim}
@@ -193,9 +194,9 @@ pub shims_same : (shims : Option ShimsAt) → ShimsKept shims shims
 shims_same None = tt
 shims_same (Some at) = refl
 
-IsShimGiven-kept : (w : ComponentWorld) (old new : Option ShimsAt) → ShimsKept old new → (address : ℕ) (role : Import) → IsShimGiven w old address role → IsShimGiven w new address role
-IsShimGiven-kept w None new same address role h = absurd h
-IsShimGiven-kept w (Some at) new same address role h = subst (λ o. IsShimGiven w o address role) (sym same) h
+IsShimGiven-kept : (w : ComponentWorld) (old new : Option ShimsAt) → ShimsKept old new → (of : UserModule) (address : ℕ) (role : Import) → IsShimGiven w old of address role → IsShimGiven w new of address role
+IsShimGiven-kept w None new same of address role h = absurd h
+IsShimGiven-kept w (Some at) new same of address role h = subst (λ o. IsShimGiven w o of address role) (sym same) h
 
 -- so are the shims that stand for destructors
 IsDestroyedBy-kept : (w : ComponentWorld) (old new : Option ShimsAt) → ShimsKept old new → (destructor : Option ℕ) (name : Option (List ℕ)) → IsDestroyedBy w old destructor name → IsDestroyedBy w new destructor name
@@ -319,12 +320,12 @@ module _ {a b : List Thing} {s t : Store} (k : Keeps a b s t) where
   IsServedAs-kept w address (ExportOf export_ref) h = IsFunctionExported-kept h
   IsServedAs-kept w address target h = absurd h
 
-  Serves-kept : (w : ComponentWorld) (old new : Option ShimsAt) → ShimsKept old new → (address : ℕ) (role : Import) → Serves w old s address role → Serves w new t address role
-  Serves-kept w old new same address role (inl h) = inl (IsServedAs-kept w address (link_of w Main role) h)
-  Serves-kept w old new same address role (inr h) = inr (IsShimGiven-kept w old new same address role h)
+  Serves-kept : (w : ComponentWorld) (old new : Option ShimsAt) → ShimsKept old new → (of : UserModule) (address : ℕ) (role : Import) → Serves w old s of address role → Serves w new t of address role
+  Serves-kept w old new same of address role (inl h) = inl (IsServedAs-kept w address (link_of w of role) h)
+  Serves-kept w old new same of address role (inr h) = inr (IsShimGiven-kept w old new same of address role h)
 
-  pub IsPlanned-kept : (w : ComponentWorld) (old new : Option ShimsAt) → ShimsKept old new → (x : Thing) (i : ImportType) → IsPlanned w old s x i → IsPlanned w new t x i
-  IsPlanned-kept w old new same x i h = record { role = h.role; said = h.said; space = h.space; serves = Serves-kept w old new same x.address h.role h.serves }
+  pub IsPlanned-kept : (w : ComponentWorld) (old new : Option ShimsAt) → ShimsKept old new → (of : WorldModule) (x : Thing) (i : ImportType) → IsPlanned w old s of x i → IsPlanned w new t of x i
+  IsPlanned-kept w old new same of x i h = record { role = h.role; said = h.said; space = h.space; serves = Serves-kept w old new same of.of x.address h.role h.serves }
 
   pub IsFilledWith-kept : (w : ComponentWorld) (shim : Shim) (function : ℕ) → IsFilledWith w s shim function → IsFilledWith w t shim function
   IsFilledWith-kept w shim function h = record { purpose = h.purpose; stands_for = h.stands_for; serves = IsServedAs-kept w function (target_of w h.purpose) h.serves }
@@ -440,7 +441,7 @@ module _ (w : ComponentWorld) (old new : Option ShimsAt) (shims : ShimsKept old 
 
 module _ (w : ComponentWorld) {a b : List Thing} {s t : Store} (k : Keeps a b s t) where
   pub IsPlannedUser-kept : (old new : Option ShimsAt) → ShimsKept old new → (u : ModuleInstance) → IsPlannedUser w old s u → IsPlannedUser w new t u
-  IsPlannedUser-kept old new same u h is_main = AllZip-weaker (IsPlanned-kept k w old new same) u.given w.main.imported (h is_main)
+  IsPlannedUser-kept old new same u h of listed = AllZip-weaker (IsPlanned-kept k w old new same of) u.given of.found.imported (h of listed)
 
   IsRequiredAt-kept : (r : RequiredFunction) (address : ℕ) → IsRequiredAt w s r address → IsRequiredAt w t r address
   IsRequiredAt-kept r address h = record { name = h.name; wit = h.wit; role = h.role; exported = h.exported; is = IsLiftedFrom-kept k h.is }

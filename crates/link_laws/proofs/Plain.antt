@@ -42,16 +42,17 @@ use Rattle.comp_worlds.specs.Worlds.{IsWorld, IsUserModule, IsExportItem, IsImpo
 use Rattle.comp_worlds.specs.declared.world.ComponentWorld.{ComponentWorld}
 use Rattle.comp_worlds.specs.declared.world.ValidatedModule.{ValidatedModule}
 use Rattle.comp_worlds.specs.declared.world.WorldAdapter.{WorldAdapter}
-use Rattle.comp_links.specs.Targets.{UserModule, Main, Adapter}
+use Rattle.comp_links.specs.Targets.{Main, Adapter}
 use Rattle.comp_links.specs.Modules.{WorldModule, adapter_module, user_modules, IsModule}
 use Rattle.comp_links.specs.Lists.{resource_of}
+use Rattle.comp_links.specs.Links.{link_of}
 use Rattle.comp_terms.specs.Planned.{type_of_function}
 use Rattle.comp_runs.specs.Signatures.{core_signature}
 use Rattle.comp_trees.specs.Trees.{FunctionTree}
 use Rattle.comp_trees.proofs.Signing.{signatures_of_trees}
 use Rattle.link_laws.proofs.Zips.{mapped_some}
 use Rattle.comp_links.specs.Targets.{New, Rep, Drop}
-use Rattle.link_laws.proofs.Stores.{resource_core, main_module}
+use Rattle.link_laws.proofs.Stores.{resource_core, main_module, TakesShims}
 
 pub only : {X : Type 0} (x y : X) → Contains (x ∷ []) y → x ≡ y
 only x y (zero, l, e) = e
@@ -159,8 +160,9 @@ listed_main w ok number of e = by number (ap (λ l. slice_get l number) (sym (on
     by zero e = (refl, same_Some (main_module w) of e)
     by (suc n) e = absurd (none-some of e)
 
-pub only_main_is : (w : ComponentWorld) → IsWorld w → (number : ℕ) {of : UserModule} → IsModule w number of → number ≡ 0
-only_main_is w ok number m = (listed_main w ok number m.world_module m.listed).0
+-- so each user module may be given the shims, which stand for main's imports
+pub takes_shims : (w : ComponentWorld) → IsWorld w → (number : ℕ) (of : WorldModule) → slice_get (user_modules w) number ≡ Some of → TakesShims w of.of
+takes_shims w ok number of listed role = ap (λ (m : WorldModule). link_of w m.of role) (listed_main w ok number of listed).1
 
 -- ---- what user modules import
 

@@ -1,4 +1,4 @@
--- What was planned for the imports and exports of main meets the link table.
+-- What was planned for the imports of user modules, and for the exports of main, meets the link table.
 use Rattle.std.proofs.Common.{◌≡◌, ◌∙◌, ◌++◌, inl, inr, ◌+◌, ◌<◌, ◌^◌, arith, length, IsTrue, ℕ, Bool, false, zero, suc, true, List, [], ◌∷◌, map, refl, sym, ap, subst, Option, Some, None, is_some, if◌then◌else◌}
 use Rattle.std.proofs.lemmas.Option.{none-some, same_Some, slice_get_within, slice_get-map}
 use Rattle.std.proofs.lemmas.Slice.Eq.{bytes_eq-Decides}
@@ -35,7 +35,7 @@ use Rattle.comp_worlds.specs.Worlds.{IsWorld}
 use Rattle.comp_worlds.specs.declared.world.ComponentWorld.{ComponentWorld}
 use Rattle.comp_trees.specs.Trees.{Resource, FunctionTree}
 use Rattle.comp_trees.specs.DefinedTrees.{OfOthers}
-use Rattle.comp_links.specs.Targets.{Main, ExportRef, WorldFunction, TargetOption, Target, Lowered, ResourceFunction, New, Rep, Drop, ExportOf, OfResource, Lifted}
+use Rattle.comp_links.specs.Targets.{UserModule, Main, ExportRef, WorldFunction, TargetOption, Target, Lowered, ResourceFunction, New, Rep, Drop, ExportOf, OfResource, Lifted}
 use Rattle.comp_links.specs.Targets as targets
 use Rattle.comp_links.specs.Links.{lift_options, link_of, destructor_of}
 use Rattle.comp_terms.specs.Generated.{Purpose, OfImport, OfDestructor, target_of, HasPurpose}
@@ -58,7 +58,7 @@ use Rattle.link_laws.specs.Linking.{IsServed, AreServed, UsersServed, IsProvided
 use Rattle.link_laws.proofs.Zips.{AllByRecursion-join, each_at}
 use Rattle.link_laws.proofs.Stores.{IsOpaqueOf, ShimsAt, resource_core, IsLoweredFor, IsFunctionOf, IsFunctionExported, IsServedAs, Serves, IsFilledWith, AreFilled, main_module, IsPlanned, IsPlannedUser, IsFirstMemory, IsOptionHeld, main_key, main_function, IsRequiredAt, IsFunctionExport, IsAmong, IsInterfaceExport, IsItemExport, IsKeyExport, AreKeyExports, type_at_key, IsTypeAmong, IsDestroyedBy, IsOwnResource, IsOwnIfDefined, AreResources, HasNumber}
 use Rattle.link_laws.proofs.Given.{by_parts, purpose_opaque, one_purpose}
-use Rattle.link_laws.proofs.Plain.{listed_main, no_hook, no_memory_imported, function_key}
+use Rattle.link_laws.proofs.Plain.{no_hook, no_memory_imported, function_key}
 use Rattle.comp_worlds.specs.WorldContents.{exported_item}
 
 -- ---- opaque functions
@@ -266,22 +266,20 @@ module _ (w : ComponentWorld) (ok : IsWorld w) (m : Machine) where
   pub number_defined : (shims : Option ShimsAt) (number : ℕ) → {count : ℕ} → AreResources w shims m.store.types count → number < count → IsNumberDefined m number
   number_defined shims number all less = let r : HasNumber m.store.types number = all.numbered number less in record { address = r.address; destructor = r.destructor; is = r.is }
 
-  -- ---- what main is given
+  -- ---- what a user module is given
 
-  serves_meets : (shims : Option ShimsAt) → FilledAtEnd shims → (t : Thing) (role : Import) → t.space ≡ spaces.CoreFunc → Serves w shims m.store t.address role → Meets w m (resource_of w) t (link_of w Main role)
-  serves_meets shims filled t role space (inl h) = function_meets_as t t.address (link_of w Main role) space (λ type item o. forwards_itself w ok m t.address type item o) h
-  serves_meets None filled t role space (inr h) = absurd h
-  serves_meets (Some at) filled t role space (inr h) = shim_meets t at h.place h.shim (OfImport role) space filled h.listed h.stands_for h.is
+  serves_meets : (shims : Option ShimsAt) → FilledAtEnd shims → (of : UserModule) (t : Thing) (role : Import) → t.space ≡ spaces.CoreFunc → Serves w shims m.store of t.address role → Meets w m (resource_of w) t (link_of w of role)
+  serves_meets shims filled of t role space (inl h) = function_meets_as t t.address (link_of w of role) space (λ type item o. forwards_itself w ok m t.address type item o) h
+  serves_meets None filled of t role space (inr h) = absurd h
+  serves_meets (Some at) filled of t role space (inr h) = subst (Meets w m (resource_of w) t) h.same (shim_meets t at h.place h.shim (OfImport role) space filled h.listed h.stands_for h.is)
 
-  planned_served : (shims : Option ShimsAt) → FilledAtEnd shims → (t : Thing) (i : ImportType) → IsPlanned w shims m.store t i → IsServed w m (resource_of w) (main_module w) t i
-  planned_served shims filled t i h = record { target = link_of w Main h.role; said = h.said; meets = serves_meets shims filled t h.role h.space h.serves }
+  planned_served : (shims : Option ShimsAt) → FilledAtEnd shims → (of : WorldModule) (t : Thing) (i : ImportType) → IsPlanned w shims m.store of t i → IsServed w m (resource_of w) of t i
+  planned_served shims filled of t i h = record { target = link_of w of.of h.role; said = h.said; meets = serves_meets shims filled of.of t h.role h.space h.serves }
 
   instance_served : (shims : Option ShimsAt) → FilledAtEnd shims → (i : ModuleInstance) (of : WorldModule) → slice_get (user_modules w) i.module_number ≡ Some of → IsPlannedUser w shims m.store i → AreServed w m (resource_of w) of i
-  instance_served shims filled i of e h =
-      let main : (i.module_number ≡ 0) × (main_module w ≡ of) = listed_main w ok i.module_number of e in
-      subst (λ (o : WorldModule). AreServed w m (resource_of w) o i) main.1 (AllZip-weaker (planned_served shims filled) i.given w.main.imported (h main.0))
+  instance_served shims filled i of listed h = AllZip-weaker (planned_served shims filled of) i.given of.found.imported (h of listed)
 
-  -- each import of main is served
+  -- each import of a user module is served
   pub users_served : (shims : Option ShimsAt) → FilledAtEnd shims → AllByRecursion (IsPlannedUser w shims m.store) m.store.module_instances → UsersServed w m (resource_of w)
   users_served shims filled all = record { resources = same_resources (component_types w ++ own_resources w); each = λ instance i of present listed. instance_served shims filled i of listed (at_index m.store.module_instances instance i all present) }
     where

@@ -33,7 +33,7 @@ use Rattle.comp_roles.specs.declared.imports.Import.{Import}
 use Rattle.comp_roles.specs.declared.offered.ImportType.{ImportType}
 use Rattle.comp_worlds.specs.WorldContents.{core_name_of, exported_item, function_exported}
 use Rattle.comp_worlds.specs.declared.world.ComponentWorld.{ComponentWorld}
-use Rattle.comp_links.specs.Targets.{Main, ExportRef, WorldFunction, TargetOption, ResourceFunction, New, Rep, Drop, Target, Lowered, ExportOf, OfResource}
+use Rattle.comp_links.specs.Targets.{UserModule, Main, ExportRef, WorldFunction, TargetOption, ResourceFunction, New, Rep, Drop, Target, Lowered, ExportOf, OfResource}
 use Rattle.comp_links.specs.Targets as targets
 use Rattle.comp_links.specs.Modules.{WorldModule, user_modules, IsModule}
 use Rattle.comp_links.specs.Lists.{IsOriginOf, resource_of, RequiredKey, RequiredFunction, functions_required, RequiredType, types_required, type_of_world, own_resources}
@@ -41,7 +41,7 @@ use Rattle.comp_links.specs.Links.{lift_options, link_of, link_at, destructor_of
 use Rattle.shim_plan.specs.declared.shims.Shim.{Shim}
 use Rattle.world_shims.specs.WorldShims.{shims_of}
 use Rattle.shim_runs.specs.ShimRuns.{AreShimsFrom, instance_exports}
-use Rattle.comp_terms.specs.Generated.{shims_number, fixup_number, IsShimOf, IsShimOfDestructor, Purpose, target_of, HasPurpose}
+use Rattle.comp_terms.specs.Generated.{shims_number, fixup_number, IsShimOf, IsShimOfDestructor, Purpose, OfImport, target_of, HasPurpose}
 use Rattle.comp_terms.specs.Terms.{CoreExport, IsInstanceOf, intrinsic_of, imports_in}
 use Rattle.comp_terms.specs.Planned.{IsTypeOf, type_of_function}
 use Rattle.comp_terms.specs.Rules.{IsOfKind}
@@ -354,32 +354,38 @@ IsServedAs w s address (OfResource function id) = IsFunctionOf s address functio
 IsServedAs w s address (ExportOf export_ref) = IsFunctionExported w s address export_ref
 IsServedAs w s address target = ⊥
 
--- the core function is a shim that stands for what an import of this role is to be given
-pub record IsShimGivenAt (w : ComponentWorld) (at : ShimsAt) (address : ℕ) (role : Import) : Type 0 where
+-- The core function is a shim that stands for this role, and what it hands on to is what an import of this user module with the role is
+-- to be given.
+pub record IsShimGivenAt (w : ComponentWorld) (at : ShimsAt) (of : UserModule) (address : ℕ) (role : Import) : Type 0 where
   pub place : ℕ
   pub shim : Shim
   pub listed : slice_get (shims_of w) place ≡ Some shim
   pub stands_for : IsShimOf w shim role
+  pub same : target_of w (OfImport role) ≡ link_of w of role
   pub is : address ≡ at.address + place
 
-abbrev pub IsShimGiven : ComponentWorld → Option ShimsAt → ℕ → Import → Type 0
-IsShimGiven w None address role = ⊥
-IsShimGiven w (Some at) address role = IsShimGivenAt w at address role
+abbrev pub IsShimGiven : ComponentWorld → Option ShimsAt → UserModule → ℕ → Import → Type 0
+IsShimGiven w None of address role = ⊥
+IsShimGiven w (Some at) of address role = IsShimGivenAt w at of address role
 
--- it is what an import of this role is to be given, or a shim for it
-abbrev pub Serves : ComponentWorld → Option ShimsAt → Store → ℕ → Import → Type 0
-Serves w shims s address role = IsServedAs w s address (link_of w Main role) ⊎ IsShimGiven w shims address role
+-- the shims may be given to this user module: of each role, they hand on to what its imports are to be given
+abbrev pub TakesShims : ComponentWorld → UserModule → Type 0
+TakesShims w of = (role : Import) → target_of w (OfImport role) ≡ link_of w of role
 
--- what an import of main is given, by the link table
-pub record IsPlanned (w : ComponentWorld) (shims : Option ShimsAt) (s : Store) (t : Thing) (i : ImportType) : Type 0 where
+-- it is what an import of this user module with this role is to be given, or a shim for it
+abbrev pub Serves : ComponentWorld → Option ShimsAt → Store → UserModule → ℕ → Import → Type 0
+Serves w shims s of address role = IsServedAs w s address (link_of w of role) ⊎ IsShimGiven w shims of address role
+
+-- what an import of a user module is given, by the link table
+pub record IsPlanned (w : ComponentWorld) (shims : Option ShimsAt) (s : Store) (of : WorldModule) (t : Thing) (i : ImportType) : Type 0 where
   pub role : Import
-  pub said : link_at w (main_module w) i.module_name i.field ≡ Some (link_of w Main role)
+  pub said : link_at w of i.module_name i.field ≡ Some (link_of w of.of role)
   pub space : t.space ≡ spaces.CoreFunc
-  pub serves : Serves w shims s t.address role
+  pub serves : Serves w shims s of.of t.address role
 
--- an instance of main is given all that it imports
+-- an instance of a user module is given all that the module imports
 abbrev pub IsPlannedUser : ComponentWorld → Option ShimsAt → Store → ModuleInstance → Type 0
-IsPlannedUser w shims s u = u.module_number ≡ 0 → AllZip (IsPlanned w shims s) u.given w.main.imported
+IsPlannedUser w shims s u = (of : WorldModule) → slice_get (user_modules w) u.module_number ≡ Some of → AllZip (IsPlanned w shims s of) u.given of.found.imported
 
 -- ---- the shims
 
