@@ -32,7 +32,8 @@ use Rattle.comp_runs.specs.Machine.{Scope, Machine, address_at, is_of, all_some}
 use Rattle.comp_runs.specs.Instances.{ExportTypes, exported_by, with_exports, with_module_instance, given_to, new_user, ModuleMeaning, OfUser, OfGenerated}
 use Rattle.comp_runs.specs.Running.{core_argument, run}
 use Rattle.instance_laws.proofs.Held.{keeps_same, keeps_more, keeps_grown}
-use Rattle.link_laws.proofs.Steps.{machine, IsNow, IsGood, good_answered, quiet, users_among, Steps, filter-push, with_thing, numbered_at, no_answers, given_same, few, one_event, cells, length-cells, export_beside, not_last, agrees_with, seen_by}
+use Rattle.link_laws.proofs.Outcomes.{machine, no_answers, IsNow, IsGood, good_answered, quiet, users_among, seen_by, Steps, few, one_event, cells, length-cells}
+use Rattle.link_laws.proofs.Steps.{filter-push, with_thing, numbered_at, given_same, export_beside, not_last, agrees_with}
 use Rattle.shim_runs.proofs.Placed.{shims_kept}
 use Rattle.shim_runs.proofs.ShimInstance.{shims_run}
 use Rattle.shim_runs.proofs.FixupInstance.{fixup_run}

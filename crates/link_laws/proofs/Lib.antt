@@ -5,6 +5,7 @@ pub mod Plain
 mod Given
 mod GivenTypes
 mod UserExports
+mod Outcomes
 pub mod Steps
 pub mod InstanceSteps
 mod NestedSteps

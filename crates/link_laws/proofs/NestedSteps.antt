@@ -53,7 +53,8 @@ use Rattle.link_laws.proofs.Stores.{IsComponentHeld, IsArgumentHeld, IsNestedIns
 use Rattle.link_laws.proofs.Kept.{Keeps, shims_same, address_at-append, things_kept, keeps_store, keeps_component, IsPlannedUser-kept, AreKeyExports-push, AreResources-more}
 use Rattle.link_laws.proofs.GivenTypes.{exports_given}
 use Rattle.link_laws.proofs.Given.{thing_there, address_there, held_there, function_at, lift_there, found_name, by_parts}
-use Rattle.link_laws.proofs.Steps.{machine, no_answers, quiet, Steps, filter-push, Makes, agrees_with, shims_beside, quiet_step}
+use Rattle.link_laws.proofs.Outcomes.{machine, no_answers, quiet, Steps}
+use Rattle.link_laws.proofs.Steps.{filter-push, Makes, agrees_with, shims_beside, quiet_step}
 
 -- ---- arguments
 

@@ -46,7 +46,8 @@ use Rattle.link_laws.proofs.Stores.{ShimsAt, ExportsShims, MayHaveShims, IsTypeE
 use Rattle.link_laws.proofs.Given.{main_below, not_shims, scope_there}
 use Rattle.link_laws.proofs.Plain.{only, nothing_in, only_main, no_initialize}
 use Rattle.link_laws.proofs.InstanceSteps.{IsGenerated, generated_for, step_instantiate}
-use Rattle.link_laws.proofs.Steps.{no_modules, machine, IsNow, IsGood, users_among, users_in, asks, events_of, seen_by, Steps, step_type, step_instance_type, step_import, step_import_type, step_import_resource, step_import_instance, step_alias_function, step_alias_type, step_lower, step_new, step_rep, step_drop, step_lift, step_inline_instance, step_alias, step_module, step_custom}
+use Rattle.link_laws.proofs.Outcomes.{machine, IsNow, IsGood, users_among, users_in, asks, events_of, seen_by, Steps}
+use Rattle.link_laws.proofs.Steps.{no_modules, step_type, step_instance_type, step_import, step_import_type, step_import_resource, step_import_instance, step_alias_function, step_alias_type, step_lower, step_new, step_rep, step_drop, step_lift, step_inline_instance, step_alias, step_module, step_custom}
 use Rattle.link_laws.proofs.Marks.{bytes_listed, numbers_listed, root_imports, root_modules, root_instances, root_exports, root_export_names, all_resources, no_customs}
 use Rattle.link_laws.proofs.ImportedTypes.{types_served}
 use Rattle.link_laws.proofs.Served.{FilledAtEnd, users_served, resource_defined, number_defined, each_provided, each_type_provided}

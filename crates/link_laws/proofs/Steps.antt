@@ -1,6 +1,5 @@
 -- A definition that keeps its rule runs, and the store agrees with the longer list.
-use Rattle.std.proofs.Common.{arith, ◌≤◌, ◌+◌, ◌^◌, ◌⊎◌, inl, inr, ◌==◌, ◌≡◌, ◌∙◌, ℕ, zero, suc, ◌<◌, Bool, true, false, List, [], ◌∷◌, ◌++◌, length, map, filter, get_or, refl, sym, ap, ap₂, subst, append-nil, add-one, length-append, Option, Some, None, is_some, IsTrue, if◌then◌else◌}
-use Rattle.std.proofs.lemmas.List.{length-map}
+use Rattle.std.proofs.Common.{arith, ◌+◌, ◌^◌, ◌⊎◌, inl, inr, ◌≡◌, ◌∙◌, ℕ, zero, suc, ◌<◌, Bool, true, false, List, [], ◌∷◌, ◌++◌, length, map, filter, get_or, refl, sym, ap, ap₂, subst, append-nil, add-one, length-append, Option, Some, None, is_some, if◌then◌else◌}
 use Rattle.std.proofs.lemmas.List.Elements.{filter-append, Contains-append_cases}
 use Rattle.std.proofs.lemmas.Grind.{flat_map-append}
 use Rattle.std.proofs.lemmas.Option.{none-some, get_or_from_slice_get}
@@ -53,11 +52,7 @@ use Rattle.comp_inventories.proofs.Inventories.{inventory-push}
 use Rattle.core_types.specs.declared.types.FuncType.{FuncType}
 use Rattle.comp_worlds.specs.declared.world.ComponentWorld.{ComponentWorld}
 use Rattle.comp_worlds.specs.declared.world.ValidatedModule.{ValidatedModule}
-use Rattle.core_types.specs.declared.types.ValType.{ValType}
-use Rattle.core_runs.specs.Values.{Value}
-use Rattle.core_types.specs.declared.types.ValType.TheVariants.{I32}
-use Rattle.core_runs.specs.Store.{Opaque, Answer, Gives, Traps, Event, Instantiated, Now, Cell, Foreign}
-use Rattle.core_runs.specs.Execution.{answered, seen, renewed}
+use Rattle.core_runs.specs.Store.{Opaque, Now}
 use Rattle.comp_runs.specs.Store.{Thing, Export, HeldOption, HeldEncoding, HeldMemory, HeldRealloc, HeldPostReturn, HeldAsync, HeldCallback, CoreItem, Lowering, IntrinsicOf, Function, Imported, Lifting, TypeItem, TreeOf, ImportedResource, OwnResource, item_tree, tree_held, own_resources as resources_among, InstanceTypeOf, ModuleInstance, Store}
 use Rattle.comp_links.specs.Targets.{ResourceFunction, New, Rep, Drop}
 use Rattle.comp_links.specs.Lists.{own_resources}
@@ -66,7 +61,7 @@ use Rattle.comp_roles.specs.declared.offered.ExternType.{ExternType}
 use Rattle.comp_roles.specs.declared.offered.ExternType.TheVariants as externs
 use Rattle.comp_roles.specs.declared.offered.ImportType.{ImportType}
 use Rattle.comp_terms.specs.Rules.{AliasesUser, AliasesShim, IsEntry, AreEntries, AliasesImported, AliasesNested, AliasesType as MayAliasType, HasFunctionType, HasResource, HasOwnResource, HasImportedFunction, IsOptionRight, IsLowerOptionRight, IsTypeRight, IsDestructorRight, DefinesResource, IsItemRight}
-use Rattle.comp_runs.specs.Machine.{Scope, Machine, Outcome, Done, Trapped, Open, Stuck, with_some, address_at, is_of, export_named, all_some, resumed, with_opaque}
+use Rattle.comp_runs.specs.Machine.{Scope, Machine, with_some, address_at, is_of, export_named, all_some, with_opaque}
 use Rattle.comp_runs.specs.Instances.{matching, argument_for, type_kind, given_to, type_scope, known_function, type_item}
 use Rattle.comp_runs.specs.Signatures.{is_async, core_signature, intrinsic_signature}
 use Rattle.comp_runs.specs.Running.{core_entry, held, options_held, type_of_function as function_type_of, lowered_signature, if_own, own_address, addressed, run}
@@ -76,8 +71,9 @@ use Rattle.instance_laws.proofs.Held.{keeps_same, keeps_more, keeps_grown, AreHe
 use Rattle.instance_laws.proofs.Members.{each_joined}
 use Rattle.instance_laws.proofs.Importing.{instance_type_made, import_runs, aliases_function, aliases_type, aliases_nested_type}
 use Rattle.link_laws.specs.Composition.{GeneratedModules, at_root, item_instantiates}
-use Rattle.link_laws.specs.Linking.{module_meanings, LetsRun}
+use Rattle.link_laws.specs.Linking.{module_meanings}
 use Rattle.link_laws.proofs.Zips.{all_some-self}
+use Rattle.link_laws.proofs.Outcomes.{machine, no_answers, quiet, users_among, Steps}
 use Rattle.link_laws.proofs.Stores.{IsOpaqueOf, IsUserItem, IsUserExport, IsUserInstance, ShimsAt, IsModuleInstance, IsNamedEntry, ExportsShims, MayHaveShims, IsTypeAt, resource_core, IsResourceItem, DefIs, Means, makes, IsTypeEntry, entry_of, IsFunctionEntry, IsInstanceThing, IsPlannedUser, IsAliasedItem, IsHeldOption, NumberedFrom, Agrees, AreKeyExports, IsDestroyedBy, IsOwnResource, AreResources}
 use Rattle.link_laws.proofs.Given.{of_shims, module_there, address_there, all_held, scope_there, entry_there, held_there, type_there, instance_type_there, instance_there, imported_there, user_there, space_of_kind, offered_there, destructor_shim}
 use Rattle.link_laws.proofs.Plain.{only, IsFunctionImport}
@@ -86,88 +82,6 @@ use Rattle.link_laws.proofs.Kept.{ShimsKept, shims_same, MayHaveShims-kept, keep
 -- a list without generated modules
 abbrev pub no_modules : GeneratedModules
 no_modules = record { shims = None; fixup = None }
-
--- the machine of a scope, a store, and the changing state
-abbrev pub machine : Scope → Store → Now → Machine
-machine c s now = record { scope = c; store = s; now = now }
-
--- no event so far, and no answer left
-abbrev pub no_answers : Now
-no_answers = record { globals = []; answers = []; events = []; moments = [] }
-
--- what a run has seen so far, and how many globals there are
-pub record IsNow (es : List Event) (count : ℕ) (now : Now) : Type 0 where
-  pub events : now.events ≡ es
-  pub moments : length now.moments ≡ length es
-  pub globals : length now.globals ≡ count
-
--- a run ends with this scope, this store, this many globals and these events, or with an answer that doesn't let it go to
--- its end
-abbrev pub IsGood : Scope → Store → ℕ → List Event → List (List ValType) → List Answer → Outcome → Type 0
-IsGood c s g es questions answers (Done m) = (m.scope ≡ c) × (m.store ≡ s) × IsNow es g m.now
-IsGood c s g es questions answers (Trapped m) = (LetsRun questions answers → ⊥) × (length m.now.moments ≤ length es)
-IsGood c s g es questions answers (Open m) = (LetsRun questions answers → ⊥) × (length m.now.moments ≤ length es)
-IsGood c s g es questions answers Stuck = ⊥
-
--- the user modules that a definition instantiates: main
-abbrev pub users_among : List ℕ → List ℕ
-users_among numbers = filter (λ n. n == 0) numbers
-
-abbrev pub users_in : Def → List ℕ
-users_in d = users_among (at_root item_instantiates d)
-
--- the calls of the outside that a definition makes, by their result types, and what is seen of them
-abbrev pub asks : Def → List (List ValType)
-asks d = map (λ n. []) (users_in d)
-
-abbrev pub events_of : Def → List Event
-events_of d = map (λ n. Instantiated n) (users_in d)
-
-abbrev pub seen_by : List Def → List Event
-seen_by ds = flat_map events_of ds
-
--- one call more
-one_more : (c : Scope) (s : Store) (g : ℕ) (es : List Event) (questions : List (List ValType)) (cell : ℕ) (answers : List Answer) (o : Outcome) →
-    IsGood c s g es questions answers o → IsGood c s g es ([] ∷ questions) (Gives [] cell ∷ answers) o
-one_more c s g es questions cell answers (Done m) h = h
-one_more c s g es questions cell answers (Trapped m) h = (λ l. h.0 l.1, h.1)
-one_more c s g es questions cell answers (Open m) h = (λ l. h.0 l.1, h.1)
-one_more c s g es questions cell answers Stuck h = h
-
-pub good_answered : (c : Scope) (s : Store) (g : ℕ) (es : List Event) (questions : List (List ValType)) (answers : List Answer) (now : Now) (m : Machine) (next : List Value → Machine → Outcome) →
-    length now.moments ≤ length es →
-    ((values : List Value) (after : Now) → after.events ≡ now.events → after.moments ≡ now.moments → length after.globals ≡ length now.globals →
-    IsGood c s g es questions after.answers (next values (record m { now = after }))) →
-    IsGood c s g es ([] ∷ questions) answers (resumed (answered [] answers now) m next)
-good_answered c s g es questions [] now m next few h = (λ l. l, few)
-good_answered c s g es questions (Traps ∷ answers) now m next few h = (λ l. l, few)
-good_answered c s g es questions (Gives [] number ∷ answers) now m next few h = one_more c s g es questions number answers _ (h [] _ refl refl (length-map now.globals (renewed number)))
-good_answered c s g es questions (Gives (v ∷ values) number ∷ answers) now m next few h = (λ l. absurd (no l.0), few)
-  where
-    no : IsTrue false → ⊥
-    no e = cc
-
--- a definition runs, and the rest is run from this scope, this store and this many globals
-pub record Runs (w : ComponentWorld) (gen : GeneratedModules) (d : Def) (c : Scope) (s : Store) (g : ℕ) (c' : Scope) (s' : Store) (g' : ℕ) : Type 0 where
-  pub continues : (e : Scope) (t : Store) (k : ℕ) (es : List Event) (questions : List (List ValType)) (rest : List Def) →
-      ((now : Now) → IsNow (es ++ events_of d) g' now → IsGood e t k ((es ++ events_of d) ++ seen_by rest) questions now.answers (run (module_meanings w gen) rest (machine c' s' now))) →
-      (now : Now) → IsNow es g now → IsGood e t k (es ++ (events_of d ++ seen_by rest)) (asks d ++ questions) now.answers (run (module_meanings w gen) (d ∷ rest) (machine c s now))
-
--- a definition that calls nothing outside
-pub quiet : (w : ComponentWorld) (gen : GeneratedModules) (d : Def) (c : Scope) (s : Store) (g : ℕ) (c' : Scope) (s' : Store) → users_in d ≡ [] →
-    ((rest : List Def) (now : Now) → run (module_meanings w gen) (d ∷ rest) (machine c s now) ≡ run (module_meanings w gen) rest (machine c' s' now)) → Runs w gen d c s g c' s' g
-quiet w gen d c s g c' s' none same = record {
-  continues = λ e t k es questions rest go now at.
-      let after : List Event → Type 0 =
-      λ l. (n : Now) → IsNow l g n → IsGood e t k (l ++ seen_by rest) questions n.answers (run (module_meanings w gen) rest (machine c' s' n)) in
-      let first : after (es ++ []) = subst (λ (ns : List ℕ). after (es ++ map (λ n. Instantiated n) ns)) none go in
-      let plain : after es = subst after (append-nil es) first in
-      subst (λ (ns : List ℕ). IsGood e t k (es ++ (map (λ n. Instantiated n) ns ++ seen_by rest)) (map (λ n. []) ns ++ questions) now.answers (run (module_meanings w gen) (d ∷ rest) (machine c s now))) (sym none)
-      (subst (IsGood e t k (es ++ seen_by rest) questions now.answers) (sym (same rest now)) (plain now at));
-}
-
-abbrev pub Steps : ComponentWorld → GeneratedModules → List Def → Scope → Store → ℕ → Def → Type 0
-Steps w gen earlier c s g d = (c' : Scope) × (s' : Store) × (g' : ℕ) × Runs w gen d c s g c' s' g' × Agrees w (earlier ++ d ∷ []) c' s'
 
 pub filter-push : {X : Type 0} (p : X → Bool) (b : Bool) (xs : List X) (x : X) → p x ≡ b → filter p (xs ++ x ∷ []) ≡ (if b then filter p xs ++ x ∷ [] else filter p xs)
 filter-push p true xs x e = rw (filter-append p xs (x ∷ []), e) refl
@@ -256,32 +170,6 @@ given_same w m c s now arguments (i ∷ is) h =
     let SameFor : ExternType → Type 0 =
     λ ty. option_and_then (matching (machine c s now) ty) (argument_for arguments (type_kind ty) i.module_name i.field) ≡ option_and_then (matching (machine c s no_answers) ty) (argument_for arguments (type_kind ty) i.module_name i.field) in
     ap₂ (λ x xs. x ∷ xs) (subst SameFor (sym h.0.typed) (given_one c s now h.0.type (argument_for arguments kinds.Func i.module_name i.field))) (given_same w m c s now arguments is h.1)
-
--- one event more is among all of them
-pub few : (es : List Event) (g : ℕ) (rest : List Def) (now : Now) → IsNow es g now → length (seen now (Instantiated 0)).moments ≤ length (es ++ (Instantiated 0 ∷ seen_by rest))
-few es g rest now at =
-    let before : length now.moments ≡ length es = at.moments in
-    let more : length (now.moments ++ now.globals ∷ []) ≡ length now.moments + 1 = length-append now.moments (now.globals ∷ []) in
-    let all : length (es ++ (Instantiated 0 ∷ seen_by rest)) ≡ length es + suc (length (seen_by rest)) = length-append es (Instantiated 0 ∷ seen_by rest) in
-    omega (arith, before, more, all)
-
-pub one_event : (es : List Event) (g k : ℕ) (now after : Now) → IsNow es g now → after.events ≡ (seen now (Instantiated 0)).events → after.moments ≡ (seen now (Instantiated 0)).moments → length after.globals ≡ k →
-    IsNow (es ++ Instantiated 0 ∷ []) k after
-one_event es g k now after at events moments count = record {
-  events = events ∙ ap (λ l. l ++ Instantiated 0 ∷ []) at.events;
-  moments = ap (λ (l : List (List Cell)). length l) moments ∙ (length-append now.moments (now.globals ∷ []) ∙ (ap (λ n. n + 1) at.moments ∙ sym (length-append es (Instantiated 0 ∷ []))));
-  globals = count;
-}
-
--- a moment with this many globals
-pub cells : ℕ → List Cell
-cells zero = []
-cells (suc n) = Foreign 0 I32 ∷ cells n
-
-pub length-cells : (n : ℕ) → length (cells n) ≡ n
-unfolding cells
-length-cells zero = refl
-length-cells (suc n) = ap suc (length-cells n)
 
 -- the exports of an instance in a store with other instances
 module _ (s : Store) (core_instances : List (List Export)) (module_instances : List ModuleInstance) (user : ℕ) where
