@@ -188,7 +188,7 @@ user_below w number of listed = slice_get_within (user_modules w) number of list
 pub main_below : (w : ComponentWorld) → 0 < shims_number w
 main_below w = user_below w 0 (main_module w) refl
 
-apart : (m n : ℕ) → m < n → m ≡ n → ⊥
+pub apart : (m n : ℕ) → m < n → m ≡ n → ⊥
 apart m n l e = omega (arith, l, e)
 
 apart_after : (m n : ℕ) → m < n → m ≡ suc n → ⊥

@@ -2,6 +2,7 @@ mod Zips
 mod Stores
 mod Kept
 pub mod Plain
+mod OnlyMain
 mod Given
 mod GivenTypes
 mod UserExports

@@ -1,9 +1,11 @@
 -- How a definition goes on from one state of a run to the next, whatever is answered, and what is seen of it.
-use Rattle.std.proofs.Common.{arith, ◌≤◌, ◌+◌, ◌==◌, ◌≡◌, ◌∙◌, ℕ, zero, suc, false, List, [], ◌∷◌, ◌++◌, length, map, filter, refl, sym, ap, subst, append-nil, length-append, IsTrue}
+use Rattle.std.proofs.Common.{arith, ◌≤◌, ◌+◌, ◌≡◌, ◌∙◌, ℕ, zero, suc, false, List, [], ◌∷◌, ◌++◌, length, map, filter, refl, sym, ap, subst, append-nil, length-append, IsTrue}
 use Rattle.std.proofs.lemmas.List.{length-map}
+use Rattle.std.proofs.Math.Dec.{ltb}
 use Rattle.std.specs.List.{flat_map}
 use Rattle.comp_bytes.specs.declared.def.Def.{Def}
 use Rattle.comp_worlds.specs.declared.world.ComponentWorld.{ComponentWorld}
+use Rattle.comp_links.specs.Modules.{user_modules}
 use Rattle.core_types.specs.declared.types.ValType.{ValType}
 use Rattle.core_runs.specs.Values.{Value}
 use Rattle.core_types.specs.declared.types.ValType.TheVariants.{I32}
@@ -38,22 +40,23 @@ IsGood c s g es questions answers (Trapped m) = (LetsRun questions answers → �
 IsGood c s g es questions answers (Open m) = (LetsRun questions answers → ⊥) × (length m.now.moments ≤ length es)
 IsGood c s g es questions answers Stuck = ⊥
 
--- the user modules that a definition instantiates: main
-abbrev pub users_among : List ℕ → List ℕ
-users_among numbers = filter (λ n. n == 0) numbers
+-- the user modules among these numbers of modules: they come first
+abbrev pub users_among : ComponentWorld → List ℕ → List ℕ
+users_among w numbers = filter (λ n. ltb n (length (user_modules w))) numbers
 
-abbrev pub users_in : Def → List ℕ
-users_in d = users_among (at_root item_instantiates d)
+-- those that a definition instantiates
+abbrev pub users_in : ComponentWorld → Def → List ℕ
+users_in w d = users_among w (at_root item_instantiates d)
 
--- the calls of the outside that a definition makes, by their result types, and what is seen of them
-abbrev pub asks : Def → List (List ValType)
-asks d = map (λ n. []) (users_in d)
+-- the calls of the outside that are made for these, by their result types, and what is seen of them
+abbrev pub asks : List ℕ → List (List ValType)
+asks users = map (λ n. []) users
 
-abbrev pub events_of : Def → List Event
-events_of d = map (λ n. Instantiated n) (users_in d)
+abbrev pub events_of : List ℕ → List Event
+events_of users = map (λ n. Instantiated n) users
 
-abbrev pub seen_by : List Def → List Event
-seen_by ds = flat_map events_of ds
+abbrev pub seen_by : ComponentWorld → List Def → List Event
+seen_by w ds = flat_map (λ d. events_of (users_in w d)) ds
 
 -- one call more
 one_more : (c : Scope) (s : Store) (g : ℕ) (es : List Event) (questions : List (List ValType)) (cell : ℕ) (answers : List Answer) (o : Outcome) →
@@ -76,41 +79,44 @@ good_answered c s g es questions (Gives (v ∷ values) number ∷ answers) now m
     no : IsTrue false → ⊥
     no e = cc
 
--- a definition runs, and the rest is run from this scope, this store and this many globals
+-- A definition that instantiates these user modules runs, and the rest is run from this scope, this store and this many globals.
+abbrev pub Continues : (w : ComponentWorld) (gen : GeneratedModules) (d : Def) (c : Scope) (s : Store) (g : ℕ) (c' : Scope) (s' : Store) (g' : ℕ) → List ℕ → Type 0
+Continues w gen d c s g c' s' g' users =
+    (e : Scope) (t : Store) (k : ℕ) (es : List Event) (questions : List (List ValType)) (rest : List Def) →
+    ((now : Now) → IsNow (es ++ events_of users) g' now → IsGood e t k ((es ++ events_of users) ++ seen_by w rest) questions now.answers (run (module_meanings w gen) rest (machine c' s' now))) →
+    (now : Now) → IsNow es g now → IsGood e t k (es ++ (events_of users ++ seen_by w rest)) (asks users ++ questions) now.answers (run (module_meanings w gen) (d ∷ rest) (machine c s now))
+
 pub record Runs (w : ComponentWorld) (gen : GeneratedModules) (d : Def) (c : Scope) (s : Store) (g : ℕ) (c' : Scope) (s' : Store) (g' : ℕ) : Type 0 where
-  pub continues : (e : Scope) (t : Store) (k : ℕ) (es : List Event) (questions : List (List ValType)) (rest : List Def) →
-      ((now : Now) → IsNow (es ++ events_of d) g' now → IsGood e t k ((es ++ events_of d) ++ seen_by rest) questions now.answers (run (module_meanings w gen) rest (machine c' s' now))) →
-      (now : Now) → IsNow es g now → IsGood e t k (es ++ (events_of d ++ seen_by rest)) (asks d ++ questions) now.answers (run (module_meanings w gen) (d ∷ rest) (machine c s now))
+  pub continues : Continues w gen d c s g c' s' g' (users_in w d)
 
 -- a definition that calls nothing outside
-pub quiet : (w : ComponentWorld) (gen : GeneratedModules) (d : Def) (c : Scope) (s : Store) (g : ℕ) (c' : Scope) (s' : Store) → users_in d ≡ [] →
+pub quiet : (w : ComponentWorld) (gen : GeneratedModules) (d : Def) (c : Scope) (s : Store) (g : ℕ) (c' : Scope) (s' : Store) → users_in w d ≡ [] →
     ((rest : List Def) (now : Now) → run (module_meanings w gen) (d ∷ rest) (machine c s now) ≡ run (module_meanings w gen) rest (machine c' s' now)) → Runs w gen d c s g c' s' g
-quiet w gen d c s g c' s' none same = record {
-  continues = λ e t k es questions rest go now at.
-      let after : List Event → Type 0 =
-      λ l. (n : Now) → IsNow l g n → IsGood e t k (l ++ seen_by rest) questions n.answers (run (module_meanings w gen) rest (machine c' s' n)) in
-      let first : after (es ++ []) = subst (λ (ns : List ℕ). after (es ++ map (λ n. Instantiated n) ns)) none go in
-      let plain : after es = subst after (append-nil es) first in
-      subst (λ (ns : List ℕ). IsGood e t k (es ++ (map (λ n. Instantiated n) ns ++ seen_by rest)) (map (λ n. []) ns ++ questions) now.answers (run (module_meanings w gen) (d ∷ rest) (machine c s now))) (sym none)
-      (subst (IsGood e t k (es ++ seen_by rest) questions now.answers) (sym (same rest now)) (plain now at));
-}
+quiet w gen d c s g c' s' none same = record { continues = subst (Continues w gen d c s g c' s' g) (sym none) none_seen }
+  where
+    none_seen : Continues w gen d c s g c' s' g []
+    none_seen e t k es questions rest go now at =
+        let after : List Event → Type 0 =
+        λ l. (n : Now) → IsNow l g n → IsGood e t k (l ++ seen_by w rest) questions n.answers (run (module_meanings w gen) rest (machine c' s' n)) in
+        let plain : after es = subst after (append-nil es) go in
+        subst (IsGood e t k (es ++ seen_by w rest) questions now.answers) (sym (same rest now)) (plain now at)
 
 abbrev pub Steps : ComponentWorld → GeneratedModules → List Def → Scope → Store → ℕ → Def → Type 0
 Steps w gen earlier c s g d = (c' : Scope) × (s' : Store) × (g' : ℕ) × Runs w gen d c s g c' s' g' × Agrees w (earlier ++ d ∷ []) c' s'
 
--- one event more is among all of them
-pub few : (es : List Event) (g : ℕ) (rest : List Def) (now : Now) → IsNow es g now → length (seen now (Instantiated 0)).moments ≤ length (es ++ (Instantiated 0 ∷ seen_by rest))
-few es g rest now at =
+-- the event of one more instance is among all of them
+pub few : (w : ComponentWorld) (number : ℕ) (es : List Event) (g : ℕ) (rest : List Def) (now : Now) → IsNow es g now → length (seen now (Instantiated number)).moments ≤ length (es ++ (Instantiated number ∷ seen_by w rest))
+few w number es g rest now at =
     let before : length now.moments ≡ length es = at.moments in
     let more : length (now.moments ++ now.globals ∷ []) ≡ length now.moments + 1 = length-append now.moments (now.globals ∷ []) in
-    let all : length (es ++ (Instantiated 0 ∷ seen_by rest)) ≡ length es + suc (length (seen_by rest)) = length-append es (Instantiated 0 ∷ seen_by rest) in
+    let all : length (es ++ (Instantiated number ∷ seen_by w rest)) ≡ length es + suc (length (seen_by w rest)) = length-append es (Instantiated number ∷ seen_by w rest) in
     omega (arith, before, more, all)
 
-pub one_event : (es : List Event) (g k : ℕ) (now after : Now) → IsNow es g now → after.events ≡ (seen now (Instantiated 0)).events → after.moments ≡ (seen now (Instantiated 0)).moments → length after.globals ≡ k →
-    IsNow (es ++ Instantiated 0 ∷ []) k after
-one_event es g k now after at events moments count = record {
-  events = events ∙ ap (λ l. l ++ Instantiated 0 ∷ []) at.events;
-  moments = ap (λ (l : List (List Cell)). length l) moments ∙ (length-append now.moments (now.globals ∷ []) ∙ (ap (λ n. n + 1) at.moments ∙ sym (length-append es (Instantiated 0 ∷ []))));
+pub one_event : (number : ℕ) (es : List Event) (g k : ℕ) (now after : Now) → IsNow es g now → after.events ≡ (seen now (Instantiated number)).events → after.moments ≡ (seen now (Instantiated number)).moments → length after.globals ≡ k →
+    IsNow (es ++ Instantiated number ∷ []) k after
+one_event number es g k now after at events moments count = record {
+  events = events ∙ ap (λ l. l ++ Instantiated number ∷ []) at.events;
+  moments = ap (λ (l : List (List Cell)). length l) moments ∙ (length-append now.moments (now.globals ∷ []) ∙ (ap (λ n. n + 1) at.moments ∙ sym (length-append es (Instantiated number ∷ []))));
   globals = count;
 }
 

@@ -45,14 +45,13 @@ use Rattle.comp_worlds.specs.declared.world.WorldAdapter.{WorldAdapter}
 use Rattle.comp_links.specs.Targets.{Main, Adapter}
 use Rattle.comp_links.specs.Modules.{WorldModule, adapter_module, user_modules, IsModule}
 use Rattle.comp_links.specs.Lists.{resource_of}
-use Rattle.comp_links.specs.Links.{link_of}
 use Rattle.comp_terms.specs.Planned.{type_of_function}
 use Rattle.comp_runs.specs.Signatures.{core_signature}
 use Rattle.comp_trees.specs.Trees.{FunctionTree}
 use Rattle.comp_trees.proofs.Signing.{signatures_of_trees}
 use Rattle.link_laws.proofs.Zips.{mapped_some}
 use Rattle.comp_links.specs.Targets.{New, Rep, Drop}
-use Rattle.link_laws.proofs.Stores.{resource_core, main_module, TakesShims}
+use Rattle.link_laws.proofs.Stores.{resource_core, main_module}
 
 pub only : {X : Type 0} (x y : X) → Contains (x ∷ []) y → x ≡ y
 only x y (zero, l, e) = e
@@ -147,22 +146,6 @@ named_main w number m = by number m.listed
     by : (n : ℕ) → slice_get (user_modules w) n ≡ Some m.world_module → (n ≡ 0) × (main_module w ≡ m.world_module)
     by zero e = (refl, same_Some (main_module w) m.world_module e)
     by (suc n) e = absurd (no_adapter_is_main w.adapters n m.world_module e m.same)
-
--- main is the only user module
-pub only_main : (w : ComponentWorld) → IsWorld w → user_modules w ≡ main_module w ∷ []
-only_main w ok = ap (λ (as_list : List (List ℕ × WorldAdapter)). main_module w ∷ map adapter_module as_list) ok.alone
-
--- a user module that is listed is main
-pub listed_main : (w : ComponentWorld) → IsWorld w → (number : ℕ) (of : WorldModule) → slice_get (user_modules w) number ≡ Some of → (number ≡ 0) × (main_module w ≡ of)
-listed_main w ok number of e = by number (ap (λ l. slice_get l number) (sym (only_main w ok)) ∙ e)
-  where
-    by : (number : ℕ) → slice_get (main_module w ∷ []) number ≡ Some of → (number ≡ 0) × (main_module w ≡ of)
-    by zero e = (refl, same_Some (main_module w) of e)
-    by (suc n) e = absurd (none-some of e)
-
--- so each user module may be given the shims, which stand for main's imports
-pub takes_shims : (w : ComponentWorld) → IsWorld w → (number : ℕ) (of : WorldModule) → slice_get (user_modules w) number ≡ Some of → TakesShims w of.of
-takes_shims w ok number of listed role = ap (λ (m : WorldModule). link_of w m.of role) (listed_main w ok number of listed).1
 
 -- ---- what user modules import
 

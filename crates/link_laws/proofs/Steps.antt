@@ -108,12 +108,12 @@ consecutive-push k [] n t h e = (e ∙ sym h, ap suc h)
 consecutive-push k (x ∷ ts) n t h e = (h.0, consecutive-push (suc k) ts n t h.1 e)
 
 -- a number that is none of a new one's is an old one
-pub not_last : (numbers : List ℕ) (n : ℕ) → (0 ≡ n → ⊥) → Contains (numbers ++ 0 ∷ []) n → Contains numbers n
-not_last numbers n other h = by (Contains-append_cases numbers (0 ∷ []) n h)
+pub not_last : (numbers : List ℕ) (new n : ℕ) → (new ≡ n → ⊥) → Contains (numbers ++ new ∷ []) n → Contains numbers n
+not_last numbers new n other h = by (Contains-append_cases numbers (new ∷ []) n h)
   where
-    by : Contains numbers n ⊎ Contains (0 ∷ []) n → Contains numbers n
+    by : Contains numbers n ⊎ Contains (new ∷ []) n → Contains numbers n
     by (inl k) = k
-    by (inr k) = absurd (other (only 0 n k))
+    by (inr k) = absurd (other (only new n k))
 
 -- an opaque function is at the address at which it was added, and its known item is the one given
 opaque_there : (item : CoreItem) (type : FuncType) (s : Store) → IsOpaqueOf (with_opaque item type s) (length s.code.functions) type item
@@ -287,7 +287,7 @@ module _ {w : ComponentWorld} {earlier : List Def} {c : Scope} {s : Store} (a : 
     with_thing c t count,
     s',
     g,
-    quiet w gen d c s g (with_thing c t count) s' (ap users_among none) same,
+    quiet w gen d c s g (with_thing c t count) s' (ap (users_among w) none) same,
     agrees_with d (with_thing c t count) s' t a.shims (shims_same a.shims) refl keeps means made
         (rw (filter-push (is_of spaces.CoreModule) false c.items t other, modules) a.modules)
         (rw (users, none) (sym (append-nil (map (λ (u : ModuleInstance). u.module_number) s.module_instances))))
