@@ -185,9 +185,6 @@ one_instance {ds} {index} {m} {n} h k = ap (number_in n) (same_Some (defs.Item (
 pub user_below : (w : ComponentWorld) (number : ℕ) (of : WorldModule) → slice_get (user_modules w) number ≡ Some of → number < shims_number w
 user_below w number of listed = slice_get_within (user_modules w) number of listed
 
-pub main_below : (w : ComponentWorld) → 0 < shims_number w
-main_below w = user_below w 0 (main_module w) refl
-
 pub apart : (m n : ℕ) → m < n → m ≡ n → ⊥
 apart m n l e = omega (arith, l, e)
 
@@ -539,11 +536,10 @@ module _ {w : ComponentWorld} {earlier : List Def} {c : Scope} {s : Store} (a : 
       )
 
   -- the lift of a required function
-  pub lift_there : {index : ℕ} (name : List ℕ) (options : List TargetOption) (type : FunctionTree) → IsLiftFor w earlier index (Lifted (record { of = Main; name = name }) options) type →
-      (x : ℕ) × (address_at spaces.Func index c.items ≡ Some x) × IsLiftedFrom w s x name options type
-  lift_there {index} name options type h =
-      let entry : CoreExport = h.entry in
-      let is : IsLifting earlier index entry h.options type = h.is in
+  pub lift_there : {index : ℕ} (entry : ExportRef) (options : List TargetOption) (type : FunctionTree) → IsLiftFor w earlier index (Lifted entry options) type →
+      (x : ℕ) × (address_at spaces.Func index c.items ≡ Some x) × IsLiftedFrom w s x entry options type
+  lift_there {index} entry options type h =
+      let is : IsLifting earlier index h.entry h.options type = h.is in
       let l : (x : ℕ) × (address_at spaces.Func index c.items ≡ Some x) × IsLiftedItem c.items s is.core is.written is.kind x = thing_there is.made in
       let f = function_exported is.function h.asked.0 is.of in
       let same : f.0 ≡ l.2.of = same_Some f.0 l.2.of (sym f.1 ∙ l.2.at) in
@@ -554,7 +550,7 @@ module _ {w : ComponentWorld} {earlier : List Def} {c : Scope} {s : Store} (a : 
           core = l.2.of;
           held = l.2.held;
           is = l.2.is ∙ ap (λ t. Some (Lifting l.2.of l.2.held t)) typed;
-          of = subst (λ n. IsFunctionExported w s n (record { of = Main; name = name })) same f.2;
+          of = subst (λ n. IsFunctionExported w s n entry) same f.2;
           with_options = options_there is.written l.2.held h.options options l.2.with_options is.with_options h.asked.1;
         },
       )

@@ -350,8 +350,8 @@ module _ {a b : List Thing} {s t : Store} (k : Keeps a b s t) where
   MayHaveShims-kept w numbers more None tables no_shims no_fixup exported h = λ yes. h (no_shims yes)
   MayHaveShims-kept w numbers more (Some at) tables no_shims no_fixup exported h = AreShims-kept w numbers more at tables no_fixup (exported at h.exported) h
 
-  pub IsLiftedFrom-kept : {w : ComponentWorld} {address : ℕ} {name : List ℕ} {options : List TargetOption} {type : FunctionTree} → IsLiftedFrom w s address name options type → IsLiftedFrom w t address name options type
-  IsLiftedFrom-kept {w} {address} {name} {options} {type} h = record {
+  pub IsLiftedFrom-kept : {w : ComponentWorld} {address : ℕ} {entry : ExportRef} {options : List TargetOption} {type : FunctionTree} → IsLiftedFrom w s address entry options type → IsLiftedFrom w t address entry options type
+  IsLiftedFrom-kept {w} {address} {entry} {options} {type} h = record {
     core = h.core;
     held = h.held;
     is = k.functions.at address (Lifting h.core h.held type) h.is;

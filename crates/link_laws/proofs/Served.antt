@@ -46,7 +46,7 @@ use Rattle.shim_runs.proofs.Acting.{filled_shims_forward}
 use Rattle.shim_runs.proofs.Placed.{shim_at}
 use Rattle.comp_links.specs.Modules.{WorldModule, user_modules}
 use Rattle.comp_links.specs.Naming.{Naming, plain_name, name_of}
-use Rattle.comp_links.specs.Lists.{component_types, own_resources, resource_of, functions_required, required_functions, types_in, types_required, required_types, type_of_world, AreExportsApart}
+use Rattle.comp_links.specs.Lists.{component_types, own_resources, resource_of, RequiredFunction, functions_required, required_functions, types_in, types_required, required_types, type_of_world, AreExportsApart}
 use Rattle.comp_runs.specs.Signatures.{core_signature}
 use Rattle.comp_runs.specs.Store.{Thing, Export, HeldOption, HeldEncoding, HeldMemory, HeldRealloc, HeldPostReturn, HeldAsync, HeldCallback, CoreItem, Lowering, IntrinsicOf, ExportedBy, Imported, TypeItem, OwnResource, item_tree, ModuleInstance, Store}
 use Rattle.comp_runs.specs.Machine.{Machine, export_in, export_of}
@@ -366,25 +366,23 @@ is_instance _ e = cc
 
 module _ (n : Naming) (w : ComponentWorld) (ok : IsWorld w) (apart : AreExportsApart n w) (m : Machine) (exported : AllZip (IsNamedExport n w m.store) w.main_exports m.scope.exports) where
   -- the lift of a required function that is found meets the link table
-  lift_met : (key : WorldKey) (name : List ℕ) (address : ℕ) → IsRequiredAt w m.store (main_function key name) address →
-      option_and_then (export_of spaces.Func name) (exports_at w m (name_of n w.resolve key).name (exported_item w key)) ≡ Some (record { space = spaces.Func; name = name; address = address }) →
-      IsProvided n w m (resource_of w) (main_function key name)
-  lift_met key name address h found =
-      let lifted_with : List TargetOption = lift_options w (main_function key name) in
-      let export_ref : ExportRef = record { of = Main; name = h.name } in
-      let entry : IsFunctionExported w m.store h.is.core export_ref = h.is.of in
+  lift_met : (r : RequiredFunction) (address : ℕ) → IsRequiredAt w m.store r address →
+      option_and_then (export_of spaces.Func r.function) (exports_at w m (name_of n w.resolve r.key).name (exported_item w r.key)) ≡ Some (record { space = spaces.Func; name = r.function; address = address }) → IsProvided n w m (resource_of w) r
+  lift_met r address h found =
+      let lifted_with : List TargetOption = lift_options w r in
+      let entry : ExportRef = record { of = r.of; name = h.name } in
       record {
         address = address;
-        target = Lifted export_ref lifted_with;
+        target = Lifted entry lifted_with;
         wit = h.wit;
         provided = found;
-        said = ap (option_map (λ core. Lifted (record { of = Main; name = core }) lifted_with)) h.role;
+        said = ap (option_map (λ core. Lifted (record { of = r.of; name = core }) lifted_with)) h.role;
         type_of = h.exported;
         meets = record {
           core = h.is.core;
           held = h.is.held;
           is = h.is.is;
-          enters = function_meets w ok m (entry_kind lifted_with) h.is.core export_ref entry;
+          enters = function_meets w ok m (entry_kind lifted_with) h.is.core entry h.is.of;
           same = AllZip-weaker (option_meets w ok m) h.is.held lifted_with h.is.with_options;
         };
       }
@@ -412,7 +410,7 @@ module _ (n : Naming) (w : ComponentWorld) (ok : IsWorld w) (apart : AreExportsA
       let name_is : (name_of n w.resolve key).name ≡ f.name = ap (λ (k : WorldKey). (name_of n w.resolve k).name) key_is ∙ own_name n w f.name in
       let x : FindsNamed n w m.store spaces.Func f.name m.scope.exports = finds_named n w m.store spaces.Func refl is_function f.name w.main_exports m.scope.exports exported i key at name_is (function_space key f item) in
       let is : IsRequiredAt w m.store (main_function (keys.Name f.name) f.name) x.export.address = own_function f x.key x.export x.in_space (sym x.is.named ∙ x.named) x.is.is in
-      lift_met key f.name x.export.address (subst (λ (k : WorldKey). IsRequiredAt w m.store (main_function k f.name) x.export.address) (sym key_is) is)
+      lift_met (main_function key f.name) x.export.address (subst (λ (k : WorldKey). IsRequiredAt w m.store (main_function k f.name) x.export.address) (sym key_is) is)
       (ap (λ o. option_and_then (export_of spaces.Func f.name) (exports_at w m (name_of n w.resolve key).name o)) item
       ∙ (x.found ∙ ap (λ (e : Export). Some e) (by_parts x.export spaces.Func f.name x.in_space x.named)))
 
@@ -434,7 +432,7 @@ module _ (n : Naming) (w : ComponentWorld) (ok : IsWorld w) (apart : AreExportsA
   among_provided : (key : WorldKey) (exports : List Export) → exports_at w m (name_of n w.resolve key).name (exported_item w key) ≡ Some exports → (names : List (List ℕ)) →
       AllByRecursion (IsAmong w m.store exports) (map (main_function key) names) → AllByRecursion (IsProvided n w m (resource_of w)) (map (main_function key) names)
   among_provided key exports at [] h = tt
-  among_provided key exports at (name ∷ names) h = (lift_met key name h.0.address h.0.is (ap (option_and_then (export_of spaces.Func name)) at ∙ h.0.found), among_provided key exports at names h.1)
+  among_provided key exports at (name ∷ names) h = (lift_met (main_function key name) h.0.address h.0.is (ap (option_and_then (export_of spaces.Func name)) at ∙ h.0.found), among_provided key exports at names h.1)
 
   types_provided : (key : WorldKey) (exports : List Export) → exports_at w m (name_of n w.resolve key).name (exported_item w key) ≡ Some exports → (ts : List (List ℕ × TypeId)) →
       AllByRecursion (IsTypeAmong w m.store exports) (map (type_at_key key) ts) → AllByRecursion (IsTypeProvided n w m) (map (type_at_key key) ts)

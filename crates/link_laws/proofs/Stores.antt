@@ -419,12 +419,12 @@ abbrev pub MayHaveShims : ComponentWorld → Store → List ℕ → Option Shims
 MayHaveShims w s numbers None = Contains numbers (shims_number w) → ⊥
 MayHaveShims w s numbers (Some at) = AreShims w s numbers at
 
--- the function is lifted from main's export of this name, with these options and this type
-pub record IsLiftedFrom (w : ComponentWorld) (s : Store) (address : ℕ) (name : List ℕ) (options : List TargetOption) (type : FunctionTree) : Type 0 where
+-- the function is lifted from this export of a user module, with these options and this type
+pub record IsLiftedFrom (w : ComponentWorld) (s : Store) (address : ℕ) (entry : ExportRef) (options : List TargetOption) (type : FunctionTree) : Type 0 where
   pub core : ℕ
   pub held : List HeldOption
   pub is : slice_get s.functions address ≡ Some (Lifting core held type)
-  pub of : IsFunctionExported w s core (record { of = Main; name = name })
+  pub of : IsFunctionExported w s core entry
   pub with_options : AllZip (IsOptionHeld w s) held options
 
 -- an export of an instance of this user module, at the address of this index
@@ -461,7 +461,7 @@ pub record IsRequiredAt (w : ComponentWorld) (s : Store) (r : RequiredFunction) 
   pub wit : WitFunction
   pub role : core_name_of w r.key r.function ≡ Some name
   pub exported : function_exported w r.key r.function ≡ Some wit
-  pub is : IsLiftedFrom w s address name (lift_options w r) (type_of_function w wit)
+  pub is : IsLiftedFrom w s address (record { of = r.of; name = name }) (lift_options w r) (type_of_function w wit)
 
 -- the export is one; or is an instance that exports one for each function that is required at a key, under its name, and what each
 -- type denotes that is
