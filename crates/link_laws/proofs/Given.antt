@@ -12,13 +12,11 @@ use Rattle.comp_lists.proofs.Lists.{AllZip-at, AllZip-weaker, there}
 use Rattle.comp_bytes.specs.Spaces.{kind_space, is_space, space_of, items_in}
 use Rattle.comp_bytes.specs.ItemIndices.{in_space, IsAt}
 use Rattle.core_types.specs.declared.types.FuncType.{FuncType}
-use Rattle.core_runs.specs.Store.{Func, Opaque, Now, signature_of}
+use Rattle.core_runs.specs.Store.{Func, Now, signature_of}
 use Rattle.comp_bytes.specs.declared.space.Space.{Space}
 use Rattle.comp_bytes.specs.declared.space.Space.TheVariants as spaces
 use Rattle.standard_kinds.specs.declared.kinds.ExportKind.{ExportKind}
 use Rattle.standard_kinds.specs.declared.kinds.ExportKind.TheVariants as kinds
-use Rattle.comp_bytes.specs.declared.def.CoreArgument.{CoreArgument}
-use Rattle.comp_bytes.specs.declared.def.CoreInlineExport.{CoreInlineExport}
 use Rattle.comp_bytes.specs.declared.types.Member.{Member}
 use Rattle.comp_bytes.specs.declared.canon.CanonicalOption.{CanonicalOption}
 use Rattle.comp_bytes.specs.declared.canon.CanonicalOption.TheVariants as options
@@ -26,56 +24,39 @@ use Rattle.standard_kinds.specs.declared.kinds.StringEncoding.{StringEncoding}
 use Rattle.comp_bytes.specs.declared.def.Item.TheVariants as items
 use Rattle.comp_bytes.specs.declared.def.Def.{Def}
 use Rattle.comp_bytes.specs.declared.def.Def.TheVariants as defs
-use Rattle.wit_data.specs.declared.worlds.WorldKey.TheVariants as keys
-use Rattle.wit_data.specs.declared.functions.AbiVariant.TheVariants.{GuestImport}
 use Rattle.comp_trees.specs.Trees.{Origin, Resource, ResourceAt, FunctionTree}
 use Rattle.comp_trees.specs.DefinedTrees.{TypeTree, OfValues, OfFunctions}
 use Rattle.comp_trees.specs.DefinedScopes.{Denotes}
 use Rattle.comp_inventories.specs.Inventories.{TypeEntry, OfInstances, FunctionEntry, InstanceEntry, entry_tree, no_function, inventory, scope_of}
-use Rattle.world_values.specs.Items.{functions_of, root_function_at}
-use Rattle.comp_roles.specs.CoreImports.{fields_of}
-use Rattle.comp_roles.specs.CoreTypes.{called_type}
-use Rattle.comp_worlds.specs.Typed.{type_of_import}
-use Rattle.comp_worlds.specs.WorldContents.{items_of}
-use Rattle.comp_worlds.specs.Worlds.{IsImportRole, IsImportGroup}
-use Rattle.comp_roles.specs.declared.imports.Import.{Import}
-use Rattle.comp_roles.specs.declared.imports.Import.TheVariants as imports
-use Rattle.comp_roles.specs.declared.imports.ImportInstance.{ImportInstance}
-use Rattle.comp_roles.specs.declared.imports.ImportInstance.TheVariants as instances
 use Rattle.comp_worlds.specs.declared.world.ComponentWorld.{ComponentWorld}
-use Rattle.comp_runs.specs.Store.{Thing, Export, HeldOption, HeldEncoding, HeldMemory, HeldRealloc, HeldPostReturn, HeldAsync, HeldCallback, CoreItem, Lowering, IntrinsicOf, ExportedBy, Function, Imported, Lifting, TypeItem, TreeOf, tree_held, Store}
+use Rattle.comp_runs.specs.Store.{Thing, Export, HeldOption, HeldEncoding, HeldMemory, HeldRealloc, HeldPostReturn, HeldAsync, HeldCallback, Lowering, ExportedBy, Function, Imported, Lifting, TypeItem, TreeOf, tree_held, Store}
 use Rattle.comp_roles.specs.declared.offered.ExternType.{ExternType}
 use Rattle.comp_roles.specs.declared.offered.ExternType.TheVariants as externs
-use Rattle.comp_roles.specs.declared.offered.ImportType.{ImportType}
 use Rattle.wit_data.specs.declared.ids.TypeId.{TypeId}
-use Rattle.comp_links.specs.Targets.{UserModule, Main, WorldFunction, ExportRef, TargetOption, OfRoot, OfInterface, Lowered, ExportOf, OfResource, ResourceFunction, New, Rep, Drop, Lifted}
+use Rattle.comp_links.specs.Targets.{WorldFunction, ExportRef, TargetOption, Lowered, ExportOf, OfResource, ResourceFunction, New, Rep, Drop, Lifted, Target}
 use Rattle.comp_links.specs.Targets as targets
 use Rattle.comp_links.specs.Modules.{WorldModule, user_modules}
 use Rattle.comp_links.specs.Lists.{IsOriginOf, resource_of}
-use Rattle.comp_links.specs.Links.{lower_options, link_of, link_in, link_at}
-use Rattle.shim_plan.specs.Kinds.{kind_name}
 use Rattle.shim_plan.specs.declared.shims.Shim.{Shim}
 use Rattle.world_shims.specs.WorldShims.{shims_of, type_of_shim}
 use Rattle.shim_runs.specs.ShimRuns.{IsShimAt, instance_exports}
 use Rattle.shim_runs.proofs.Placed.{shim_at}
 use Rattle.shim_runs.proofs.Exported.{shims_found}
 use Rattle.link_laws.specs.Composition.{at_root, item_instantiates}
-use Rattle.comp_terms.specs.Generated.{shims_number, fixup_number, role_of_kind, Purpose, OfImport, OfDestructor, target_of, HasPurpose}
+use Rattle.comp_terms.specs.Generated.{shims_number, fixup_number, Purpose, target_of, HasPurpose}
 use Rattle.comp_terms.specs.Terms.{CoreExport, TermOption, Term, Is, IsFunctionType, IsImportedFunction, IsInstanceOf, IsExported, IsOption, IsLowering, IsOfResource, intrinsic_of, IsLifting}
 use Rattle.comp_terms.specs.Terms as terms
-use Rattle.comp_terms.specs.Planned.{IsExportFor, IsMemoryFor, IsOptionFor, IsTypeOf, IsTermFor, IsItemFor, IsDestructorFor, IsGivenFor, IsLiftFor, IsEntryFor, IsArgumentFor}
+use Rattle.comp_terms.specs.Planned.{IsExportFor, IsMemoryFor, IsOptionFor, IsTypeOf, IsTermFor, IsItemFor, IsLiftFor}
 use Rattle.comp_terms.specs.Rules.{IsOfKind}
-use Rattle.comp_runs.specs.Machine.{Scope, Machine, address_at, is_of, all_some, export_named, export_in, export_of}
-use Rattle.comp_runs.specs.Instances.{type_space, of_kind, matching, given_to, type_at}
+use Rattle.comp_runs.specs.Machine.{Scope, address_at, is_of, export_named, export_in, export_of}
+use Rattle.comp_runs.specs.Instances.{type_space, of_kind, type_at}
 use Rattle.comp_runs.specs.Signatures.{core_signature}
-use Rattle.comp_runs.specs.Running.{core_argument}
 use Rattle.instance_laws.specs.Instantiated.{IsHeldAs, AreHeldAs}
 use Rattle.instance_laws.specs.InstanceEntries.{IsInstanceType, IsInstanceEntry}
 use Rattle.instance_laws.proofs.Held.{trees_of_held, held_of_entries, IsTypeThere, type_there as held_at, item_of_functions}
-use Rattle.link_laws.proofs.Zips.{AllZip-filter, AllZip-back, mapped_some, filter-both, all_some-zip, found-zip, found-each}
-use Rattle.comp_worlds.proofs.Roles.{bound_some}
-use Rattle.link_laws.proofs.Plain.{IsFunctionImport, lowered_type, same_signature-refl, function_type_in, named_main, fields_right}
-use Rattle.link_laws.proofs.Stores.{IsOpaqueOf, IsUserItem, IsUserExport, IsUserInstance, IsNamedEntry, IsInlineInstance, ShimsAt, AreModuleExports, IsModuleInstance, NamesUser, IsLoweredItem, IsTypeAt, IsResourceItem, IsLiftedItem, IsAliasedItem, DefIs, Means, makes, IsTypeEntry, entry_of, IsFunctionEntry, IsInstanceThing, IsLoweredFor, IsFunctionOf, IsFunctionExported, IsServedAs, resource_core, IsShimGivenAt, IsShimGiven, TakesShims, Serves, MayHaveShims, main_module, IsPlanned, IsFirstMemory, IsHeldOption, IsOptionHeld, IsCoreExportAt, IsLiftedFrom, IsDestructorAt, IsDestructorGiven, Agrees}
+use Rattle.link_laws.proofs.Zips.{AllZip-filter, AllZip-back, mapped_some, filter-both, found-zip, found-each}
+use Rattle.link_laws.proofs.Plain.{named_main}
+use Rattle.link_laws.proofs.Stores.{IsOpaqueOf, IsUserItem, IsUserExport, IsUserInstance, ShimsAt, AreModuleExports, IsModuleInstance, NamesUser, IsLoweredItem, IsTypeAt, IsResourceItem, IsLiftedItem, IsAliasedItem, DefIs, Means, makes, IsTypeEntry, entry_of, IsFunctionEntry, IsInstanceThing, IsLoweredFor, IsFunctionOf, IsFunctionExported, IsServedAs, IsShimGivenAt, IsShimGiven, MayHaveShims, AreShims, IsFirstMemory, IsHeldOption, IsOptionHeld, IsCoreExportAt, IsLiftedFrom, Agrees}
 
 makes-space : (space : Space) (d : Def) → is_space space (space_of d) ≡ true → makes d ≡ true
 makes-space space d e = by (space_of d) e
@@ -83,17 +64,6 @@ makes-space space d e = by (space_of d) e
     by : (o : Option Space) → is_space space o ≡ true → is_some o ≡ true
     by None e = cc
     by (Some t) e = refl
-
--- the item of the export satisfies this field of the imports of a user module
-pub record IsFieldExport (w : ComponentWorld) (shims : Option ShimsAt) (s : Store) (of : UserModule) (e : Export) (field : List ℕ × Import) : Type 0 where
-  pub named : e.name ≡ field.0
-  pub space : e.space ≡ spaces.CoreFunc
-  pub serves : Serves w shims s of e.address field.1
-
--- the argument has an export for each field of this module, as planned
-pub record IsOffered (w : ComponentWorld) (shims : Option ShimsAt) (s : Store) (of : UserModule) (a : List ℕ × List Export) (group : List ℕ × ImportInstance) : Type 0 where
-  pub named : a.0 ≡ group.0
-  pub each : AllZip (IsFieldExport w shims s of) a.1 (fields_of group.1)
 
 -- an export that is found has the name
 pub found_name : (name : List ℕ) (es : List Export) (e : Export) → export_named name es ≡ Some e → e.name ≡ name
@@ -168,7 +138,7 @@ memory_named name (x ∷ es) e h memory = by (bytes_eq name x.name) (export_in s
         let is : export_in spaces.CoreMemory x ≡ true = ap (λ (y : Export). export_in spaces.CoreMemory y) (same_Some x e k) ∙ ap (λ space. is_space spaces.CoreMemory (Some space)) memory in
         absurd (true≢false (sym is ∙ i))
 
-at_some : (e : Export) → e.space ≡ spaces.CoreFunc → of_kind kinds.Func e ≡ Some (record { space = e.space; address = e.address })
+pub at_some : (e : Export) → e.space ≡ spaces.CoreFunc → of_kind kinds.Func e ≡ Some (record { space = e.space; address = e.address })
 at_some e h = rw h refl
 
 -- ---- instances of modules by their numbers
@@ -222,8 +192,14 @@ of_shims w s numbers user exports None there (inr (inl k)) = absurd k
 of_shims w s numbers user exports (Some at) there (inr (inl k)) = (at, refl, k.1, there.room)
 of_shims w s numbers user exports shims there (inr (inr e)) = let no : shims_number w ≡ suc (shims_number w) = e in absurd (omega (arith, no))
 
+-- the core function has this core type
+pub record IsFunctionTyped (s : Store) (address : ℕ) (type : FuncType) : Type 0 where
+  pub function : Func
+  pub present : slice_get s.code.functions address ≡ Some function
+  pub typed : signature_of function ≡ type
+
 -- a core function is of one kind
-func_kind : (kind : ExportKind) → kind_space kind ≡ spaces.CoreFunc → kind ≡ kinds.Func
+pub func_kind : (kind : ExportKind) → kind_space kind ≡ spaces.CoreFunc → kind ≡ kinds.Func
 func_kind kinds.Func e = refl
 func_kind kinds.Table e = cc
 func_kind kinds.Memory e = cc
@@ -555,208 +531,52 @@ module _ {w : ComponentWorld} {earlier : List Def} {c : Scope} {s : Store} (a : 
         },
       )
 
-  -- the core item that the link table names has an address
-  lowering_there : (kind : ExportKind) (index : ℕ) (function : WorldFunction) (options : List TargetOption) (term : Term) → Is earlier (kind_space kind) index term → IsTermFor w (Lowered function options) term →
-      (kind ≡ kinds.Func) × (x : ℕ) × (address_at spaces.CoreFunc index c.items ≡ Some x) × IsLoweredFor w s x function options
-  lowering_there kinds.Func index function options (terms.Lowering origin type written) is asked = let l = lowered_there function options is asked.0 asked.1 asked.2 in (refl, l.0, l.1, l.2)
-  lowering_there kinds.Table index function options (terms.Lowering origin type written) is asked = absurd is
-  lowering_there kinds.Memory index function options (terms.Lowering origin type written) is asked = absurd is
-  lowering_there kinds.Global index function options (terms.Lowering origin type written) is asked = absurd is
-  lowering_there kind index function options term is asked = absurd asked
+  -- ---- the core functions that targets name
 
-  resource_function_there : (kind : ExportKind) (index : ℕ) (function : ResourceFunction) (id : TypeId) (term : Term) → Is earlier (kind_space kind) index term → IsTermFor w (OfResource function id) term →
-      (kind ≡ kinds.Func) × (x : ℕ) × (address_at spaces.CoreFunc index c.items ≡ Some x) × IsFunctionOf s x function (resource_of w id)
-  resource_function_there kinds.Func index function id (terms.OfResource same resource) is asked =
+  lowering_there : (index : ℕ) (function : WorldFunction) (options : List TargetOption) (term : Term) → Is earlier spaces.CoreFunc index term → IsTermFor w (Lowered function options) term →
+      (x : ℕ) × (address_at spaces.CoreFunc index c.items ≡ Some x) × IsLoweredFor w s x function options
+  lowering_there index function options (terms.Lowering origin type written) is asked = lowered_there function options is asked.0 asked.1 asked.2
+  lowering_there index function options term is asked = absurd asked
+
+  resource_function_there : (index : ℕ) (function : ResourceFunction) (id : TypeId) (term : Term) → Is earlier spaces.CoreFunc index term → IsTermFor w (OfResource function id) term →
+      (x : ℕ) × (address_at spaces.CoreFunc index c.items ≡ Some x) × IsFunctionOf s x function (resource_of w id)
+  resource_function_there index function id (terms.OfResource same resource) is asked =
       let l : (x : ℕ) × (address_at spaces.CoreFunc index c.items ≡ Some x) × IsFunctionOf s x same resource = of_resource_there is in
-      (refl, l.0, l.1, subst (λ f. IsFunctionOf s l.0 f (resource_of w id)) asked.0 (subst (IsFunctionOf s l.0 same) asked.1 l.2))
-  resource_function_there kinds.Table index function id (terms.OfResource same resource) is asked = absurd is
-  resource_function_there kinds.Memory index function id (terms.OfResource same resource) is asked = absurd is
-  resource_function_there kinds.Global index function id (terms.OfResource same resource) is asked = absurd is
-  resource_function_there kind index function id term is asked = absurd asked
+      (l.0, l.1, subst (λ f. IsFunctionOf s l.0 f (resource_of w id)) asked.0 (subst (IsFunctionOf s l.0 same) asked.1 l.2))
+  resource_function_there index function id term is asked = absurd asked
 
-  pub item_there : (of : UserModule) (kind : ExportKind) (index : ℕ) (role : Import) → IsImportRole w role → IsItemFor w earlier (kind_space kind) index (link_of w of role) →
-      (kind ≡ kinds.Func) × (x : ℕ) × (address_at spaces.CoreFunc index c.items ≡ Some x) × IsServedAs w s x (link_of w of role)
-  item_there of kind index (imports.WorldFunc (keys.Name text) function abi) right h = lowering_there kind index (OfRoot text) (lower_options w of (imports.WorldFunc (keys.Name text) function abi)) h.term h.is h.asked
-  item_there of kind index (imports.InterfaceFunc key interface function abi) right h = lowering_there kind index (OfInterface interface function) (lower_options w of (imports.InterfaceFunc key interface function abi)) h.term h.is h.asked
-  item_there of kind index (imports.ImportedResourceDrop key interface id) right h = resource_function_there kind index Drop id h.term h.is h.asked
-  item_there of kind index (imports.ExportedResourceDrop key id) right h = resource_function_there kind index Drop id h.term h.is h.asked
-  item_there of kind index (imports.ExportedResourceRep key id) right h = resource_function_there kind index Rep id h.term h.is h.asked
-  item_there of kind index (imports.ExportedResourceNew key id) right h = resource_function_there kind index New id h.term h.is h.asked
-  item_there of kind index role right h = absurd right
-
-  -- so has a function that a user module exports
-  export_there : (index : ℕ) (export_ref : ExportRef) → IsItemFor w earlier spaces.CoreFunc index (ExportOf export_ref) →
+  export_there : (index : ℕ) (export_ref : ExportRef) (term : Term) → Is earlier spaces.CoreFunc index term → IsTermFor w (ExportOf export_ref) term →
       (x : ℕ) × (address_at spaces.CoreFunc index c.items ≡ Some x) × IsFunctionExported w s x export_ref
-  export_there index export_ref h = by h.term h.is h.asked
-    where
-      by : (term : Term) → Is earlier spaces.CoreFunc index term → IsTermFor w (ExportOf export_ref) term → (x : ℕ) × (address_at spaces.CoreFunc index c.items ≡ Some x) × IsFunctionExported w s x export_ref
-      by (terms.Exported e) is asked = function_exported (func_kind e.kind (sym is.0)) asked is.1
-      by term is asked = absurd asked
+  export_there index export_ref (terms.Exported e) is asked = function_exported (func_kind e.kind (sym is.0)) asked is.1
+  export_there index export_ref term is asked = absurd asked
 
-  -- and what a shim stands for
-  pub purpose_there : (index : ℕ) (shim : Shim) (p : Purpose) → HasPurpose w shim p → IsItemFor w earlier spaces.CoreFunc index (target_of w p) →
-      (x : ℕ) × (address_at spaces.CoreFunc index c.items ≡ Some x) × IsServedAs w s x (target_of w p)
-  purpose_there index shim (OfImport role) stands h = let x = item_there Main kinds.Func index role stands.right h in (x.1, x.2, x.3)
-  purpose_there index shim (OfDestructor name) stands h = export_there index (record { of = Main; name = name }) h
+  -- no core function is a lift
+  no_lift : (index : ℕ) (entry : ExportRef) (options : List TargetOption) (term : Term) → Is earlier spaces.CoreFunc index term → IsTermFor w (Lifted entry options) term → ⊥
+  no_lift index entry options (terms.Lifting e written type) is asked = is
+  no_lift index entry options term is asked = asked
 
-  -- so has a shim that stands for a destructor
-  pub destructor_shim : (index : ℕ) (name : List ℕ) → IsDestructorFor w earlier index name → (x : ℕ) × (address_at spaces.CoreFunc index c.items ≡ Some x) × IsDestructorGiven w a.shims x name
-  destructor_shim index name h =
-      let within : h.place < length (shims_of w) = slice_get_within (shims_of w) h.place h.shim h.listed in
-      let x = shim_exported within h.is in
-      let given : IsDestructorAt w x.2 x.0 name = record { place = h.place; shim = h.shim; listed = h.listed; stands_for = h.stands_for; is = x.4 } in
-      (x.0, x.1, subst (λ o. IsDestructorGiven w o x.0 name) (sym x.3) given)
+  -- the core function that a target names has an address
+  pub target_there : (index : ℕ) (target : Target) → IsItemFor w earlier spaces.CoreFunc index target → (x : ℕ) × (address_at spaces.CoreFunc index c.items ≡ Some x) × IsServedAs w s x target
+  target_there index (Lowered function options) h = lowering_there index function options h.term h.is h.asked
+  target_there index (OfResource function id) h = resource_function_there index function id h.term h.is h.asked
+  target_there index (ExportOf export_ref) h = export_there index export_ref h.term h.is h.asked
+  target_there index (Lifted entry options) h = absurd (no_lift index entry options h.term h.is h.asked)
+  target_there index target h = absurd h.asked
 
--- what a user module is given, to which the shims may be given
-module _ {w : ComponentWorld} {earlier : List Def} {c : Scope} {s : Store} (a : Agrees w earlier c s) (of : UserModule) (takes : TakesShims w of) where
-  -- what is given for an import has an address: it is the item that the link table names, or a shim
-  given_item_there : (kind : ExportKind) (index : ℕ) (role : Import) → IsImportRole w role → IsGivenFor w of earlier (kind_space kind) index role →
-      (kind ≡ kinds.Func) × (x : ℕ) × (address_at spaces.CoreFunc index c.items ≡ Some x) × Serves w a.shims s of x role
-  given_item_there kind index role right (inl h) = let x = item_there a of kind index role right h in (x.0, x.1, x.2, inl x.3)
-  given_item_there kind index role right (inr h) =
-      let within : h.place < length (shims_of w) = slice_get_within (shims_of w) h.place h.shim h.listed in
-      let x = shim_exported a within h.is in
-      let given : IsShimGivenAt w x.2 of x.0 role = record { place = h.place; shim = h.shim; listed = h.listed; stands_for = h.stands_for; same = takes role; is = x.4 } in
-      (func_kind kind h.in_space, x.0, x.1, inr (subst (λ o. IsShimGiven w o of x.0 role) (sym x.3) given))
+  -- so has a shim
+  pub shim_there : {index : ℕ} (place : ℕ) (shim : Shim) (purpose : Purpose) → slice_get (shims_of w) place ≡ Some shim → HasPurpose w shim purpose → IsExported earlier index (record { of = shims_number w; kind = kinds.Func; name = decimal place }) →
+      (x : ℕ) × (address_at spaces.CoreFunc index c.items ≡ Some x) × IsShimGiven w a.shims x (target_of w purpose)
+  shim_there {index} place shim purpose listed stands h =
+      let x = shim_exported (slice_get_within (shims_of w) place shim listed) h in
+      let given : IsShimGivenAt w x.2 x.0 (target_of w purpose) = record { place = place; shim = shim; purpose = purpose; listed = listed; stands_for = stands; same = refl; is = x.4 } in
+      (x.0, x.1, subst (λ o. IsShimGiven w o x.0 (target_of w purpose)) (sym x.3) given)
 
-  -- the entries of an inline instance, as they were put into the store
-  fields_there : (es : List CoreInlineExport) (xs : List Export) (fs : List (List ℕ × Import)) → AllByRecursion (λ f. IsImportRole w f.1) fs → AllZip (IsEntryFor w of earlier) es fs → AllZip (IsNamedEntry c.items) es xs →
-      AllZip (IsFieldExport w a.shims s of) xs fs
-  fields_there [] [] [] r h n = tt
-  fields_there (e ∷ es) (x ∷ xs) (f ∷ fs) r h n =
-      let i : (e.kind ≡ kinds.Func) × (y : ℕ) × (address_at spaces.CoreFunc e.index c.items ≡ Some y) × Serves w a.shims s of y f.1 = given_item_there e.kind e.index f.1 r.0 h.0.serves in
-      let kind : kind_space e.kind ≡ spaces.CoreFunc = ap kind_space i.0 in
-      let at : address_at spaces.CoreFunc e.index c.items ≡ Some x.address = subst (λ space. address_at space e.index c.items ≡ Some x.address) kind n.0.at in
-      let same : i.1 ≡ x.address = same_Some i.1 x.address (sym i.2 ∙ at) in
-      (record { named = n.0.named ∙ h.0.named; space = n.0.space ∙ kind; serves = subst (λ y. Serves w a.shims s of y f.1) same i.3 }, fields_there es xs fs r.1 h.1 n.1)
-  fields_there [] (x ∷ xs) fs r h n = absurd n
-  fields_there (e ∷ es) [] fs r h n = absurd n
-  fields_there [] [] (f ∷ fs) r h n = absurd h
-  fields_there (e ∷ es) (x ∷ xs) [] r h n = absurd h
-
-  module _ (m : Machine) (items : m.scope.items ≡ c.items) (instances : m.store.core_instances ≡ s.core_instances) where
-    argument_there : (x : CoreArgument) (g : List ℕ × ImportInstance) → IsImportGroup w g → IsArgumentFor w of earlier x g → (y : List ℕ × List Export) × (core_argument m x ≡ Some y) × IsOffered w a.shims s of y g
-    argument_there x g right h =
-        let b : (y : ℕ) × (address_at spaces.CoreInstance x.instance c.items ≡ Some y) × IsInlineInstance c.items s h.serves.entries y = thing_there a h.serves.made in
-        ((x.name, b.2.exports), rw (items, b.1, instances, b.2.present) refl, record { named = h.named; each = fields_there h.serves.entries b.2.exports (fields_of g.1) (fields_right w g right) h.serves.each b.2.each })
-
-    abbrev IsArgument : CoreArgument → List ℕ × ImportInstance → Type 0
-    IsArgument x g = IsImportGroup w g × IsArgumentFor w of earlier x g
-
-    with_groups : (xs : List CoreArgument) (gs : List (List ℕ × ImportInstance)) → AllByRecursion (IsImportGroup w) gs → AllZip (IsArgumentFor w of earlier) xs gs → AllZip IsArgument xs gs
-    with_groups [] [] r h = tt
-    with_groups (x ∷ xs) (g ∷ gs) r h = ((r.0, h.0), with_groups xs gs r.1 h.1)
-    with_groups [] (g ∷ gs) r h = absurd h
-    with_groups (x ∷ xs) [] r h = absurd h
-
-    -- the arguments of the module's instantiation
-    pub arguments_there : (xs : List CoreArgument) (gs : List (List ℕ × ImportInstance)) → AllByRecursion (IsImportGroup w) gs → AllZip (IsArgumentFor w of earlier) xs gs →
-        (ys : List (List ℕ × List Export)) × (all_some (map (core_argument m) xs) ≡ Some ys) × AllZip (IsOffered w a.shims s of) ys gs
-    arguments_there xs gs r h = all_some-zip (IsOffered w a.shims s of) (core_argument m) IsArgument (λ x g k. argument_there x g k.0 k.1) xs gs (with_groups xs gs r h)
-
--- ---- what the imports of a user module find
-
--- a function of a resource's handles is opaque, and has its core type
-resource_opaque : (s : Store) (address : ℕ) (function : ResourceFunction) (resource : Resource) (type : FuncType) → Some (externs.Func (resource_core function)) ≡ Some (externs.Func type) → IsFunctionOf s address function resource →
-    (item : CoreItem) × IsOpaqueOf s address type item
-resource_opaque s address function resource type fits h =
-    let item : CoreItem = IntrinsicOf (intrinsic_of function h.of) in
-    (item, subst (λ t. IsOpaqueOf s address t item) (ap (function_type_in type) (same_Some (externs.Func (resource_core function)) (externs.Func type) fits)) h.is)
-
--- what serves a role is opaque, and has the core type that the role requires
-pub served_opaque : (w : ComponentWorld) (s : Store) (of : UserModule) (address : ℕ) (role : Import) (type : FuncType) → IsImportRole w role → type_of_import w.resolve (items_of w) role ≡ Some (externs.Func type) →
-    IsServedAs w s address (link_of w of role) → (item : CoreItem) × IsOpaqueOf s address type item
-served_opaque w s of address (imports.WorldFunc (keys.Name text) function abi) type right fits h =
-    let asked : called_type w.resolve GuestImport h.typed.wit ≡ externs.Func type =
-    same_Some (called_type w.resolve GuestImport h.typed.wit) (externs.Func type)
-    (sym (ap (option_map (called_type w.resolve GuestImport)) h.typed.imported) ∙ (ap (λ abi. option_map (called_type w.resolve abi) (root_function_at (items_of w).imports (keys.Name text))) (sym right.2) ∙ fits)) in
-    let typed : externs.Func (core_signature h.type []) ≡ externs.Func type = lowered_type w h.type h.typed.wit h.typed.typed ∙ asked in
-    (Lowering h.lowered.of h.held, subst (λ t. IsOpaqueOf s address t (Lowering h.lowered.of h.held)) (ap (function_type_in type) typed) h.lowered.is)
-served_opaque w s of address (imports.InterfaceFunc key id function abi) type right fits h =
-    let asked : called_type w.resolve GuestImport h.typed.wit ≡ externs.Func type =
-    same_Some (called_type w.resolve GuestImport h.typed.wit) (externs.Func type)
-    (sym (ap (option_map (called_type w.resolve GuestImport)) h.typed.imported) ∙ (ap (λ abi. option_map (called_type w.resolve abi) (found function (functions_of w.resolve id))) (sym right.2) ∙ fits)) in
-    let typed : externs.Func (core_signature h.type []) ≡ externs.Func type = lowered_type w h.type h.typed.wit h.typed.typed ∙ asked in
-    (Lowering h.lowered.of h.held, subst (λ t. IsOpaqueOf s address t (Lowering h.lowered.of h.held)) (ap (function_type_in type) typed) h.lowered.is)
-served_opaque w s of address (imports.ImportedResourceDrop key interface id) type right fits h = resource_opaque s address Drop (resource_of w id) type fits h
-served_opaque w s of address (imports.ExportedResourceDrop key id) type right fits h = resource_opaque s address Drop (resource_of w id) type fits h
-served_opaque w s of address (imports.ExportedResourceRep key id) type right fits h = resource_opaque s address Rep (resource_of w id) type fits h
-served_opaque w s of address (imports.ExportedResourceNew key id) type right fits h = resource_opaque s address New (resource_of w id) type fits h
-served_opaque w s of address role type right fits h = absurd right
-
--- what a shim hands on to is opaque, and has the shim's core type
-pub purpose_opaque : (w : ComponentWorld) (s : Store) (address : ℕ) (shim : Shim) (p : Purpose) → HasPurpose w shim p → IsServedAs w s address (target_of w p) → (item : CoreItem) × IsOpaqueOf s address (type_of_shim shim) item
-purpose_opaque w s address shim (OfImport role) stands h = served_opaque w s Main address role (type_of_shim shim) stands.right stands.typed h
-purpose_opaque w s address shim (OfDestructor name) stands h =
-    let offered : found name w.main.offered ≡ Some (externs.Func h.type) = subst (λ (o : WorldModule). found name o.found.offered ≡ Some (externs.Func h.type)) (sym (named_main w h.number h.of).1) h.offered in
-    let typed : externs.Func h.type ≡ externs.Func (type_of_shim shim) = same_Some (externs.Func h.type) (externs.Func (type_of_shim shim)) (sym offered ∙ stands.typed) in
-    (ExportedBy h.user name, subst (λ t. IsOpaqueOf s address t (ExportedBy h.user name)) (ap (function_type_in (type_of_shim shim)) typed) h.is)
-
--- a shim stands for one thing
-pub one_purpose : (w : ComponentWorld) (shim : Shim) (p q : Purpose) → HasPurpose w shim p → HasPurpose w shim q → p ≡ q
-one_purpose w shim (OfImport role) (OfImport other) h k = ap OfImport (same_Some role other (sym h.of_kind ∙ k.of_kind))
-one_purpose w shim (OfImport role) (OfDestructor name) h k = absurd (none-some role (ap (role_of_kind w) (sym k.of_kind) ∙ h.of_kind))
-one_purpose w shim (OfDestructor name) (OfImport role) h k = absurd (none-some role (ap (role_of_kind w) (sym h.of_kind) ∙ k.of_kind))
-one_purpose w shim (OfDestructor name) (OfDestructor other) h k = ap (λ kind. OfDestructor (kind_name kind)) (sym h.of_kind ∙ k.of_kind)
-
--- what is given for a role is a function of the core type that the role requires
-record IsServedFunction (s : Store) (address : ℕ) (type : FuncType) : Type 0 where
-  pub function : Func
-  pub present : slice_get s.code.functions address ≡ Some function
-  pub typed : signature_of function ≡ type
-
-served_function : (w : ComponentWorld) (s : Store) (numbers : List ℕ) (shims : Option ShimsAt) (of : UserModule) (address : ℕ) (role : Import) (type : FuncType) → MayHaveShims w s numbers shims → IsImportRole w role →
-    type_of_import w.resolve (items_of w) role ≡ Some (externs.Func type) → Serves w shims s of address role → IsServedFunction s address type
-served_function w s numbers shims of address role type there right fits (inl h) =
-    let o : (item : CoreItem) × IsOpaqueOf s address type item = served_opaque w s of address role type right fits h in
-    record { function = Opaque o.1.what type; present = o.1.present; typed = refl }
-served_function w s numbers None of address role type there right fits (inr h) = absurd h
-served_function w s numbers (Some at) of address role type there right fits (inr h) =
-    let shim : IsShimAt s.code at.table (at.address + h.place) (0 + h.place) (type_of_shim h.shim) = shim_at s.code at.table 0 at.address (shims_of w) h.place h.shim there.made h.listed in
-    record {
-      function = _;
-      present = ap (slice_get s.code.functions) h.is ∙ shim.body;
-      typed = ap (function_type_in type) (same_Some (externs.Func (type_of_shim h.shim)) (externs.Func type) (sym h.stands_for.typed ∙ fits));
-    }
-
--- a function matches an import of its core type
-matches_function : (m : Machine) (t : Thing) (type : FuncType) → t.space ≡ spaces.CoreFunc → IsServedFunction m.store t.address type → matching m (externs.Func type) t ≡ Some t
-matches_function m t type space h = rw (space, h.present, h.typed, same_signature-refl type) refl
-
--- an import that has a role is to be given what the link table says of the role
-linked_in : (w : ComponentWorld) (of : UserModule) (instance : ImportInstance) (field : List ℕ) (role : Import) → found field (fields_of instance) ≡ Some role → link_in w of field instance ≡ Some (link_of w of role)
-linked_in w of (instances.Names fields) field role e = ap (option_map (link_of w of)) e
-linked_in w of (instances.Whole which) field role e = absurd (none-some role e)
-
-module _ (w : ComponentWorld) (shims : Option ShimsAt) (of : WorldModule) (m : Machine) where
-  -- an export serves the role of a field; the exports of an argument serve those of a module's imports
-  abbrev IsFor : Export → Import → Type 0
-  IsFor e role = (e.space ≡ spaces.CoreFunc) × Serves w shims m.store of.of e.address role
-
-  abbrev AreFor : List Export → ImportInstance → Type 0
-  AreFor es instance = AllZip (IsFieldExport w shims m.store of.of) es (fields_of instance)
-
-  fields_named : (es : List Export) (fs : List (List ℕ × Import)) → AllZip (IsFieldExport w shims m.store of.of) es fs →
-      AllZip (λ (x : List ℕ × Export) (z : List ℕ × Import). (x.0 ≡ z.0) × IsFor x.1 z.1) (map (λ (e : Export). (e.name, e)) es) fs
-  fields_named [] [] h = tt
-  fields_named (e ∷ es) (f ∷ fs) h = ((h.0.named, (h.0.space, h.0.serves)), fields_named es fs h.1)
-  fields_named [] (f ∷ fs) h = absurd h
-  fields_named (e ∷ es) [] h = absurd h
-
-  groups_named : (arguments : List (List ℕ × List Export)) (gs : List (List ℕ × ImportInstance)) → AllZip (IsOffered w shims m.store of.of) arguments gs →
-      AllZip (λ (x : List ℕ × List Export) (z : List ℕ × ImportInstance). (x.0 ≡ z.0) × AreFor x.1 z.1) arguments gs
-  groups_named arguments gs h = AllZip-weaker (λ a g o. (o.named, o.each)) arguments gs h
-
-  -- each import of the module finds what was planned for it
-  pub given_there : (numbers : List ℕ) → MayHaveShims w m.store numbers shims → (arguments : List (List ℕ × List Export)) → AllZip (IsOffered w shims m.store of.of) arguments of.found.imports.modules → (i : ImportType) → IsFunctionImport w of.found i →
-      (t : Thing) × (given_to m arguments i ≡ Some t) × IsPlanned w shims m.store of t i
-  given_there numbers there arguments h i p =
-      let roles : List (List ℕ × ImportInstance) = of.found.imports.modules in
-      let g = bound_some (λ (o : ImportInstance). found i.field (fields_of o)) (found i.module_name roles) p.role p.has_role in
-      let a = found-zip AreFor i.module_name arguments roles g.0 (groups_named arguments roles h) g.1 in
-      let e = found-zip IsFor i.field (map (λ (e : Export). (e.name, e)) a.0) (fields_of g.0) p.role (fields_named a.0 (fields_of g.0) a.2) g.2 in
-      let x : Export = e.0 in
-      let t : Thing = record { space = x.space; address = x.address } in
-      let function : IsServedFunction m.store x.address p.type = served_function w m.store numbers shims of.of x.address p.role p.type there p.right p.fits e.2.1 in
-      let said : link_at w of i.module_name i.field ≡ Some (link_of w of.of p.role) = ap (option_and_then (link_in w of.of i.field)) g.1 ∙ linked_in w of.of g.0 i.field p.role g.2 in
-      (t, rw (p.typed, a.1, e.1, at_some x e.2.0) (matches_function m t p.type e.2.0 function), record { role = p.role; said = said; space = e.2.0; serves = e.2.1 })
+  -- and it is a function of its core type
+  pub shim_typed : {index : ℕ} (place : ℕ) (shim : Shim) → slice_get (shims_of w) place ≡ Some shim → IsExported earlier index (record { of = shims_number w; kind = kinds.Func; name = decimal place }) →
+      (x : ℕ) × (address_at spaces.CoreFunc index c.items ≡ Some x) × IsFunctionTyped s x (type_of_shim shim)
+  shim_typed {index} place shim listed h =
+      let x = shim_exported (slice_get_within (shims_of w) place shim listed) h in
+      let at : ShimsAt = x.2 in
+      let there : AreShims w s (flat_map (at_root item_instantiates) earlier) at = subst (MayHaveShims w s (flat_map (at_root item_instantiates) earlier)) x.3 a.with_shims in
+      let is : IsShimAt s.code at.table (at.address + place) (0 + place) (type_of_shim shim) = shim_at s.code at.table 0 at.address (shims_of w) place shim there.made listed in
+      (x.0, x.1, record { function = _; present = ap (slice_get s.code.functions) x.4 ∙ is.body; typed = refl })

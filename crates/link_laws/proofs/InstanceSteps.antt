@@ -46,7 +46,8 @@ use Rattle.link_laws.specs.Composition.{GeneratedModules, generated_sections, at
 use Rattle.link_laws.specs.Linking.{module_meanings}
 use Rattle.link_laws.proofs.Zips.{all_some-each}
 use Rattle.link_laws.proofs.Stores.{IsOpaqueOf, ShimsAt, IsModuleInstance, IsInlineInstance, IsFilledWith, AreFilled, AreShims, IsServedAs, IsNamedEntry, ExportsShims, MayHaveShims, IsPlanned, IsPlannedUser, NumberedFrom, AreResources, Agrees}
-use Rattle.link_laws.proofs.Given.{thing_there, purpose_there, purpose_opaque, user_below, apart, not_shims, not_fixup, of_shims, module_there, IsOffered, address_there, arguments_there, given_there}
+use Rattle.link_laws.proofs.Given.{thing_there, target_there, user_below, apart, not_shims, not_fixup, of_shims, module_there, address_there}
+use Rattle.link_laws.proofs.GivenImports.{purpose_opaque, IsOffered, arguments_there, given_there}
 use Rattle.link_laws.proofs.Plain.{only, nothing_in, IsRightModule, module_right, IsFunctionImport, function_imports}
 use Rattle.link_laws.proofs.OnlyMain.{takes_shims}
 use Rattle.link_laws.proofs.UserExports.{Exports, Alike, all_exports, all_alike, same_exports, each_export}
@@ -183,7 +184,7 @@ module _ {w : ComponentWorld} {earlier : List Def} {c : Scope} {s : Store} (a : 
       let plain : AllByRecursion (IsFunctionImport w of.found) is = function_imports w of right in
       let found : (ts : List Thing) × (all_some (map (given_to (machine c s no_answers) args.0) is) ≡ Some ts) × AllZip (IsPlanned w a.shims s of) ts is =
       all_some-each (IsPlanned w a.shims s of) (given_to (machine c s no_answers) args.0) is
-      (AllByRecursion-weaker (given_there w a.shims of (machine c s no_answers) numbers a.with_shims args.0 args.2) is plain) in
+      (AllByRecursion-weaker (given_there w a.shims of (machine c s no_answers) args.0 args.2) is plain) in
       let given : (now : Now) → all_some (map (given_to (machine c s now) args.0) is) ≡ Some found.0 = λ now.
       ap (λ l. all_some l) (given_same w of.found c s now args.0 is plain) ∙ found.1 in
       let instance : ModuleInstance = record { module_number = number; given = found.0; exports = own } in
@@ -335,7 +336,7 @@ module _ {w : ComponentWorld} {earlier : List Def} {c : Scope} {s : Store} (a : 
   fill_there : (e : CoreInlineExport) (shim : Shim) (x : Export) → IsFillFor w earlier e shim → IsNamedEntry c.items e x → IsFilling w s shim x
   fill_there e shim x h n =
       let kind : kind_space e.kind ≡ spaces.CoreFunc = ap kind_space h.function in
-      let i : (y : ℕ) × (address_at spaces.CoreFunc e.index c.items ≡ Some y) × IsServedAs w s y (target_of w h.purpose) = purpose_there a e.index shim h.purpose h.stands_for h.serves in
+      let i : (y : ℕ) × (address_at spaces.CoreFunc e.index c.items ≡ Some y) × IsServedAs w s y (target_of w h.purpose) = target_there a e.index (target_of w h.purpose) h.serves in
       let at : address_at spaces.CoreFunc e.index c.items ≡ Some x.address = subst (λ space. address_at space e.index c.items ≡ Some x.address) kind n.at in
       let serves : IsServedAs w s x.address (target_of w h.purpose) = subst (λ y. IsServedAs w s y (target_of w h.purpose)) (same_Some i.0 x.address (sym i.1 ∙ at)) i.2 in
       let o : (item : CoreItem) × IsOpaqueOf s x.address (type_of_shim shim) item = purpose_opaque w s x.address shim h.purpose h.stands_for serves in (

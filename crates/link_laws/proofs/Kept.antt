@@ -27,18 +27,17 @@ use Rattle.comp_trees.specs.DefinedTrees.{OfValues, OfFunctions}
 use Rattle.comp_inventories.specs.Inventories.{TypeEntry, Denoting, OfInstances, FunctionEntry, InstanceEntry}
 use Rattle.comp_roles.specs.declared.offered.ExternType.{ExternType}
 use Rattle.comp_roles.specs.declared.offered.ExternType.TheVariants as externs
-use Rattle.comp_roles.specs.declared.imports.Import.{Import}
 use Rattle.comp_roles.specs.declared.offered.ImportType.{ImportType}
 use Rattle.comp_worlds.specs.WorldContents.{exported_item}
 use Rattle.comp_worlds.specs.declared.world.ComponentWorld.{ComponentWorld}
-use Rattle.comp_links.specs.Targets.{UserModule, ExportRef, TargetOption, Target, Lowered, ExportOf, OfResource}
+use Rattle.comp_links.specs.Targets.{ExportRef, TargetOption, Target, Lowered, ExportOf, OfResource}
 use Rattle.comp_links.specs.Targets as targets
 use Rattle.comp_links.specs.Modules.{WorldModule}
 use Rattle.comp_links.specs.Lists.{resource_of, RequiredFunction, functions_required, RequiredType, types_required, type_of_world}
-use Rattle.comp_links.specs.Links.{link_of, destructor_of}
+use Rattle.comp_links.specs.Links.{destructor_of}
 use Rattle.shim_plan.specs.declared.shims.Shim.{Shim}
 use Rattle.world_shims.specs.WorldShims.{shims_of}
-use Rattle.comp_terms.specs.Generated.{shims_number, fixup_number, target_of}
+use Rattle.comp_terms.specs.Generated.{shims_number, fixup_number, OfDestructor, target_of}
 use Rattle.core_runs.specs.Store.{Opaque}
 use Rattle.core_runs.specs.Instances.{empty_table}
 use Rattle.comp_runs.specs.Store.{Thing, Export, HeldOption, HeldMemory, HeldRealloc, HeldPostReturn, HeldCallback, CoreItem, Function, Imported, Lifting, TypeItem, TreeOf, OwnResource, own_resources as resources_among, ModuleInstance, Store, ComponentItem}
@@ -52,7 +51,7 @@ use Rattle.wit_data.specs.declared.worlds.WorldKey.{WorldKey}
 use Rattle.wit_data.specs.declared.worlds.WorldItem.{WorldItem}
 use Rattle.wit_data.specs.declared.worlds.WorldItem.TheVariants as world_items
 use Rattle.link_laws.proofs.Zips.{mapped_some, AllByRecursion-join}
-use Rattle.link_laws.proofs.Stores.{IsOpaqueOf, IsUserItem, IsUserExport, IsInstance, ShimsAt, AreShimExports, AreModuleExports, IsModuleInstance, IsNamedEntry, IsTypeAt, IsHeldOption, IsArgumentHeld, ItemIs, DefIs, Means, IsEntryItem, IsTypeEntry, IsFunctionEntry, IsInstanceThing, IsFunctionExported, IsFirstMemory, IsOptionHeld, IsLoweringOf, IsServedAs, IsShimGiven, Serves, IsPlanned, IsPlannedUser, IsFilledWith, AreFilled, ExportsShims, AreShims, MayHaveShims, IsLiftedFrom, main_key, main_function, IsRequiredAt, IsAmong, IsTypeAmong, IsItemExport, IsKeyExport, AreKeyExports, IsDestructorGiven, IsDestroyedBy, IsOwnResource, IsOwnIfDefined, AreResources, HasNumber}
+use Rattle.link_laws.proofs.Stores.{IsOpaqueOf, IsUserItem, IsUserExport, IsInstance, ShimsAt, AreShimExports, AreModuleExports, IsModuleInstance, IsNamedEntry, IsTypeAt, IsHeldOption, IsArgumentHeld, ItemIs, DefIs, Means, IsEntryItem, IsTypeEntry, IsFunctionEntry, IsInstanceThing, IsFunctionExported, IsFirstMemory, IsOptionHeld, IsLoweringOf, IsServedAs, IsShimGiven, Serves, IsPlanned, IsPlannedUser, IsFilledWith, AreFilled, ExportsShims, AreShims, MayHaveShims, IsLiftedFrom, main_key, main_function, IsRequiredAt, IsAmong, IsTypeAmong, IsItemExport, IsKeyExport, AreKeyExports, IsDestroyedBy, IsOwnResource, IsOwnIfDefined, AreResources, HasNumber}
 
 -- every entry of the old scope and store is unchanged in the new ones
 pub record Keeps (a b : List Thing) (s t : Store) : Type 0 where
@@ -194,15 +193,14 @@ pub shims_same : (shims : Option ShimsAt) → ShimsKept shims shims
 shims_same None = tt
 shims_same (Some at) = refl
 
-IsShimGiven-kept : (w : ComponentWorld) (old new : Option ShimsAt) → ShimsKept old new → (of : UserModule) (address : ℕ) (role : Import) → IsShimGiven w old of address role → IsShimGiven w new of address role
-IsShimGiven-kept w None new same of address role h = absurd h
-IsShimGiven-kept w (Some at) new same of address role h = subst (λ o. IsShimGiven w o of address role) (sym same) h
+IsShimGiven-kept : (w : ComponentWorld) (old new : Option ShimsAt) → ShimsKept old new → (address : ℕ) (target : Target) → IsShimGiven w old address target → IsShimGiven w new address target
+IsShimGiven-kept w None new same address target h = absurd h
+IsShimGiven-kept w (Some at) new same address target h = subst (λ o. IsShimGiven w o address target) (sym same) h
 
--- so are the shims that stand for destructors
+-- so are those that stand for destructors
 IsDestroyedBy-kept : (w : ComponentWorld) (old new : Option ShimsAt) → ShimsKept old new → (destructor : Option ℕ) (name : Option (List ℕ)) → IsDestroyedBy w old destructor name → IsDestroyedBy w new destructor name
 IsDestroyedBy-kept w old new same None None h = tt
-IsDestroyedBy-kept w None new same (Some address) (Some name) h = absurd h
-IsDestroyedBy-kept w (Some at) new same (Some address) (Some name) h = subst (λ o. IsDestructorGiven w o address name) (sym same) h
+IsDestroyedBy-kept w old new same (Some address) (Some name) h = IsShimGiven-kept w old new same address (target_of w (OfDestructor name)) h
 IsDestroyedBy-kept w old new same None (Some name) h = absurd h
 IsDestroyedBy-kept w old new same (Some address) None h = absurd h
 
@@ -320,12 +318,12 @@ module _ {a b : List Thing} {s t : Store} (k : Keeps a b s t) where
   IsServedAs-kept w address (ExportOf export_ref) h = IsFunctionExported-kept h
   IsServedAs-kept w address target h = absurd h
 
-  Serves-kept : (w : ComponentWorld) (old new : Option ShimsAt) → ShimsKept old new → (of : UserModule) (address : ℕ) (role : Import) → Serves w old s of address role → Serves w new t of address role
-  Serves-kept w old new same of address role (inl h) = inl (IsServedAs-kept w address (link_of w of role) h)
-  Serves-kept w old new same of address role (inr h) = inr (IsShimGiven-kept w old new same of address role h)
+  Serves-kept : (w : ComponentWorld) (old new : Option ShimsAt) → ShimsKept old new → (address : ℕ) (target : Target) → Serves w old s address target → Serves w new t address target
+  Serves-kept w old new same address target (inl h) = inl (IsServedAs-kept w address target h)
+  Serves-kept w old new same address target (inr h) = inr (IsShimGiven-kept w old new same address target h)
 
   pub IsPlanned-kept : (w : ComponentWorld) (old new : Option ShimsAt) → ShimsKept old new → (of : WorldModule) (x : Thing) (i : ImportType) → IsPlanned w old s of x i → IsPlanned w new t of x i
-  IsPlanned-kept w old new same of x i h = record { role = h.role; said = h.said; space = h.space; serves = Serves-kept w old new same of.of x.address h.role h.serves }
+  IsPlanned-kept w old new same of x i h = record { target = h.target; said = h.said; space = h.space; serves = Serves-kept w old new same x.address h.target h.serves }
 
   pub IsFilledWith-kept : (w : ComponentWorld) (shim : Shim) (function : ℕ) → IsFilledWith w s shim function → IsFilledWith w t shim function
   IsFilledWith-kept w shim function h = record { purpose = h.purpose; stands_for = h.stands_for; serves = IsServedAs-kept w function (target_of w h.purpose) h.serves }

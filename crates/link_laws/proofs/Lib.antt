@@ -4,6 +4,7 @@ mod Kept
 pub mod Plain
 mod OnlyMain
 mod Given
+mod GivenImports
 mod GivenTypes
 mod UserExports
 mod Outcomes

@@ -27,7 +27,6 @@ use Rattle.wit_data.specs.declared.worlds.WorldKey.TheVariants as keys
 use Rattle.wit_data.specs.declared.ids.InterfaceId.{InterfaceId}
 use Rattle.wit_data.specs.declared.worlds.WorldItem.{WorldItem}
 use Rattle.wit_data.specs.declared.worlds.WorldItem.TheVariants as world_items
-use Rattle.comp_roles.specs.declared.imports.Import.{Import}
 use Rattle.comp_roles.specs.declared.offered.ImportType.{ImportType}
 use Rattle.comp_roles.specs.Lookups.{first_memory}
 use Rattle.world_values.specs.Items.{functions_in}
@@ -35,10 +34,10 @@ use Rattle.comp_worlds.specs.Worlds.{IsWorld}
 use Rattle.comp_worlds.specs.declared.world.ComponentWorld.{ComponentWorld}
 use Rattle.comp_trees.specs.Trees.{Resource, FunctionTree}
 use Rattle.comp_trees.specs.DefinedTrees.{OfOthers}
-use Rattle.comp_links.specs.Targets.{UserModule, Main, ExportRef, WorldFunction, TargetOption, Target, Lowered, ResourceFunction, New, Rep, Drop, ExportOf, OfResource, Lifted}
+use Rattle.comp_links.specs.Targets.{Main, ExportRef, WorldFunction, TargetOption, Target, Lowered, ResourceFunction, New, Rep, Drop, ExportOf, OfResource, Lifted}
 use Rattle.comp_links.specs.Targets as targets
-use Rattle.comp_links.specs.Links.{lift_options, link_of, destructor_of}
-use Rattle.comp_terms.specs.Generated.{Purpose, OfImport, OfDestructor, target_of, HasPurpose}
+use Rattle.comp_links.specs.Links.{lift_options, destructor_of}
+use Rattle.comp_terms.specs.Generated.{Purpose, target_of}
 use Rattle.shim_plan.specs.declared.shims.Shim.{Shim}
 use Rattle.world_shims.specs.WorldShims.{shims_of, type_of_shim}
 use Rattle.shim_runs.specs.ShimRuns.{IsShimAt, AreShimsFrom}
@@ -56,8 +55,9 @@ use Rattle.link_laws.specs.Meeting.{CoreMeets, CoreExportMeets, task_hook, hooks
 use Rattle.instance_laws.proofs.Held.{tree_of_held}
 use Rattle.link_laws.specs.Linking.{IsServed, AreServed, UsersServed, IsProvided, IsTypeProvided, DestructorMeets, IsDefined, IsNumberDefined, exports_at}
 use Rattle.link_laws.proofs.Zips.{AllByRecursion-join, each_at}
-use Rattle.link_laws.proofs.Stores.{IsOpaqueOf, ShimsAt, resource_core, IsLoweredFor, IsFunctionOf, IsFunctionExported, IsServedAs, Serves, IsFilledWith, AreFilled, main_module, IsPlanned, IsPlannedUser, IsFirstMemory, IsOptionHeld, main_key, main_function, IsRequiredAt, IsFunctionExport, IsAmong, IsInterfaceExport, IsItemExport, IsKeyExport, AreKeyExports, type_at_key, IsTypeAmong, IsDestroyedBy, IsOwnResource, IsOwnIfDefined, AreResources, HasNumber}
-use Rattle.link_laws.proofs.Given.{by_parts, purpose_opaque, one_purpose}
+use Rattle.link_laws.proofs.Stores.{IsOpaqueOf, ShimsAt, resource_core, IsLoweredFor, IsFunctionOf, IsFunctionExported, IsServedAs, IsShimGivenAt, Serves, IsFilledWith, AreFilled, main_module, IsPlanned, IsPlannedUser, IsFirstMemory, IsOptionHeld, main_key, main_function, IsRequiredAt, IsFunctionExport, IsAmong, IsInterfaceExport, IsItemExport, IsKeyExport, AreKeyExports, type_at_key, IsTypeAmong, IsDestroyedBy, IsOwnResource, IsOwnIfDefined, AreResources, HasNumber}
+use Rattle.link_laws.proofs.Given.{by_parts}
+use Rattle.link_laws.proofs.GivenImports.{purpose_opaque, one_purpose}
 use Rattle.link_laws.proofs.Plain.{no_hook, no_memory_imported, function_key}
 use Rattle.comp_worlds.specs.WorldContents.{exported_item}
 
@@ -210,35 +210,37 @@ module _ (w : ComponentWorld) (ok : IsWorld w) (m : Machine) where
     serves : IsServedAs w m.store function target
     same : (type : FuncType) (item : CoreItem) → IsOpaqueOf m.store function type item → Forwards w ok m address function type
 
-  shim_forwards : (address : ℕ) (at : ShimsAt) (place : ℕ) (shim : Shim) (p : Purpose) → FilledAtEnd (Some at) → slice_get (shims_of w) place ≡ Some shim → HasPurpose w shim p → address ≡ at.address + place → ForwardsFor address (target_of w p)
-  shim_forwards address at place shim p filled listed stands is =
+  shim_forwards : (address : ℕ) (at : ShimsAt) (target : Target) → FilledAtEnd (Some at) → IsShimGivenAt w at address target → ForwardsFor address target
+  shim_forwards address at target filled h =
       let shims : List Shim = shims_of w in
-      let f = AllZip-at (IsFilledWith w m.store) shims filled.1.functions place shim filled.1.each listed in
-      let same : f.2.purpose ≡ p = one_purpose w shim f.2.purpose p f.2.stands_for stands in
+      let place : ℕ = h.place in
+      let shim : Shim = h.shim in
+      let p : Purpose = h.purpose in
+      let f = AllZip-at (IsFilledWith w m.store) shims filled.1.functions place shim filled.1.each h.listed in
+      let same : f.2.purpose ≡ p = one_purpose w shim f.2.purpose p f.2.stands_for h.stands_for in
       let serves : IsServedAs w m.store f.0 (target_of w p) = subst (λ q. IsServedAs w m.store f.0 (target_of w q)) same f.2.serves in
       let place_is : 0 + place ≡ place = omega arith in
       let shim_there : IsShimAt m.store.code at.table address place (type_of_shim shim) =
-      subst (λ n. IsShimAt m.store.code at.table n place (type_of_shim shim)) (sym is)
-      (subst (λ n. IsShimAt m.store.code at.table (at.address + place) n (type_of_shim shim)) place_is (shim_at m.store.code at.table 0 at.address shims place shim filled.0 listed)) in
+      subst (λ n. IsShimAt m.store.code at.table n place (type_of_shim shim)) (sym h.is)
+      (subst (λ n. IsShimAt m.store.code at.table (at.address + place) n (type_of_shim shim)) place_is (shim_at m.store.code at.table 0 at.address shims place shim filled.0 h.listed)) in
       let slot : slice_get (map (λ f. Some f) filled.1.functions) place ≡ Some (Some f.0) = slice_get-map (λ f. Some f) filled.1.functions place ∙ ap (option_map (λ f. Some f)) f.1 in
-      let within = slice_get_within shims place shim listed in
+      let within = slice_get_within shims place shim h.listed in
       let room = filled.2 in
       let small : place < 2 ^ 32 = omega (arith, within, room) in
-      let own : (item : CoreItem) × IsOpaqueOf m.store f.0 (type_of_shim shim) item = purpose_opaque w m.store f.0 shim p stands serves in
+      let own : (item : CoreItem) × IsOpaqueOf m.store f.0 (type_of_shim shim) item = purpose_opaque w m.store f.0 shim p h.stands_for serves in
       record {
         function = f.0;
-        serves = serves;
+        serves = subst (IsServedAs w m.store f.0) h.same serves;
         same = λ type item o.
             let typed : type_of_shim shim ≡ type = one_type m.store f.0 (type_of_shim shim) type own.0 item own.1 o in
             subst (Forwards w ok m address f.0) typed
             (λ arguments now fits. filled_shims_forward m.store.code at.table address place (type_of_shim shim) (map (λ f. Some f) filled.1.functions) f.0 own.1.what 0 shim_there filled.1.slots slot own.1.present small arguments now fits);
       }
 
-  shim_meets : (t : Thing) (at : ShimsAt) (place : ℕ) (shim : Shim) (p : Purpose) → t.space ≡ spaces.CoreFunc → FilledAtEnd (Some at) → slice_get (shims_of w) place ≡ Some shim → HasPurpose w shim p → t.address ≡ at.address + place →
-      Meets w m (resource_of w) t (target_of w p)
-  shim_meets t at place shim p space filled listed stands is =
-      let x : ForwardsFor t.address (target_of w p) = shim_forwards t.address at place shim p filled listed stands is in
-      function_meets_as t x.function (target_of w p) space x.same x.serves
+  shim_meets : (t : Thing) (at : ShimsAt) (target : Target) → t.space ≡ spaces.CoreFunc → FilledAtEnd (Some at) → IsShimGivenAt w at t.address target → Meets w m (resource_of w) t target
+  shim_meets t at target space filled h =
+      let x : ForwardsFor t.address target = shim_forwards t.address at target filled h in
+      function_meets_as t x.function target space x.same x.serves
 
   -- ---- the resources that the component defines
 
@@ -246,7 +248,7 @@ module _ (w : ComponentWorld) (ok : IsWorld w) (m : Machine) where
   destructor_meets shims filled None None h = tt
   destructor_meets None filled (Some address) (Some name) h = absurd h
   destructor_meets (Some at) filled (Some address) (Some name) h =
-      let x : ForwardsFor address (ExportOf (record { of = Main; name = name })) = shim_forwards address at h.place h.shim (OfDestructor name) filled h.listed h.stands_for h.is in
+      let x : ForwardsFor address (ExportOf (record { of = Main; name = name })) = shim_forwards address at (ExportOf (record { of = Main; name = name })) filled h in
       export_meets (Some brackets.Destructor) address x.function (record { of = Main; name = name }) x.serves (x.same x.serves.type (ExportedBy x.serves.user name) x.serves.is)
   destructor_meets shims filled None (Some name) h = absurd h
   destructor_meets shims filled (Some address) None h = absurd h
@@ -268,13 +270,13 @@ module _ (w : ComponentWorld) (ok : IsWorld w) (m : Machine) where
 
   -- ---- what a user module is given
 
-  serves_meets : (shims : Option ShimsAt) → FilledAtEnd shims → (of : UserModule) (t : Thing) (role : Import) → t.space ≡ spaces.CoreFunc → Serves w shims m.store of t.address role → Meets w m (resource_of w) t (link_of w of role)
-  serves_meets shims filled of t role space (inl h) = function_meets_as t t.address (link_of w of role) space (λ type item o. forwards_itself w ok m t.address type item o) h
-  serves_meets None filled of t role space (inr h) = absurd h
-  serves_meets (Some at) filled of t role space (inr h) = subst (Meets w m (resource_of w) t) h.same (shim_meets t at h.place h.shim (OfImport role) space filled h.listed h.stands_for h.is)
+  serves_meets : (shims : Option ShimsAt) → FilledAtEnd shims → (t : Thing) (target : Target) → t.space ≡ spaces.CoreFunc → Serves w shims m.store t.address target → Meets w m (resource_of w) t target
+  serves_meets shims filled t target space (inl h) = function_meets_as t t.address target space (λ type item o. forwards_itself w ok m t.address type item o) h
+  serves_meets None filled t target space (inr h) = absurd h
+  serves_meets (Some at) filled t target space (inr h) = shim_meets t at target space filled h
 
   planned_served : (shims : Option ShimsAt) → FilledAtEnd shims → (of : WorldModule) (t : Thing) (i : ImportType) → IsPlanned w shims m.store of t i → IsServed w m (resource_of w) of t i
-  planned_served shims filled of t i h = record { target = link_of w of.of h.role; said = h.said; meets = serves_meets shims filled of.of t h.role h.space h.serves }
+  planned_served shims filled of t i h = record { target = h.target; said = h.said; meets = serves_meets shims filled t h.target h.space h.serves }
 
   instance_served : (shims : Option ShimsAt) → FilledAtEnd shims → (i : ModuleInstance) (of : WorldModule) → slice_get (user_modules w) i.module_number ≡ Some of → IsPlannedUser w shims m.store i → AreServed w m (resource_of w) of i
   instance_served shims filled i of listed h = AllZip-weaker (planned_served shims filled of) i.given of.found.imported (h of listed)

@@ -41,7 +41,7 @@ use Rattle.comp_links.specs.Links.{lift_options, link_of, link_at, destructor_of
 use Rattle.shim_plan.specs.declared.shims.Shim.{Shim}
 use Rattle.world_shims.specs.WorldShims.{shims_of}
 use Rattle.shim_runs.specs.ShimRuns.{AreShimsFrom, instance_exports}
-use Rattle.comp_terms.specs.Generated.{shims_number, fixup_number, IsShimOf, IsShimOfDestructor, Purpose, OfImport, target_of, HasPurpose}
+use Rattle.comp_terms.specs.Generated.{shims_number, fixup_number, Purpose, OfImport, OfDestructor, target_of, HasPurpose}
 use Rattle.comp_terms.specs.Terms.{CoreExport, IsInstanceOf, intrinsic_of, imports_in}
 use Rattle.comp_terms.specs.Planned.{IsTypeOf, type_of_function}
 use Rattle.comp_terms.specs.Rules.{IsOfKind}
@@ -354,34 +354,34 @@ IsServedAs w s address (OfResource function id) = IsFunctionOf s address functio
 IsServedAs w s address (ExportOf export_ref) = IsFunctionExported w s address export_ref
 IsServedAs w s address target = ⊥
 
--- The core function is a shim that stands for this role, and what it hands on to is what an import of this user module with the role is
--- to be given.
-pub record IsShimGivenAt (w : ComponentWorld) (at : ShimsAt) (of : UserModule) (address : ℕ) (role : Import) : Type 0 where
+-- the core function is a shim that hands on to what this target names
+pub record IsShimGivenAt (w : ComponentWorld) (at : ShimsAt) (address : ℕ) (target : Target) : Type 0 where
   pub place : ℕ
   pub shim : Shim
+  pub purpose : Purpose
   pub listed : slice_get (shims_of w) place ≡ Some shim
-  pub stands_for : IsShimOf w shim role
-  pub same : target_of w (OfImport role) ≡ link_of w of role
+  pub stands_for : HasPurpose w shim purpose
+  pub same : target_of w purpose ≡ target
   pub is : address ≡ at.address + place
 
-abbrev pub IsShimGiven : ComponentWorld → Option ShimsAt → UserModule → ℕ → Import → Type 0
-IsShimGiven w None of address role = ⊥
-IsShimGiven w (Some at) of address role = IsShimGivenAt w at of address role
+abbrev pub IsShimGiven : ComponentWorld → Option ShimsAt → ℕ → Target → Type 0
+IsShimGiven w None address target = ⊥
+IsShimGiven w (Some at) address target = IsShimGivenAt w at address target
 
 -- the shims may be given to this user module: of each role, they hand on to what its imports are to be given
 abbrev pub TakesShims : ComponentWorld → UserModule → Type 0
 TakesShims w of = (role : Import) → target_of w (OfImport role) ≡ link_of w of role
 
--- it is what an import of this user module with this role is to be given, or a shim for it
-abbrev pub Serves : ComponentWorld → Option ShimsAt → Store → UserModule → ℕ → Import → Type 0
-Serves w shims s of address role = IsServedAs w s address (link_of w of role) ⊎ IsShimGiven w shims of address role
+-- it is what the target names, or a shim for it
+abbrev pub Serves : ComponentWorld → Option ShimsAt → Store → ℕ → Target → Type 0
+Serves w shims s address target = IsServedAs w s address target ⊎ IsShimGiven w shims address target
 
 -- what an import of a user module is given, by the link table
 pub record IsPlanned (w : ComponentWorld) (shims : Option ShimsAt) (s : Store) (of : WorldModule) (t : Thing) (i : ImportType) : Type 0 where
-  pub role : Import
-  pub said : link_at w of i.module_name i.field ≡ Some (link_of w of.of role)
+  pub target : Target
+  pub said : link_at w of i.module_name i.field ≡ Some target
   pub space : t.space ≡ spaces.CoreFunc
-  pub serves : Serves w shims s of.of t.address role
+  pub serves : Serves w shims s t.address target
 
 -- an instance of a user module is given all that the module imports
 abbrev pub IsPlannedUser : ComponentWorld → Option ShimsAt → Store → ModuleInstance → Type 0
@@ -503,22 +503,10 @@ AreKeyExports w s (key ∷ keys) (e ∷ es) = IsKeyExport w s key e × AreKeyExp
 
 -- ---- resources that the component defines
 
--- the core function is a shim that stands for the destructor that main exports under this name
-pub record IsDestructorAt (w : ComponentWorld) (at : ShimsAt) (address : ℕ) (name : List ℕ) : Type 0 where
-  pub place : ℕ
-  pub shim : Shim
-  pub listed : slice_get (shims_of w) place ≡ Some shim
-  pub stands_for : IsShimOfDestructor w shim name
-  pub is : address ≡ at.address + place
-
-abbrev pub IsDestructorGiven : ComponentWorld → Option ShimsAt → ℕ → List ℕ → Type 0
-IsDestructorGiven w None address name = ⊥
-IsDestructorGiven w (Some at) address name = IsDestructorAt w at address name
-
--- it is one where main exports one
+-- the core function is a shim for the destructor that main exports under this name, where there is one
 abbrev pub IsDestroyedBy : ComponentWorld → Option ShimsAt → Option ℕ → Option (List ℕ) → Type 0
 IsDestroyedBy w shims None None = Unit {0}
-IsDestroyedBy w shims (Some address) (Some name) = IsDestructorGiven w shims address name
+IsDestroyedBy w shims (Some address) (Some name) = IsShimGiven w shims address (target_of w (OfDestructor name))
 IsDestroyedBy w shims destructor name = ⊥
 
 -- a resource of the component's own, by its number
