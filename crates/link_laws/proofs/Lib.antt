@@ -2,6 +2,7 @@ mod Zips
 mod Stores
 mod Kept
 pub mod Plain
+mod ModuleMarks
 mod OnlyMain
 mod Given
 mod GivenImports

@@ -1,6 +1,6 @@
 -- What the definitions of lower layers say of main alone: the landmarks of a list have the module and the instance of main, and shims
 -- stand for imports of main. Main is the only user module, so that this is said of each user module.
-use Rattle.std.proofs.Common.{◌≡◌, ◌∙◌, ℕ, zero, suc, List, [], ◌∷◌, ◌++◌, map, length, refl, sym, ap, Some}
+use Rattle.std.proofs.Common.{◌≡◌, ◌∙◌, ℕ, zero, suc, Option, List, [], ◌∷◌, map, sym, ap, Some}
 use Rattle.std.proofs.lemmas.Option.{none-some, same_Some}
 use Rattle.std.specs.List.{slice_get}
 use Rattle.comp_worlds.specs.Worlds.{IsWorld}
@@ -8,20 +8,18 @@ use Rattle.comp_worlds.specs.declared.world.ComponentWorld.{ComponentWorld}
 use Rattle.comp_worlds.specs.declared.world.WorldAdapter.{WorldAdapter}
 use Rattle.comp_links.specs.Modules.{WorldModule, adapter_module, user_modules}
 use Rattle.comp_links.specs.Links.{link_of}
-use Rattle.link_laws.specs.Composition.{numbers_from}
+use Rattle.comp_terms.specs.Generated.{GeneratedBytes}
+use Rattle.comp_terms.specs.Rules.{modules_marked}
+use Rattle.link_laws.proofs.ModuleMarks.{users_marked, marked_main}
 use Rattle.link_laws.proofs.Stores.{main_module, TakesShims}
 
 -- main is the only user module
 only_main : (w : ComponentWorld) → IsWorld w → user_modules w ≡ main_module w ∷ []
 only_main w ok = ap (λ (as_list : List (List ℕ × WorldAdapter)). main_module w ∷ map adapter_module as_list) ok.alone
 
--- so its bytes are those of all
-pub main_bytes : (w : ComponentWorld) → IsWorld w → (more : List (List ℕ)) → w.main.bytes ∷ more ≡ map (λ (m : WorldModule). m.found.bytes) (user_modules w) ++ more
-main_bytes w ok more = sym (ap (λ us. map (λ (m : WorldModule). m.found.bytes) us ++ more) (only_main w ok))
-
--- its number is that of all
-pub main_numbered : (w : ComponentWorld) → IsWorld w → 0 ∷ [] ≡ numbers_from 0 (length (user_modules w))
-main_numbered w ok = sym (ap (λ (us : List WorldModule). numbers_from 0 (length us)) (only_main w ok))
+-- so the landmarks of main are those of all
+pub marked_users : (w : ComponentWorld) → IsWorld w → (o : Option GeneratedBytes) → modules_marked w o ≡ users_marked w (user_modules w) o
+marked_users w ok o = marked_main w o ∙ sym (ap (λ (us : List WorldModule). users_marked w us o) (only_main w ok))
 
 -- and the shims, which stand for its imports, may be given to each
 listed_main : (w : ComponentWorld) → IsWorld w → (number : ℕ) (of : WorldModule) → slice_get (user_modules w) number ≡ Some of → main_module w ≡ of

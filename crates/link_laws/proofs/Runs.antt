@@ -47,12 +47,13 @@ use Rattle.link_laws.specs.Linking.{module_meanings, outcome, EndsAt, StartCall,
 use Rattle.link_laws.proofs.Stores.{ShimsAt, ExportsShims, MayHaveShims, IsTypeEntry, IsFunctionEntry, IsInstanceThing, Agrees}
 use Rattle.link_laws.proofs.Given.{not_shims, scope_there}
 use Rattle.link_laws.proofs.Plain.{nothing_in, no_initialize}
-use Rattle.link_laws.proofs.OnlyMain.{main_bytes, main_numbered}
+use Rattle.link_laws.proofs.ModuleMarks.{bytes_listed, numbers_listed}
+use Rattle.link_laws.proofs.OnlyMain.{marked_users}
 use Rattle.link_laws.proofs.Zips.{AllByRecursion-join}
 use Rattle.link_laws.proofs.InstanceSteps.{IsGenerated, generated_for, none_among, at_least, before_next, step_instantiate}
 use Rattle.link_laws.proofs.Outcomes.{machine, IsNow, IsGood, users_among, users_in, asks, events_of, seen_by, Steps}
 use Rattle.link_laws.proofs.Steps.{no_modules, step_type, step_instance_type, step_import, step_import_type, step_import_resource, step_import_instance, step_alias_function, step_alias_type, step_lower, step_new, step_rep, step_drop, step_lift, step_inline_instance, step_alias, step_module, step_custom}
-use Rattle.link_laws.proofs.Marks.{bytes_listed, numbers_listed, root_imports, root_modules, root_instances, root_exports, root_export_names, all_resources, no_customs}
+use Rattle.link_laws.proofs.Marks.{root_imports, root_modules, root_instances, root_exports, root_export_names, all_resources, no_customs}
 use Rattle.link_laws.proofs.ImportedTypes.{types_served}
 use Rattle.link_laws.proofs.Served.{FilledAtEnd, users_served, resource_defined, number_defined, each_provided, each_type_provided}
 use Rattle.link_laws.proofs.NestedSteps.{step_component, step_nested, step_export_function, step_export_instance}
@@ -174,9 +175,9 @@ bytes_encode w None h = tt
 bytes_encode w (Some b) h = (h.shims, (h.fixup, tt))
 
 -- the instances are in their order
-order_is : (w : ComponentWorld) → IsWorld w → (o : Option GeneratedBytes) (h : MayBeGenerated w o) → numbers_listed w o ≡ instance_order (length (user_modules w)) (modules_of w o h)
-order_is w ok None h = main_numbered w ok ∙ sym (append-nil (numbers_from 0 (length (user_modules w))))
-order_is w ok (Some b) h = ap (λ ns. shims_number w ∷ (ns ++ fixup_number w ∷ [])) (main_numbered w ok)
+order_is : (w : ComponentWorld) (o : Option GeneratedBytes) (h : MayBeGenerated w o) → numbers_listed w (user_modules w) o ≡ instance_order (length (user_modules w)) (modules_of w o h)
+order_is w None h = sym (append-nil (numbers_from 0 (length (user_modules w))))
+order_is w (Some b) h = refl
 
 -- among them are the user modules
 users_in_order : (w : ComponentWorld) (o : Option GeneratedBytes) (h : MayBeGenerated w o) → users_among w (instance_order (length (user_modules w)) (modules_of w o h)) ≡ numbers_from 0 (length (user_modules w))
@@ -198,13 +199,13 @@ may_make w (Some b) h = each_number (λ n no. record { debug_names = h.debug_nam
 -- the modules are instantiated in their order
 instances_in_order : (n : Naming) (w : ComponentWorld) (ds : List Def) → IsWorld w → (built : IsBuilt n w ds) →
     flat_map (at_root item_instantiates) ds ≡ instance_order (length (user_modules w)) (modules_of w built.generated built.are_generated)
-instances_in_order n w ds ok built = root_instances n w ds built ∙ order_is w ok built.generated built.are_generated
+instances_in_order n w ds ok built = root_instances n w ds built (user_modules w) (marked_users w ok built.generated) ∙ order_is w built.generated built.are_generated
 
 -- what was built is composed as the world says
 pub composed : (n : Naming) (w : ComponentWorld) (ds : List Def) → IsWorld w → (built : IsBuilt n w ds) → IsComposed n w (modules_of w built.generated built.are_generated) ds
 composed n w ds ok built = record {
   generated = bytes_listed built.generated;
-  modules = root_modules n w ds built ∙ main_bytes w ok (bytes_listed built.generated);
+  modules = root_modules n w ds built (user_modules w) (marked_users w ok built.generated);
   encoded = bytes_encode w built.generated built.are_generated;
   imports = root_imports n w ds built;
   exports = root_exports n w ds built;
