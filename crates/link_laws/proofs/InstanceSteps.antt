@@ -45,7 +45,7 @@ use Rattle.std.proofs.lemmas.List.Elements.{filter_map-append, Contains-append_l
 use Rattle.link_laws.specs.Composition.{GeneratedModules, generated_sections, at_root, item_instantiates}
 use Rattle.link_laws.specs.Linking.{module_meanings}
 use Rattle.link_laws.proofs.Zips.{all_some-each}
-use Rattle.link_laws.proofs.Stores.{IsOpaqueOf, ShimsAt, IsModuleInstance, IsInlineInstance, IsFilledWith, AreFilled, AreShims, IsServedAs, IsNamedEntry, ExportsShims, MayHaveShims, IsPlanned, IsPlannedUser, NumberedFrom, AreResources, Agrees}
+use Rattle.link_laws.proofs.Stores.{IsOpaqueOf, ShimsAt, IsModuleInstance, IsInlineInstance, IsFilledWith, AreFilled, AreShims, IsServedAs, IsNamedEntry, ExportsShims, MayHaveShims, TakesShims, IsPlanned, IsPlannedUser, NumberedFrom, AreResources, Agrees}
 use Rattle.link_laws.proofs.Given.{thing_there, target_there, user_below, apart, not_shims, not_fixup, of_shims, module_there, address_there}
 use Rattle.link_laws.proofs.GivenImports.{purpose_opaque, IsOffered, arguments_there, given_there}
 use Rattle.link_laws.proofs.Plain.{only, nothing_in, IsRightModule, module_right, IsFunctionImport, function_imports}
@@ -164,8 +164,8 @@ module _ {w : ComponentWorld} {earlier : List Def} {c : Scope} {s : Store} (a : 
       numbered_at 0 (filter (is_of spaces.CoreModule) c.items) (length s.core_modules) number a.modules (address_there a spaces.CoreModule number l) ∙ ap (λ (n : ℕ). Some n) same
 
   -- any user module: what it imports is given, and its instance exports what the module offers
-  pub step_user : IsWorld w → (number : ℕ) (arguments : List CoreArgument) → InstantiatesUser w earlier number arguments → Steps w gen earlier c s g (defs.Item (items.CoreInstantiate number arguments))
-  step_user ok number arguments h =
+  pub step_user : (number : ℕ) (arguments : List CoreArgument) (h : InstantiatesUser w earlier number arguments) → IsRightModule w h.of → TakesShims w h.of.of → Steps w gen earlier c s g (defs.Item (items.CoreInstantiate number arguments))
+  step_user number arguments h right takes =
       let d : Def = defs.Item (items.CoreInstantiate number arguments) in
       let of : WorldModule = h.of in
       let es : ExportTypes = of.found.offered in
@@ -177,10 +177,9 @@ module _ {w : ComponentWorld} {earlier : List Def} {c : Scope} {s : Store} (a : 
       let m1 : Machine = with_exports user es m0 in
       let more : Exports m0 m1 = all_exports user es m0 in
       let own : List Export = exported_by user es m0 in
-      let right : IsRightModule w of = module_right w ok number of h.listed in
       let below : number < shims_number w = user_below w number of h.listed in
       let args : (ys : List (List ℕ × List Export)) × (all_some (map (core_argument m0) arguments) ≡ Some ys) × AllZip (IsOffered w a.shims s of.of) ys roles =
-      arguments_there a of.of (takes_shims w ok number of h.listed) m0 refl refl arguments roles right.is.import_roles h.each in
+      arguments_there a of.of takes m0 refl refl arguments roles right.is.import_roles h.each in
       let plain : AllByRecursion (IsFunctionImport w of.found) is = function_imports w of right in
       let found : (ts : List Thing) × (all_some (map (given_to (machine c s no_answers) args.0) is) ≡ Some ts) × AllZip (IsPlanned w a.shims s of) ts is =
       all_some-each (IsPlanned w a.shims s of) (given_to (machine c s no_answers) args.0) is
@@ -495,7 +494,7 @@ module _ {w : ComponentWorld} {earlier : List Def} {c : Scope} {s : Store} (a : 
 
   -- where a generated module is instantiated, it is one of the list
   pub step_instantiate : IsWorld w → (number : ℕ) (arguments : List CoreArgument) → ((number < shims_number w → ⊥) → IsGenerated w gen) → InstantiatesModule w earlier number arguments → Steps w gen earlier c s g (defs.Item (items.CoreInstantiate number arguments))
-  step_instantiate ok number arguments there (inl h) = step_user ok number arguments h
+  step_instantiate ok number arguments there (inl h) = step_user number arguments h (module_right w ok number h.of h.listed) (takes_shims w ok number h.of h.listed)
   step_instantiate ok number arguments there (inr (inl h)) =
       let generated : IsGenerated w gen = there (λ below. not_shims w number below h.numbered) in
       let own : InstantiatesShims w earlier (shims_number w) [] = subst (InstantiatesShims w earlier (shims_number w)) h.closed (subst (λ n. InstantiatesShims w earlier n arguments) h.numbered h) in

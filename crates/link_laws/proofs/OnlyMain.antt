@@ -21,7 +21,7 @@ only_main w ok = ap (λ (as_list : List (List ℕ × WorldAdapter)). main_module
 pub marked_users : (w : ComponentWorld) → IsWorld w → (o : Option GeneratedBytes) → modules_marked w o ≡ users_marked w (user_modules w) o
 marked_users w ok o = marked_main w o ∙ sym (ap (λ (us : List WorldModule). users_marked w us o) (only_main w ok))
 
--- and the shims, which stand for its imports, may be given to each
+-- a user module that is listed is main
 listed_main : (w : ComponentWorld) → IsWorld w → (number : ℕ) (of : WorldModule) → slice_get (user_modules w) number ≡ Some of → main_module w ≡ of
 listed_main w ok number of e = by number (ap (λ l. slice_get l number) (sym (only_main w ok)) ∙ e)
   where
@@ -29,5 +29,6 @@ listed_main w ok number of e = by number (ap (λ l. slice_get l number) (sym (on
     by zero e = same_Some (main_module w) of e
     by (suc n) e = absurd (none-some of e)
 
+-- so the shims, which stand for imports of main, may be given to it
 pub takes_shims : (w : ComponentWorld) → IsWorld w → (number : ℕ) (of : WorldModule) → slice_get (user_modules w) number ≡ Some of → TakesShims w of.of
 takes_shims w ok number of listed role = ap (λ (m : WorldModule). link_of w m.of role) (listed_main w ok number of listed)
