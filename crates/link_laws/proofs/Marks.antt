@@ -2,7 +2,7 @@
 use Rattle.std.proofs.Common.{◌≡◌, ◌∙◌, ◌+◌, arith, ℕ, List, [], ◌∷◌, ◌++◌, length, map, refl, sym, ap, ap₂, append-nil, add-one, add-zero, zero-add, length-append, Option, Some, None}
 use Rattle.std.proofs.lemmas.List.{length-map}
 use Rattle.std.proofs.lemmas.Grind.{flat_map-append}
-use Rattle.std.specs.List.{flat_map, filter_map}
+use Rattle.std.specs.List.{flat_map, filter_map, range_with_len}
 use Rattle.comp_bytes.specs.ScopeNames.{Names, member_export, def_export, item_export, item_names}
 use Rattle.comp_bytes.specs.declared.types.TypeDef.TheVariants as types
 use Rattle.comp_bytes.specs.declared.def.Item.{Item}
@@ -27,7 +27,6 @@ use Rattle.comp_trees.specs.DefinedTrees.{TypeTree}
 use Rattle.link_laws.specs.Composition.{at_root, item_module, item_instantiates, item_imports, item_exports, item_customs}
 use Rattle.comp_links.specs.Modules.{WorldModule}
 use Rattle.comp_terms.specs.Rules.{resources_marked}
-use Rattle.link_laws.specs.Composition.{numbers_from}
 use Rattle.link_laws.proofs.Stores.{main_module}
 use Rattle.link_laws.proofs.ModuleMarks.{bytes_marked, numbers_marked, users_marked, marked_main, bytes_listed, numbers_listed, mapped_nothing, mapped_each, read_of, reads_users}
 use Rattle.link_laws.proofs.Zips.{flat_map-marked}
@@ -242,13 +241,13 @@ module _ (w : ComponentWorld) (us : List WorldModule) where
       no_bytes : flat_map g (bytes_marked us) ≡ []
       no_bytes = mapped_nothing g (λ (x : WorldModule). ModuleIs x.found.bytes) (λ x. m x.found.bytes) us
 
-      no_numbers : flat_map g (numbers_marked (numbers_from 0 (length us))) ≡ []
-      no_numbers = mapped_nothing g (λ (n : ℕ). InstanceOf n) i (numbers_from 0 (length us))
+      no_numbers : flat_map g (numbers_marked (range_with_len 0 (length us))) ≡ []
+      no_numbers = mapped_nothing g (λ (n : ℕ). InstanceOf n) i (range_with_len 0 (length us))
 
       by : (o : Option GeneratedBytes) → read_of g w us o ≡ []
       by None = ap₂ (λ xs ys. xs ++ ys) no_bytes no_numbers
       by (Some b) =
-          all_nothing (flat_map g (bytes_marked us)) (g (ModuleIs b.shims)) (g (InstanceOf (shims_number w))) (flat_map g (numbers_marked (numbers_from 0 (length us)))) (g (ModuleIs b.fixup)) (g (InstanceOf (fixup_number w)))
+          all_nothing (flat_map g (bytes_marked us)) (g (ModuleIs b.shims)) (g (InstanceOf (shims_number w))) (flat_map g (numbers_marked (range_with_len 0 (length us)))) (g (ModuleIs b.fixup)) (g (InstanceOf (fixup_number w)))
           no_bytes (m b.shims) (i (shims_number w)) no_numbers (m b.fixup) (i (fixup_number w))
 
   -- the modules
@@ -258,8 +257,8 @@ module _ (w : ComponentWorld) (us : List WorldModule) where
       own : flat_map module_mark (bytes_marked us) ≡ map (λ (m : WorldModule). m.found.bytes) us
       own = mapped_each module_mark (λ (x : WorldModule). ModuleIs x.found.bytes) (λ (m : WorldModule). m.found.bytes) (λ x. refl) us
 
-      no_numbers : flat_map module_mark (numbers_marked (numbers_from 0 (length us))) ≡ []
-      no_numbers = mapped_nothing module_mark (λ (n : ℕ). InstanceOf n) (λ n. refl) (numbers_from 0 (length us))
+      no_numbers : flat_map module_mark (numbers_marked (range_with_len 0 (length us))) ≡ []
+      no_numbers = mapped_nothing module_mark (λ (n : ℕ). InstanceOf n) (λ n. refl) (range_with_len 0 (length us))
 
       by : (o : Option GeneratedBytes) → read_of module_mark w us o ≡ map (λ (m : WorldModule). m.found.bytes) us ++ bytes_listed o
       by None = ap₂ (λ xs ys. xs ++ ys) own no_numbers
@@ -273,21 +272,21 @@ module _ (w : ComponentWorld) (us : List WorldModule) where
       no_bytes = mapped_nothing instance_mark (λ (x : WorldModule). ModuleIs x.found.bytes) (λ x. refl) us
 
       by : (o : Option GeneratedBytes) → read_of instance_mark w us o ≡ numbers_listed w us o
-      by None = ap₂ (λ xs ys. xs ++ ys) no_bytes (numbers_read (numbers_from 0 (length us)))
-      by (Some b) = ap₂ (λ xs ys. xs ++ (shims_number w ∷ (ys ++ fixup_number w ∷ []))) no_bytes (numbers_read (numbers_from 0 (length us)))
+      by None = ap₂ (λ xs ys. xs ++ ys) no_bytes (numbers_read (range_with_len 0 (length us)))
+      by (Some b) = ap₂ (λ xs ys. xs ++ (shims_number w ∷ (ys ++ fixup_number w ∷ []))) no_bytes (numbers_read (range_with_len 0 (length us)))
 
   -- the resources
   users_resources : (o : Option GeneratedBytes) → flat_map resource_mark (users_marked w us o) ≡ map (λ id. 0) (own_resources w)
   users_resources o = by o
     where
       instances : List Landmark
-      instances = numbers_marked (numbers_from 0 (length us))
+      instances = numbers_marked (range_with_len 0 (length us))
 
       no_bytes : flat_map resource_mark (bytes_marked us) ≡ []
       no_bytes = mapped_nothing resource_mark (λ (x : WorldModule). ModuleIs x.found.bytes) (λ x. refl) us
 
       no_numbers : flat_map resource_mark instances ≡ []
-      no_numbers = mapped_nothing resource_mark (λ (n : ℕ). InstanceOf n) (λ n. refl) (numbers_from 0 (length us))
+      no_numbers = mapped_nothing resource_mark (λ (n : ℕ). InstanceOf n) (λ n. refl) (range_with_len 0 (length us))
 
       by : (o : Option GeneratedBytes) → flat_map resource_mark (users_marked w us o) ≡ map (λ id. 0) (own_resources w)
       by None =

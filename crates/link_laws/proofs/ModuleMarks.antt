@@ -1,14 +1,13 @@
 -- The landmarks of the core modules, of their instances and of the resources, for any list of user modules, and what is read of them.
 use Rattle.std.proofs.Common.{◌≡◌, ◌∙◌, ℕ, List, [], ◌∷◌, ◌++◌, length, map, refl, ap, ap₂, Option, Some, None}
 use Rattle.std.proofs.lemmas.Grind.{flat_map-append}
-use Rattle.std.specs.List.{flat_map}
+use Rattle.std.specs.List.{flat_map, range_with_len}
 use Rattle.wit_data.specs.declared.ids.TypeId.{TypeId}
 use Rattle.comp_worlds.specs.declared.world.ComponentWorld.{ComponentWorld}
 use Rattle.comp_links.specs.Modules.{WorldModule}
 use Rattle.comp_links.specs.Lists.{own_resources}
 use Rattle.comp_terms.specs.Generated.{shims_number, fixup_number, GeneratedBytes}
 use Rattle.comp_terms.specs.Rules.{Landmark, ModuleIs, InstanceOf, ResourceDefined, resources_marked, modules_marked}
-use Rattle.link_laws.specs.Composition.{numbers_from}
 use Rattle.link_laws.proofs.Stores.{main_module}
 
 -- the landmarks of these user modules, and of the instances of modules of these numbers
@@ -20,10 +19,10 @@ numbers_marked ns = map (λ n. InstanceOf n) ns
 
 -- the landmarks of all core modules and their instances, where these are the user modules
 abbrev pub users_marked : ComponentWorld → List WorldModule → Option GeneratedBytes → List Landmark
-users_marked w us None = bytes_marked us ++ (resources_marked w ++ numbers_marked (numbers_from 0 (length us)))
+users_marked w us None = bytes_marked us ++ (resources_marked w ++ numbers_marked (range_with_len 0 (length us)))
 users_marked w us (Some b) =
     bytes_marked us
-    ++ (ModuleIs b.shims ∷ InstanceOf (shims_number w) ∷ (resources_marked w ++ (numbers_marked (numbers_from 0 (length us)) ++ ModuleIs b.fixup ∷ InstanceOf (fixup_number w) ∷ [])))
+    ++ (ModuleIs b.shims ∷ InstanceOf (shims_number w) ∷ (resources_marked w ++ (numbers_marked (range_with_len 0 (length us)) ++ ModuleIs b.fixup ∷ InstanceOf (fixup_number w) ∷ [])))
 
 -- a list that keeps the rules has those of main alone
 pub marked_main : (w : ComponentWorld) (o : Option GeneratedBytes) → modules_marked w o ≡ users_marked w (main_module w ∷ []) o
@@ -36,8 +35,8 @@ bytes_listed None = []
 bytes_listed (Some b) = b.shims ∷ b.fixup ∷ []
 
 abbrev pub numbers_listed : ComponentWorld → List WorldModule → Option GeneratedBytes → List ℕ
-numbers_listed w us None = numbers_from 0 (length us)
-numbers_listed w us (Some b) = shims_number w ∷ (numbers_from 0 (length us) ++ fixup_number w ∷ [])
+numbers_listed w us None = range_with_len 0 (length us)
+numbers_listed w us (Some b) = shims_number w ∷ (range_with_len 0 (length us) ++ fixup_number w ∷ [])
 
 module _ {A : Type 0} (g : Landmark → List A) where
   pub mapped_nothing : {X : Type 0} (f : X → Landmark) → ((x : X) → g (f x) ≡ []) → (xs : List X) → flat_map g (map f xs) ≡ []
@@ -53,18 +52,18 @@ module _ {A : Type 0} (g : Landmark → List A) where
 
   -- what is read of all, where nothing is read of resources
   abbrev pub read_of : ComponentWorld → List WorldModule → Option GeneratedBytes → List A
-  read_of w us None = flat_map g (bytes_marked us) ++ flat_map g (numbers_marked (numbers_from 0 (length us)))
+  read_of w us None = flat_map g (bytes_marked us) ++ flat_map g (numbers_marked (range_with_len 0 (length us)))
   read_of w us (Some b) =
       flat_map g (bytes_marked us)
-      ++ (g (ModuleIs b.shims) ++ (g (InstanceOf (shims_number w)) ++ (flat_map g (numbers_marked (numbers_from 0 (length us))) ++ (g (ModuleIs b.fixup) ++ (g (InstanceOf (fixup_number w)) ++ [])))))
+      ++ (g (ModuleIs b.shims) ++ (g (InstanceOf (shims_number w)) ++ (flat_map g (numbers_marked (range_with_len 0 (length us))) ++ (g (ModuleIs b.fixup) ++ (g (InstanceOf (fixup_number w)) ++ [])))))
 
   pub reads_users : g ResourceDefined ≡ [] → (w : ComponentWorld) (us : List WorldModule) (o : Option GeneratedBytes) → flat_map g (users_marked w us o) ≡ read_of w us o
   reads_users none w us None =
-      let instances : List Landmark = numbers_marked (numbers_from 0 (length us)) in
+      let instances : List Landmark = numbers_marked (range_with_len 0 (length us)) in
       flat_map-append g (bytes_marked us) (resources_marked w ++ instances)
       ∙ ap (λ l. flat_map g (bytes_marked us) ++ l) (behind_resources none (own_resources w) instances)
   reads_users none w us (Some b) =
-      let instances : List Landmark = numbers_marked (numbers_from 0 (length us)) in
+      let instances : List Landmark = numbers_marked (range_with_len 0 (length us)) in
       let fixup : List Landmark = ModuleIs b.fixup ∷ InstanceOf (fixup_number w) ∷ [] in
       flat_map-append g (bytes_marked us) (ModuleIs b.shims ∷ InstanceOf (shims_number w) ∷ (resources_marked w ++ (instances ++ fixup)))
       ∙ ap (λ l. flat_map g (bytes_marked us) ++ (g (ModuleIs b.shims) ++ (g (InstanceOf (shims_number w)) ++ l)))

@@ -1,5 +1,5 @@
 -- A list of right definitions runs, and the final state is linked.
-use Rattle.std.proofs.Common.{◌≡◌, ◌∙◌, ◌≤◌, ◌<◌, ◌+◌, zero, suc, Option, is_some, ℕ, false, List, [], ◌∷◌, ◌++◌, length, map, filter, refl, sym, ap, ap₂, subst, append-nil, append_assoc, Some, None, arith, IsTrue}
+use Rattle.std.proofs.Common.{◌≡◌, ◌∙◌, ◌≤◌, ◌<◌, ◌+◌, zero, suc, Option, is_some, ℕ, false, List, [], ◌∷◌, ◌++◌, length, map, filter, refl, sym, ap, ap₂, subst, append-nil, append_assoc, add-one, Some, None, arith, IsTrue}
 use Rattle.std.proofs.lemmas.List.{map-append, length-map}
 use Rattle.std.proofs.lemmas.Bool.{lt-ltb}
 use Rattle.std.proofs.Math.Dec.{ltb}
@@ -16,7 +16,7 @@ use Rattle.shim_runs.proofs.Acting.{empty_shims_trap}
 use Rattle.shim_runs.proofs.Placed.{shim_at}
 use Rattle.shim_runs.proofs.Exported.{shims_found}
 use Rattle.comp_terms.specs.Generated.{shims_number, fixup_number, GeneratedBytes, MayBeGenerated}
-use Rattle.std.specs.List.{slice_get, flat_map, AllZip, AllByRecursion}
+use Rattle.std.specs.List.{slice_get, flat_map, range_with_len, AllZip, AllByRecursion}
 use Rattle.comp_bytes.specs.ItemIndices.{in_space}
 use Rattle.comp_bytes.specs.declared.space.Space.TheVariants as spaces
 use Rattle.comp_bytes.specs.declared.space.Sort.TheVariants as sorts
@@ -128,6 +128,11 @@ module _ (w : ComponentWorld) where
 
 -- ---- the numbers of user modules
 
+-- a range has consecutive numbers
+range_numbers : (k n : ℕ) → range_with_len k n ≡ numbers_from k n
+range_numbers k zero = refl
+range_numbers k (suc n) = ap (λ l. k ∷ l) (range_numbers (k + 1) n ∙ ap (λ m. numbers_from m n) (add-one k))
+
 -- consecutive numbers are below their end
 numbers_below : (k n end : ℕ) → k + n ≤ end → AllByRecursion (λ m. m < end) (numbers_from k n)
 numbers_below k zero end l = tt
@@ -176,8 +181,8 @@ bytes_encode w (Some b) h = (h.shims, (h.fixup, tt))
 
 -- the instances are in their order
 order_is : (w : ComponentWorld) (o : Option GeneratedBytes) (h : MayBeGenerated w o) → numbers_listed w (user_modules w) o ≡ instance_order (length (user_modules w)) (modules_of w o h)
-order_is w None h = sym (append-nil (numbers_from 0 (length (user_modules w))))
-order_is w (Some b) h = refl
+order_is w None h = range_numbers 0 (user_count w) ∙ sym (append-nil (user_numbers w))
+order_is w (Some b) h = ap (λ ns. shims_number w ∷ (ns ++ fixup_number w ∷ [])) (range_numbers 0 (user_count w))
 
 -- among them are the user modules
 users_in_order : (w : ComponentWorld) (o : Option GeneratedBytes) (h : MayBeGenerated w o) → users_among w (instance_order (length (user_modules w)) (modules_of w o h)) ≡ numbers_from 0 (length (user_modules w))
