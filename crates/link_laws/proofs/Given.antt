@@ -1,4 +1,4 @@
--- What the definitions so far have added to the store, and what main's imports find among the arguments.
+-- What the definitions so far have added to the store, and what the imports of user modules find among the arguments.
 use Rattle.std.proofs.Common.{◌≡◌, ◌∙◌, ◌⊎◌, inl, inr, ◌+◌, ◌^◌, suc, arith, ℕ, ◌<◌, Bool, true, false, cond, true≢false, List, [], ◌∷◌, length, map, filter, get_or, refl, sym, ap, ap₂, subst, Option, Some, None, is_some}
 use Rattle.std.proofs.lemmas.List.{length-map}
 use Rattle.std.proofs.lemmas.List.Sums.{length-filter}
@@ -12,71 +12,51 @@ use Rattle.comp_lists.proofs.Lists.{AllZip-at, AllZip-weaker, there}
 use Rattle.comp_bytes.specs.Spaces.{kind_space, is_space, space_of, items_in}
 use Rattle.comp_bytes.specs.ItemIndices.{in_space, IsAt}
 use Rattle.core_types.specs.declared.types.FuncType.{FuncType}
-use Rattle.core_runs.specs.Store.{Func, Opaque, Now, signature_of}
+use Rattle.core_runs.specs.Store.{Func, Now, signature_of}
 use Rattle.comp_bytes.specs.declared.space.Space.{Space}
 use Rattle.comp_bytes.specs.declared.space.Space.TheVariants as spaces
 use Rattle.standard_kinds.specs.declared.kinds.ExportKind.{ExportKind}
 use Rattle.standard_kinds.specs.declared.kinds.ExportKind.TheVariants as kinds
-use Rattle.comp_bytes.specs.declared.def.CoreArgument.{CoreArgument}
-use Rattle.comp_bytes.specs.declared.def.CoreInlineExport.{CoreInlineExport}
 use Rattle.comp_bytes.specs.declared.types.Member.{Member}
 use Rattle.comp_bytes.specs.declared.canon.CanonicalOption.{CanonicalOption}
 use Rattle.comp_bytes.specs.declared.canon.CanonicalOption.TheVariants as options
-use Rattle.comp_bytes.specs.declared.canon.Intrinsic.TheVariants as intrinsics
 use Rattle.standard_kinds.specs.declared.kinds.StringEncoding.{StringEncoding}
 use Rattle.comp_bytes.specs.declared.def.Item.TheVariants as items
 use Rattle.comp_bytes.specs.declared.def.Def.{Def}
 use Rattle.comp_bytes.specs.declared.def.Def.TheVariants as defs
-use Rattle.wit_data.specs.declared.worlds.WorldKey.TheVariants as keys
-use Rattle.wit_data.specs.declared.functions.AbiVariant.TheVariants.{GuestImport}
 use Rattle.comp_trees.specs.Trees.{Origin, Resource, ResourceAt, FunctionTree}
 use Rattle.comp_trees.specs.DefinedTrees.{TypeTree, OfValues, OfFunctions}
 use Rattle.comp_trees.specs.DefinedScopes.{Denotes}
 use Rattle.comp_inventories.specs.Inventories.{TypeEntry, OfInstances, FunctionEntry, InstanceEntry, entry_tree, no_function, inventory, scope_of}
-use Rattle.world_values.specs.Items.{functions_of, root_function_at}
-use Rattle.comp_roles.specs.CoreImports.{fields_of}
-use Rattle.comp_roles.specs.CoreTypes.{called_type}
-use Rattle.comp_worlds.specs.Typed.{drop_type, type_of_import}
-use Rattle.comp_worlds.specs.WorldContents.{items_of}
-use Rattle.comp_worlds.specs.Worlds.{IsWorld, IsImportRole, IsImportGroup}
-use Rattle.comp_roles.specs.declared.imports.Import.{Import}
-use Rattle.comp_roles.specs.declared.imports.Import.TheVariants as imports
-use Rattle.comp_roles.specs.declared.imports.ImportInstance.{ImportInstance}
-use Rattle.comp_roles.specs.declared.imports.ImportInstance.TheVariants as instances
 use Rattle.comp_worlds.specs.declared.world.ComponentWorld.{ComponentWorld}
-use Rattle.comp_runs.specs.Store.{Thing, Export, HeldOption, HeldEncoding, HeldMemory, HeldRealloc, HeldPostReturn, HeldAsync, HeldCallback, CoreItem, Lowering, IntrinsicOf, ExportedBy, Function, Imported, Lifting, TypeItem, TreeOf, tree_held, Store}
+use Rattle.comp_runs.specs.Store.{Thing, Export, HeldOption, HeldEncoding, HeldMemory, HeldRealloc, HeldPostReturn, HeldAsync, HeldCallback, Lowering, ExportedBy, Function, Imported, Lifting, TypeItem, TreeOf, tree_held, Store}
 use Rattle.comp_roles.specs.declared.offered.ExternType.{ExternType}
 use Rattle.comp_roles.specs.declared.offered.ExternType.TheVariants as externs
-use Rattle.comp_roles.specs.declared.offered.ImportType.{ImportType}
 use Rattle.wit_data.specs.declared.ids.TypeId.{TypeId}
-use Rattle.comp_links.specs.Targets.{UserModule, Main, WorldFunction, ExportRef, TargetOption, Target, OfRoot, OfInterface, Lowered, ExportOf, OfResource, ResourceFunction, New, Rep, Drop, Lifted}
+use Rattle.comp_links.specs.Targets.{WorldFunction, ExportRef, TargetOption, Lowered, ExportOf, OfResource, ResourceFunction, New, Rep, Drop, Lifted, Target}
 use Rattle.comp_links.specs.Targets as targets
-use Rattle.comp_links.specs.Modules.{WorldModule, adapter_module, IsModule}
+use Rattle.comp_links.specs.Modules.{WorldModule, user_modules}
 use Rattle.comp_links.specs.Lists.{IsOriginOf, resource_of}
-use Rattle.comp_links.specs.Links.{lower_options, link_of, link_in, link_at}
-use Rattle.shim_plan.specs.Kinds.{kind_name}
 use Rattle.shim_plan.specs.declared.shims.Shim.{Shim}
 use Rattle.world_shims.specs.WorldShims.{shims_of, type_of_shim}
 use Rattle.shim_runs.specs.ShimRuns.{IsShimAt, instance_exports}
 use Rattle.shim_runs.proofs.Placed.{shim_at}
 use Rattle.shim_runs.proofs.Exported.{shims_found}
 use Rattle.link_laws.specs.Composition.{at_root, item_instantiates}
-use Rattle.comp_terms.specs.Generated.{shims_number, role_of_kind, Purpose, OfImport, OfDestructor, target_of, HasPurpose}
-use Rattle.comp_terms.specs.Terms.{CoreExport, TermOption, Term, Is, IsFunctionType, IsResource, IsImportedFunction, IsInstanceOf, IsExported, IsOption, IsLowering, IsOfResource, intrinsic_of, IsLifting}
+use Rattle.comp_terms.specs.Generated.{shims_number, fixup_number, Purpose, target_of, HasPurpose}
+use Rattle.comp_terms.specs.Terms.{CoreExport, TermOption, Term, Is, IsFunctionType, IsImportedFunction, IsInstanceOf, IsExported, IsOption, IsLowering, IsOfResource, intrinsic_of, IsLifting}
 use Rattle.comp_terms.specs.Terms as terms
-use Rattle.comp_terms.specs.Planned.{IsExportFor, IsMemoryFor, IsOptionFor, IsTypeOf, IsTermFor, IsItemFor, IsDestructorFor, IsGivenFor, IsLiftFor, IsEntryFor, IsArgumentFor}
+use Rattle.comp_terms.specs.Planned.{IsExportFor, IsMemoryFor, IsOptionFor, IsTypeOf, IsTermFor, IsItemFor, IsLiftFor}
 use Rattle.comp_terms.specs.Rules.{IsOfKind}
-use Rattle.comp_runs.specs.Machine.{Scope, Machine, address_at, is_of, all_some, export_named, export_in, export_of}
-use Rattle.comp_runs.specs.Instances.{type_space, of_kind, matching, given_to, type_at}
+use Rattle.comp_runs.specs.Machine.{Scope, address_at, is_of, export_named, export_in, export_of}
+use Rattle.comp_runs.specs.Instances.{type_space, of_kind, type_at}
 use Rattle.comp_runs.specs.Signatures.{core_signature}
-use Rattle.comp_runs.specs.Running.{core_argument}
 use Rattle.instance_laws.specs.Instantiated.{IsHeldAs, AreHeldAs}
 use Rattle.instance_laws.specs.InstanceEntries.{IsInstanceType, IsInstanceEntry}
 use Rattle.instance_laws.proofs.Held.{trees_of_held, held_of_entries, IsTypeThere, type_there as held_at, item_of_functions}
-use Rattle.link_laws.proofs.Zips.{AllZip-filter, AllZip-back, mapped_some, filter-both, all_some-zip, found-zip, found-each}
-use Rattle.comp_worlds.proofs.Roles.{bound_some}
-use Rattle.link_laws.proofs.Plain.{IsFunctionImport, lowered_type, same_signature-refl, function_type_in, only_main_is, fields_right}
-use Rattle.link_laws.proofs.Stores.{IsOpaqueOf, IsInstance, IsUserItem, IsUserExport, IsUserInstance, IsNamedEntry, IsInlineInstance, ShimsAt, AreModuleExports, IsModuleInstance, NamesUser, IsLoweredItem, IsTypeAt, IsResourceItem, IsLiftedItem, IsAliasedItem, DefIs, Means, makes, IsTypeEntry, entry_of, IsFunctionEntry, IsInstanceThing, IsLoweredFor, IsFunctionOf, IsExportServed, IsServedAs, resource_core, IsShimGivenAt, IsShimGiven, Serves, MayHaveShims, main_module, IsPlanned, IsMainExport, IsFirstMemory, IsOptionFunction, IsHeldOption, IsOptionHeld, IsCoreExportAt, IsLiftedFrom, IsDestructorAt, IsDestructorGiven, Agrees}
+use Rattle.link_laws.proofs.Zips.{AllZip-filter, AllZip-back, mapped_some, filter-both, found-zip, found-each}
+use Rattle.link_laws.proofs.Plain.{named_main}
+use Rattle.link_laws.proofs.Stores.{IsOpaqueOf, IsUserItem, IsUserExport, IsUserInstance, ShimsAt, AreModuleExports, IsModuleInstance, NamesUser, IsLoweredItem, IsTypeAt, IsResourceItem, IsLiftedItem, IsAliasedItem, DefIs, Means, makes, IsTypeEntry, entry_of, IsFunctionEntry, IsInstanceThing, IsLoweredFor, IsFunctionOf, IsFunctionExported, IsServedAs, IsShimGivenAt, IsShimGiven, MayHaveShims, AreShims, IsFirstMemory, IsHeldOption, IsOptionHeld, IsCoreExportAt, IsLiftedFrom, Agrees}
 
 makes-space : (space : Space) (d : Def) → is_space space (space_of d) ≡ true → makes d ≡ true
 makes-space space d e = by (space_of d) e
@@ -84,17 +64,6 @@ makes-space space d e = by (space_of d) e
     by : (o : Option Space) → is_space space o ≡ true → is_some o ≡ true
     by None e = cc
     by (Some t) e = refl
-
--- the item of the export satisfies this field
-pub record IsFieldExport (w : ComponentWorld) (shims : Option ShimsAt) (s : Store) (e : Export) (field : List ℕ × Import) : Type 0 where
-  pub named : e.name ≡ field.0
-  pub space : e.space ≡ spaces.CoreFunc
-  pub serves : Serves w shims s e.address field.1
-
--- the argument has an export for each field of this module, as planned
-pub record IsOffered (w : ComponentWorld) (shims : Option ShimsAt) (s : Store) (a : List ℕ × List Export) (group : List ℕ × ImportInstance) : Type 0 where
-  pub named : a.0 ≡ group.0
-  pub each : AllZip (IsFieldExport w shims s) a.1 (fields_of group.1)
 
 -- an export that is found has the name
 pub found_name : (name : List ℕ) (es : List Export) (e : Export) → export_named name es ≡ Some e → e.name ≡ name
@@ -169,11 +138,7 @@ memory_named name (x ∷ es) e h memory = by (bytes_eq name x.name) (export_in s
         let is : export_in spaces.CoreMemory x ≡ true = ap (λ (y : Export). export_in spaces.CoreMemory y) (same_Some x e k) ∙ ap (λ space. is_space spaces.CoreMemory (Some space)) memory in
         absurd (true≢false (sym is ∙ i))
 
--- the first user module is main
-module_at_zero : (w : ComponentWorld) {of : UserModule} → IsModule w 0 of → Main ≡ of
-module_at_zero w h = ap (λ (m : WorldModule). m.of) (same_Some (main_module w) h.world_module h.listed) ∙ h.same
-
-at_some : (e : Export) → e.space ≡ spaces.CoreFunc → of_kind kinds.Func e ≡ Some (record { space = e.space; address = e.address })
+pub at_some : (e : Export) → e.space ≡ spaces.CoreFunc → of_kind kinds.Func e ≡ Some (record { space = e.space; address = e.address })
 at_some e h = rw h refl
 
 -- ---- instances of modules by their numbers
@@ -186,33 +151,55 @@ number_in other d = other
 one_instance : {ds : List Def} {index m n : ℕ} → IsInstanceOf ds index m → IsInstanceOf ds index n → m ≡ n
 one_instance {ds} {index} {m} {n} h k = ap (number_in n) (same_Some (defs.Item (items.CoreInstantiate m h.arguments)) (defs.Item (items.CoreInstantiate n k.arguments)) (sym h.made.made ∙ k.made.made))
 
--- the number of main is none of a generated module
-pub not_shims : (w : ComponentWorld) → 0 ≡ shims_number w → ⊥
-not_shims w e = let no : 0 ≡ suc (length (map adapter_module w.adapters)) = e in absurd (omega (arith, no))
+-- the number of a user module is none of a generated module
+pub user_below : (w : ComponentWorld) (number : ℕ) (of : WorldModule) → slice_get (user_modules w) number ≡ Some of → number < shims_number w
+user_below w number of listed = slice_get_within (user_modules w) number of listed
 
-of_main : (w : ComponentWorld) (shims : Option ShimsAt) (s : Store) (address : ℕ) → IsModuleInstance w shims s 0 address → IsUserInstance w s address
-of_main w shims s address h = record { exports = h.exports; user = h.user; present = h.present; is = h.is; same = h.same; each = by shims h.each }
+pub apart : (m n : ℕ) → m < n → m ≡ n → ⊥
+apart m n l e = omega (arith, l, e)
+
+apart_after : (m n : ℕ) → m < n → m ≡ suc n → ⊥
+apart_after m n l e = omega (arith, l, e)
+
+pub not_shims : (w : ComponentWorld) (number : ℕ) → number < shims_number w → number ≡ shims_number w → ⊥
+not_shims w number l e = apart number (shims_number w) l e
+
+pub not_fixup : (w : ComponentWorld) (number : ℕ) → number < shims_number w → number ≡ fixup_number w → ⊥
+not_fixup w number l e = apart_after number (shims_number w) l e
+
+-- an instance of the module with the number of a user module is one of that
+of_user : (w : ComponentWorld) (shims : Option ShimsAt) (s : Store) (number address : ℕ) (of : WorldModule) → slice_get (user_modules w) number ≡ Some of → IsModuleInstance w shims s number address → IsUserInstance s number of address
+of_user w shims s number address of listed h = record { exports = h.exports; user = h.user; present = h.present; is = h.is; same = h.same; each = by shims h.each }
   where
-    by : (shims : Option ShimsAt) → AreModuleExports w shims s h.user 0 h.exports → AllZip (IsUserExport s h.user) h.exports w.main.offered
-    by shims (inl k) = k.1
-    by None (inr (inl k)) = absurd k
-    by (Some at) (inr (inl k)) = absurd (not_shims w k.0)
-    by shims (inr (inr e)) = let no : 0 ≡ suc (shims_number w) = e in absurd (omega (arith, no))
+    below : number < shims_number w
+    below = user_below w number of listed
 
-names_main : (w : ComponentWorld) (number : ℕ) (kind : ExportKind) (name : List ℕ) → number ≡ 0 → NamesUser w number kind name ⊎ (number ≡ shims_number w) → NamesUser w number kind name
-names_main w number kind name zero_is (inl h) = h
-names_main w number kind name zero_is (inr e) = absurd (not_shims w (sym zero_is ∙ e))
+    by : (shims : Option ShimsAt) → AreModuleExports w shims s h.user number h.exports → AllZip (IsUserExport s h.user) h.exports of.found.offered
+    by shims (inl k) = subst (λ (o : WorldModule). AllZip (IsUserExport s h.user) h.exports o.found.offered) (same_Some k.of of (sym k.listed ∙ listed)) k.each
+    by None (inr (inl k)) = absurd k
+    by (Some at) (inr (inl k)) = absurd (not_shims w number below k.0)
+    by shims (inr (inr e)) = absurd (not_fixup w number below e)
+
+names_user : (w : ComponentWorld) (number : ℕ) (kind : ExportKind) (name : List ℕ) → number < shims_number w → NamesUser w number kind name ⊎ (number ≡ shims_number w) → NamesUser w number kind name
+names_user w number kind name below (inl h) = h
+names_user w number kind name below (inr e) = absurd (not_shims w number below e)
 
 -- the instance of the shims exports them
 pub of_shims : (w : ComponentWorld) (s : Store) (numbers : List ℕ) (user : ℕ) (exports : List Export) (shims : Option ShimsAt) → MayHaveShims w s numbers shims → AreModuleExports w shims s user (shims_number w) exports →
     (at : ShimsAt) × (shims ≡ Some at) × (exports ≡ instance_exports (shims_of w) at.address at.table) × (length (shims_of w) < 2 ^ 32)
-of_shims w s numbers user exports shims there (inl k) = absurd (not_shims w (sym k.0))
+of_shims w s numbers user exports shims there (inl k) = absurd (not_shims w (shims_number w) (user_below w (shims_number w) k.of k.listed) refl)
 of_shims w s numbers user exports None there (inr (inl k)) = absurd k
 of_shims w s numbers user exports (Some at) there (inr (inl k)) = (at, refl, k.1, there.room)
 of_shims w s numbers user exports shims there (inr (inr e)) = let no : shims_number w ≡ suc (shims_number w) = e in absurd (omega (arith, no))
 
+-- the core function has this core type
+pub record IsFunctionTyped (s : Store) (address : ℕ) (type : FuncType) : Type 0 where
+  pub function : Func
+  pub present : slice_get s.code.functions address ≡ Some function
+  pub typed : signature_of function ≡ type
+
 -- a core function is of one kind
-func_kind : (kind : ExportKind) → kind_space kind ≡ spaces.CoreFunc → kind ≡ kinds.Func
+pub func_kind : (kind : ExportKind) → kind_space kind ≡ spaces.CoreFunc → kind ≡ kinds.Func
 func_kind kinds.Func e = refl
 func_kind kinds.Table e = cc
 func_kind kinds.Memory e = cc
@@ -327,39 +314,43 @@ module _ {w : ComponentWorld} {earlier : List Def} {c : Scope} {s : Store} (a : 
       let same : t.0 ≡ l.2.of = same_Some t.0 l.2.of (sym t.1 ∙ l.2.at) in
       (l.0, l.1, record { of = l.2.of; is = l.2.is; held = subst (IsHeldAs s.types (OfValues (ResourceAt resource))) same t.2 })
 
-  -- the instance of a module, and of main
+  -- the instance of a module, and of a user module
   pub module_there : {index number : ℕ} → IsInstanceOf earlier index number → (x : ℕ) × (address_at spaces.CoreInstance index c.items ≡ Some x) × IsModuleInstance w a.shims s number x
   module_there h = let x = thing_there h.made in (x.0, x.1, x.2)
 
-  pub user_there : {index : ℕ} → IsInstanceOf earlier index 0 → (x : ℕ) × (address_at spaces.CoreInstance index c.items ≡ Some x) × IsUserInstance w s x
-  user_there {index} h = let x : (x : ℕ) × (address_at spaces.CoreInstance index c.items ≡ Some x) × IsModuleInstance w a.shims s 0 x = module_there h in (x.0, x.1, of_main w a.shims s x.0 x.2)
+  pub user_there : {index number : ℕ} (of : WorldModule) → slice_get (user_modules w) number ≡ Some of → IsInstanceOf earlier index number → (x : ℕ) × (address_at spaces.CoreInstance index c.items ≡ Some x) × IsUserInstance s number of x
+  user_there {index} {number} of listed h =
+      let x : (x : ℕ) × (address_at spaces.CoreInstance index c.items ≡ Some x) × IsModuleInstance w a.shims s number x = module_there h in
+      (x.0, x.1, of_user w a.shims s number x.0 of listed x.2)
 
-  -- what main offers is found among the exports of its instance
-  pub offered_there : (address : ℕ) (u : IsUserInstance w s address) (name : List ℕ) (type : ExternType) → found name w.main.offered ≡ Some type →
+  -- what a user module offers is found among the exports of its instance
+  pub offered_there : (number : ℕ) (of : WorldModule) (address : ℕ) (u : IsUserInstance s number of address) (name : List ℕ) (type : ExternType) → found name of.found.offered ≡ Some type →
       (e : Export) × (export_named name u.exports ≡ Some e) × (e.space ≡ type_space type) × IsUserItem s u.user e type
-  offered_there address u name type h =
-      let x = found-zip (IsOfType s u.user) name (map (λ (e : Export). (e.name, e)) u.exports) w.main.offered type (exports_named s u.user u.exports w.main.offered u.each) h in
+  offered_there number of address u name type h =
+      let x = found-zip (IsOfType s u.user) name (map (λ (e : Export). (e.name, e)) u.exports) of.found.offered type (exports_named s u.user u.exports of.found.offered u.each) h in
       (x.0, x.1, x.2.0, x.2.1)
 
-  -- an alias of an export of main is that export of an instance of main, of its type
-  exported_there : {index : ℕ} {e : CoreExport} → e.of ≡ 0 → IsExported earlier index e → IsCoreExportAt w c.items s index e
-  exported_there {index} {e} main h =
+  -- an alias of an export of a user module is that export of an instance of it, of its type
+  exported_there : {index : ℕ} {e : CoreExport} (from : WorldModule) → slice_get (user_modules w) e.of ≡ Some from → IsExported earlier index e → IsCoreExportAt from c.items s index e
+  exported_there {index} {e} from listed h =
       let l : (x : ℕ) × (address_at (kind_space e.kind) index c.items ≡ Some x) × IsAliasedItem w earlier c.items s e.kind h.instance e.name x = thing_there h.made in
-      let of : IsInstanceOf earlier h.instance 0 = subst (IsInstanceOf earlier h.instance) main h.of in
-      let m : (x : ℕ) × (address_at spaces.CoreInstance h.instance c.items ≡ Some x) × IsUserInstance w s x = user_there of in
-      let names : NamesUser w l.2.number e.kind e.name = names_main w l.2.number e.kind e.name (one_instance l.2.of of) l.2.names in
+      let m : (x : ℕ) × (address_at spaces.CoreInstance h.instance c.items ≡ Some x) × IsUserInstance s e.of from x = user_there from listed h.of in
+      let number : l.2.number ≡ e.of = one_instance l.2.of h.of in
+      let names : NamesUser w l.2.number e.kind e.name = names_user w l.2.number e.kind e.name (subst (λ n. n < shims_number w) (sym number) (user_below w e.of from listed)) l.2.names in
+      let one_module : names.of ≡ from = same_Some names.of from (sym names.listed ∙ (ap (slice_get (user_modules w)) number ∙ listed)) in
+      let offered : found e.name from.found.offered ≡ Some names.type = subst (λ (o : WorldModule). found e.name o.found.offered ≡ Some names.type) one_module names.offered in
       let same : m.0 ≡ l.2.from = same_Some m.0 l.2.from (sym m.1 ∙ l.2.at) in
       let exports : m.2.exports ≡ l.2.exports = same_Some m.2.exports l.2.exports (sym m.2.present ∙ (ap (slice_get s.core_instances) same ∙ l.2.present)) in
-      let x = offered_there m.0 m.2 e.name names.type names.offered in
+      let x = offered_there e.of from m.0 m.2 e.name names.type offered in
       let is : x.0 ≡ l.2.export = same_Some x.0 l.2.export (sym x.1 ∙ (ap (export_named e.name) exports ∙ l.2.found)) in
       record {
         address = l.0;
         at = l.1;
         type = names.type;
-        offered = names.offered;
+        offered = offered;
         of_kind = names.of_kind;
         user = m.2.user;
-        of = record { instance = m.2.is.instance; present = m.2.is.present; of = m.2.is.of ∙ sym main };
+        of = m.2.is;
         export = x.0;
         found = subst (λ es. export_named e.name es ≡ Some x.0) (sym m.2.same) x.1;
         named = found_name e.name m.2.exports x.0 x.1;
@@ -384,34 +375,33 @@ module _ {w : ComponentWorld} {earlier : List Def} {c : Scope} {s : Store} (a : 
       let is : l.2.export ≡ shim = same_Some l.2.export shim (sym l.2.found ∙ found) in
       (l.0, l.1, at.0, at.1, sym l.2.is ∙ ap (λ (y : Export). y.address) is)
 
-  -- an alias of a function that main exports is that function, which is opaque, and has the type that validation found
-  pub function_offered : IsWorld w → {index : ℕ} {e : CoreExport} {name : List ℕ} → e.kind ≡ kinds.Func → IsModule w e.of Main → e.name ≡ name → IsExported earlier index e →
-      (x : ℕ) × (address_at spaces.CoreFunc index c.items ≡ Some x) × (m : IsMainExport s x name) × (found name w.main.offered ≡ Some (externs.Func m.type))
-  function_offered ok {index} {e} {name} function of named h =
-      let x : IsCoreExportAt w c.items s index e = exported_there (only_main_is w ok e.of of) h in
+  -- an alias of a function that a user module exports is that function
+  pub function_exported : {index : ℕ} {e : CoreExport} {export_ref : ExportRef} → e.kind ≡ kinds.Func → IsExportFor w e export_ref → IsExported earlier index e →
+      (x : ℕ) × (address_at spaces.CoreFunc index c.items ≡ Some x) × IsFunctionExported w s x export_ref
+  function_exported {index} {e} {export_ref} function asked h =
+      let from : WorldModule = asked.of.world_module in
+      let x : IsCoreExportAt from c.items s index e = exported_there from asked.of.listed h in
       let type : (t : FuncType) × (x.type ≡ externs.Func t) = type_of_function_kind x.type (subst (λ kind. IsOfKind kind x.type) function x.of_kind) in
       let opaque : IsOpaqueOf s x.export.address type.0 (ExportedBy x.user x.export.name) = subst (IsUserItem s x.user x.export) type.1 x.item in
-      let renamed : IsOpaqueOf s x.export.address type.0 (ExportedBy x.user name) = subst (λ t. IsOpaqueOf s x.export.address type.0 (ExportedBy x.user t)) (x.named ∙ named) opaque in (
+      let renamed : IsOpaqueOf s x.export.address type.0 (ExportedBy x.user export_ref.name) = subst (λ t. IsOpaqueOf s x.export.address type.0 (ExportedBy x.user t)) (x.named ∙ asked.named) opaque in (
         x.address,
         subst (λ kind. address_at (kind_space kind) index c.items ≡ Some x.address) function x.at,
         record {
+          number = e.of;
+          of = asked.of;
           user = x.user;
+          instance = x.of;
           type = type.0;
-          is = subst (λ n. IsOpaqueOf s n type.0 (ExportedBy x.user name)) x.is renamed;
-          of = subst (IsInstance s x.user) (only_main_is w ok e.of of) x.of;
+          is = subst (λ n. IsOpaqueOf s n type.0 (ExportedBy x.user export_ref.name)) x.is renamed;
+          offered = ap (λ n. found n from.found.offered) (sym asked.named) ∙ x.offered ∙ ap Some type.1;
         },
-        ap (λ n. found n w.main.offered) (sym named) ∙ x.offered ∙ ap Some type.1,
       )
 
-  pub function_exported : IsWorld w → {index : ℕ} {e : CoreExport} {name : List ℕ} → e.kind ≡ kinds.Func → IsModule w e.of Main → e.name ≡ name → IsExported earlier index e →
-      (x : ℕ) × (address_at spaces.CoreFunc index c.items ≡ Some x) × IsMainExport s x name
-  function_exported ok function of named h = let x = function_offered ok function of named h in (x.0, x.1, x.2)
-
   -- an alias of the first memory that main exports is that memory
-  memory_exported : IsWorld w → {index : ℕ} {e : CoreExport} → e.kind ≡ kinds.Memory → IsMemoryFor w e → IsExported earlier index e →
+  memory_exported : {index : ℕ} {e : CoreExport} → e.kind ≡ kinds.Memory → IsMemoryFor w e → IsExported earlier index e →
       (x : ℕ) × (address_at spaces.CoreMemory index c.items ≡ Some x) × IsFirstMemory w s x
-  memory_exported ok {index} {e} memory asked h =
-      let x : IsCoreExportAt w c.items s index e = exported_there (only_main_is w ok e.of asked.of) h in
+  memory_exported {index} {e} memory asked h =
+      let x : IsCoreExportAt asked.of.world_module c.items s index e = exported_there asked.of.world_module asked.of.listed h in
       let space : x.export.space ≡ spaces.CoreMemory = x.space ∙ (space_of_kind e.kind x.type x.of_kind ∙ ap kind_space memory) in
       let whole : x.export ≡ record { space = spaces.CoreMemory; name = e.name; address = x.address } =
       by_parts x.export spaces.CoreMemory e.name space x.named ∙ ap (λ n. record { space = spaces.CoreMemory; name = e.name; address = n }) x.is in (
@@ -425,7 +415,7 @@ module _ {w : ComponentWorld} {earlier : List Def} {c : Scope} {s : Store} (a : 
             user = x.user;
             instance = x.of.instance;
             present = x.of.present;
-            of = x.of.of ∙ only_main_is w ok e.of asked.of;
+            of = x.of.of ∙ (named_main w e.of asked.of).0;
             exported = memory_named e.name x.of.instance.exports (record { space = spaces.CoreMemory; name = e.name; address = x.address }) (x.found ∙ ap (λ (y : Export). Some y) whole) refl;
           };
         },
@@ -443,38 +433,36 @@ module _ {w : ComponentWorld} {earlier : List Def} {c : Scope} {s : Store} (a : 
   encoding_there o x e (targets.Encoding t) h is asked = absurd is
   encoding_there o x e target h is asked = absurd asked
 
-  memory_there : IsWorld w → (o : CanonicalOption) (x : HeldOption) (e : CoreExport) (target : TargetOption) → IsHeldOption c.items o x → IsOption earlier o (terms.Memory e) → IsOptionFor w (terms.Memory e) target → IsOptionHeld w s x target
-  memory_there ok (options.Memory index) (HeldMemory a) e targets.Memory h is asked =
-      let f = memory_exported ok is.0 asked is.1 in subst (IsFirstMemory w s) (same_Some f.0 a (sym f.1 ∙ h)) f.2
-  memory_there ok (options.Memory index) x e targets.Memory h is asked = absurd h
-  memory_there ok o x e targets.Memory h is asked = absurd is
-  memory_there ok o x e target h is asked = absurd asked
+  memory_there : (o : CanonicalOption) (x : HeldOption) (e : CoreExport) (target : TargetOption) → IsHeldOption c.items o x → IsOption earlier o (terms.Memory e) → IsOptionFor w (terms.Memory e) target → IsOptionHeld w s x target
+  memory_there (options.Memory index) (HeldMemory a) e targets.Memory h is asked =
+      let f = memory_exported is.0 asked is.1 in subst (IsFirstMemory w s) (same_Some f.0 a (sym f.1 ∙ h)) f.2
+  memory_there (options.Memory index) x e targets.Memory h is asked = absurd h
+  memory_there o x e targets.Memory h is asked = absurd is
+  memory_there o x e target h is asked = absurd asked
 
   -- the function that an option names
-  function_named : IsWorld w → {index a : ℕ} {e : CoreExport} {export_ref : ExportRef} → e.kind ≡ kinds.Func → IsExported earlier index e → IsExportFor w e export_ref → address_at spaces.CoreFunc index c.items ≡ Some a → IsOptionFunction s a export_ref
-  function_named ok {index} {a} {e} {export_ref} function is asked at =
-      let number : e.of ≡ 0 = only_main_is w ok e.of asked.of in
-      let main : Main ≡ export_ref.of = module_at_zero w (subst (λ n. IsModule w n export_ref.of) number asked.of) in
-      let f = function_exported ok function (subst (IsModule w e.of) (sym main) asked.of) asked.named is in
-      record { of = sym main; is = subst (λ n. IsMainExport s n export_ref.name) (same_Some f.0 a (sym f.1 ∙ at)) f.2 }
+  function_named : {index a : ℕ} {e : CoreExport} {export_ref : ExportRef} → e.kind ≡ kinds.Func → IsExported earlier index e → IsExportFor w e export_ref → address_at spaces.CoreFunc index c.items ≡ Some a → IsFunctionExported w s a export_ref
+  function_named {index} {a} {e} {export_ref} function is asked at =
+      let f = function_exported function asked is in
+      subst (λ n. IsFunctionExported w s n export_ref) (same_Some f.0 a (sym f.1 ∙ at)) f.2
 
-  realloc_there : IsWorld w → (o : CanonicalOption) (x : HeldOption) (e : CoreExport) (target : TargetOption) → IsHeldOption c.items o x → IsOption earlier o (terms.Realloc e) → IsOptionFor w (terms.Realloc e) target → IsOptionHeld w s x target
-  realloc_there ok (options.Realloc index) (HeldRealloc a) e (targets.Realloc export_ref) h is asked = function_named ok is.0 is.1 asked h
-  realloc_there ok (options.Realloc index) x e (targets.Realloc export_ref) h is asked = absurd h
-  realloc_there ok o x e (targets.Realloc export_ref) h is asked = absurd is
-  realloc_there ok o x e target h is asked = absurd asked
+  realloc_there : (o : CanonicalOption) (x : HeldOption) (e : CoreExport) (target : TargetOption) → IsHeldOption c.items o x → IsOption earlier o (terms.Realloc e) → IsOptionFor w (terms.Realloc e) target → IsOptionHeld w s x target
+  realloc_there (options.Realloc index) (HeldRealloc a) e (targets.Realloc export_ref) h is asked = function_named is.0 is.1 asked h
+  realloc_there (options.Realloc index) x e (targets.Realloc export_ref) h is asked = absurd h
+  realloc_there o x e (targets.Realloc export_ref) h is asked = absurd is
+  realloc_there o x e target h is asked = absurd asked
 
-  post_return_there : IsWorld w → (o : CanonicalOption) (x : HeldOption) (e : CoreExport) (target : TargetOption) → IsHeldOption c.items o x → IsOption earlier o (terms.PostReturn e) → IsOptionFor w (terms.PostReturn e) target → IsOptionHeld w s x target
-  post_return_there ok (options.PostReturn index) (HeldPostReturn a) e (targets.PostReturn export_ref) h is asked = function_named ok is.0 is.1 asked h
-  post_return_there ok (options.PostReturn index) x e (targets.PostReturn export_ref) h is asked = absurd h
-  post_return_there ok o x e (targets.PostReturn export_ref) h is asked = absurd is
-  post_return_there ok o x e target h is asked = absurd asked
+  post_return_there : (o : CanonicalOption) (x : HeldOption) (e : CoreExport) (target : TargetOption) → IsHeldOption c.items o x → IsOption earlier o (terms.PostReturn e) → IsOptionFor w (terms.PostReturn e) target → IsOptionHeld w s x target
+  post_return_there (options.PostReturn index) (HeldPostReturn a) e (targets.PostReturn export_ref) h is asked = function_named is.0 is.1 asked h
+  post_return_there (options.PostReturn index) x e (targets.PostReturn export_ref) h is asked = absurd h
+  post_return_there o x e (targets.PostReturn export_ref) h is asked = absurd is
+  post_return_there o x e target h is asked = absurd asked
 
-  callback_there : IsWorld w → (o : CanonicalOption) (x : HeldOption) (e : CoreExport) (target : TargetOption) → IsHeldOption c.items o x → IsOption earlier o (terms.Callback e) → IsOptionFor w (terms.Callback e) target → IsOptionHeld w s x target
-  callback_there ok (options.Callback index) (HeldCallback a) e (targets.Callback export_ref) h is asked = function_named ok is.0 is.1 asked h
-  callback_there ok (options.Callback index) x e (targets.Callback export_ref) h is asked = absurd h
-  callback_there ok o x e (targets.Callback export_ref) h is asked = absurd is
-  callback_there ok o x e target h is asked = absurd asked
+  callback_there : (o : CanonicalOption) (x : HeldOption) (e : CoreExport) (target : TargetOption) → IsHeldOption c.items o x → IsOption earlier o (terms.Callback e) → IsOptionFor w (terms.Callback e) target → IsOptionHeld w s x target
+  callback_there (options.Callback index) (HeldCallback a) e (targets.Callback export_ref) h is asked = function_named is.0 is.1 asked h
+  callback_there (options.Callback index) x e (targets.Callback export_ref) h is asked = absurd h
+  callback_there o x e (targets.Callback export_ref) h is asked = absurd is
+  callback_there o x e target h is asked = absurd asked
 
   async_there : (o : CanonicalOption) (x : HeldOption) (target : TargetOption) → IsHeldOption c.items o x → IsOption earlier o terms.Async → IsOptionFor w terms.Async target → IsOptionHeld w s x target
   async_there options.Async HeldAsync targets.Async h is asked = tt
@@ -483,28 +471,28 @@ module _ {w : ComponentWorld} {earlier : List Def} {c : Scope} {s : Store} (a : 
   async_there o x target h is asked = absurd asked
 
   -- an option is what the target names
-  option_there : IsWorld w → (o : CanonicalOption) (x : HeldOption) (term : TermOption) (target : TargetOption) → IsHeldOption c.items o x → IsOption earlier o term → IsOptionFor w term target → IsOptionHeld w s x target
-  option_there ok o x (terms.Encoding e) target h is asked = encoding_there o x e target h is asked
-  option_there ok o x (terms.Memory e) target h is asked = memory_there ok o x e target h is asked
-  option_there ok o x (terms.Realloc e) target h is asked = realloc_there ok o x e target h is asked
-  option_there ok o x (terms.PostReturn e) target h is asked = post_return_there ok o x e target h is asked
-  option_there ok o x (terms.Callback e) target h is asked = callback_there ok o x e target h is asked
-  option_there ok o x terms.Async target h is asked = async_there o x target h is asked
+  option_there : (o : CanonicalOption) (x : HeldOption) (term : TermOption) (target : TargetOption) → IsHeldOption c.items o x → IsOption earlier o term → IsOptionFor w term target → IsOptionHeld w s x target
+  option_there o x (terms.Encoding e) target h is asked = encoding_there o x e target h is asked
+  option_there o x (terms.Memory e) target h is asked = memory_there o x e target h is asked
+  option_there o x (terms.Realloc e) target h is asked = realloc_there o x e target h is asked
+  option_there o x (terms.PostReturn e) target h is asked = post_return_there o x e target h is asked
+  option_there o x (terms.Callback e) target h is asked = callback_there o x e target h is asked
+  option_there o x terms.Async target h is asked = async_there o x target h is asked
 
-  options_there : IsWorld w → (os : List CanonicalOption) (xs : List HeldOption) (ts : List TermOption) (gs : List TargetOption) → AllZip (IsHeldOption c.items) os xs → AllZip (IsOption earlier) os ts → AllZip (IsOptionFor w) ts gs →
+  options_there : (os : List CanonicalOption) (xs : List HeldOption) (ts : List TermOption) (gs : List TargetOption) → AllZip (IsHeldOption c.items) os xs → AllZip (IsOption earlier) os ts → AllZip (IsOptionFor w) ts gs →
       AllZip (IsOptionHeld w s) xs gs
-  options_there ok [] [] [] [] h is asked = tt
-  options_there ok (o ∷ os) (x ∷ xs) (t ∷ ts) (g ∷ gs) h is asked = (option_there ok o x t g h.0 is.0 asked.0, options_there ok os xs ts gs h.1 is.1 asked.1)
-  options_there ok [] (x ∷ xs) ts gs h is asked = absurd h
-  options_there ok (o ∷ os) [] ts gs h is asked = absurd h
-  options_there ok [] [] (t ∷ ts) gs h is asked = absurd is
-  options_there ok (o ∷ os) (x ∷ xs) [] gs h is asked = absurd is
-  options_there ok [] [] [] (g ∷ gs) h is asked = absurd asked
-  options_there ok (o ∷ os) (x ∷ xs) (t ∷ ts) [] h is asked = absurd asked
+  options_there [] [] [] [] h is asked = tt
+  options_there (o ∷ os) (x ∷ xs) (t ∷ ts) (g ∷ gs) h is asked = (option_there o x t g h.0 is.0 asked.0, options_there os xs ts gs h.1 is.1 asked.1)
+  options_there [] (x ∷ xs) ts gs h is asked = absurd h
+  options_there (o ∷ os) [] ts gs h is asked = absurd h
+  options_there [] [] (t ∷ ts) gs h is asked = absurd is
+  options_there (o ∷ os) (x ∷ xs) [] gs h is asked = absurd is
+  options_there [] [] [] (g ∷ gs) h is asked = absurd asked
+  options_there (o ∷ os) (x ∷ xs) (t ∷ ts) [] h is asked = absurd asked
 
-  pub lowered_there : IsWorld w → {index : ℕ} (function : WorldFunction) (options : List TargetOption) {origin : Origin} {type : FunctionTree} {written : List TermOption} → IsLowering earlier index origin type written →
+  pub lowered_there : {index : ℕ} (function : WorldFunction) (options : List TargetOption) {origin : Origin} {type : FunctionTree} {written : List TermOption} → IsLowering earlier index origin type written →
       IsOriginOf w function origin → IsTypeOf w function type → AllZip (IsOptionFor w) written options → (x : ℕ) × (address_at spaces.CoreFunc index c.items ≡ Some x) × IsLoweredFor w s x function options
-  lowered_there ok {index} function options {origin} {type} {written} h from typed_as asked =
+  lowered_there {index} function options {origin} {type} {written} h from typed_as asked =
       let l : (x : ℕ) × (address_at spaces.CoreFunc index c.items ≡ Some x) × IsLoweredItem c.items s h.function h.written x = thing_there h.made in
       let f : (x : ℕ) × (address_at spaces.Func h.function c.items ≡ Some x) × (slice_get s.functions x ≡ Some (Imported origin type)) = imported_there h.of in
       let same : f.0 ≡ l.2.of = same_Some f.0 l.2.of (sym f.1 ∙ l.2.at) in
@@ -519,18 +507,17 @@ module _ {w : ComponentWorld} {earlier : List Def} {c : Scope} {s : Store} (a : 
           from = from;
           typed = typed_as;
           lowered = record { of = l.2.of; is = subst (λ t. IsOpaqueOf s l.0 (core_signature t []) (Lowering l.2.of l.2.held)) typed l.2.is; imported = imported };
-          with_options = options_there ok h.written l.2.held written options l.2.with_options h.with_options asked;
+          with_options = options_there h.written l.2.held written options l.2.with_options h.with_options asked;
         },
       )
 
   -- the lift of a required function
-  pub lift_there : IsWorld w → {index : ℕ} (name : List ℕ) (options : List TargetOption) (type : FunctionTree) → IsLiftFor w earlier index (Lifted (record { of = Main; name = name }) options) type →
-      (x : ℕ) × (address_at spaces.Func index c.items ≡ Some x) × IsLiftedFrom w s x name options type
-  lift_there ok {index} name options type h =
-      let entry : CoreExport = h.entry in
-      let is : IsLifting earlier index entry h.options type = h.is in
+  pub lift_there : {index : ℕ} (entry : ExportRef) (options : List TargetOption) (type : FunctionTree) → IsLiftFor w earlier index (Lifted entry options) type →
+      (x : ℕ) × (address_at spaces.Func index c.items ≡ Some x) × IsLiftedFrom w s x entry options type
+  lift_there {index} entry options type h =
+      let is : IsLifting earlier index h.entry h.options type = h.is in
       let l : (x : ℕ) × (address_at spaces.Func index c.items ≡ Some x) × IsLiftedItem c.items s is.core is.written is.kind x = thing_there is.made in
-      let f = function_exported ok is.function h.asked.0.of h.asked.0.named is.of in
+      let f = function_exported is.function h.asked.0 is.of in
       let same : f.0 ≡ l.2.of = same_Some f.0 l.2.of (sym f.1 ∙ l.2.at) in
       let typed : l.2.type ≡ type = same_type_at l.2.typed (type_there is.typed) in (
         l.0,
@@ -539,210 +526,57 @@ module _ {w : ComponentWorld} {earlier : List Def} {c : Scope} {s : Store} (a : 
           core = l.2.of;
           held = l.2.held;
           is = l.2.is ∙ ap (λ t. Some (Lifting l.2.of l.2.held t)) typed;
-          of = subst (λ n. IsMainExport s n name) same f.2;
-          with_options = options_there ok is.written l.2.held h.options options l.2.with_options is.with_options h.asked.1;
+          of = subst (λ n. IsFunctionExported w s n entry) same f.2;
+          with_options = options_there is.written l.2.held h.options options l.2.with_options is.with_options h.asked.1;
         },
       )
 
-  -- the core item that the link table names has an address
-  lowering_there : IsWorld w → (kind : ExportKind) (index : ℕ) (function : WorldFunction) (options : List TargetOption) (term : Term) → Is earlier (kind_space kind) index term → IsTermFor w (Lowered function options) term →
-      (kind ≡ kinds.Func) × (x : ℕ) × (address_at spaces.CoreFunc index c.items ≡ Some x) × IsLoweredFor w s x function options
-  lowering_there ok kinds.Func index function options (terms.Lowering origin type written) is asked = let l = lowered_there ok function options is asked.0 asked.1 asked.2 in (refl, l.0, l.1, l.2)
-  lowering_there ok kinds.Table index function options (terms.Lowering origin type written) is asked = absurd is
-  lowering_there ok kinds.Memory index function options (terms.Lowering origin type written) is asked = absurd is
-  lowering_there ok kinds.Global index function options (terms.Lowering origin type written) is asked = absurd is
-  lowering_there ok kind index function options term is asked = absurd asked
+  -- ---- the core functions that targets name
 
-  resource_function_there : (kind : ExportKind) (index : ℕ) (function : ResourceFunction) (id : TypeId) (term : Term) → Is earlier (kind_space kind) index term → IsTermFor w (OfResource function id) term →
-      (kind ≡ kinds.Func) × (x : ℕ) × (address_at spaces.CoreFunc index c.items ≡ Some x) × IsFunctionOf s x function (resource_of w id)
-  resource_function_there kinds.Func index function id (terms.OfResource same resource) is asked =
+  lowering_there : (index : ℕ) (function : WorldFunction) (options : List TargetOption) (term : Term) → Is earlier spaces.CoreFunc index term → IsTermFor w (Lowered function options) term →
+      (x : ℕ) × (address_at spaces.CoreFunc index c.items ≡ Some x) × IsLoweredFor w s x function options
+  lowering_there index function options (terms.Lowering origin type written) is asked = lowered_there function options is asked.0 asked.1 asked.2
+  lowering_there index function options term is asked = absurd asked
+
+  resource_function_there : (index : ℕ) (function : ResourceFunction) (id : TypeId) (term : Term) → Is earlier spaces.CoreFunc index term → IsTermFor w (OfResource function id) term →
+      (x : ℕ) × (address_at spaces.CoreFunc index c.items ≡ Some x) × IsFunctionOf s x function (resource_of w id)
+  resource_function_there index function id (terms.OfResource same resource) is asked =
       let l : (x : ℕ) × (address_at spaces.CoreFunc index c.items ≡ Some x) × IsFunctionOf s x same resource = of_resource_there is in
-      (refl, l.0, l.1, subst (λ f. IsFunctionOf s l.0 f (resource_of w id)) asked.0 (subst (IsFunctionOf s l.0 same) asked.1 l.2))
-  resource_function_there kinds.Table index function id (terms.OfResource same resource) is asked = absurd is
-  resource_function_there kinds.Memory index function id (terms.OfResource same resource) is asked = absurd is
-  resource_function_there kinds.Global index function id (terms.OfResource same resource) is asked = absurd is
-  resource_function_there kind index function id term is asked = absurd asked
+      (l.0, l.1, subst (λ f. IsFunctionOf s l.0 f (resource_of w id)) asked.0 (subst (IsFunctionOf s l.0 same) asked.1 l.2))
+  resource_function_there index function id term is asked = absurd asked
 
-  pub item_there : IsWorld w → (kind : ExportKind) (index : ℕ) (role : Import) → IsImportRole w role → IsItemFor w earlier (kind_space kind) index (link_of w Main role) →
-      (kind ≡ kinds.Func) × (x : ℕ) × (address_at spaces.CoreFunc index c.items ≡ Some x) × IsServedAs w s x (link_of w Main role)
-  item_there ok kind index (imports.WorldFunc (keys.Name text) function abi) right h = lowering_there ok kind index (OfRoot text) (lower_options w Main (imports.WorldFunc (keys.Name text) function abi)) h.term h.is h.asked
-  item_there ok kind index (imports.InterfaceFunc key interface function abi) right h = lowering_there ok kind index (OfInterface interface function) (lower_options w Main (imports.InterfaceFunc key interface function abi)) h.term h.is h.asked
-  item_there ok kind index (imports.ImportedResourceDrop key interface id) right h = resource_function_there kind index Drop id h.term h.is h.asked
-  item_there ok kind index (imports.ExportedResourceDrop key id) right h = resource_function_there kind index Drop id h.term h.is h.asked
-  item_there ok kind index (imports.ExportedResourceRep key id) right h = resource_function_there kind index Rep id h.term h.is h.asked
-  item_there ok kind index (imports.ExportedResourceNew key id) right h = resource_function_there kind index New id h.term h.is h.asked
-  item_there ok kind index role right h = absurd right
+  export_there : (index : ℕ) (export_ref : ExportRef) (term : Term) → Is earlier spaces.CoreFunc index term → IsTermFor w (ExportOf export_ref) term →
+      (x : ℕ) × (address_at spaces.CoreFunc index c.items ≡ Some x) × IsFunctionExported w s x export_ref
+  export_there index export_ref (terms.Exported e) is asked = function_exported (func_kind e.kind (sym is.0)) asked is.1
+  export_there index export_ref term is asked = absurd asked
 
-  -- so has a destructor that main exports
-  destructor_there : IsWorld w → (index : ℕ) (name : List ℕ) → IsItemFor w earlier spaces.CoreFunc index (ExportOf (record { of = Main; name = name })) →
-      (x : ℕ) × (address_at spaces.CoreFunc index c.items ≡ Some x) × IsExportServed w s x (record { of = Main; name = name })
-  destructor_there ok index name h = by h.term h.is h.asked
-    where
-      by : (term : Term) → Is earlier spaces.CoreFunc index term → IsTermFor w (ExportOf (record { of = Main; name = name })) term → (x : ℕ) × (address_at spaces.CoreFunc index c.items ≡ Some x) × IsExportServed w s x (record { of = Main; name = name })
-      by (terms.Exported e) is asked = let x = function_offered ok (func_kind e.kind (sym is.0)) asked.of asked.named is.1 in (x.0, x.1, record { of = refl; is = x.2; offered = x.3 })
-      by term is asked = absurd asked
+  -- no core function is a lift
+  no_lift : (index : ℕ) (entry : ExportRef) (options : List TargetOption) (term : Term) → Is earlier spaces.CoreFunc index term → IsTermFor w (Lifted entry options) term → ⊥
+  no_lift index entry options (terms.Lifting e written type) is asked = is
+  no_lift index entry options term is asked = asked
 
-  -- and what a shim stands for
-  pub purpose_there : IsWorld w → (index : ℕ) (shim : Shim) (p : Purpose) → HasPurpose w shim p → IsItemFor w earlier spaces.CoreFunc index (target_of w p) →
-      (x : ℕ) × (address_at spaces.CoreFunc index c.items ≡ Some x) × IsServedAs w s x (target_of w p)
-  purpose_there ok index shim (OfImport role) stands h = let x = item_there ok kinds.Func index role stands.right h in (x.1, x.2, x.3)
-  purpose_there ok index shim (OfDestructor name) stands h = destructor_there ok index name h
+  -- the core function that a target names has an address
+  pub target_there : (index : ℕ) (target : Target) → IsItemFor w earlier spaces.CoreFunc index target → (x : ℕ) × (address_at spaces.CoreFunc index c.items ≡ Some x) × IsServedAs w s x target
+  target_there index (Lowered function options) h = lowering_there index function options h.term h.is h.asked
+  target_there index (OfResource function id) h = resource_function_there index function id h.term h.is h.asked
+  target_there index (ExportOf export_ref) h = export_there index export_ref h.term h.is h.asked
+  target_there index (Lifted entry options) h = absurd (no_lift index entry options h.term h.is h.asked)
+  target_there index target h = absurd h.asked
 
-  -- so has what is given for an import: that item, or a shim
-  given_item_there : IsWorld w → (kind : ExportKind) (index : ℕ) (role : Import) → IsImportRole w role → IsGivenFor w Main earlier (kind_space kind) index role →
-      (kind ≡ kinds.Func) × (x : ℕ) × (address_at spaces.CoreFunc index c.items ≡ Some x) × Serves w a.shims s x role
-  given_item_there ok kind index role right (inl h) = let x = item_there ok kind index role right h in (x.0, x.1, x.2, inl x.3)
-  given_item_there ok kind index role right (inr h) =
-      let within : h.place < length (shims_of w) = slice_get_within (shims_of w) h.place h.shim h.listed in
-      let x = shim_exported within h.is in
-      let given : IsShimGivenAt w x.2 x.0 role = record { place = h.place; shim = h.shim; listed = h.listed; stands_for = h.stands_for; is = x.4 } in
-      (func_kind kind h.in_space, x.0, x.1, inr (subst (λ o. IsShimGiven w o x.0 role) (sym x.3) given))
+  -- so has a shim
+  pub shim_there : {index : ℕ} (place : ℕ) (shim : Shim) (purpose : Purpose) → slice_get (shims_of w) place ≡ Some shim → HasPurpose w shim purpose → IsExported earlier index (record { of = shims_number w; kind = kinds.Func; name = decimal place }) →
+      (x : ℕ) × (address_at spaces.CoreFunc index c.items ≡ Some x) × IsShimGiven w a.shims x (target_of w purpose)
+  shim_there {index} place shim purpose listed stands h =
+      let x = shim_exported (slice_get_within (shims_of w) place shim listed) h in
+      let given : IsShimGivenAt w x.2 x.0 (target_of w purpose) = record { place = place; shim = shim; purpose = purpose; listed = listed; stands_for = stands; same = refl; is = x.4 } in
+      (x.0, x.1, subst (λ o. IsShimGiven w o x.0 (target_of w purpose)) (sym x.3) given)
 
-  -- so has a shim that stands for a destructor
-  pub destructor_shim : (index : ℕ) (name : List ℕ) → IsDestructorFor w earlier index name → (x : ℕ) × (address_at spaces.CoreFunc index c.items ≡ Some x) × IsDestructorGiven w a.shims x name
-  destructor_shim index name h =
-      let within : h.place < length (shims_of w) = slice_get_within (shims_of w) h.place h.shim h.listed in
-      let x = shim_exported within h.is in
-      let given : IsDestructorAt w x.2 x.0 name = record { place = h.place; shim = h.shim; listed = h.listed; stands_for = h.stands_for; is = x.4 } in
-      (x.0, x.1, subst (λ o. IsDestructorGiven w o x.0 name) (sym x.3) given)
-
-  -- the entries of an inline instance, as they were put into the store
-  fields_there : (es : List CoreInlineExport) (xs : List Export) (fs : List (List ℕ × Import)) → IsWorld w → AllByRecursion (λ f. IsImportRole w f.1) fs → AllZip (IsEntryFor w Main earlier) es fs → AllZip (IsNamedEntry c.items) es xs →
-      AllZip (IsFieldExport w a.shims s) xs fs
-  fields_there [] [] [] ok r h n = tt
-  fields_there (e ∷ es) (x ∷ xs) (f ∷ fs) ok r h n =
-      let i : (e.kind ≡ kinds.Func) × (y : ℕ) × (address_at spaces.CoreFunc e.index c.items ≡ Some y) × Serves w a.shims s y f.1 = given_item_there ok e.kind e.index f.1 r.0 h.0.serves in
-      let kind : kind_space e.kind ≡ spaces.CoreFunc = ap kind_space i.0 in
-      let at : address_at spaces.CoreFunc e.index c.items ≡ Some x.address = subst (λ space. address_at space e.index c.items ≡ Some x.address) kind n.0.at in
-      let same : i.1 ≡ x.address = same_Some i.1 x.address (sym i.2 ∙ at) in
-      (record { named = n.0.named ∙ h.0.named; space = n.0.space ∙ kind; serves = subst (λ y. Serves w a.shims s y f.1) same i.3 }, fields_there es xs fs ok r.1 h.1 n.1)
-  fields_there [] (x ∷ xs) fs ok r h n = absurd n
-  fields_there (e ∷ es) [] fs ok r h n = absurd n
-  fields_there [] [] (f ∷ fs) ok r h n = absurd h
-  fields_there (e ∷ es) (x ∷ xs) [] ok r h n = absurd h
-
-  module _ (m : Machine) (items : m.scope.items ≡ c.items) (instances : m.store.core_instances ≡ s.core_instances) where
-    argument_there : IsWorld w → (x : CoreArgument) (g : List ℕ × ImportInstance) → IsImportGroup w g → IsArgumentFor w Main earlier x g → (y : List ℕ × List Export) × (core_argument m x ≡ Some y) × IsOffered w a.shims s y g
-    argument_there ok x g right h =
-        let b : (y : ℕ) × (address_at spaces.CoreInstance x.instance c.items ≡ Some y) × IsInlineInstance c.items s h.serves.entries y = thing_there h.serves.made in
-        ((x.name, b.2.exports), rw (items, b.1, instances, b.2.present) refl, record { named = h.named; each = fields_there h.serves.entries b.2.exports (fields_of g.1) ok (fields_right w g right) h.serves.each b.2.each })
-
-    abbrev IsArgument : CoreArgument → List ℕ × ImportInstance → Type 0
-    IsArgument x g = IsImportGroup w g × IsArgumentFor w Main earlier x g
-
-    with_groups : (xs : List CoreArgument) (gs : List (List ℕ × ImportInstance)) → AllByRecursion (IsImportGroup w) gs → AllZip (IsArgumentFor w Main earlier) xs gs → AllZip IsArgument xs gs
-    with_groups [] [] r h = tt
-    with_groups (x ∷ xs) (g ∷ gs) r h = ((r.0, h.0), with_groups xs gs r.1 h.1)
-    with_groups [] (g ∷ gs) r h = absurd h
-    with_groups (x ∷ xs) [] r h = absurd h
-
-    -- the arguments of main's instantiation
-    pub arguments_there : IsWorld w → (xs : List CoreArgument) (gs : List (List ℕ × ImportInstance)) → AllByRecursion (IsImportGroup w) gs → AllZip (IsArgumentFor w Main earlier) xs gs →
-        (ys : List (List ℕ × List Export)) × (all_some (map (core_argument m) xs) ≡ Some ys) × AllZip (IsOffered w a.shims s) ys gs
-    arguments_there ok xs gs r h = all_some-zip (IsOffered w a.shims s) (core_argument m) IsArgument (λ x g k. argument_there ok x g k.0 k.1) xs gs (with_groups xs gs r h)
-
--- ---- what main's imports find
-
--- a function of a resource's handles is opaque, and has its core type
-resource_opaque : (s : Store) (address : ℕ) (function : ResourceFunction) (resource : Resource) (type : FuncType) → Some (externs.Func (resource_core function)) ≡ Some (externs.Func type) → IsFunctionOf s address function resource →
-    (item : CoreItem) × IsOpaqueOf s address type item
-resource_opaque s address function resource type fits h =
-    let item : CoreItem = IntrinsicOf (intrinsic_of function h.of) in
-    (item, subst (λ t. IsOpaqueOf s address t item) (ap (function_type_in type) (same_Some (externs.Func (resource_core function)) (externs.Func type) fits)) h.is)
-
--- what serves a role is opaque, and has the core type that the role requires
-pub served_opaque : (w : ComponentWorld) (s : Store) (address : ℕ) (role : Import) (type : FuncType) → IsImportRole w role → type_of_import w.resolve (items_of w) role ≡ Some (externs.Func type) →
-    IsServedAs w s address (link_of w Main role) → (item : CoreItem) × IsOpaqueOf s address type item
-served_opaque w s address (imports.WorldFunc (keys.Name text) function abi) type right fits h =
-    let asked : called_type w.resolve GuestImport h.typed.wit ≡ externs.Func type =
-    same_Some (called_type w.resolve GuestImport h.typed.wit) (externs.Func type)
-    (sym (ap (option_map (called_type w.resolve GuestImport)) h.typed.imported) ∙ (ap (λ abi. option_map (called_type w.resolve abi) (root_function_at (items_of w).imports (keys.Name text))) (sym right.2) ∙ fits)) in
-    let typed : externs.Func (core_signature h.type []) ≡ externs.Func type = lowered_type w h.type h.typed.wit h.typed.typed ∙ asked in
-    (Lowering h.lowered.of h.held, subst (λ t. IsOpaqueOf s address t (Lowering h.lowered.of h.held)) (ap (function_type_in type) typed) h.lowered.is)
-served_opaque w s address (imports.InterfaceFunc key id function abi) type right fits h =
-    let asked : called_type w.resolve GuestImport h.typed.wit ≡ externs.Func type =
-    same_Some (called_type w.resolve GuestImport h.typed.wit) (externs.Func type)
-    (sym (ap (option_map (called_type w.resolve GuestImport)) h.typed.imported) ∙ (ap (λ abi. option_map (called_type w.resolve abi) (found function (functions_of w.resolve id))) (sym right.2) ∙ fits)) in
-    let typed : externs.Func (core_signature h.type []) ≡ externs.Func type = lowered_type w h.type h.typed.wit h.typed.typed ∙ asked in
-    (Lowering h.lowered.of h.held, subst (λ t. IsOpaqueOf s address t (Lowering h.lowered.of h.held)) (ap (function_type_in type) typed) h.lowered.is)
-served_opaque w s address (imports.ImportedResourceDrop key interface id) type right fits h = resource_opaque s address Drop (resource_of w id) type fits h
-served_opaque w s address (imports.ExportedResourceDrop key id) type right fits h = resource_opaque s address Drop (resource_of w id) type fits h
-served_opaque w s address (imports.ExportedResourceRep key id) type right fits h = resource_opaque s address Rep (resource_of w id) type fits h
-served_opaque w s address (imports.ExportedResourceNew key id) type right fits h = resource_opaque s address New (resource_of w id) type fits h
-served_opaque w s address role type right fits h = absurd right
-
--- what a shim hands on to is opaque, and has the shim's core type
-pub purpose_opaque : (w : ComponentWorld) (s : Store) (address : ℕ) (shim : Shim) (p : Purpose) → HasPurpose w shim p → IsServedAs w s address (target_of w p) → (item : CoreItem) × IsOpaqueOf s address (type_of_shim shim) item
-purpose_opaque w s address shim (OfImport role) stands h = served_opaque w s address role (type_of_shim shim) stands.right stands.typed h
-purpose_opaque w s address shim (OfDestructor name) stands h =
-    let typed : externs.Func h.is.type ≡ externs.Func (type_of_shim shim) = same_Some (externs.Func h.is.type) (externs.Func (type_of_shim shim)) (sym h.offered ∙ stands.typed) in
-    (ExportedBy h.is.user name, subst (λ t. IsOpaqueOf s address t (ExportedBy h.is.user name)) (ap (function_type_in (type_of_shim shim)) typed) h.is.is)
-
--- a shim stands for one thing
-pub one_purpose : (w : ComponentWorld) (shim : Shim) (p q : Purpose) → HasPurpose w shim p → HasPurpose w shim q → p ≡ q
-one_purpose w shim (OfImport role) (OfImport other) h k = ap OfImport (same_Some role other (sym h.of_kind ∙ k.of_kind))
-one_purpose w shim (OfImport role) (OfDestructor name) h k = absurd (none-some role (ap (role_of_kind w) (sym k.of_kind) ∙ h.of_kind))
-one_purpose w shim (OfDestructor name) (OfImport role) h k = absurd (none-some role (ap (role_of_kind w) (sym h.of_kind) ∙ k.of_kind))
-one_purpose w shim (OfDestructor name) (OfDestructor other) h k = ap (λ kind. OfDestructor (kind_name kind)) (sym h.of_kind ∙ k.of_kind)
-
--- what is given for a role is a function of the core type that the role requires
-record IsServedFunction (s : Store) (address : ℕ) (type : FuncType) : Type 0 where
-  pub function : Func
-  pub present : slice_get s.code.functions address ≡ Some function
-  pub typed : signature_of function ≡ type
-
-served_function : (w : ComponentWorld) (s : Store) (numbers : List ℕ) (shims : Option ShimsAt) (address : ℕ) (role : Import) (type : FuncType) → MayHaveShims w s numbers shims → IsImportRole w role →
-    type_of_import w.resolve (items_of w) role ≡ Some (externs.Func type) → Serves w shims s address role → IsServedFunction s address type
-served_function w s numbers shims address role type there right fits (inl h) =
-    let o : (item : CoreItem) × IsOpaqueOf s address type item = served_opaque w s address role type right fits h in
-    record { function = Opaque o.1.what type; present = o.1.present; typed = refl }
-served_function w s numbers None address role type there right fits (inr h) = absurd h
-served_function w s numbers (Some at) address role type there right fits (inr h) =
-    let shim : IsShimAt s.code at.table (at.address + h.place) (0 + h.place) (type_of_shim h.shim) = shim_at s.code at.table 0 at.address (shims_of w) h.place h.shim there.made h.listed in
-    record {
-      function = _;
-      present = ap (slice_get s.code.functions) h.is ∙ shim.body;
-      typed = ap (function_type_in type) (same_Some (externs.Func (type_of_shim h.shim)) (externs.Func type) (sym h.stands_for.typed ∙ fits));
-    }
-
--- a function matches an import of its core type
-matches_function : (m : Machine) (t : Thing) (type : FuncType) → t.space ≡ spaces.CoreFunc → IsServedFunction m.store t.address type → matching m (externs.Func type) t ≡ Some t
-matches_function m t type space h = rw (space, h.present, h.typed, same_signature-refl type) refl
-
--- an import that has a role is to be given what the link table says of the role
-linked_in : (w : ComponentWorld) (instance : ImportInstance) (field : List ℕ) (role : Import) → found field (fields_of instance) ≡ Some role → link_in w Main field instance ≡ Some (link_of w Main role)
-linked_in w (instances.Names fields) field role e = ap (option_map (link_of w Main)) e
-linked_in w (instances.Whole which) field role e = absurd (none-some role e)
-
-module _ (w : ComponentWorld) (shims : Option ShimsAt) (m : Machine) where
-  -- an export serves the role of a field; the exports of an argument serve those of a module's imports
-  abbrev IsFor : Export → Import → Type 0
-  IsFor e role = (e.space ≡ spaces.CoreFunc) × Serves w shims m.store e.address role
-
-  abbrev AreFor : List Export → ImportInstance → Type 0
-  AreFor es instance = AllZip (IsFieldExport w shims m.store) es (fields_of instance)
-
-  fields_named : (es : List Export) (fs : List (List ℕ × Import)) → AllZip (IsFieldExport w shims m.store) es fs →
-      AllZip (λ (x : List ℕ × Export) (z : List ℕ × Import). (x.0 ≡ z.0) × IsFor x.1 z.1) (map (λ (e : Export). (e.name, e)) es) fs
-  fields_named [] [] h = tt
-  fields_named (e ∷ es) (f ∷ fs) h = ((h.0.named, (h.0.space, h.0.serves)), fields_named es fs h.1)
-  fields_named [] (f ∷ fs) h = absurd h
-  fields_named (e ∷ es) [] h = absurd h
-
-  groups_named : (arguments : List (List ℕ × List Export)) (gs : List (List ℕ × ImportInstance)) → AllZip (IsOffered w shims m.store) arguments gs →
-      AllZip (λ (x : List ℕ × List Export) (z : List ℕ × ImportInstance). (x.0 ≡ z.0) × AreFor x.1 z.1) arguments gs
-  groups_named arguments gs h = AllZip-weaker (λ a g o. (o.named, o.each)) arguments gs h
-
-  -- each import of main finds what was planned for it
-  pub given_there : (numbers : List ℕ) → MayHaveShims w m.store numbers shims → (arguments : List (List ℕ × List Export)) → AllZip (IsOffered w shims m.store) arguments w.main.imports.modules → (i : ImportType) → IsFunctionImport w i →
-      (t : Thing) × (given_to m arguments i ≡ Some t) × IsPlanned w shims m.store t i
-  given_there numbers there arguments h i p =
-      let roles : List (List ℕ × ImportInstance) = w.main.imports.modules in
-      let g = bound_some (λ (o : ImportInstance). found i.field (fields_of o)) (found i.module_name roles) p.role p.has_role in
-      let a = found-zip AreFor i.module_name arguments roles g.0 (groups_named arguments roles h) g.1 in
-      let e = found-zip IsFor i.field (map (λ (e : Export). (e.name, e)) a.0) (fields_of g.0) p.role (fields_named a.0 (fields_of g.0) a.2) g.2 in
-      let x : Export = e.0 in
-      let t : Thing = record { space = x.space; address = x.address } in
-      let function : IsServedFunction m.store x.address p.type = served_function w m.store numbers shims x.address p.role p.type there p.right p.fits e.2.1 in
-      let said : link_at w (main_module w) i.module_name i.field ≡ Some (link_of w Main p.role) = ap (option_and_then (link_in w Main i.field)) g.1 ∙ linked_in w g.0 i.field p.role g.2 in
-      (t, rw (p.typed, a.1, e.1, at_some x e.2.0) (matches_function m t p.type e.2.0 function), record { role = p.role; said = said; space = e.2.0; serves = e.2.1 })
+  -- and it is a function of its core type
+  pub shim_typed : {index : ℕ} (place : ℕ) (shim : Shim) → slice_get (shims_of w) place ≡ Some shim → IsExported earlier index (record { of = shims_number w; kind = kinds.Func; name = decimal place }) →
+      (x : ℕ) × (address_at spaces.CoreFunc index c.items ≡ Some x) × IsFunctionTyped s x (type_of_shim shim)
+  shim_typed {index} place shim listed h =
+      let x = shim_exported (slice_get_within (shims_of w) place shim listed) h in
+      let at : ShimsAt = x.2 in
+      let there : AreShims w s (flat_map (at_root item_instantiates) earlier) at = subst (MayHaveShims w s (flat_map (at_root item_instantiates) earlier)) x.3 a.with_shims in
+      let is : IsShimAt s.code at.table (at.address + place) (0 + place) (type_of_shim shim) = shim_at s.code at.table 0 at.address (shims_of w) place shim there.made listed in
+      (x.0, x.1, record { function = _; present = ap (slice_get s.code.functions) x.4 ∙ is.body; typed = refl })

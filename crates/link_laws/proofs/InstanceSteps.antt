@@ -1,10 +1,11 @@
--- An instance of a core module runs, and the store agrees with the longer list: of main, of the shims, and of the fixup.
-use Rattle.std.proofs.Common.{arith, ◌+◌, ◌^◌, inl, inr, ◌≡◌, ◌∙◌, ℕ, zero, suc, ◌<◌, Bool, false, List, [], ◌∷◌, ◌++◌, length, map, filter, refl, sym, ap, ap₂, subst, append-nil, append_assoc, Option, Some, None, cond}
+-- An instance of a core module runs, and the store agrees with the longer list: of a user module, of the shims, and of the fixup.
+use Rattle.std.proofs.Common.{arith, ◌≤◌, ◌+◌, ◌^◌, inl, inr, ◌≡◌, ◌∙◌, ℕ, zero, suc, ◌<◌, Bool, false, List, [], ◌∷◌, ◌++◌, length, map, filter, refl, sym, ap, ap₂, subst, append-nil, append_assoc, Option, Some, None, cond}
 use Rattle.std.proofs.lemmas.List.{map-append, length-replicate}
-use Rattle.std.proofs.lemmas.Option.{none-some, same_Some}
+use Rattle.std.proofs.lemmas.Option.{none-some, same_Some, slice_get-map}
+use Rattle.std.specs.Option.{option_map}
 use Rattle.std.specs.Prelude.{Contains, codes}
 use Rattle.std.specs.List.{slice_get, flat_map, AllZip, AllByRecursion, filter_map, slice_set, range_with_len}
-use Rattle.comp_lists.proofs.Lists.{slice_get-end, AllZip-weaker, AllByRecursion-weaker, AllByRecursion-push}
+use Rattle.comp_lists.proofs.Lists.{slice_get-append, slice_get-end, AllZip-weaker, AllByRecursion-weaker, AllByRecursion-push, AllByRecursion-contains}
 use Rattle.comp_bytes.specs.Spaces.{kind_space, items_in}
 use Rattle.comp_bytes.specs.declared.space.Space.TheVariants as spaces
 use Rattle.comp_bytes.specs.declared.def.CoreArgument.{CoreArgument}
@@ -23,30 +24,32 @@ use Rattle.comp_worlds.specs.declared.world.ComponentWorld.{ComponentWorld}
 use Rattle.core_runs.specs.Store.{Opaque, Instantiated, Now}
 use Rattle.core_runs.specs.Execution.{seen}
 use Rattle.comp_runs.specs.Store.{Thing, Export, CoreItem, ModuleInstance, Store}
-use Rattle.comp_links.specs.Targets.{Main}
 use Rattle.comp_links.specs.Modules.{WorldModule, user_modules}
 use Rattle.comp_roles.specs.declared.offered.ImportType.{ImportType}
-use Rattle.comp_terms.specs.Planned.{IsArgumentFor, IsFillFor}
+use Rattle.comp_terms.specs.Planned.{IsFillFor}
 use Rattle.comp_terms.specs.Rules.{InstantiatesUser, InstantiatesShims, InstantiatesFixup, InstantiatesModule, instance_number, instances_in, landmark}
 use Rattle.comp_runs.specs.Machine.{Scope, Machine, address_at, is_of, all_some}
 use Rattle.comp_runs.specs.Instances.{ExportTypes, exported_by, with_exports, with_module_instance, given_to, new_user, ModuleMeaning, OfUser, OfGenerated}
 use Rattle.comp_runs.specs.Running.{core_argument, run}
 use Rattle.instance_laws.proofs.Held.{keeps_same, keeps_more, keeps_grown}
-use Rattle.link_laws.proofs.Steps.{machine, IsNow, IsGood, good_answered, quiet, users_among, Steps, filter-push, with_thing, numbered_at, no_answers, given_same, few, one_event, cells, length-cells, export_beside, not_last, not_fixup, agrees_with, seen_by}
+use Rattle.link_laws.proofs.Outcomes.{machine, no_answers, IsNow, IsGood, good_answered, Continues, quiet, users_among, seen_by, Steps, few, one_event, cells, length-cells}
+use Rattle.link_laws.proofs.Steps.{filter-push, with_thing, numbered_at, given_same, export_beside, not_last, agrees_with}
 use Rattle.shim_runs.proofs.Placed.{shims_kept}
 use Rattle.shim_runs.proofs.ShimInstance.{shims_run}
 use Rattle.shim_runs.proofs.FixupInstance.{fixup_run}
 use Rattle.world_shims.proofs.Numbered.{shims_numbered}
 use Rattle.shim_plan.specs.declared.shims.Shim.{Shim}
 use Rattle.core_runs.specs.Instances.{empty_table}
-use Rattle.std.proofs.lemmas.Bool.{ne_eqb}
+use Rattle.std.proofs.lemmas.Bool.{lt-ltb, le-ltb}
 use Rattle.std.proofs.lemmas.List.Elements.{filter_map-append, Contains-append_left, Contains-append_right}
 use Rattle.link_laws.specs.Composition.{GeneratedModules, generated_sections, at_root, item_instantiates}
 use Rattle.link_laws.specs.Linking.{module_meanings}
 use Rattle.link_laws.proofs.Zips.{all_some-each}
-use Rattle.link_laws.proofs.Stores.{IsOpaqueOf, ShimsAt, IsModuleInstance, IsInlineInstance, IsFilledWith, AreFilled, AreShims, IsServedAs, IsNamedEntry, ExportsShims, MayHaveShims, main_module, IsPlanned, IsPlannedUser, NumberedFrom, AreResources, Agrees}
-use Rattle.link_laws.proofs.Given.{thing_there, purpose_there, purpose_opaque, not_shims, of_shims, module_there, IsOffered, address_there, arguments_there, given_there}
-use Rattle.link_laws.proofs.Plain.{only, nothing_in, IsFunctionImport, function_imports, only_main, listed_main}
+use Rattle.link_laws.proofs.Stores.{IsOpaqueOf, ShimsAt, IsModuleInstance, IsInlineInstance, IsFilledWith, AreFilled, AreShims, IsServedAs, IsNamedEntry, ExportsShims, MayHaveShims, TakesShims, IsPlanned, IsPlannedUser, NumberedFrom, AreResources, Agrees}
+use Rattle.link_laws.proofs.Given.{thing_there, target_there, user_below, apart, not_shims, not_fixup, of_shims, module_there, address_there}
+use Rattle.link_laws.proofs.GivenImports.{purpose_opaque, IsOffered, arguments_there, given_there}
+use Rattle.link_laws.proofs.Plain.{only, nothing_in, IsRightModule, module_right, IsFunctionImport, function_imports}
+use Rattle.link_laws.proofs.OnlyMain.{takes_shims}
 use Rattle.link_laws.proofs.UserExports.{Exports, Alike, all_exports, all_alike, same_exports, each_export}
 use Rattle.link_laws.proofs.Kept.{IsFilledWith-kept, ShimsKept, shims_same, MayHaveShims-kept, Keeps, things_kept, IsPlannedUser-kept, AreKeyExports-kept, AreResources-kept}
 
@@ -62,22 +65,59 @@ pub record IsGenerated (w : ComponentWorld) (gen : GeneratedModules) : Type 0 wh
   pub is : gen ≡ generated_for w debug_names
   pub room : length (shims_of w) < 2 ^ 32
 
+abbrev meaning_of_user : WorldModule → ModuleMeaning
+meaning_of_user m = OfUser m.found.imported m.found.offered
+
 abbrev meaning_at : List WorldModule → GeneratedModules → ℕ → Option ModuleMeaning
-meaning_at us gen n = slice_get (map (λ m. OfUser m.found.imported m.found.offered) us ++ map (λ ss. OfGenerated ss) (generated_sections gen)) n
+meaning_at us gen n = slice_get (map meaning_of_user us ++ map (λ ss. OfGenerated ss) (generated_sections gen)) n
 
-shims_meaning : (w : ComponentWorld) (gen : GeneratedModules) → IsWorld w → (h : IsGenerated w gen) → slice_get (module_meanings w gen) (shims_number w) ≡ Some (OfGenerated (sections_of_shims (shims_of w) h.debug_names))
-shims_meaning w gen ok h =
+-- the modules of a list that come behind as many others
+first_behind : {X Y : Type 0} (f : X → Y) (xs : List X) (ys : List Y) → slice_get (map f xs ++ ys) (length xs) ≡ slice_get ys 0
+first_behind f [] ys = refl
+first_behind f (x ∷ xs) ys = first_behind f xs ys
+
+second_behind : {X Y : Type 0} (f : X → Y) (xs : List X) (ys : List Y) → slice_get (map f xs ++ ys) (suc (length xs)) ≡ slice_get ys 1
+second_behind f [] ys = refl
+second_behind f (x ∷ xs) ys = second_behind f xs ys
+
+user_meaning : (w : ComponentWorld) (gen : GeneratedModules) (number : ℕ) (of : WorldModule) → slice_get (user_modules w) number ≡ Some of → slice_get (module_meanings w gen) number ≡ Some (OfUser of.found.imported of.found.offered)
+user_meaning w gen number of listed =
+    slice_get-append (map meaning_of_user (user_modules w)) (map (λ ss. OfGenerated ss) (generated_sections gen)) number (OfUser of.found.imported of.found.offered)
+    (slice_get-map meaning_of_user (user_modules w) number ∙ ap (option_map meaning_of_user) listed)
+
+shims_meaning : (w : ComponentWorld) (gen : GeneratedModules) (h : IsGenerated w gen) → slice_get (module_meanings w gen) (shims_number w) ≡ Some (OfGenerated (sections_of_shims (shims_of w) h.debug_names))
+shims_meaning w gen h =
     ap (λ x. meaning_at (user_modules w) x (shims_number w)) h.is
-    ∙ ap (λ (us : List WorldModule). meaning_at us (generated_for w h.debug_names) (length us)) (only_main w ok)
+    ∙ first_behind meaning_of_user (user_modules w) (map (λ ss. OfGenerated ss) (generated_sections (generated_for w h.debug_names)))
 
-fixup_meaning : (w : ComponentWorld) (gen : GeneratedModules) → IsWorld w → (h : IsGenerated w gen) → slice_get (module_meanings w gen) (fixup_number w) ≡ Some (OfGenerated (sections_of_fixup (shims_of w) h.debug_names))
-fixup_meaning w gen ok h =
+fixup_meaning : (w : ComponentWorld) (gen : GeneratedModules) (h : IsGenerated w gen) → slice_get (module_meanings w gen) (fixup_number w) ≡ Some (OfGenerated (sections_of_fixup (shims_of w) h.debug_names))
+fixup_meaning w gen h =
     ap (λ x. meaning_at (user_modules w) x (fixup_number w)) h.is
-    ∙ ap (λ (us : List WorldModule). meaning_at us (generated_for w h.debug_names) (suc (length us))) (only_main w ok)
+    ∙ second_behind meaning_of_user (user_modules w) (map (λ ss. OfGenerated ss) (generated_sections (generated_for w h.debug_names)))
 
--- none of them is a user module
-users_of_generated : (n : ℕ) → (0 ≡ n → ⊥) → users_among (n ∷ []) ≡ []
-users_of_generated n other = ap (λ b. cond b (n ∷ []) []) (ne_eqb n 0 (λ e. other (sym e)))
+-- a user module is one, and none of the generated modules is
+one_among : (w : ComponentWorld) (n : ℕ) → n < length (user_modules w) → users_among w (n ∷ []) ≡ n ∷ []
+one_among w n below = ap (λ b. cond b (n ∷ []) []) (lt-ltb n (length (user_modules w)) below)
+
+pub none_among : (w : ComponentWorld) (n : ℕ) → length (user_modules w) ≤ n → users_among w (n ∷ []) ≡ []
+none_among w n above = ap (λ b. cond b (n ∷ []) []) (le-ltb n (length (user_modules w)) above)
+
+pub at_least : (n : ℕ) → n ≤ n
+at_least n = omega arith
+
+pub before_next : (n : ℕ) → n ≤ suc n
+before_next n = omega arith
+
+under : (n : ℕ) → n < suc n
+under n = omega arith
+
+from_zero : (n : ℕ) → 0 + n ≤ suc n
+from_zero n = omega arith
+
+-- the numbers of a range are below its end
+range_below : (start count end : ℕ) → start + count ≤ end → AllByRecursion (λ n. n < end) (range_with_len start count)
+range_below start zero end l = tt
+range_below start (suc count) end l = (omega (arith, l), range_below (start + 1) count end (omega (arith, l)))
 
 -- the numbers of instances, by the landmarks and by the definitions
 number_of_one : (d : Def) → filter_map instance_number (filter_map landmark (d ∷ [])) ≡ at_root item_instantiates d
@@ -123,29 +163,30 @@ module _ {w : ComponentWorld} {earlier : List Def} {c : Scope} {s : Store} (a : 
       let same : 0 + number ≡ number = omega arith in
       numbered_at 0 (filter (is_of spaces.CoreModule) c.items) (length s.core_modules) number a.modules (address_there a spaces.CoreModule number l) ∙ ap (λ (n : ℕ). Some n) same
 
-  pub step_user : IsWorld w → (number : ℕ) (arguments : List CoreArgument) → InstantiatesUser w earlier number arguments → Steps w gen earlier c s g (defs.Item (items.CoreInstantiate number arguments))
-  step_user ok number arguments h =
-      let d : Def = defs.Item (items.CoreInstantiate 0 arguments) in
-      let es : ExportTypes = w.main.offered in
-      let is : List ImportType = w.main.imported in
-      let roles : List (List ℕ × ImportInstance) = w.main.imports.modules in
+  -- any user module: what it imports is given, and its instance exports what the module offers
+  pub step_user : (number : ℕ) (arguments : List CoreArgument) (h : InstantiatesUser w earlier number arguments) → IsRightModule w h.of → TakesShims w h.of.of → Steps w gen earlier c s g (defs.Item (items.CoreInstantiate number arguments))
+  step_user number arguments h right takes =
+      let d : Def = defs.Item (items.CoreInstantiate number arguments) in
+      let of : WorldModule = h.of in
+      let es : ExportTypes = of.found.offered in
+      let is : List ImportType = of.found.imported in
+      let roles : List (List ℕ × ImportInstance) = of.found.imports.modules in
       let user : ℕ = length s.module_instances in
       let numbers : List ℕ = flat_map (at_root item_instantiates) earlier in
       let m0 : Machine = machine c s (record no_answers { globals = cells g }) in
       let m1 : Machine = with_exports user es m0 in
       let more : Exports m0 m1 = all_exports user es m0 in
       let own : List Export = exported_by user es m0 in
-      let of_main : (number ≡ 0) × (main_module w ≡ h.of) = listed_main w ok number h.of h.listed in
-      let each : AllZip (IsArgumentFor w Main earlier) arguments roles = subst (λ (o : WorldModule). AllZip (IsArgumentFor w o.of earlier) arguments o.found.imports.modules) (sym of_main.1) h.each in
-      let args : (ys : List (List ℕ × List Export)) × (all_some (map (core_argument m0) arguments) ≡ Some ys) × AllZip (IsOffered w a.shims s) ys roles =
-      arguments_there a m0 refl refl ok arguments roles ok.main.import_roles each in
-      let plain : AllByRecursion (IsFunctionImport w) is = function_imports w ok in
-      let found : (ts : List Thing) × (all_some (map (given_to (machine c s no_answers) args.0) is) ≡ Some ts) × AllZip (IsPlanned w a.shims s) ts is =
-      all_some-each (IsPlanned w a.shims s) (given_to (machine c s no_answers) args.0) is
-      (AllByRecursion-weaker (given_there w a.shims (machine c s no_answers) numbers a.with_shims args.0 args.2) is plain) in
+      let below : number < shims_number w = user_below w number of h.listed in
+      let args : (ys : List (List ℕ × List Export)) × (all_some (map (core_argument m0) arguments) ≡ Some ys) × AllZip (IsOffered w a.shims s of.of) ys roles =
+      arguments_there a of.of takes m0 refl refl arguments roles right.is.import_roles h.each in
+      let plain : AllByRecursion (IsFunctionImport w of.found) is = function_imports w of right in
+      let found : (ts : List Thing) × (all_some (map (given_to (machine c s no_answers) args.0) is) ≡ Some ts) × AllZip (IsPlanned w a.shims s of) ts is =
+      all_some-each (IsPlanned w a.shims s of) (given_to (machine c s no_answers) args.0) is
+      (AllByRecursion-weaker (given_there w a.shims of (machine c s no_answers) args.0 args.2) is plain) in
       let given : (now : Now) → all_some (map (given_to (machine c s now) args.0) is) ≡ Some found.0 = λ now.
-      ap (λ l. all_some l) (given_same w c s now args.0 is plain) ∙ found.1 in
-      let instance : ModuleInstance = record { module_number = 0; given = found.0; exports = own } in
+      ap (λ l. all_some l) (given_same w of.found c s now args.0 is plain) ∙ found.1 in
+      let instance : ModuleInstance = record { module_number = number; given = found.0; exports = own } in
       let t : Thing = record { space = spaces.CoreInstance; address = length m1.store.core_instances } in
       let s' : Store = record m1.store { core_instances = m1.store.core_instances ++ own ∷ []; module_instances = m1.store.module_instances ++ instance ∷ [] } in
       let users : m1.store.module_instances ≡ s.module_instances = ap (λ (m : Machine). m.store.module_instances) more.same in
@@ -160,40 +201,40 @@ module _ {w : ComponentWorld} {earlier : List Def} {c : Scope} {s : Store} (a : 
         instances = keeps_same (ap (λ (m : Machine). m.store.instances) more.same);
         users = keeps_grown s.module_instances (m1.store.module_instances ++ instance ∷ []) (instance ∷ []) (ap (λ l. l ++ instance ∷ []) users);
       } in
-      let scoped : 0 < items_in spaces.CoreModule earlier = subst (λ n. n < items_in spaces.CoreModule earlier) of_main.0 h.scoped in
       let here : ShimsKept a.shims a.shims = shims_same a.shims in
+      let own_planned : IsPlannedUser w a.shims s instance =
+      λ other listed. subst (λ (o : WorldModule). AllZip (IsPlanned w a.shims s o) found.0 o.found.imported) (same_Some of other (sym h.listed ∙ listed)) found.2 in
       let planned : AllByRecursion (IsPlannedUser w a.shims s') (m1.store.module_instances ++ instance ∷ []) =
       AllByRecursion-push (IsPlannedUser w a.shims s') m1.store.module_instances instance
       (subst (AllByRecursion (IsPlannedUser w a.shims s')) (sym users) (AllByRecursion-weaker (IsPlannedUser-kept w k a.shims a.shims here) s.module_instances a.served))
-      (IsPlannedUser-kept w k a.shims a.shims here instance (λ is_main. found.2)) in
+      (IsPlannedUser-kept w k a.shims a.shims here instance own_planned) in
       let exporting : (at : ShimsAt) → AllByRecursion (ExportsShims w at) s.module_instances → AllByRecursion (ExportsShims w at) (m1.store.module_instances ++ instance ∷ []) =
-      λ at e. AllByRecursion-push (ExportsShims w at) m1.store.module_instances instance (subst (AllByRecursion (ExportsShims w at)) (sym users) e) (λ is_shims. absurd (not_shims w is_shims)) in
-      let there : MayHaveShims w s' (numbers ++ 0 ∷ []) a.shims =
-      MayHaveShims-kept k w numbers (0 ∷ []) a.shims more.tables (λ yes. not_last numbers (shims_number w) (not_shims w) yes) (λ yes. not_last numbers (fixup_number w) (not_fixup w) yes) exporting a.with_shims in
+      λ at e. AllByRecursion-push (ExportsShims w at) m1.store.module_instances instance (subst (AllByRecursion (ExportsShims w at)) (sym users) e) (λ is_shims. absurd (not_shims w number below is_shims)) in
+      let there : MayHaveShims w s' (numbers ++ number ∷ []) a.shims =
+      MayHaveShims-kept k w numbers (number ∷ []) a.shims more.tables (λ yes. not_last numbers number (shims_number w) (not_shims w number below) yes) (λ yes. not_last numbers number (fixup_number w) (not_fixup w number below) yes) exporting a.with_shims in
       let alike : (after : Now) → length after.globals ≡ g → Alike (machine c s after) m0 = λ after count. record { store = refl; globals = count ∙ sym (length-cells g) } in
-      let new : (after : Now) → length after.globals ≡ g → new_user 0 es found.0 (machine c s after) ≡ machine (with_thing c t c.imports) s' (with_exports user es (machine c s after)).now = λ after count.
-      ap₂ (λ l m. with_module_instance (record { module_number = 0; given = found.0; exports = l }) m)
+      let new : (after : Now) → length after.globals ≡ g → new_user number es found.0 (machine c s after) ≡ machine (with_thing c t c.imports) s' (with_exports user es (machine c s after)).now = λ after count.
+      ap₂ (λ l m. with_module_instance (record { module_number = number; given = found.0; exports = l }) m)
       (same_exports user es (machine c s after) m0 (alike after count))
       (ap₂ (λ x y. machine x y (with_exports user es (machine c s after)).now) (ap (λ (m : Machine). m.scope) (all_exports user es (machine c s after)).same) (all_alike user es (machine c s after) m0 (alike after count)).store) in
-      let steps : Steps w gen earlier c s g d = (
+      let continues : Continues w gen d c s g (with_thing c t c.imports) s' (length m1.now.globals) (number ∷ []) =
+      λ e u n events questions rest go now at. rw (module_address number h.scoped, user_meaning w gen number of h.listed, args.1, given now) (
+      good_answered e u n (events ++ (Instantiated number ∷ seen_by w rest)) questions now.answers (seen now (Instantiated number)) (machine c s now) _
+      (few w number events g rest now at)
+      (λ values after same_events same_moments same_globals.
+      let count : length after.globals ≡ g = same_globals ∙ at.globals in
+      let b : Machine = with_exports user es (machine c s after) in
+      let added : Exports (machine c s after) b = all_exports user es (machine c s after) in
+      let is_now : IsNow (events ++ Instantiated number ∷ []) (length m1.now.globals) b.now =
+      one_event number events g (length m1.now.globals) now b.now at (ap (λ (m : Machine). m.now.events) added.same ∙ same_events) (ap (λ (m : Machine). m.now.moments) added.same ∙ same_moments) (all_alike user es (machine c s after) m0 (alike after count)).globals in
+      subst (λ (m : Machine). IsGood e u n (events ++ (Instantiated number ∷ seen_by w rest)) questions after.answers (run (module_meanings w gen) rest m)) (sym (new after count))
+      (subst (λ l. IsGood e u n (events ++ (Instantiated number ∷ seen_by w rest)) questions l (run (module_meanings w gen) rest (machine (with_thing c t c.imports) s' b.now))) (ap (λ (m : Machine). m.now.answers) added.same)
+      (subst (λ l. IsGood e u n l questions b.now.answers (run (module_meanings w gen) rest (machine (with_thing c t c.imports) s' b.now))) (append_assoc events (Instantiated number ∷ []) (seen_by w rest))
+      (go b.now is_now))))) in (
         with_thing c t c.imports,
         s',
         length m1.now.globals,
-        record {
-          continues = λ e u n events questions rest go now at. rw (module_address 0 scoped, args.1, given now) (
-              good_answered e u n (events ++ (Instantiated 0 ∷ seen_by rest)) questions now.answers (seen now (Instantiated 0)) (machine c s now) _
-              (few events g rest now at)
-              (λ values after same_events same_moments same_globals.
-              let count : length after.globals ≡ g = same_globals ∙ at.globals in
-              let b : Machine = with_exports user es (machine c s after) in
-              let added : Exports (machine c s after) b = all_exports user es (machine c s after) in
-              let is_now : IsNow (events ++ Instantiated 0 ∷ []) (length m1.now.globals) b.now =
-              one_event events g (length m1.now.globals) now b.now at (ap (λ (m : Machine). m.now.events) added.same ∙ same_events) (ap (λ (m : Machine). m.now.moments) added.same ∙ same_moments) (all_alike user es (machine c s after) m0 (alike after count)).globals in
-              subst (λ (m : Machine). IsGood e u n (events ++ (Instantiated 0 ∷ seen_by rest)) questions after.answers (run (module_meanings w gen) rest m)) (sym (new after count))
-              (subst (λ l. IsGood e u n (events ++ (Instantiated 0 ∷ seen_by rest)) questions l (run (module_meanings w gen) rest (machine (with_thing c t c.imports) s' b.now))) (ap (λ (m : Machine). m.now.answers) added.same)
-              (subst (λ l. IsGood e u n l questions b.now.answers (run (module_meanings w gen) rest (machine (with_thing c t c.imports) s' b.now))) (append_assoc events (Instantiated 0 ∷ []) (seen_by rest))
-              (go b.now is_now)))));
-        },
+        record { continues = subst (Continues w gen d c s g (with_thing c t c.imports) s' (length m1.now.globals)) (sym (one_among w number below)) continues },
         agrees_with a g gen d (with_thing c t c.imports) s' t a.shims here refl k
             (record {
               space = refl;
@@ -207,25 +248,24 @@ module _ {w : ComponentWorld} {earlier : List Def} {c : Scope} {s : Store} (a : 
                   of = refl;
                 };
                 same = refl;
-                each = inl (refl, AllZip-weaker (export_beside m1.store s'.core_instances s'.module_instances user) own es (each_export user es m0));
+                each = inl (record { of = of; listed = h.listed; each = AllZip-weaker (export_beside m1.store s'.core_instances s'.module_instances user) own es (each_export user es m0) });
               };
             })
             (tt, tt, tt)
             (subst (λ (l : List (List ℕ)). NumberedFrom 0 (filter (is_of spaces.CoreModule) (c.items ++ t ∷ [])) (length l)) (ap (λ (m : Machine). m.store.core_modules) (sym more.same)) (rw (filter-push (is_of spaces.CoreModule) false c.items t refl) a.modules))
-            (map-append (λ (u : ModuleInstance). u.module_number) m1.store.module_instances (instance ∷ []) ∙ ap (λ (l : List ModuleInstance). map (λ (u : ModuleInstance). u.module_number) l ++ 0 ∷ []) users)
+            (map-append (λ (u : ModuleInstance). u.module_number) m1.store.module_instances (instance ∷ []) ∙ ap (λ (l : List ModuleInstance). map (λ (u : ModuleInstance). u.module_number) l ++ number ∷ []) users)
             planned
             there
             (sym (append-nil (map (λ (e : Export). e.name) c.exports)))
             (AreKeyExports-kept w k w.main_exports c.exports a.lifted)
             a.imports
             (subst (λ l. AreResources w a.shims l (inventory earlier).resources) (sym (ap (λ (m : Machine). m.store.types) more.same)) a.resources),
-      ) in
-      subst (λ n. Steps w gen earlier c s g (defs.Item (items.CoreInstantiate n arguments))) (sym of_main.0) steps
+      )
 
   -- ---- the shims
 
-  pub step_shims : IsWorld w → IsGenerated w gen → InstantiatesShims w earlier (shims_number w) [] → Steps w gen earlier c s g (defs.Item (items.CoreInstantiate (shims_number w) []))
-  step_shims ok there h =
+  pub step_shims : IsGenerated w gen → InstantiatesShims w earlier (shims_number w) [] → Steps w gen earlier c s g (defs.Item (items.CoreInstantiate (shims_number w) []))
+  step_shims there h =
       let number : ℕ = shims_number w in
       let d : Def = defs.Item (items.CoreInstantiate number []) in
       let shims : List Shim = shims_of w in
@@ -263,7 +303,7 @@ module _ {w : ComponentWorld} {earlier : List Def} {c : Scope} {s : Store} (a : 
         with_thing c t c.imports,
         s',
         g,
-        quiet w gen d c s g (with_thing c t c.imports) s' (users_of_generated number (not_shims w)) (λ rest now. rw (module_address number h.scoped, shims_meaning w gen ok there) (r.runs now [] (run (module_meanings w gen) rest))),
+        quiet w gen d c s g (with_thing c t c.imports) s' (none_among w number (at_least number)) (λ rest now. rw (module_address number h.scoped, shims_meaning w gen there) (r.runs now [] (run (module_meanings w gen) rest))),
         agrees_with a g gen d (with_thing c t c.imports) s' t (Some at) new refl k
             (record {
               space = refl;
@@ -281,7 +321,7 @@ module _ {w : ComponentWorld} {earlier : List Def} {c : Scope} {s : Store} (a : 
             (map-append (λ (u : ModuleInstance). u.module_number) s.module_instances (instance ∷ []))
             (AllByRecursion-push (IsPlannedUser w (Some at) s') s.module_instances instance
             (AllByRecursion-weaker (IsPlannedUser-kept w k a.shims (Some at) new) s.module_instances a.served)
-            (λ is_main. absurd (not_shims w (sym is_main))))
+            (λ of listed. absurd (not_shims w number (user_below w number of listed) refl)))
             are
             (sym (append-nil (map (λ (e : Export). e.name) c.exports)))
             (AreKeyExports-kept w k w.main_exports c.exports a.lifted)
@@ -292,10 +332,10 @@ module _ {w : ComponentWorld} {earlier : List Def} {c : Scope} {s : Store} (a : 
   -- ---- the fixup
 
   -- what the shims stand for, among the entries of an inline instance
-  fill_there : IsWorld w → (e : CoreInlineExport) (shim : Shim) (x : Export) → IsFillFor w earlier e shim → IsNamedEntry c.items e x → IsFilling w s shim x
-  fill_there ok e shim x h n =
+  fill_there : (e : CoreInlineExport) (shim : Shim) (x : Export) → IsFillFor w earlier e shim → IsNamedEntry c.items e x → IsFilling w s shim x
+  fill_there e shim x h n =
       let kind : kind_space e.kind ≡ spaces.CoreFunc = ap kind_space h.function in
-      let i : (y : ℕ) × (address_at spaces.CoreFunc e.index c.items ≡ Some y) × IsServedAs w s y (target_of w h.purpose) = purpose_there a ok e.index shim h.purpose h.stands_for h.serves in
+      let i : (y : ℕ) × (address_at spaces.CoreFunc e.index c.items ≡ Some y) × IsServedAs w s y (target_of w h.purpose) = target_there a e.index (target_of w h.purpose) h.serves in
       let at : address_at spaces.CoreFunc e.index c.items ≡ Some x.address = subst (λ space. address_at space e.index c.items ≡ Some x.address) kind n.at in
       let serves : IsServedAs w s x.address (target_of w h.purpose) = subst (λ y. IsServedAs w s y (target_of w h.purpose)) (same_Some i.0 x.address (sym i.1 ∙ at)) i.2 in
       let o : (item : CoreItem) × IsOpaqueOf s x.address (type_of_shim shim) item = purpose_opaque w s x.address shim h.purpose h.stands_for serves in (
@@ -303,16 +343,16 @@ module _ {w : ComponentWorld} {earlier : List Def} {c : Scope} {s : Store} (a : 
         record { purpose = h.purpose; stands_for = h.stands_for; serves = serves },
       )
 
-  fills_there : IsWorld w → (es : List CoreInlineExport) (shims : List Shim) (xs : List Export) → AllZip (IsFillFor w earlier) es shims → AllZip (IsNamedEntry c.items) es xs → AllZip (IsFilling w s) shims xs
-  fills_there ok [] [] [] h n = tt
-  fills_there ok (e ∷ es) (shim ∷ shims) (x ∷ xs) h n = (fill_there ok e shim x h.0 n.0, fills_there ok es shims xs h.1 n.1)
-  fills_there ok [] (shim ∷ shims) xs h n = absurd h
-  fills_there ok (e ∷ es) [] xs h n = absurd h
-  fills_there ok [] [] (x ∷ xs) h n = absurd n
-  fills_there ok (e ∷ es) (shim ∷ shims) [] h n = absurd n
+  fills_there : (es : List CoreInlineExport) (shims : List Shim) (xs : List Export) → AllZip (IsFillFor w earlier) es shims → AllZip (IsNamedEntry c.items) es xs → AllZip (IsFilling w s) shims xs
+  fills_there [] [] [] h n = tt
+  fills_there (e ∷ es) (shim ∷ shims) (x ∷ xs) h n = (fill_there e shim x h.0 n.0, fills_there es shims xs h.1 n.1)
+  fills_there [] (shim ∷ shims) xs h n = absurd h
+  fills_there (e ∷ es) [] xs h n = absurd h
+  fills_there [] [] (x ∷ xs) h n = absurd n
+  fills_there (e ∷ es) (shim ∷ shims) [] h n = absurd n
 
-  pub step_fixup : IsWorld w → IsGenerated w gen → (number : ℕ) (arguments : List CoreArgument) → InstantiatesFixup w earlier number arguments → Steps w gen earlier c s g (defs.Item (items.CoreInstantiate number arguments))
-  step_fixup ok there number arguments h =
+  pub step_fixup : IsGenerated w gen → (number : ℕ) (arguments : List CoreArgument) → InstantiatesFixup w earlier number arguments → Steps w gen earlier c s g (defs.Item (items.CoreInstantiate number arguments))
+  step_fixup there number arguments h =
       subst (λ n. Steps w gen earlier c s g (defs.Item (items.CoreInstantiate n arguments))) (sym h.numbered)
       (subst (λ l. Steps w gen earlier c s g (defs.Item (items.CoreInstantiate (fixup_number w) l))) (sym h.given) steps)
     where
@@ -344,19 +384,16 @@ module _ {w : ComponentWorld} {earlier : List Def} {c : Scope} {s : Store} (a : 
       actual = inline.2.exports
 
       filling : AllZip (IsFilling w s) shims actual
-      filling = fills_there ok h.fills.entries shims actual h.fills.each inline.2.each
+      filling = fills_there h.fills.entries shims actual h.fills.each inline.2.each
 
-      -- it is the first fixup
+      -- it is the first fixup: the numbers of the others are below its own
       first : Contains numbers (fixup_number w) → ⊥
-      first contains = by (only_main w ok) (subst (λ l. Contains l (fixup_number w)) (sym (numbers_of earlier) ∙ h.last) contains)
-        where
-          by : user_modules w ≡ main_module w ∷ [] → Contains (shims_number w ∷ range_with_len 0 (length (user_modules w))) (fixup_number w) → ⊥
-          by e contains = two (subst (λ (us : List WorldModule). Contains (length us ∷ range_with_len 0 (length us)) (suc (length us))) e contains)
-            where
-              two : Contains {X = ℕ} (1 ∷ 0 ∷ []) 2 → ⊥
-              two (zero, l, e) = cc
-              two (suc zero, l, e) = cc
-              two (suc (suc k), l, e) = absurd (omega (arith, l))
+      first contains =
+          let others : Contains (shims_number w ∷ range_with_len 0 (length (user_modules w))) (fixup_number w) = subst (λ l. Contains l (fixup_number w)) (sym (numbers_of earlier) ∙ h.last) contains in
+          let below : fixup_number w < fixup_number w =
+          AllByRecursion-contains (λ n. n < fixup_number w) (shims_number w ∷ range_with_len 0 (length (user_modules w))) (fixup_number w)
+          (under (shims_number w), range_below 0 (length (user_modules w)) (fixup_number w) (from_zero (shims_number w))) others in
+          apart (fixup_number w) (fixup_number w) below refl
 
       can : CanFix shims actual at.table s.code
       can = record {
@@ -427,7 +464,7 @@ module _ {w : ComponentWorld} {earlier : List Def} {c : Scope} {s : Store} (a : 
         with_thing c t c.imports,
         s',
         g,
-        quiet w gen d c s g (with_thing c t c.imports) s' (users_of_generated (fixup_number w) (not_fixup w)) (λ rest now. rw (module_address (fixup_number w) (subst (λ n. n < items_in spaces.CoreModule earlier) h.numbered h.scoped), fixup_meaning w gen ok there, arguments_held now) (r.runs now (run (module_meanings w gen) rest))),
+        quiet w gen d c s g (with_thing c t c.imports) s' (none_among w (fixup_number w) (before_next (shims_number w))) (λ rest now. rw (module_address (fixup_number w) (subst (λ n. n < items_in spaces.CoreModule earlier) h.numbered h.scoped), fixup_meaning w gen there, arguments_held now) (r.runs now (run (module_meanings w gen) rest))),
         agrees_with a g gen d (with_thing c t c.imports) s' t a.shims here refl k
             (record {
               space = refl;
@@ -445,7 +482,7 @@ module _ {w : ComponentWorld} {earlier : List Def} {c : Scope} {s : Store} (a : 
             (map-append (λ (u : ModuleInstance). u.module_number) s.module_instances (instance ∷ []))
             (AllByRecursion-push (IsPlannedUser w a.shims s') s.module_instances instance
             (AllByRecursion-weaker (IsPlannedUser-kept w k a.shims a.shims here) s.module_instances a.served)
-            (λ is_main. let no : suc (shims_number w) ≡ 0 = is_main in absurd (omega (arith, no))))
+            (λ of listed. absurd (not_fixup w (fixup_number w) (user_below w (fixup_number w) of listed) refl)))
             (subst (MayHaveShims w s' (numbers ++ fixup_number w ∷ [])) (sym found.1) are)
             (sym (append-nil (map (λ (e : Export). e.name) c.exports)))
             (AreKeyExports-kept w k w.main_exports c.exports a.lifted)
@@ -456,11 +493,11 @@ module _ {w : ComponentWorld} {earlier : List Def} {c : Scope} {s : Store} (a : 
   -- ---- any of these
 
   -- where a generated module is instantiated, it is one of the list
-  pub step_instantiate : IsWorld w → (number : ℕ) (arguments : List CoreArgument) → ((0 ≡ number → ⊥) → IsGenerated w gen) → InstantiatesModule w earlier number arguments → Steps w gen earlier c s g (defs.Item (items.CoreInstantiate number arguments))
-  step_instantiate ok number arguments there (inl h) = step_user ok number arguments h
+  pub step_instantiate : IsWorld w → (number : ℕ) (arguments : List CoreArgument) → ((number < shims_number w → ⊥) → IsGenerated w gen) → InstantiatesModule w earlier number arguments → Steps w gen earlier c s g (defs.Item (items.CoreInstantiate number arguments))
+  step_instantiate ok number arguments there (inl h) = step_user number arguments h (module_right w ok number h.of h.listed) (takes_shims w ok number h.of h.listed)
   step_instantiate ok number arguments there (inr (inl h)) =
-      let generated : IsGenerated w gen = there (λ e. not_shims w (e ∙ h.numbered)) in
+      let generated : IsGenerated w gen = there (λ below. not_shims w number below h.numbered) in
       let own : InstantiatesShims w earlier (shims_number w) [] = subst (InstantiatesShims w earlier (shims_number w)) h.closed (subst (λ n. InstantiatesShims w earlier n arguments) h.numbered h) in
       subst (λ n. Steps w gen earlier c s g (defs.Item (items.CoreInstantiate n arguments))) (sym h.numbered)
-      (subst (λ l. Steps w gen earlier c s g (defs.Item (items.CoreInstantiate (shims_number w) l))) (sym h.closed) (step_shims ok generated own))
-  step_instantiate ok number arguments there (inr (inr h)) = step_fixup ok (there (λ e. not_fixup w (e ∙ h.numbered))) number arguments h
+      (subst (λ l. Steps w gen earlier c s g (defs.Item (items.CoreInstantiate (shims_number w) l))) (sym h.closed) (step_shims generated own))
+  step_instantiate ok number arguments there (inr (inr h)) = step_fixup (there (λ below. not_fixup w number below h.numbered)) number arguments h

@@ -27,17 +27,17 @@ use Rattle.comp_trees.specs.DefinedTrees.{OfValues, OfFunctions}
 use Rattle.comp_inventories.specs.Inventories.{TypeEntry, Denoting, OfInstances, FunctionEntry, InstanceEntry}
 use Rattle.comp_roles.specs.declared.offered.ExternType.{ExternType}
 use Rattle.comp_roles.specs.declared.offered.ExternType.TheVariants as externs
-use Rattle.comp_roles.specs.declared.imports.Import.{Import}
 use Rattle.comp_roles.specs.declared.offered.ImportType.{ImportType}
 use Rattle.comp_worlds.specs.WorldContents.{exported_item}
 use Rattle.comp_worlds.specs.declared.world.ComponentWorld.{ComponentWorld}
-use Rattle.comp_links.specs.Targets.{Main, ExportRef, TargetOption, Target, Lowered, ExportOf, OfResource}
+use Rattle.comp_links.specs.Targets.{ExportRef, TargetOption, Target, Lowered, ExportOf, OfResource}
 use Rattle.comp_links.specs.Targets as targets
+use Rattle.comp_links.specs.Modules.{WorldModule}
 use Rattle.comp_links.specs.Lists.{resource_of, RequiredFunction, functions_required, RequiredType, types_required, type_of_world}
-use Rattle.comp_links.specs.Links.{link_of, destructor_of}
+use Rattle.comp_links.specs.Links.{destructor_of}
 use Rattle.shim_plan.specs.declared.shims.Shim.{Shim}
 use Rattle.world_shims.specs.WorldShims.{shims_of}
-use Rattle.comp_terms.specs.Generated.{shims_number, fixup_number, target_of}
+use Rattle.comp_terms.specs.Generated.{shims_number, fixup_number, OfDestructor, target_of}
 use Rattle.core_runs.specs.Store.{Opaque}
 use Rattle.core_runs.specs.Instances.{empty_table}
 use Rattle.comp_runs.specs.Store.{Thing, Export, HeldOption, HeldMemory, HeldRealloc, HeldPostReturn, HeldCallback, CoreItem, Function, Imported, Lifting, TypeItem, TreeOf, OwnResource, own_resources as resources_among, ModuleInstance, Store, ComponentItem}
@@ -51,7 +51,7 @@ use Rattle.wit_data.specs.declared.worlds.WorldKey.{WorldKey}
 use Rattle.wit_data.specs.declared.worlds.WorldItem.{WorldItem}
 use Rattle.wit_data.specs.declared.worlds.WorldItem.TheVariants as world_items
 use Rattle.link_laws.proofs.Zips.{mapped_some, AllByRecursion-join}
-use Rattle.link_laws.proofs.Stores.{IsOpaqueOf, IsUserItem, IsUserExport, IsInstance, ShimsAt, AreShimExports, AreModuleExports, IsModuleInstance, IsNamedEntry, IsTypeAt, IsHeldOption, IsArgumentHeld, ItemIs, DefIs, Means, IsEntryItem, IsTypeEntry, IsFunctionEntry, IsInstanceThing, IsMainExport, IsFirstMemory, IsOptionFunction, IsOptionHeld, IsLoweringOf, IsServedAs, IsShimGiven, Serves, IsPlanned, IsPlannedUser, IsFilledWith, AreFilled, ExportsShims, AreShims, MayHaveShims, IsLiftedFrom, main_key, main_function, IsRequiredAt, IsAmong, IsTypeAmong, IsItemExport, IsKeyExport, AreKeyExports, IsDestructorGiven, IsDestroyedBy, IsOwnResource, IsOwnIfDefined, AreResources, HasNumber}
+use Rattle.link_laws.proofs.Stores.{IsOpaqueOf, IsUserItem, IsUserExport, IsInstance, ShimsAt, AreShimExports, AreModuleExports, IsModuleInstance, IsNamedEntry, IsTypeAt, IsHeldOption, IsArgumentHeld, ItemIs, DefIs, Means, IsEntryItem, IsTypeEntry, IsFunctionEntry, IsInstanceThing, IsFunctionExported, IsFirstMemory, IsOptionHeld, IsLoweringOf, IsServedAs, IsShimGiven, Serves, IsPlanned, IsPlannedUser, IsFilledWith, AreFilled, ExportsShims, AreShims, MayHaveShims, IsLiftedFrom, main_key, main_function, IsRequiredAt, IsAmong, IsTypeAmong, IsItemExport, IsKeyExport, AreKeyExports, IsDestroyedBy, IsOwnResource, IsOwnIfDefined, AreResources, HasNumber}
 
 -- every entry of the old scope and store is unchanged in the new ones
 pub record Keeps (a b : List Thing) (s t : Store) : Type 0 where
@@ -193,15 +193,14 @@ pub shims_same : (shims : Option ShimsAt) → ShimsKept shims shims
 shims_same None = tt
 shims_same (Some at) = refl
 
-IsShimGiven-kept : (w : ComponentWorld) (old new : Option ShimsAt) → ShimsKept old new → (address : ℕ) (role : Import) → IsShimGiven w old address role → IsShimGiven w new address role
-IsShimGiven-kept w None new same address role h = absurd h
-IsShimGiven-kept w (Some at) new same address role h = subst (λ o. IsShimGiven w o address role) (sym same) h
+IsShimGiven-kept : (w : ComponentWorld) (old new : Option ShimsAt) → ShimsKept old new → (address : ℕ) (target : Target) → IsShimGiven w old address target → IsShimGiven w new address target
+IsShimGiven-kept w None new same address target h = absurd h
+IsShimGiven-kept w (Some at) new same address target h = subst (λ o. IsShimGiven w o address target) (sym same) h
 
--- so are the shims that stand for destructors
+-- so are those that stand for destructors
 IsDestroyedBy-kept : (w : ComponentWorld) (old new : Option ShimsAt) → ShimsKept old new → (destructor : Option ℕ) (name : Option (List ℕ)) → IsDestroyedBy w old destructor name → IsDestroyedBy w new destructor name
 IsDestroyedBy-kept w old new same None None h = tt
-IsDestroyedBy-kept w None new same (Some address) (Some name) h = absurd h
-IsDestroyedBy-kept w (Some at) new same (Some address) (Some name) h = subst (λ o. IsDestructorGiven w o address name) (sym same) h
+IsDestroyedBy-kept w old new same (Some address) (Some name) h = IsShimGiven-kept w old new same address (target_of w (OfDestructor name)) h
 IsDestroyedBy-kept w old new same None (Some name) h = absurd h
 IsDestroyedBy-kept w old new same (Some address) None h = absurd h
 
@@ -292,20 +291,17 @@ module _ {a b : List Thing} {s t : Store} (k : Keeps a b s t) where
   IsLoweringOf-kept : (address : ℕ) (origin : Origin) (type : FunctionTree) (held : List HeldOption) → IsLoweringOf s address origin type held → IsLoweringOf t address origin type held
   IsLoweringOf-kept address origin type held h = record { of = h.of; is = IsOpaque-kept h.is; imported = k.functions.at h.of (Imported origin type) h.imported }
 
-  pub IsMainExport-kept : {address : ℕ} {name : List ℕ} → IsMainExport s address name → IsMainExport t address name
-  IsMainExport-kept {address} {name} h = record { user = h.user; type = h.type; is = IsOpaque-kept h.is; of = IsInstance-kept h.of }
+  IsFunctionExported-kept : {w : ComponentWorld} {address : ℕ} {export_ref : ExportRef} → IsFunctionExported w s address export_ref → IsFunctionExported w t address export_ref
+  IsFunctionExported-kept h = record { number = h.number; of = h.of; user = h.user; instance = IsInstance-kept h.instance; type = h.type; is = IsOpaque-kept h.is; offered = h.offered }
 
   IsFirstMemory-kept : (w : ComponentWorld) (address : ℕ) → IsFirstMemory w s address → IsFirstMemory w t address
   IsFirstMemory-kept w address h = record { name = h.name; type = h.type; first = h.first; is = record { user = h.is.user; instance = h.is.instance; present = k.users.at h.is.user h.is.instance h.is.present; of = h.is.of; exported = h.is.exported } }
 
-  IsOptionFunction-kept : {address : ℕ} {export_ref : ExportRef} → IsOptionFunction s address export_ref → IsOptionFunction t address export_ref
-  IsOptionFunction-kept h = record { of = h.of; is = IsMainExport-kept h.is }
-
   IsOptionHeld-kept : (w : ComponentWorld) (held : HeldOption) (o : TargetOption) → IsOptionHeld w s held o → IsOptionHeld w t held o
   IsOptionHeld-kept w (HeldMemory a) targets.Memory h = IsFirstMemory-kept w a h
-  IsOptionHeld-kept w (HeldRealloc a) (targets.Realloc export_ref) h = IsOptionFunction-kept h
-  IsOptionHeld-kept w (HeldPostReturn a) (targets.PostReturn export_ref) h = IsOptionFunction-kept h
-  IsOptionHeld-kept w (HeldCallback a) (targets.Callback export_ref) h = IsOptionFunction-kept h
+  IsOptionHeld-kept w (HeldRealloc a) (targets.Realloc export_ref) h = IsFunctionExported-kept h
+  IsOptionHeld-kept w (HeldPostReturn a) (targets.PostReturn export_ref) h = IsFunctionExported-kept h
+  IsOptionHeld-kept w (HeldCallback a) (targets.Callback export_ref) h = IsFunctionExported-kept h
   IsOptionHeld-kept w held o h = h
 
   pub IsServedAs-kept : (w : ComponentWorld) (address : ℕ) (target : Target) → IsServedAs w s address target → IsServedAs w t address target
@@ -319,19 +315,15 @@ module _ {a b : List Thing} {s t : Store} (k : Keeps a b s t) where
     with_options = AllZip-weaker (IsOptionHeld-kept w) h.held options h.with_options;
   }
   IsServedAs-kept w address (OfResource function id) h = record { of = h.of; is = IsOpaque-kept h.is; held = IsHeldAs-kept k.types (OfValues (ResourceAt (resource_of w id))) h.of h.held }
-  IsServedAs-kept w address (ExportOf export_ref) h = record {
-    of = h.of;
-    is = record { user = h.is.user; type = h.is.type; is = IsOpaque-kept h.is.is; of = IsInstance-kept h.is.of };
-    offered = h.offered;
-  }
+  IsServedAs-kept w address (ExportOf export_ref) h = IsFunctionExported-kept h
   IsServedAs-kept w address target h = absurd h
 
-  Serves-kept : (w : ComponentWorld) (old new : Option ShimsAt) → ShimsKept old new → (address : ℕ) (role : Import) → Serves w old s address role → Serves w new t address role
-  Serves-kept w old new same address role (inl h) = inl (IsServedAs-kept w address (link_of w Main role) h)
-  Serves-kept w old new same address role (inr h) = inr (IsShimGiven-kept w old new same address role h)
+  Serves-kept : (w : ComponentWorld) (old new : Option ShimsAt) → ShimsKept old new → (address : ℕ) (target : Target) → Serves w old s address target → Serves w new t address target
+  Serves-kept w old new same address target (inl h) = inl (IsServedAs-kept w address target h)
+  Serves-kept w old new same address target (inr h) = inr (IsShimGiven-kept w old new same address target h)
 
-  pub IsPlanned-kept : (w : ComponentWorld) (old new : Option ShimsAt) → ShimsKept old new → (x : Thing) (i : ImportType) → IsPlanned w old s x i → IsPlanned w new t x i
-  IsPlanned-kept w old new same x i h = record { role = h.role; said = h.said; space = h.space; serves = Serves-kept w old new same x.address h.role h.serves }
+  pub IsPlanned-kept : (w : ComponentWorld) (old new : Option ShimsAt) → ShimsKept old new → (of : WorldModule) (x : Thing) (i : ImportType) → IsPlanned w old s of x i → IsPlanned w new t of x i
+  IsPlanned-kept w old new same of x i h = record { target = h.target; said = h.said; space = h.space; serves = Serves-kept w old new same x.address h.target h.serves }
 
   pub IsFilledWith-kept : (w : ComponentWorld) (shim : Shim) (function : ℕ) → IsFilledWith w s shim function → IsFilledWith w t shim function
   IsFilledWith-kept w shim function h = record { purpose = h.purpose; stands_for = h.stands_for; serves = IsServedAs-kept w function (target_of w h.purpose) h.serves }
@@ -356,12 +348,12 @@ module _ {a b : List Thing} {s t : Store} (k : Keeps a b s t) where
   MayHaveShims-kept w numbers more None tables no_shims no_fixup exported h = λ yes. h (no_shims yes)
   MayHaveShims-kept w numbers more (Some at) tables no_shims no_fixup exported h = AreShims-kept w numbers more at tables no_fixup (exported at h.exported) h
 
-  pub IsLiftedFrom-kept : {w : ComponentWorld} {address : ℕ} {name : List ℕ} {options : List TargetOption} {type : FunctionTree} → IsLiftedFrom w s address name options type → IsLiftedFrom w t address name options type
-  IsLiftedFrom-kept {w} {address} {name} {options} {type} h = record {
+  pub IsLiftedFrom-kept : {w : ComponentWorld} {address : ℕ} {entry : ExportRef} {options : List TargetOption} {type : FunctionTree} → IsLiftedFrom w s address entry options type → IsLiftedFrom w t address entry options type
+  IsLiftedFrom-kept {w} {address} {entry} {options} {type} h = record {
     core = h.core;
     held = h.held;
     is = k.functions.at address (Lifting h.core h.held type) h.is;
-    of = IsMainExport-kept h.of;
+    of = IsFunctionExported-kept h.of;
     with_options = AllZip-weaker (IsOptionHeld-kept w) h.held options h.with_options;
   }
 
@@ -374,7 +366,7 @@ module _ {a b : List Thing} {s t : Store} (k : Keeps a b s t) where
 
 module _ (w : ComponentWorld) (old new : Option ShimsAt) (shims : ShimsKept old new) (ds es : List Def) (defined : (space : Space) (index : ℕ) (d : Def) → IsAt ds space index d → IsAt es space index d) {a b : List Thing} {s t : Store} (k : Keeps a b s t) where
   module_exports-kept : (user number : ℕ) (exports : List Export) → AreModuleExports w old s user number exports → AreModuleExports w new t user number exports
-  module_exports-kept user number exports (inl h) = inl (h.0, AllZip-weaker (exports-kept k user) exports w.main.offered h.1)
+  module_exports-kept user number exports (inl h) = inl (record { of = h.of; listed = h.listed; each = AllZip-weaker (exports-kept k user) exports h.of.found.offered h.each })
   module_exports-kept user number exports (inr (inl h)) = inr (inl (shim_exports-kept w old new shims number exports h))
   module_exports-kept user number exports (inr (inr h)) = inr (inr h)
 
@@ -447,7 +439,7 @@ module _ (w : ComponentWorld) (old new : Option ShimsAt) (shims : ShimsKept old 
 
 module _ (w : ComponentWorld) {a b : List Thing} {s t : Store} (k : Keeps a b s t) where
   pub IsPlannedUser-kept : (old new : Option ShimsAt) → ShimsKept old new → (u : ModuleInstance) → IsPlannedUser w old s u → IsPlannedUser w new t u
-  IsPlannedUser-kept old new same u h is_main = AllZip-weaker (IsPlanned-kept k w old new same) u.given w.main.imported (h is_main)
+  IsPlannedUser-kept old new same u h of listed = AllZip-weaker (IsPlanned-kept k w old new same of) u.given of.found.imported (h of listed)
 
   IsRequiredAt-kept : (r : RequiredFunction) (address : ℕ) → IsRequiredAt w s r address → IsRequiredAt w t r address
   IsRequiredAt-kept r address h = record { name = h.name; wit = h.wit; role = h.role; exported = h.exported; is = IsLiftedFrom-kept k h.is }

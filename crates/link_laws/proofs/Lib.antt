@@ -2,9 +2,13 @@ mod Zips
 mod Stores
 mod Kept
 pub mod Plain
+mod ModuleMarks
+mod OnlyMain
 mod Given
+mod GivenImports
 mod GivenTypes
 mod UserExports
+mod Outcomes
 pub mod Steps
 pub mod InstanceSteps
 mod NestedSteps

@@ -2,7 +2,7 @@
 use Rattle.std.proofs.Common.{◌≡◌, ◌∙◌, ◌+◌, arith, ℕ, List, [], ◌∷◌, ◌++◌, length, map, refl, sym, ap, ap₂, append-nil, add-one, add-zero, zero-add, length-append, Option, Some, None}
 use Rattle.std.proofs.lemmas.List.{length-map}
 use Rattle.std.proofs.lemmas.Grind.{flat_map-append}
-use Rattle.std.specs.List.{flat_map, filter_map}
+use Rattle.std.specs.List.{flat_map, filter_map, range_with_len}
 use Rattle.comp_bytes.specs.ScopeNames.{Names, member_export, def_export, item_export, item_names}
 use Rattle.comp_bytes.specs.declared.types.TypeDef.TheVariants as types
 use Rattle.comp_bytes.specs.declared.def.Item.{Item}
@@ -25,6 +25,10 @@ use Rattle.nested_terms.specs.Naming.{import_names}
 use Rattle.nested_terms.specs.Nested.{NestedScope, function_import, with_item, IsItemRight, AreItemsRight}
 use Rattle.comp_trees.specs.DefinedTrees.{TypeTree}
 use Rattle.link_laws.specs.Composition.{at_root, item_module, item_instantiates, item_imports, item_exports, item_customs}
+use Rattle.comp_links.specs.Modules.{WorldModule}
+use Rattle.comp_terms.specs.Rules.{resources_marked}
+use Rattle.link_laws.proofs.Stores.{main_module}
+use Rattle.link_laws.proofs.ModuleMarks.{bytes_marked, numbers_marked, users_marked, marked_main, bytes_listed, numbers_listed, mapped_nothing, mapped_each, read_of, reads_users}
 use Rattle.link_laws.proofs.Zips.{flat_map-marked}
 
 abbrev import_mark : Landmark → List Stated
@@ -215,37 +219,84 @@ mapped_twice : {X Y Z : Type 0} (f : Y → Z) (g : X → Y) (xs : List X) → ma
 mapped_twice f g [] = refl
 mapped_twice f g (x ∷ xs) = ap (λ l. f (g x) ∷ l) (mapped_twice f g xs)
 
--- the generated modules, by their bytes; and the modules in the order of their instances
-abbrev pub bytes_listed : Option GeneratedBytes → List (List ℕ)
-bytes_listed None = []
-bytes_listed (Some b) = b.shims ∷ b.fixup ∷ []
-
-abbrev pub numbers_listed : ComponentWorld → Option GeneratedBytes → List ℕ
-numbers_listed w None = 0 ∷ []
-numbers_listed w (Some b) = shims_number w ∷ 0 ∷ fixup_number w ∷ []
-
--- the landmarks of the modules without those of the resources
-abbrev module_marks : ComponentWorld → Option GeneratedBytes → List Landmark
-module_marks w None = ModuleIs w.main.bytes ∷ InstanceOf 0 ∷ []
-module_marks w (Some b) = ModuleIs w.main.bytes ∷ ModuleIs b.shims ∷ InstanceOf (shims_number w) ∷ InstanceOf 0 ∷ ModuleIs b.fixup ∷ InstanceOf (fixup_number w) ∷ []
-
-no_resources : {A : Type 0} (g : Landmark → List A) → g ResourceDefined ≡ [] → (ids : List TypeId) → flat_map g (map (λ id. ResourceDefined) ids) ≡ []
-no_resources g none [] = refl
-no_resources g none (id ∷ ids) = ap₂ (λ xs ys. xs ++ ys) none (no_resources g none ids)
-
-behind_resources : {A : Type 0} (g : Landmark → List A) → g ResourceDefined ≡ [] → (ids : List TypeId) (rest : List Landmark) → flat_map g (map (λ id. ResourceDefined) ids ++ rest) ≡ flat_map g rest
-behind_resources g none ids rest = flat_map-append g (map (λ id. ResourceDefined) ids) rest ∙ ap (λ l. l ++ flat_map g rest) (no_resources g none ids)
-
--- what reads nothing of resources reads this
-without_resources : {A : Type 0} (w : ComponentWorld) (g : Landmark → List A) → g ResourceDefined ≡ [] → (o : Option GeneratedBytes) → flat_map g (modules_marked w o) ≡ flat_map g (module_marks w o)
-without_resources w g none None = ap (λ l. g (ModuleIs w.main.bytes) ++ l) (behind_resources g none (own_resources w) (InstanceOf 0 ∷ []))
-without_resources w g none (Some b) =
-    ap (λ l. g (ModuleIs w.main.bytes) ++ (g (ModuleIs b.shims) ++ (g (InstanceOf (shims_number w)) ++ l)))
-    (behind_resources g none (own_resources w) (InstanceOf 0 ∷ ModuleIs b.fixup ∷ InstanceOf (fixup_number w) ∷ []))
+-- ---- what is read of core modules
 
 each_resource : (ids : List TypeId) (rest : List Landmark) → flat_map resource_mark rest ≡ [] → flat_map resource_mark (map (λ id. ResourceDefined) ids ++ rest) ≡ map (λ id. 0) ids
 each_resource [] rest none = none
 each_resource (id ∷ ids) rest none = ap (λ l. 0 ∷ l) (each_resource ids rest none)
+
+numbers_read : (ns : List ℕ) → flat_map instance_mark (numbers_marked ns) ≡ ns
+numbers_read [] = refl
+numbers_read (n ∷ ns) = ap (λ l. n ∷ l) (numbers_read ns)
+
+all_nothing : {A : Type 0} (bytes shims shim_instance instances fixup fixup_instance : List A) → bytes ≡ [] → shims ≡ [] → shim_instance ≡ [] → instances ≡ [] → fixup ≡ [] → fixup_instance ≡ [] →
+    bytes ++ (shims ++ (shim_instance ++ (instances ++ (fixup ++ (fixup_instance ++ []))))) ≡ []
+all_nothing bytes shims shim_instance instances fixup fixup_instance a b c d e f = rw (a, b, c, d, e, f) refl
+
+module _ (w : ComponentWorld) (us : List WorldModule) where
+  -- nothing
+  users_nothing : {A : Type 0} (g : Landmark → List A) → g ResourceDefined ≡ [] → ((bytes : List ℕ) → g (ModuleIs bytes) ≡ []) → ((number : ℕ) → g (InstanceOf number) ≡ []) → (o : Option GeneratedBytes) → flat_map g (users_marked w us o) ≡ []
+  users_nothing {A} g none m i o = reads_users g none w us o ∙ by o
+    where
+      no_bytes : flat_map g (bytes_marked us) ≡ []
+      no_bytes = mapped_nothing g (λ (x : WorldModule). ModuleIs x.found.bytes) (λ x. m x.found.bytes) us
+
+      no_numbers : flat_map g (numbers_marked (range_with_len 0 (length us))) ≡ []
+      no_numbers = mapped_nothing g (λ (n : ℕ). InstanceOf n) i (range_with_len 0 (length us))
+
+      by : (o : Option GeneratedBytes) → read_of g w us o ≡ []
+      by None = ap₂ (λ xs ys. xs ++ ys) no_bytes no_numbers
+      by (Some b) =
+          all_nothing (flat_map g (bytes_marked us)) (g (ModuleIs b.shims)) (g (InstanceOf (shims_number w))) (flat_map g (numbers_marked (range_with_len 0 (length us)))) (g (ModuleIs b.fixup)) (g (InstanceOf (fixup_number w)))
+          no_bytes (m b.shims) (i (shims_number w)) no_numbers (m b.fixup) (i (fixup_number w))
+
+  -- the modules
+  users_modules : (o : Option GeneratedBytes) → flat_map module_mark (users_marked w us o) ≡ map (λ (m : WorldModule). m.found.bytes) us ++ bytes_listed o
+  users_modules o = reads_users module_mark refl w us o ∙ by o
+    where
+      own : flat_map module_mark (bytes_marked us) ≡ map (λ (m : WorldModule). m.found.bytes) us
+      own = mapped_each module_mark (λ (x : WorldModule). ModuleIs x.found.bytes) (λ (m : WorldModule). m.found.bytes) (λ x. refl) us
+
+      no_numbers : flat_map module_mark (numbers_marked (range_with_len 0 (length us))) ≡ []
+      no_numbers = mapped_nothing module_mark (λ (n : ℕ). InstanceOf n) (λ n. refl) (range_with_len 0 (length us))
+
+      by : (o : Option GeneratedBytes) → read_of module_mark w us o ≡ map (λ (m : WorldModule). m.found.bytes) us ++ bytes_listed o
+      by None = ap₂ (λ xs ys. xs ++ ys) own no_numbers
+      by (Some b) = ap₂ (λ xs ys. xs ++ (b.shims ∷ (ys ++ b.fixup ∷ []))) own no_numbers
+
+  -- the instances
+  users_instances : (o : Option GeneratedBytes) → flat_map instance_mark (users_marked w us o) ≡ numbers_listed w us o
+  users_instances o = reads_users instance_mark refl w us o ∙ by o
+    where
+      no_bytes : flat_map instance_mark (bytes_marked us) ≡ []
+      no_bytes = mapped_nothing instance_mark (λ (x : WorldModule). ModuleIs x.found.bytes) (λ x. refl) us
+
+      by : (o : Option GeneratedBytes) → read_of instance_mark w us o ≡ numbers_listed w us o
+      by None = ap₂ (λ xs ys. xs ++ ys) no_bytes (numbers_read (range_with_len 0 (length us)))
+      by (Some b) = ap₂ (λ xs ys. xs ++ (shims_number w ∷ (ys ++ fixup_number w ∷ []))) no_bytes (numbers_read (range_with_len 0 (length us)))
+
+  -- the resources
+  users_resources : (o : Option GeneratedBytes) → flat_map resource_mark (users_marked w us o) ≡ map (λ id. 0) (own_resources w)
+  users_resources o = by o
+    where
+      instances : List Landmark
+      instances = numbers_marked (range_with_len 0 (length us))
+
+      no_bytes : flat_map resource_mark (bytes_marked us) ≡ []
+      no_bytes = mapped_nothing resource_mark (λ (x : WorldModule). ModuleIs x.found.bytes) (λ x. refl) us
+
+      no_numbers : flat_map resource_mark instances ≡ []
+      no_numbers = mapped_nothing resource_mark (λ (n : ℕ). InstanceOf n) (λ n. refl) (range_with_len 0 (length us))
+
+      by : (o : Option GeneratedBytes) → flat_map resource_mark (users_marked w us o) ≡ map (λ id. 0) (own_resources w)
+      by None =
+          flat_map-append resource_mark (bytes_marked us) (resources_marked w ++ instances)
+          ∙ ap₂ (λ xs ys. xs ++ ys) no_bytes (each_resource (own_resources w) instances no_numbers)
+      by (Some b) =
+          let fixup : List Landmark = ModuleIs b.fixup ∷ InstanceOf (fixup_number w) ∷ [] in
+          let behind : flat_map resource_mark (instances ++ fixup) ≡ [] = flat_map-append resource_mark instances fixup ∙ ap (λ l. l ++ flat_map resource_mark fixup) no_numbers in
+          flat_map-append resource_mark (bytes_marked us) (ModuleIs b.shims ∷ InstanceOf (shims_number w) ∷ (resources_marked w ++ (instances ++ fixup)))
+          ∙ ap₂ (λ xs ys. xs ++ ys) no_bytes (each_resource (own_resources w) (instances ++ fixup) behind)
 
 -- ---- the names of nested components
 
@@ -291,46 +342,32 @@ module _ (n : Naming) (w : ComponentWorld) (ds : List Def) (built : IsBuilt n w 
 
   -- the modules and their instances have no import, no export, no custom section, and no type of instances
   none_of_modules : {A : Type 0} (g : Landmark → List A) → g ResourceDefined ≡ [] → ((bytes : List ℕ) → g (ModuleIs bytes) ≡ []) → ((number : ℕ) → g (InstanceOf number) ≡ []) → flat_map g (modules_marked w built.generated) ≡ []
-  none_of_modules g none m i = without_resources w g none built.generated ∙ by built.generated
-    where
-      by : (o : Option GeneratedBytes) → flat_map g (module_marks w o) ≡ []
-      by None = rw (m w.main.bytes, i 0) refl
-      by (Some b) = rw (m w.main.bytes, m b.shims, i (shims_number w), i 0, m b.fixup, i (fixup_number w)) refl
+  none_of_modules g none m i = ap (flat_map g) (marked_main w built.generated) ∙ users_nothing w (main_module w ∷ []) g none m i built.generated
 
   pub root_imports : flat_map (at_root item_imports) ds ≡ stated_imports n w
   root_imports =
       read_marks (at_root item_imports) import_mark import_is (λ n c. refl)
       ∙ rw (imports_said, none_of_modules import_mark refl (λ b. refl) (λ k. refl), exports_nothing n w import_mark (λ i e. refl) (λ s. refl)) (append-nil (stated_imports n w))
 
-  pub root_modules : flat_map (at_root item_module) ds ≡ w.main.bytes ∷ bytes_listed built.generated
-  root_modules =
-      read_marks (at_root item_module) module_mark module_is (λ n c. refl)
-      ∙ rw (said_by module_mark (λ s. refl) (λ names. refl), exports_nothing n w module_mark (λ i e. refl) (λ s. refl))
-      (append-nil (flat_map module_mark (modules_marked w built.generated)) ∙ (without_resources w module_mark refl built.generated ∙ by built.generated))
-    where
-      by : (o : Option GeneratedBytes) → flat_map module_mark (module_marks w o) ≡ w.main.bytes ∷ bytes_listed o
-      by None = refl
-      by (Some b) = refl
+  -- the core modules, and their instances, where these are the user modules
+  module _ (us : List WorldModule) (marked : modules_marked w built.generated ≡ users_marked w us built.generated) where
+    pub root_modules : flat_map (at_root item_module) ds ≡ map (λ (m : WorldModule). m.found.bytes) us ++ bytes_listed built.generated
+    root_modules =
+        read_marks (at_root item_module) module_mark module_is (λ n c. refl)
+        ∙ rw (said_by module_mark (λ s. refl) (λ names. refl), exports_nothing n w module_mark (λ i e. refl) (λ s. refl))
+        (append-nil (flat_map module_mark (modules_marked w built.generated)) ∙ (ap (flat_map module_mark) marked ∙ users_modules w us built.generated))
 
-  pub root_instances : flat_map (at_root item_instantiates) ds ≡ numbers_listed w built.generated
-  root_instances =
-      read_marks (at_root item_instantiates) instance_mark instance_is (λ n c. refl)
-      ∙ rw (said_by instance_mark (λ s. refl) (λ names. refl), exports_nothing n w instance_mark (λ i e. refl) (λ s. refl))
-      (append-nil (flat_map instance_mark (modules_marked w built.generated)) ∙ (without_resources w instance_mark refl built.generated ∙ by built.generated))
-    where
-      by : (o : Option GeneratedBytes) → flat_map instance_mark (module_marks w o) ≡ numbers_listed w o
-      by None = refl
-      by (Some b) = refl
+    pub root_instances : flat_map (at_root item_instantiates) ds ≡ numbers_listed w us built.generated
+    root_instances =
+        read_marks (at_root item_instantiates) instance_mark instance_is (λ n c. refl)
+        ∙ rw (said_by instance_mark (λ s. refl) (λ names. refl), exports_nothing n w instance_mark (λ i e. refl) (λ s. refl))
+        (append-nil (flat_map instance_mark (modules_marked w built.generated)) ∙ (ap (flat_map instance_mark) marked ∙ users_instances w us built.generated))
 
   root_resources : flat_map (at_root item_resource) ds ≡ map (λ id. 0) (own_resources w)
   root_resources =
       read_marks (at_root item_resource) resource_mark resource_is (λ n c. refl)
       ∙ rw (said_by resource_mark (λ s. refl) (λ names. refl), exports_nothing n w resource_mark (λ i e. refl) (λ s. refl))
-      (append-nil (flat_map resource_mark (modules_marked w built.generated)) ∙ by built.generated)
-    where
-      by : (o : Option GeneratedBytes) → flat_map resource_mark (modules_marked w o) ≡ map (λ id. 0) (own_resources w)
-      by None = each_resource (own_resources w) (InstanceOf 0 ∷ []) refl
-      by (Some b) = each_resource (own_resources w) (InstanceOf 0 ∷ ModuleIs b.fixup ∷ InstanceOf (fixup_number w) ∷ []) refl
+      (append-nil (flat_map resource_mark (modules_marked w built.generated)) ∙ (ap (flat_map resource_mark) (marked_main w built.generated) ∙ users_resources w (main_module w ∷ []) built.generated))
 
   -- as many resources are defined as the world has
   pub all_resources : (inventory ds).resources ≡ length (own_resources w)

@@ -24,14 +24,13 @@ use Rattle.wit_data.specs.declared.worlds.WorldKey.{WorldKey}
 use Rattle.wit_data.specs.declared.ids.TypeId.{TypeId}
 use Rattle.wit_data.specs.declared.worlds.WorldItem.{WorldItem}
 use Rattle.comp_worlds.specs.WorldContents.{exported_item, core_name_of}
-use Rattle.comp_worlds.specs.Worlds.{IsWorld}
 use Rattle.comp_worlds.specs.declared.world.ComponentWorld.{ComponentWorld}
 use Rattle.comp_trees.specs.Trees.{FunctionTree}
 use Rattle.comp_trees.specs.DefinedTrees.{TypeTree}
 use Rattle.comp_inventories.specs.Inventories.{FunctionEntry, InstanceEntry, OtherInstance, no_function, argument_named, nested_exports, inventory}
 use Rattle.nested_terms.specs.Nested.{NestedImport, ImportedFunction, ImportedType, NestedExport, empty_scope, type_named, imports_after, exports_after, AreItemsRight}
-use Rattle.comp_links.specs.Targets.{Main, TargetOption, Lifted}
-use Rattle.comp_links.specs.Lists.{functions_required, types_in, types_required, type_of_world}
+use Rattle.comp_links.specs.Targets.{ExportRef, TargetOption, Lifted}
+use Rattle.comp_links.specs.Lists.{RequiredFunction, functions_required, types_in, types_required, type_of_world}
 use Rattle.comp_links.specs.Links.{lift_options}
 use Rattle.world_values.specs.Items.{functions_in}
 use Rattle.comp_terms.specs.Planned.{type_of_function, IsLiftFor}
@@ -54,7 +53,8 @@ use Rattle.link_laws.proofs.Stores.{IsComponentHeld, IsArgumentHeld, IsNestedIns
 use Rattle.link_laws.proofs.Kept.{Keeps, shims_same, address_at-append, things_kept, keeps_store, keeps_component, IsPlannedUser-kept, AreKeyExports-push, AreResources-more}
 use Rattle.link_laws.proofs.GivenTypes.{exports_given}
 use Rattle.link_laws.proofs.Given.{thing_there, address_there, held_there, function_at, lift_there, found_name, by_parts}
-use Rattle.link_laws.proofs.Steps.{machine, no_answers, quiet, Steps, filter-push, Makes, agrees_with, shims_beside, quiet_step}
+use Rattle.link_laws.proofs.Outcomes.{machine, no_answers, quiet, Steps}
+use Rattle.link_laws.proofs.Steps.{filter-push, Makes, agrees_with, shims_beside, quiet_step}
 
 -- ---- arguments
 
@@ -211,20 +211,20 @@ module _ {w : ComponentWorld} {earlier : List Def} {c : Scope} {s : Store} (a : 
       )
 
   -- the lift of a required function
-  required_there : IsWorld w → (key : WorldKey) (name : List ℕ) (index : ℕ) → IsRequiredLift w earlier (main_function key name) index →
-      (x : ℕ) × (address_at spaces.Func index c.items ≡ Some x) × IsRequiredAt w s (main_function key name) x
-  required_there ok key name index h =
-      let options : List TargetOption = lift_options w (main_function key name) in
-      let core : (core : List ℕ) × (core_name_of w key name ≡ Some core) × (Lifted (record { of = Main; name = core }) options ≡ h.target) =
-      mapped_some (λ core. Lifted (record { of = Main; name = core }) options) (core_name_of w key name) h.target h.said in
+  required_there : (r : RequiredFunction) (index : ℕ) → IsRequiredLift w earlier r index → (x : ℕ) × (address_at spaces.Func index c.items ≡ Some x) × IsRequiredAt w s r x
+  required_there r index h =
+      let options : List TargetOption = lift_options w r in
+      let core : (core : List ℕ) × (core_name_of w r.key r.function ≡ Some core) × (Lifted (record { of = r.of; name = core }) options ≡ h.target) =
+      mapped_some (λ core. Lifted (record { of = r.of; name = core }) options) (core_name_of w r.key r.function) h.target h.said in
       let type : FunctionTree = type_of_function w h.wit in
-      let lifting : IsLiftFor w earlier index (Lifted (record { of = Main; name = core.0 }) options) type = subst (λ target. IsLiftFor w earlier index target type) (sym core.2) h.is in
-      let f : (x : ℕ) × (address_at spaces.Func index c.items ≡ Some x) × IsLiftedFrom w s x core.0 options type = lift_there a ok core.0 options type lifting in
+      let entry : ExportRef = record { of = r.of; name = core.0 } in
+      let lifting : IsLiftFor w earlier index (Lifted entry options) type = subst (λ target. IsLiftFor w earlier index target type) (sym core.2) h.is in
+      let f : (x : ℕ) × (address_at spaces.Func index c.items ≡ Some x) × IsLiftedFrom w s x entry options type = lift_there a entry options type lifting in
       (f.0, f.1, record { name = core.0; wit = h.wit; role = core.1; exported = h.exported; is = f.2 })
 
-  pub step_export_function : IsWorld w → (name : ExternName) (index : ℕ) → ExportsFunction w earlier index → Steps w gen earlier c s g (defs.Item (items.Export name sorts.Func index None))
-  step_export_function ok name index h =
-      let f : (x : ℕ) × (address_at spaces.Func index c.items ≡ Some x) × IsRequiredAt w s (main_function h.key h.function.name) x = required_there ok h.key h.function.name index h.lifted in
+  pub step_export_function : (name : ExternName) (index : ℕ) → ExportsFunction w earlier index → Steps w gen earlier c s g (defs.Item (items.Export name sorts.Func index None))
+  step_export_function name index h =
+      let f : (x : ℕ) × (address_at spaces.Func index c.items ≡ Some x) × IsRequiredAt w s (main_function h.key h.function.name) x = required_there (main_function h.key h.function.name) index h.lifted in
       let t : Thing = record { space = spaces.Func; address = f.0 } in
       let own : (e : FunctionEntry) × IsFunctionEntry s e t × (get_or (inventory earlier).functions index no_function ≡ e) = function_at a index f.0 f.1 in
       export_step name sorts.Func index f.0 h.key f.1 h.next (subst (IsItemExport w s h.key (record { space = spaces.Func; name = name.name; address = f.0 })) (sym h.item) (record { space = refl; is = f.2 }))
@@ -241,7 +241,7 @@ module _ {w : ComponentWorld} {earlier : List Def} {c : Scope} {s : Store} (a : 
         get_or_from_slice_get (inventory earlier).instances index e.0 OtherInstance e.1,
       )
 
-  module _ (ok : IsWorld w) (component : ℕ) (written : List Argument) (address : ℕ) (n : IsNestedInstance earlier c.items s component written address) (key : WorldKey) where
+  module _ (component : ℕ) (written : List Argument) (address : ℕ) (n : IsNestedInstance earlier c.items s component written address) (key : WorldKey) where
     -- what the nested component exports
     abbrev exported : List NestedExport
     exported = exports_after n.given empty_scope n.definitions
@@ -252,7 +252,7 @@ module _ {w : ComponentWorld} {earlier : List Def} {c : Scope} {s : Store} (a : 
         let argument_is : List ℕ = h.function.argument in
         let e : FindsArgument n.arguments n.exports name argument_is = finds_argument s.types n.arguments name exported n.exports h.function n.each h.found in
         let y : FindsHeld c.items sorts.Func argument_is n.arguments h.argument.index = finds_held c.items sorts.Func is_function argument_is written n.arguments h.argument n.held h.named in
-        let l : (x : ℕ) × (address_at spaces.Func h.argument.index c.items ≡ Some x) × IsRequiredAt w s (main_function key name) x = required_there ok key name h.argument.index h.lifted in
+        let l : (x : ℕ) × (address_at spaces.Func h.argument.index c.items ≡ Some x) × IsRequiredAt w s (main_function key name) x = required_there (main_function key name) h.argument.index h.lifted in
         let same : e.export.address ≡ y.export.address = address_of_argument n.arguments argument_is e.export.address y.export e.is y.found in
         let lifted : l.0 ≡ e.export.address = same_Some l.0 y.export.address (sym l.1 ∙ y.at) ∙ sym same in
         record {
@@ -278,8 +278,8 @@ module _ {w : ComponentWorld} {earlier : List Def} {c : Scope} {s : Store} (a : 
           types_there ts h.1,
         )
 
-  pub step_export_instance : IsWorld w → (name : ExternName) (index : ℕ) → ExportsInterface w earlier index → Steps w gen earlier c s g (defs.Item (items.Export name sorts.Instance index None))
-  step_export_instance ok name index h =
+  pub step_export_instance : (name : ExternName) (index : ℕ) → ExportsInterface w earlier index → Steps w gen earlier c s g (defs.Item (items.Export name sorts.Instance index None))
+  step_export_instance name index h =
       let x : (x : ℕ) × (address_at spaces.Instance index c.items ≡ Some x) × IsNestedInstance earlier c.items s h.component h.arguments x = thing_there a h.instance in
       let n : IsNestedInstance earlier c.items s h.component h.arguments x.0 = x.2 in
       let t : Thing = record { space = spaces.Instance; address = x.0 } in
@@ -289,10 +289,10 @@ module _ {w : ComponentWorld} {earlier : List Def} {c : Scope} {s : Store} (a : 
       let same : exports_after h.nested.given empty_scope h.nested.definitions ≡ exports_after n.given empty_scope n.definitions =
       same_exported h.nested.given n (one_component h.nested.made n.made) given in
       let each : AllByRecursion (IsAmong w s n.exports) (functions_required w (main_key h.key)) =
-      all_passed_on ok h.component h.arguments x.0 n h.key (functions_in w.resolve (exported_item w h.key))
+      all_passed_on h.component h.arguments x.0 n h.key (functions_in w.resolve (exported_item w h.key))
       (subst (λ xs. AllByRecursion (PassesOn w earlier h.arguments xs) (functions_required w (main_key h.key))) same h.each) in
       let listed : AllByRecursion (IsTypeAmong w s n.exports) (map (type_at_key h.key) (named_types w.resolve h.id)) =
-      types_there ok h.component h.arguments x.0 n h.key (named_types w.resolve h.id) (subst (ExportsTypes w h.id) same h.types) in
+      types_there h.component h.arguments x.0 n h.key (named_types w.resolve h.id) (subst (ExportsTypes w h.id) same h.types) in
       let types : AllByRecursion (IsTypeAmong w s n.exports) (types_required w (main_key h.key)) =
       subst (λ (o : Option WorldItem). AllByRecursion (IsTypeAmong w s n.exports) (map (type_at_key h.key) (types_in w o))) (sym h.item) listed in
       export_step name sorts.Instance index x.0 h.key x.1 h.next

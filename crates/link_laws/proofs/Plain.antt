@@ -1,5 +1,5 @@
--- The functions of a world, and the core types of what main imports and exports.
-use Rattle.std.proofs.Common.{◌≡◌, ◌∙◌, ℕ, zero, suc, Bool, true, false, ◌&&◌, List, [], ◌∷◌, map, refl, sym, ap, Some, None, eq-eqb, arith, true≢false}
+-- The functions of a world, its user modules, and the core types of what these import and export.
+use Rattle.std.proofs.Common.{◌≡◌, ◌∙◌, ℕ, zero, suc, Bool, true, false, ◌&&◌, List, [], ◌∷◌, map, refl, sym, ap, subst, Some, None, eq-eqb, arith, true≢false}
 use Rattle.std.proofs.lemmas.Option.{none-some, same_Some}
 use Rattle.std.proofs.lemmas.Slice.Eq.{bytes_eq-Decides}
 use Rattle.std.proofs.Math.Dec.{eqb-zero-suc, eqb-suc-zero}
@@ -38,10 +38,11 @@ use Rattle.world_values.specs.Items.{functions_of, root_function_at}
 use Rattle.comp_worlds.proofs.Roles.{role_right}
 use Rattle.comp_worlds.specs.Typed.{drop_type, handle_type, type_of_import, FitsImport}
 use Rattle.comp_worlds.specs.WorldContents.{items_of, exported_item}
-use Rattle.comp_worlds.specs.Worlds.{IsWorld, IsExportItem, IsImportRole, IsImportGroup, IsExportRole}
+use Rattle.comp_worlds.specs.Worlds.{IsWorld, IsUserModule, IsExportItem, IsImportRole, IsImportGroup, IsExportRole}
 use Rattle.comp_worlds.specs.declared.world.ComponentWorld.{ComponentWorld}
+use Rattle.comp_worlds.specs.declared.world.ValidatedModule.{ValidatedModule}
 use Rattle.comp_worlds.specs.declared.world.WorldAdapter.{WorldAdapter}
-use Rattle.comp_links.specs.Targets.{UserModule}
+use Rattle.comp_links.specs.Targets.{Main, Adapter}
 use Rattle.comp_links.specs.Modules.{WorldModule, adapter_module, user_modules, IsModule}
 use Rattle.comp_links.specs.Lists.{resource_of}
 use Rattle.comp_terms.specs.Planned.{type_of_function}
@@ -114,33 +115,50 @@ lowered_type w type f e =
     ap (λ t. externs.Func (core_signature t [])) e
     ∙ ap (λ (s : WasmSignature). externs.Func (core_type s)) (signatures_of_trees (resource_of w) w.resolve.types GuestImport f)
 
--- main is the only user module
-pub only_main : (w : ComponentWorld) → IsWorld w → user_modules w ≡ main_module w ∷ []
-only_main w ok = ap (λ (as_list : List (List ℕ × WorldAdapter)). main_module w ∷ map adapter_module as_list) ok.alone
+-- ---- user modules
 
--- a user module that is listed is main
-pub listed_main : (w : ComponentWorld) → IsWorld w → (number : ℕ) (of : WorldModule) → slice_get (user_modules w) number ≡ Some of → (number ≡ 0) × (main_module w ≡ of)
-listed_main w ok number of e = by number (ap (λ l. slice_get l number) (sym (only_main w ok)) ∙ e)
+-- what a world requires of a user module, with some exports that it has to have
+pub record IsRightModule (w : ComponentWorld) (of : WorldModule) : Type 0 where
+  pub keys : List WorldKey
+  pub is : IsUserModule w of.found keys
+
+adapter_right : (w : ComponentWorld) (adapters : List (List ℕ × WorldAdapter)) → AllByRecursion (λ a. IsUserModule w a.1.info a.1.required_exports) adapters → (number : ℕ) (of : WorldModule) →
+    slice_get (map adapter_module adapters) number ≡ Some of → IsRightModule w of
+adapter_right w [] h number of e = absurd (none-some of e)
+adapter_right w (a ∷ adapters) h zero of e = subst (IsRightModule w) (same_Some (adapter_module a) of e) (record { keys = a.1.required_exports; is = h.0 })
+adapter_right w (a ∷ adapters) h (suc n) of e = adapter_right w adapters h.1 n of e
+
+-- each keeps it
+pub module_right : (w : ComponentWorld) → IsWorld w → (number : ℕ) (of : WorldModule) → slice_get (user_modules w) number ≡ Some of → IsRightModule w of
+module_right w ok zero of e = subst (IsRightModule w) (same_Some (main_module w) of e) (record { keys = w.main_exports; is = ok.main })
+module_right w ok (suc n) of e = adapter_right w w.adapters ok.adapters n of e
+
+-- no adapter is named as main
+no_adapter_is_main : (adapters : List (List ℕ × WorldAdapter)) (number : ℕ) (of : WorldModule) → slice_get (map adapter_module adapters) number ≡ Some of → of.of ≡ Main → ⊥
+no_adapter_is_main [] number of e same = none-some of e
+no_adapter_is_main (a ∷ adapters) zero of e same = let no : Adapter a.0 ≡ Main = ap (λ (m : WorldModule). m.of) (same_Some (adapter_module a) of e) ∙ same in cc
+no_adapter_is_main (a ∷ adapters) (suc n) of e same = no_adapter_is_main adapters n of e same
+
+-- so the module that is named as main is main
+pub named_main : (w : ComponentWorld) (number : ℕ) (m : IsModule w number Main) → (number ≡ 0) × (main_module w ≡ m.world_module)
+named_main w number m = by number m.listed
   where
-    by : (number : ℕ) → slice_get (main_module w ∷ []) number ≡ Some of → (number ≡ 0) × (main_module w ≡ of)
-    by zero e = (refl, same_Some (main_module w) of e)
-    by (suc n) e = absurd (none-some of e)
+    by : (n : ℕ) → slice_get (user_modules w) n ≡ Some m.world_module → (n ≡ 0) × (main_module w ≡ m.world_module)
+    by zero e = (refl, same_Some (main_module w) m.world_module e)
+    by (suc n) e = absurd (no_adapter_is_main w.adapters n m.world_module e m.same)
 
-pub only_main_is : (w : ComponentWorld) → IsWorld w → (number : ℕ) {of : UserModule} → IsModule w number of → number ≡ 0
-only_main_is w ok number m = (listed_main w ok number m.world_module m.listed).0
-
--- ---- what main imports
+-- ---- what user modules import
 
 -- the roles of a group
 pub fields_right : (w : ComponentWorld) (group : List ℕ × ImportInstance) → IsImportGroup w group → AllByRecursion (λ f. IsImportRole w f.1) (fields_of group.1)
 fields_right w (name, instances.Names fields) h = h.1
 fields_right w (name, instances.Whole which) h = absurd h
 
--- an import that has the role of a function, whose core type is the one of its role
-pub record IsFunctionImport (w : ComponentWorld) (i : ImportType) : Type 0 where
+-- an import of the module that has the role of a function, whose core type is the one of its role
+pub record IsFunctionImport (w : ComponentWorld) (m : ValidatedModule) (i : ImportType) : Type 0 where
   pub role : Import
   pub type : FuncType
-  pub has_role : role_at w.main.imports.modules i.module_name i.field ≡ Some role
+  pub has_role : role_at m.imports.modules i.module_name i.field ≡ Some role
   pub right : IsImportRole w role
   pub fits : type_of_import w.resolve (items_of w) role ≡ Some (externs.Func type)
   pub typed : i.ty ≡ externs.Func type
@@ -161,15 +179,15 @@ import_type w (imports.ExportedResourceRep key id) type right fits = (resource_c
 import_type w (imports.ExportedResourceNew key id) type right fits = (resource_core New, sym (same_Some handle_type type fits))
 import_type w role type right fits = absurd right
 
-one_import : (w : ComponentWorld) → IsWorld w → (i : ImportType) → FitsImport w.resolve (items_of w) w.main i → IsFunctionImport w i
-one_import w ok i h =
-    let right : IsImportRole w h.role = role_right w w.main.imports.modules i.module_name i.field h.role ok.main.import_roles h.has_role in
+one_import : (w : ComponentWorld) (m : ValidatedModule) → AllByRecursion (IsImportGroup w) m.imports.modules → (i : ImportType) → FitsImport w.resolve (items_of w) m i → IsFunctionImport w m i
+one_import w m roles i h =
+    let right : IsImportRole w h.role = role_right w m.imports.modules i.module_name i.field h.role roles h.has_role in
     let t : (t : FuncType) × (i.ty ≡ externs.Func t) = import_type w h.role i.ty right h.fits in
     record { role = h.role; type = t.0; has_role = h.has_role; right = right; fits = h.fits ∙ ap (λ (x : ExternType). Some x) t.1; typed = t.1 }
 
--- main imports functions
-pub function_imports : (w : ComponentWorld) → IsWorld w → AllByRecursion (IsFunctionImport w) w.main.imported
-function_imports w ok = AllByRecursion-weaker (one_import w ok) w.main.imported ok.main.imported
+-- user modules import functions
+pub function_imports : (w : ComponentWorld) (of : WorldModule) → IsRightModule w of → AllByRecursion (IsFunctionImport w of.found) of.found.imported
+function_imports w of right = AllByRecursion-weaker (one_import w of.found right.is.import_roles) of.found.imported right.is.imported
 
 -- ---- what main exports
 

@@ -1,11 +1,13 @@
 -- A list of right definitions runs, and the final state is linked.
-use Rattle.std.proofs.Common.{◌≡◌, ◌∙◌, ◌≤◌, ◌<◌, ◌+◌, ◌==◌, zero, suc, Option, is_some, ℕ, false, List, [], ◌∷◌, ◌++◌, length, map, refl, sym, ap, ap₂, subst, append-nil, append_assoc, Some, None, arith, IsTrue}
-use Rattle.std.proofs.lemmas.List.{map-append}
+use Rattle.std.proofs.Common.{◌≡◌, ◌∙◌, ◌≤◌, ◌<◌, ◌+◌, zero, suc, Option, is_some, ℕ, false, List, [], ◌∷◌, ◌++◌, length, map, filter, refl, sym, ap, ap₂, subst, append-nil, append_assoc, add-one, Some, None, arith, IsTrue}
+use Rattle.std.proofs.lemmas.List.{map-append, length-map}
+use Rattle.std.proofs.lemmas.Bool.{lt-ltb}
+use Rattle.std.proofs.Math.Dec.{ltb}
 use Rattle.std.proofs.lemmas.Option.{slice_get_within, none-some, same_Some}
 use Rattle.std.proofs.lemmas.List.Elements.{filter-append, Contains-append_right}
 use Rattle.std.proofs.lemmas.Grind.{flat_map-append}
 use Rattle.std.specs.Prelude.{Contains, ◌≢◌}
-use Rattle.comp_lists.proofs.Lists.{there, AllByRecursion-front, AllByRecursion-back, AllByRecursion-contains, Contains-map}
+use Rattle.comp_lists.proofs.Lists.{there, AllByRecursion-weaker, AllByRecursion-front, AllByRecursion-back, AllByRecursion-contains, Contains-map}
 use Rattle.core_bytes.specs.Modules.{Encodes}
 use Rattle.shim_plan.specs.declared.shims.Shim.{Shim}
 use Rattle.world_shims.specs.WorldShims.{shims_of, type_of_shim}
@@ -14,7 +16,7 @@ use Rattle.shim_runs.proofs.Acting.{empty_shims_trap}
 use Rattle.shim_runs.proofs.Placed.{shim_at}
 use Rattle.shim_runs.proofs.Exported.{shims_found}
 use Rattle.comp_terms.specs.Generated.{shims_number, fixup_number, GeneratedBytes, MayBeGenerated}
-use Rattle.std.specs.List.{slice_get, flat_map, AllZip, AllByRecursion}
+use Rattle.std.specs.List.{slice_get, flat_map, range_with_len, AllZip, AllByRecursion}
 use Rattle.comp_bytes.specs.ItemIndices.{in_space}
 use Rattle.comp_bytes.specs.declared.space.Space.TheVariants as spaces
 use Rattle.comp_bytes.specs.declared.space.Sort.TheVariants as sorts
@@ -44,24 +46,28 @@ use Rattle.link_laws.specs.Composition.{GeneratedModules, generated_sections, Is
 use Rattle.link_laws.specs.Linking.{module_meanings, outcome, EndsAt, StartCall, start_calls, initialization, questions, LetsRun, IsLinked, imported_among, TypesServed, IsShim, TrapsAtOnce, BeforeFixup, Links}
 use Rattle.link_laws.proofs.Stores.{ShimsAt, ExportsShims, MayHaveShims, IsTypeEntry, IsFunctionEntry, IsInstanceThing, Agrees}
 use Rattle.link_laws.proofs.Given.{not_shims, scope_there}
-use Rattle.link_laws.proofs.Plain.{only, nothing_in, only_main, no_initialize}
-use Rattle.link_laws.proofs.InstanceSteps.{IsGenerated, generated_for, step_instantiate}
-use Rattle.link_laws.proofs.Steps.{no_modules, machine, IsNow, IsGood, users_among, users_in, asks, events_of, seen_by, Steps, step_type, step_instance_type, step_import, step_import_type, step_import_resource, step_import_instance, step_alias_function, step_alias_type, step_lower, step_new, step_rep, step_drop, step_lift, step_inline_instance, step_alias, step_module, step_custom}
-use Rattle.link_laws.proofs.Marks.{bytes_listed, numbers_listed, root_imports, root_modules, root_instances, root_exports, root_export_names, all_resources, no_customs}
+use Rattle.link_laws.proofs.Plain.{nothing_in, no_initialize}
+use Rattle.link_laws.proofs.ModuleMarks.{bytes_listed, numbers_listed}
+use Rattle.link_laws.proofs.OnlyMain.{marked_users}
+use Rattle.link_laws.proofs.Zips.{AllByRecursion-join}
+use Rattle.link_laws.proofs.InstanceSteps.{IsGenerated, generated_for, none_among, at_least, before_next, step_instantiate}
+use Rattle.link_laws.proofs.Outcomes.{machine, IsNow, IsGood, users_among, users_in, asks, events_of, seen_by, Steps}
+use Rattle.link_laws.proofs.Steps.{no_modules, step_type, step_instance_type, step_import, step_import_type, step_import_resource, step_import_instance, step_alias_function, step_alias_type, step_lower, step_new, step_rep, step_drop, step_lift, step_inline_instance, step_alias, step_module, step_custom}
+use Rattle.link_laws.proofs.Marks.{root_imports, root_modules, root_instances, root_exports, root_export_names, all_resources, no_customs}
 use Rattle.link_laws.proofs.ImportedTypes.{types_served}
 use Rattle.link_laws.proofs.Served.{FilledAtEnd, users_served, resource_defined, number_defined, each_provided, each_type_provided}
 use Rattle.link_laws.proofs.NestedSteps.{step_component, step_nested, step_export_function, step_export_instance}
 
 -- a generated module is instantiated only where it is one of these
 abbrev pub MayMake : ComponentWorld → GeneratedModules → ℕ → Type 0
-MayMake w gen n = (0 ≡ n → ⊥) → IsGenerated w gen
+MayMake w gen n = (n < shims_number w → ⊥) → IsGenerated w gen
 
 module _ {w : ComponentWorld} {earlier : List Def} {c : Scope} {s : Store} (a : Agrees w earlier c s) (g : ℕ) (gen : GeneratedModules) where
   step : IsWorld w → (d : Def) → AllByRecursion (MayMake w gen) (at_root item_instantiates d) → IsRight w earlier d → Steps w gen earlier c s g d
   step ok (defs.Item (items.CoreModule bytes)) may h = step_module a g gen bytes
   step ok (defs.Item (items.CoreInstantiate number arguments)) may h = step_instantiate a g gen ok number arguments may.0 h
   step ok (defs.Item (items.CoreExports entries)) may h = step_inline_instance a g gen entries h
-  step ok (defs.Item (items.Alias (aliases.CoreExport kind instance name))) may h = step_alias a g gen ok kind instance name h
+  step ok (defs.Item (items.Alias (aliases.CoreExport kind instance name))) may h = step_alias a g gen kind instance name h
   step ok (defs.Item (items.Alias (aliases.Export exports.Func instance name))) may h = step_alias_function a g gen instance name h
   step ok (defs.Item (items.Alias (aliases.Export exports.Type instance name))) may h = step_alias_type a g gen instance name h
   step ok (defs.Item (items.Type t)) may h = step_type a g gen t h
@@ -76,20 +82,20 @@ module _ {w : ComponentWorld} {earlier : List Def} {c : Scope} {s : Store} (a : 
   step ok (defs.Item (items.Import name descriptions.SubResource)) may h = step_import_resource a g gen name
   step ok (defs.Item (items.Import name (descriptions.Instance index))) may h = step_import_instance a g gen name index h.outer h.members h.is h.right
   step ok (defs.Item (items.Instantiate component arguments)) may h = step_nested a g gen component arguments h
-  step ok (defs.Item (items.Export name sorts.Func index None)) may h = step_export_function a g gen ok name index h
-  step ok (defs.Item (items.Export name sorts.Instance index None)) may h = step_export_instance a g gen ok name index h
+  step ok (defs.Item (items.Export name sorts.Func index None)) may h = step_export_function a g gen name index h
+  step ok (defs.Item (items.Export name sorts.Instance index None)) may h = step_export_instance a g gen name index h
   step ok (defs.Item (items.Custom name contents)) may h = step_custom a g gen name contents
   step ok (defs.Component inner) may h = step_component a g gen inner
   step ok _ may h = absurd h
 
 -- the calls of the outside that a list makes, in order, by their result types
-abbrev asked_by : List Def → List (List ValType)
-asked_by ds = flat_map asks ds
+abbrev asked_by : ComponentWorld → List Def → List (List ValType)
+asked_by w ds = flat_map (λ d. asks (users_in w d)) ds
 
 abbrev Resolves : ComponentWorld → GeneratedModules → List Def → List Def → Scope → Store → ℕ → Type 0
 Resolves w gen earlier rest c s g =
     (e : Scope) × (t : Store) × (k : ℕ)
-    × ((es : List Event) (now : Now) → IsNow es g now → IsGood e t k (es ++ seen_by rest) (asked_by rest) now.answers (run (module_meanings w gen) rest (machine c s now)))
+    × ((es : List Event) (now : Now) → IsNow es g now → IsGood e t k (es ++ seen_by w rest) (asked_by w rest) now.answers (run (module_meanings w gen) rest (machine c s now)))
     × Agrees w (earlier ++ rest) e t
 
 resolves : (w : ComponentWorld) (gen : GeneratedModules) → IsWorld w → (earlier rest : List Def) (c : Scope) (s : Store) (g : ℕ) → Agrees w earlier c s → AllByRecursion (MayMake w gen) (flat_map (at_root item_instantiates) rest) → RightAfter w earlier rest → Resolves w gen earlier rest c s g
@@ -99,25 +105,68 @@ resolves w gen ok earlier (d ∷ ds) c s g a may h =
     let later : AllByRecursion (MayMake w gen) (flat_map (at_root item_instantiates) ds) = AllByRecursion-back (MayMake w gen) (at_root item_instantiates d) (flat_map (at_root item_instantiates) ds) may in
     let one : Steps w gen earlier c s g d = step a g gen ok d own h.0 in
     let all : Resolves w gen (earlier ++ d ∷ []) ds one.0 one.1 one.2 = resolves w gen ok (earlier ++ d ∷ []) ds one.0 one.1 one.2 one.4 later h.1 in
-    (all.0, all.1, all.2, λ es now at. one.3.continues all.0 all.1 all.2 es (asked_by ds) ds (λ n k. all.3 (es ++ events_of d) n k) now at, subst (λ l. Agrees w l all.0 all.1) (append_assoc earlier (d ∷ []) ds) all.4)
+    (all.0, all.1, all.2, λ es now at. one.3.continues all.0 all.1 all.2 es (asked_by w ds) ds (λ n k. all.3 (es ++ events_of (users_in w d)) n k) now at, subst (λ l. Agrees w l all.0 all.1) (append_assoc earlier (d ∷ []) ds) all.4)
 
 -- such lists have one entry for each instance of a user module
-users-append : (d : Def) (ds : List Def) → users_among (flat_map (at_root item_instantiates) (d ∷ ds)) ≡ users_in d ++ users_among (flat_map (at_root item_instantiates) ds)
-users-append d ds = filter-append (λ n. n == 0) (at_root item_instantiates d) (flat_map (at_root item_instantiates) ds)
+module _ (w : ComponentWorld) where
+  users-append : (d : Def) (ds : List Def) → users_among w (flat_map (at_root item_instantiates) (d ∷ ds)) ≡ users_in w d ++ users_among w (flat_map (at_root item_instantiates) ds)
+  users-append d ds = filter-append (λ n. ltb n (length (user_modules w))) (at_root item_instantiates d) (flat_map (at_root item_instantiates) ds)
 
-asked-each : (ds : List Def) → asked_by ds ≡ map (λ (n : ℕ). []) (users_among (flat_map (at_root item_instantiates) ds))
-asked-each [] = refl
-asked-each (d ∷ ds) =
-    ap (λ l. asks d ++ l) (asked-each ds)
-    ∙ (sym (map-append (λ (n : ℕ). []) (users_in d) (users_among (flat_map (at_root item_instantiates) ds)))
-    ∙ ap (map (λ (n : ℕ). [])) (sym (users-append d ds)))
+  asked-each : (ds : List Def) → asked_by w ds ≡ asks (users_among w (flat_map (at_root item_instantiates) ds))
+  asked-each [] = refl
+  asked-each (d ∷ ds) =
+      ap (λ l. asks (users_in w d) ++ l) (asked-each ds)
+      ∙ (sym (map-append (λ (n : ℕ). []) (users_in w d) (users_among w (flat_map (at_root item_instantiates) ds)))
+      ∙ ap asks (sym (users-append d ds)))
 
-seen-each : (ds : List Def) → seen_by ds ≡ map (λ (n : ℕ). Instantiated n) (users_among (flat_map (at_root item_instantiates) ds))
-seen-each [] = refl
-seen-each (d ∷ ds) =
-    ap (λ l. events_of d ++ l) (seen-each ds)
-    ∙ (sym (map-append (λ (n : ℕ). Instantiated n) (users_in d) (users_among (flat_map (at_root item_instantiates) ds)))
-    ∙ ap (map (λ (n : ℕ). Instantiated n)) (sym (users-append d ds)))
+  seen-each : (ds : List Def) → seen_by w ds ≡ events_of (users_among w (flat_map (at_root item_instantiates) ds))
+  seen-each [] = refl
+  seen-each (d ∷ ds) =
+      ap (λ l. events_of (users_in w d) ++ l) (seen-each ds)
+      ∙ (sym (map-append (λ (n : ℕ). Instantiated n) (users_in w d) (users_among w (flat_map (at_root item_instantiates) ds)))
+      ∙ ap events_of (sym (users-append d ds)))
+
+-- ---- the numbers of user modules
+
+-- a range has consecutive numbers
+range_numbers : (k n : ℕ) → range_with_len k n ≡ numbers_from k n
+range_numbers k zero = refl
+range_numbers k (suc n) = ap (λ l. k ∷ l) (range_numbers (k + 1) n ∙ ap (λ m. numbers_from m n) (add-one k))
+
+-- consecutive numbers are below their end
+numbers_below : (k n end : ℕ) → k + n ≤ end → AllByRecursion (λ m. m < end) (numbers_from k n)
+numbers_below k zero end l = tt
+numbers_below k (suc n) end l = (omega (arith, l), numbers_below (suc k) n end (omega (arith, l)))
+
+length-numbers : (k n : ℕ) → length (numbers_from k n) ≡ n
+length-numbers k zero = refl
+length-numbers k (suc n) = ap suc (length-numbers (suc k) n)
+
+all_among : (end : ℕ) (ns : List ℕ) → AllByRecursion (λ m. m < end) ns → filter (λ n. ltb n end) ns ≡ ns
+all_among end [] h = refl
+all_among end (n ∷ ns) h = rw (lt-ltb n end h.0) (ap (λ l. n ∷ l) (all_among end ns h.1))
+
+each_number : {P : ℕ → Type 0} → ((n : ℕ) → P n) → (ns : List ℕ) → AllByRecursion P ns
+each_number all [] = tt
+each_number all (n ∷ ns) = (all n, each_number all ns)
+
+-- there is one for each user module
+asked_of_each : (us : List WorldModule) (k : ℕ) → asks (numbers_from k (length us)) ≡ map (λ m. []) us
+asked_of_each [] k = refl
+asked_of_each (u ∷ us) k = ap (λ l. [] ∷ l) (asked_of_each us (suc k))
+
+-- how many user modules there are, and their numbers
+abbrev user_count : ComponentWorld → ℕ
+user_count w = length (user_modules w)
+
+abbrev user_numbers : ComponentWorld → List ℕ
+user_numbers w = numbers_from 0 (user_count w)
+
+users_below : (w : ComponentWorld) → AllByRecursion (λ n. n < user_count w) (user_numbers w)
+users_below w = by (user_count w)
+  where
+    by : (n : ℕ) → AllByRecursion (λ m. m < n) (numbers_from 0 n)
+    by n = numbers_below 0 n n (omega arith)
 
 -- ---- the generated modules of what was built
 
@@ -131,34 +180,41 @@ bytes_encode w None h = tt
 bytes_encode w (Some b) h = (h.shims, (h.fixup, tt))
 
 -- the instances are in their order
-order_is : (w : ComponentWorld) → IsWorld w → (o : Option GeneratedBytes) (h : MayBeGenerated w o) → numbers_listed w o ≡ instance_order (length (user_modules w)) (modules_of w o h)
-order_is w ok None h = sym (ap (λ (us : List WorldModule). instance_order (length us) no_modules) (only_main w ok))
-order_is w ok (Some b) h =
-    ap (λ (us : List WorldModule). length us ∷ 0 ∷ suc (length us) ∷ []) (only_main w ok)
-    ∙ sym (ap (λ (us : List WorldModule). instance_order (length us) (generated_for w h.debug_names)) (only_main w ok))
+order_is : (w : ComponentWorld) (o : Option GeneratedBytes) (h : MayBeGenerated w o) → numbers_listed w (user_modules w) o ≡ instance_order (length (user_modules w)) (modules_of w o h)
+order_is w None h = range_numbers 0 (user_count w) ∙ sym (append-nil (user_numbers w))
+order_is w (Some b) h = ap (λ ns. shims_number w ∷ (ns ++ fixup_number w ∷ [])) (range_numbers 0 (user_count w))
 
--- one of them is a user module
-one_user : (w : ComponentWorld) → IsWorld w → (o : Option GeneratedBytes) → users_among (numbers_listed w o) ≡ 0 ∷ []
-one_user w ok None = refl
-one_user w ok (Some b) = ap (λ (us : List WorldModule). users_among (length us ∷ 0 ∷ suc (length us) ∷ [])) (only_main w ok)
+-- among them are the user modules
+users_in_order : (w : ComponentWorld) (o : Option GeneratedBytes) (h : MayBeGenerated w o) → users_among w (instance_order (length (user_modules w)) (modules_of w o h)) ≡ numbers_from 0 (length (user_modules w))
+users_in_order w None h = ap (users_among w) (append-nil (user_numbers w)) ∙ all_among (user_count w) (user_numbers w) (users_below w)
+users_in_order w (Some b) h =
+    filter-append (λ n. ltb n (user_count w)) (user_count w ∷ []) (user_numbers w ++ suc (user_count w) ∷ [])
+    ∙ (ap₂ (λ xs ys. xs ++ ys) (none_among w (user_count w) (at_least (user_count w)))
+    (filter-append (λ n. ltb n (user_count w)) (user_numbers w) (suc (user_count w) ∷ [])
+    ∙ ap₂ (λ xs ys. xs ++ ys) (all_among (user_count w) (user_numbers w) (users_below w)) (none_among w (suc (user_count w)) (before_next (user_count w))))
+    ∙ append-nil (user_numbers w))
 
-may_make : (w : ComponentWorld) (o : Option GeneratedBytes) (h : MayBeGenerated w o) → AllByRecursion (MayMake w (modules_of w o h)) (numbers_listed w o)
-may_make w None h = (λ no. absurd (no refl), tt)
-may_make w (Some b) h =
-    let own : IsGenerated w (generated_for w h.debug_names) = record { debug_names = h.debug_names; is = refl; room = h.room } in
-    (λ no. own, (λ no. own, (λ no. own, tt)))
+may_make : (w : ComponentWorld) (o : Option GeneratedBytes) (h : MayBeGenerated w o) → AllByRecursion (MayMake w (modules_of w o h)) (instance_order (length (user_modules w)) (modules_of w o h))
+may_make w None h =
+    AllByRecursion-join (MayMake w no_modules) (user_numbers w) [] (AllByRecursion-weaker (λ n below no. absurd (no below)) (user_numbers w) (users_below w)) tt
+may_make w (Some b) h = each_number (λ n no. record { debug_names = h.debug_names; is = refl; room = h.room }) (instance_order (length (user_modules w)) (generated_for w h.debug_names))
 
 -- ---- as a list
+
+-- the modules are instantiated in their order
+instances_in_order : (n : Naming) (w : ComponentWorld) (ds : List Def) → IsWorld w → (built : IsBuilt n w ds) →
+    flat_map (at_root item_instantiates) ds ≡ instance_order (length (user_modules w)) (modules_of w built.generated built.are_generated)
+instances_in_order n w ds ok built = root_instances n w ds built (user_modules w) (marked_users w ok built.generated) ∙ order_is w built.generated built.are_generated
 
 -- what was built is composed as the world says
 pub composed : (n : Naming) (w : ComponentWorld) (ds : List Def) → IsWorld w → (built : IsBuilt n w ds) → IsComposed n w (modules_of w built.generated built.are_generated) ds
 composed n w ds ok built = record {
   generated = bytes_listed built.generated;
-  modules = root_modules n w ds built ∙ sym (ap (λ us. map (λ (u : WorldModule). u.found.bytes) us ++ bytes_listed built.generated) (only_main w ok));
+  modules = root_modules n w ds built (user_modules w) (marked_users w ok built.generated);
   encoded = bytes_encode w built.generated built.are_generated;
   imports = root_imports n w ds built;
   exports = root_exports n w ds built;
-  instances = root_instances n w ds built ∙ order_is w ok built.generated built.are_generated;
+  instances = instances_in_order n w ds ok built;
   customs = record { front = built.front; names = built.names; whole = built.whole; none_before = no_customs n w ds built; named = built.named };
 }
 
@@ -173,25 +229,32 @@ start w =
     record { shims = None; with_shims = λ yes. nothing_in (shims_number w) yes; means = tt; types = subst (λ (v : Inventory). AllZip (IsTypeEntry (fresh_machine []).store) v.types []) (sym inventory-empty) tt; functions = subst (λ (v : Inventory). AllZip (IsFunctionEntry (fresh_machine []).store) v.functions []) (sym inventory-empty) tt; instances = subst (λ (v : Inventory). AllZip (IsInstanceThing (fresh_machine []).store) v.instances []) (sym inventory-empty) tt; resources = record { counted = sym none; each = tt; numbered = λ number less. let zero_is = none in absurd (omega (arith, less, zero_is)) }; modules = refl; instantiated = refl; served = tt; exports = refl; lifted = tt; imports = sym (ap (λ (v : Inventory). v.imports) inventory-empty) }
 
 -- where the shims are made, they are filled at the end
-filled_at_end : (w : ComponentWorld) (m : Machine) (o : Option GeneratedBytes) (shims : Option ShimsAt) → (numbers : List ℕ) → numbers ≡ numbers_listed w o → MayHaveShims w m.store numbers shims → (ok : IsWorld w) → FilledAtEnd w ok m shims
-filled_at_end w m o None numbers same h ok = tt
-filled_at_end w m None (Some at) numbers same h ok = absurd (not_shims w (only 0 (shims_number w) (subst (λ l. Contains l (shims_number w)) same h.there)))
-filled_at_end w m (Some b) (Some at) numbers same h ok = (h.made, h.filled (subst (λ l. Contains l (fixup_number w)) (sym same) (2, omega arith, refl)), h.room)
+filled_at_end : (w : ComponentWorld) (m : Machine) (o : Option GeneratedBytes) (g : MayBeGenerated w o) (shims : Option ShimsAt) (made : List ℕ) → made ≡ instance_order (length (user_modules w)) (modules_of w o g) → MayHaveShims w m.store made shims → (ok : IsWorld w) →
+    FilledAtEnd w ok m shims
+filled_at_end w m o g None made same h ok = tt
+filled_at_end w m None g (Some at) made same h ok =
+    let own : Contains (user_numbers w) (shims_number w) = subst (λ l. Contains l (shims_number w)) (same ∙ append-nil (user_numbers w)) h.there in
+    let below : shims_number w < user_count w = AllByRecursion-contains (λ n. n < user_count w) (user_numbers w) (shims_number w) (users_below w) own in
+    absurd (not_shims w (shims_number w) below refl)
+filled_at_end w m (Some b) g (Some at) made same h ok =
+    let last : Contains (user_numbers w ++ fixup_number w ∷ []) (fixup_number w) = Contains-append_right (user_numbers w) (fixup_number w ∷ []) (fixup_number w) (0, omega arith, refl) in
+    let among : Contains (shims_number w ∷ (user_numbers w ++ fixup_number w ∷ [])) (fixup_number w) = Contains-append_right (shims_number w ∷ []) (user_numbers w ++ fixup_number w ∷ []) (fixup_number w) last in
+    (h.made, h.filled (subst (λ l. Contains l (fixup_number w)) (sym same) among), h.room)
 
 -- the end of a run is linked
-linked_at_end : (n : Naming) (w : ComponentWorld) (ds : List Def) (m : Machine) → IsWorld w → AreExportsApart n w → (built : IsBuilt n w ds) → Agrees w ds m.scope m.store → m.now.events ≡ Instantiated 0 ∷ [] → IsLinked n w (modules_of w built.generated built.are_generated) m
+linked_at_end : (n : Naming) (w : ComponentWorld) (ds : List Def) (m : Machine) → IsWorld w → AreExportsApart n w → (built : IsBuilt n w ds) → Agrees w ds m.scope m.store → m.now.events ≡ events_of (numbers_from 0 (length (user_modules w))) → IsLinked n w (modules_of w built.generated built.are_generated) m
 linked_at_end n w ds m ok apart built a events =
-    let filled : FilledAtEnd w ok m a.shims = filled_at_end w m built.generated a.shims (flat_map (at_root item_instantiates) ds) (root_instances n w ds built) a.with_shims ok in
+    let filled : FilledAtEnd w ok m a.shims = filled_at_end w m built.generated built.are_generated a.shims (flat_map (at_root item_instantiates) ds) (instances_in_order n w ds ok built) a.with_shims ok in
     record {
       origins = resource_of w;
       start_events = [];
-      instances = a.instantiated ∙ (root_instances n w ds built ∙ order_is w ok built.generated built.are_generated);
+      instances = a.instantiated ∙ instances_in_order n w ds ok built;
       imports = users_served w ok m a.shims filled a.served;
       exports = each_provided n w ok apart m (a.exports ∙ root_export_names n w ds built) a.lifted;
       types = each_type_provided n w ok apart m (a.exports ∙ root_export_names n w ds built) a.lifted;
       resources = λ address number destructor present. resource_defined w ok m a.shims filled address number destructor present a.resources;
       defined = λ number less. number_defined w ok m a.shims number a.resources (subst (λ n. number < n) (sym (all_resources n w ds built)) less);
-      events = events ∙ sym (ap (λ (us : List WorldModule). map (λ n. Instantiated n) (numbers_from 0 (length us)) ++ []) (only_main w ok));
+      events = events ∙ sym (append-nil (events_of (user_numbers w)));
       started = rw (no_calls w ok) tt;
     }
 
@@ -219,8 +282,11 @@ module _ (e : Scope) (t : Store) (g : ℕ) (es : List Event) (questions : List (
   few_moments (Open n) m h same = subst (λ (x : Machine). length x.now.moments ≤ length es) same h.1
   few_moments Stuck m h same = absurd h
 
-no_later : {A : Type 0} (xs : List A) (n : ℕ) (x : A) → length xs ≤ 1 → 1 ≤ n → slice_get xs n ≡ Some x → ⊥
-no_later xs n x few late e = let within = slice_get_within xs n x e in omega (arith, few, late, within)
+no_later : {A : Type 0} (xs : List A) (end n : ℕ) (x : A) → length xs ≤ end → end ≤ n → slice_get xs n ≡ Some x → ⊥
+no_later xs end n x few late e = let within = slice_get_within xs n x e in omega (arith, few, late, within)
+
+first_part : (a b n : ℕ) → a + b ≤ n → a ≤ n
+first_part a b n l = omega (arith, l)
 
 -- ---- before the fixup
 
@@ -270,50 +336,61 @@ no_fixup_before w (Some b) h ds fixed before contains = AllByRecursion-contains 
 -- what was built links, whatever the outside returns, where the exported interfaces have names of their own
 pub links : (n : Naming) (w : ComponentWorld) (ds : List Def) → IsWorld w → AreExportsApart n w → (built : IsBuilt n w ds) → Links n w (modules_of w built.generated built.are_generated) ds
 links n w ds ok apart built = record {
-  never_stuck = λ answers. not_stuck all.0 all.1 all.2 one (questions w) answers (outcome w gen ds answers) (good answers);
-  ends = λ answers. is_done all.0 all.1 all.2 one (questions w) answers (outcome w gen ds answers) (good answers);
+  never_stuck = λ answers. not_stuck all.0 all.1 all.2 made (questions w) answers (outcome w gen ds answers) (good answers);
+  ends = λ answers. is_done all.0 all.1 all.2 made (questions w) answers (outcome w gen ds answers) (good answers);
   linked = λ answers m done. let is = at_end answers m done in linked_at_end n w ds m ok apart built is.0 is.1;
   types = λ answers m done. types_at_end n w ds m built (at_end answers m done).0;
   traps_before = record { each = traps };
   served_throughout = record {
     each = λ answers m ends event globals late at.
-        let single : length (user_modules w) ≡ 1 = ap (λ (us : List WorldModule). length us) (only_main w ok) in
-        absurd (no_later m.now.moments event globals (few_moments all.0 all.1 all.2 one (questions w) answers (outcome w gen ds answers) m (good answers) ends) (omega (arith, single, late)) at);
+        let few : length m.now.moments ≤ user_count w = subst (λ k. length m.now.moments ≤ k) counted (few_moments all.0 all.1 all.2 made (questions w) answers (outcome w gen ds answers) m (good answers) ends) in
+        absurd (no_later m.now.moments (user_count w) event globals few (first_part (user_count w) _ event late) at);
   };
 }
   where
     gen : GeneratedModules
     gen = modules_of w built.generated built.are_generated
 
+    in_order : flat_map (at_root item_instantiates) ds ≡ instance_order (length (user_modules w)) gen
+    in_order = instances_in_order n w ds ok built
+
     may : AllByRecursion (MayMake w gen) (flat_map (at_root item_instantiates) ds)
-    may = subst (AllByRecursion (MayMake w gen)) (sym (root_instances n w ds built)) (may_make w built.generated built.are_generated)
+    may = subst (AllByRecursion (MayMake w gen)) (sym in_order) (may_make w built.generated built.are_generated)
 
     all : Resolves w gen [] ds (fresh_machine []).scope (fresh_machine []).store 0
     all = resolves w gen ok [] ds (fresh_machine []).scope (fresh_machine []).store 0 (start w) may built.right
 
-    one : List Event
-    one = Instantiated 0 ∷ []
+    -- each user module is instantiated, and nothing else is asked
+    made : List Event
+    made = events_of (numbers_from 0 (length (user_modules w)))
 
-    asked : asked_by ds ≡ questions w
+    counted : length made ≡ user_count w
+    counted = length-map (user_numbers w) (λ (n : ℕ). Instantiated n) ∙ length-numbers 0 (user_count w)
+
+    users : users_among w (flat_map (at_root item_instantiates) ds) ≡ numbers_from 0 (length (user_modules w))
+    users = ap (users_among w) in_order ∙ users_in_order w built.generated built.are_generated
+
+    asked : asked_by w ds ≡ questions w
     asked =
-        asked-each ds
-        ∙ (ap (map (λ (n : ℕ). [])) (ap users_among (root_instances n w ds built) ∙ one_user w ok built.generated)
-        ∙ sym (ap₂ (λ (us : List WorldModule) (cs : List StartCall). map (λ m. []) us ++ map (λ c. []) cs) (only_main w ok) (no_calls w ok)))
+        asked-each w ds
+        ∙ (ap asks users
+        ∙ (asked_of_each (user_modules w) 0
+        ∙ sym (ap (λ (cs : List StartCall). map (λ m. []) (user_modules w) ++ map (λ c. []) cs) (no_calls w ok) ∙ append-nil (map (λ m. []) (user_modules w)))))
 
-    seen : seen_by ds ≡ one
-    seen = seen-each ds ∙ ap (map (λ (n : ℕ). Instantiated n)) (ap users_among (root_instances n w ds built) ∙ one_user w ok built.generated)
+    seen : seen_by w ds ≡ made
+    seen = seen-each w ds ∙ ap events_of users
 
     fresh : (answers : List Answer) → IsNow [] 0 (fresh_machine answers).now
     fresh answers = record { events = refl; moments = refl; globals = refl }
 
-    good : (answers : List Answer) → IsGood all.0 all.1 all.2 one (questions w) answers (outcome w gen ds answers)
+    good : (answers : List Answer) → IsGood all.0 all.1 all.2 made (questions w) answers (outcome w gen ds answers)
     good answers =
-        subst (λ q. IsGood all.0 all.1 all.2 one q answers (outcome w gen ds answers)) asked
-        (subst (λ es. IsGood all.0 all.1 all.2 es (asked_by ds) answers (outcome w gen ds answers)) seen (all.3 [] (fresh_machine answers).now (fresh answers)))
+        subst (λ q. IsGood all.0 all.1 all.2 made q answers (outcome w gen ds answers)) asked
+        (subst (λ es. IsGood all.0 all.1 all.2 es (asked_by w ds) answers (outcome w gen ds answers)) seen (all.3 [] (fresh_machine answers).now (fresh answers)))
 
-    at_end : (answers : List Answer) (m : Machine) → outcome w gen ds answers ≡ Done m → Agrees w ds m.scope m.store × (m.now.events ≡ one)
+    at_end : (answers : List Answer) (m : Machine) → outcome w gen ds answers ≡ Done m → Agrees w ds m.scope m.store × (m.now.events ≡ made)
     at_end answers m done =
-        let is : (m.scope ≡ all.0) × (m.store ≡ all.1) × IsNow one all.2 m.now = done_with all.0 all.1 all.2 one (questions w) answers (outcome w gen ds answers) m (good answers) done in
+        let is : (m.scope ≡ all.0) × (m.store ≡ all.1) × IsNow made all.2 m.now = done_with all.0 all.1 all.2 made (questions w) answers (outcome w gen ds answers) m (good answers) done in
         (subst (λ s. Agrees w ds m.scope s) (sym is.1) (subst (λ c. Agrees w ds c all.1) (sym is.0) all.4), is.2.events)
 
     traps : (before after : List Def) → ds ≡ before ++ after → BeforeFixup w gen before → IsTrue (is_some gen.fixup) → (answers : List Answer) (m : Machine) → outcome w gen before answers ≡ Done m → (address : ℕ) → IsShim w m address → TrapsAtOnce m address
@@ -323,7 +400,7 @@ links n w ds ok apart built = record {
         AllByRecursion-front (MayMake w gen) those (flat_map (at_root item_instantiates) after) (subst (AllByRecursion (MayMake w gen)) (ap (flat_map (at_root item_instantiates)) whole ∙ flat_map-append (at_root item_instantiates) before after) may) in
         let to : Resolves w gen [] before (fresh_machine []).scope (fresh_machine []).store 0 =
         resolves w gen ok [] before (fresh_machine []).scope (fresh_machine []).store 0 (start w) may_before (right_before w [] before after (subst (RightAfter w []) whole built.right)) in
-        let is : (m.scope ≡ to.0) × (m.store ≡ to.1) × IsNow (seen_by before) to.2 m.now =
-        done_with to.0 to.1 to.2 (seen_by before) (asked_by before) answers (outcome w gen before answers) m (to.3 [] (fresh_machine answers).now (fresh answers)) done in
+        let is : (m.scope ≡ to.0) × (m.store ≡ to.1) × IsNow (seen_by w before) to.2 m.now =
+        done_with to.0 to.1 to.2 (seen_by w before) (asked_by w before) answers (outcome w gen before answers) m (to.3 [] (fresh_machine answers).now (fresh answers)) done in
         let a : Agrees w before m.scope m.store = subst (λ s. Agrees w before m.scope s) (sym is.1) (subst (λ c. Agrees w before c to.1) (sym is.0) to.4) in
         quiet_shims w m those a.shims a.instantiated a.with_shims (no_fixup_before w built.generated built.are_generated before fixed unfixed)

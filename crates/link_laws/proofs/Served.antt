@@ -1,4 +1,4 @@
--- What was planned for the imports and exports of main meets the link table.
+-- What was planned for the imports of user modules, and for the exports of main, meets the link table.
 use Rattle.std.proofs.Common.{◌≡◌, ◌∙◌, ◌++◌, inl, inr, ◌+◌, ◌<◌, ◌^◌, arith, length, IsTrue, ℕ, Bool, false, zero, suc, true, List, [], ◌∷◌, map, refl, sym, ap, subst, Option, Some, None, is_some, if◌then◌else◌}
 use Rattle.std.proofs.lemmas.Option.{none-some, same_Some, slice_get_within, slice_get-map}
 use Rattle.std.proofs.lemmas.Slice.Eq.{bytes_eq-Decides}
@@ -27,7 +27,6 @@ use Rattle.wit_data.specs.declared.worlds.WorldKey.TheVariants as keys
 use Rattle.wit_data.specs.declared.ids.InterfaceId.{InterfaceId}
 use Rattle.wit_data.specs.declared.worlds.WorldItem.{WorldItem}
 use Rattle.wit_data.specs.declared.worlds.WorldItem.TheVariants as world_items
-use Rattle.comp_roles.specs.declared.imports.Import.{Import}
 use Rattle.comp_roles.specs.declared.offered.ImportType.{ImportType}
 use Rattle.comp_roles.specs.Lookups.{first_memory}
 use Rattle.world_values.specs.Items.{functions_in}
@@ -37,8 +36,8 @@ use Rattle.comp_trees.specs.Trees.{Resource, FunctionTree}
 use Rattle.comp_trees.specs.DefinedTrees.{OfOthers}
 use Rattle.comp_links.specs.Targets.{Main, ExportRef, WorldFunction, TargetOption, Target, Lowered, ResourceFunction, New, Rep, Drop, ExportOf, OfResource, Lifted}
 use Rattle.comp_links.specs.Targets as targets
-use Rattle.comp_links.specs.Links.{lift_options, link_of, destructor_of}
-use Rattle.comp_terms.specs.Generated.{Purpose, OfImport, OfDestructor, target_of, HasPurpose}
+use Rattle.comp_links.specs.Links.{lift_options, destructor_of}
+use Rattle.comp_terms.specs.Generated.{Purpose, target_of}
 use Rattle.shim_plan.specs.declared.shims.Shim.{Shim}
 use Rattle.world_shims.specs.WorldShims.{shims_of, type_of_shim}
 use Rattle.shim_runs.specs.ShimRuns.{IsShimAt, AreShimsFrom}
@@ -46,19 +45,20 @@ use Rattle.shim_runs.proofs.Acting.{filled_shims_forward}
 use Rattle.shim_runs.proofs.Placed.{shim_at}
 use Rattle.comp_links.specs.Modules.{WorldModule, user_modules}
 use Rattle.comp_links.specs.Naming.{Naming, plain_name, name_of}
-use Rattle.comp_links.specs.Lists.{component_types, own_resources, resource_of, functions_required, required_functions, types_in, types_required, required_types, type_of_world, AreExportsApart}
+use Rattle.comp_links.specs.Lists.{component_types, own_resources, resource_of, RequiredFunction, functions_required, required_functions, types_in, types_required, required_types, type_of_world, AreExportsApart}
 use Rattle.comp_runs.specs.Signatures.{core_signature}
 use Rattle.comp_runs.specs.Store.{Thing, Export, HeldOption, HeldEncoding, HeldMemory, HeldRealloc, HeldPostReturn, HeldAsync, HeldCallback, CoreItem, Lowering, IntrinsicOf, ExportedBy, Imported, TypeItem, OwnResource, item_tree, ModuleInstance, Store}
 use Rattle.comp_runs.specs.Machine.{Machine, export_in, export_of}
 use Rattle.nested_laws.proofs.Kept.{is_function}
 use Rattle.nested_laws.proofs.Exports.{front, other_space}
-use Rattle.link_laws.specs.Meeting.{CoreMeets, CoreExportMeets, task_hook, hooks_round, MemoryMeets, IsMainMemory, MeetsOption, ItemIsExport, ItemIsLowering, IsResourceHeld, ItemIsOfResource, Meets, MeetsIn, entry_kind, IsExportOf}
+use Rattle.link_laws.specs.Meeting.{CoreMeets, CoreExportMeets, task_hook, hooks_round, MemoryMeets, IsMainMemory, MeetsOption, ItemIsExport, ItemIsLowering, IsResourceHeld, ItemIsOfResource, Meets, MeetsIn, entry_kind}
 use Rattle.instance_laws.proofs.Held.{tree_of_held}
 use Rattle.link_laws.specs.Linking.{IsServed, AreServed, UsersServed, IsProvided, IsTypeProvided, DestructorMeets, IsDefined, IsNumberDefined, exports_at}
 use Rattle.link_laws.proofs.Zips.{AllByRecursion-join, each_at}
-use Rattle.link_laws.proofs.Stores.{IsOpaqueOf, IsInstance, ShimsAt, resource_core, IsLoweredFor, IsFunctionOf, IsExportServed, IsServedAs, Serves, IsFilledWith, AreFilled, main_module, IsPlanned, IsPlannedUser, IsMainExport, IsFirstMemory, IsOptionFunction, IsOptionHeld, main_key, main_function, IsRequiredAt, IsFunctionExport, IsAmong, IsInterfaceExport, IsItemExport, IsKeyExport, AreKeyExports, type_at_key, IsTypeAmong, IsDestroyedBy, IsOwnResource, IsOwnIfDefined, AreResources, HasNumber}
-use Rattle.link_laws.proofs.Given.{by_parts, purpose_opaque, one_purpose}
-use Rattle.link_laws.proofs.Plain.{listed_main, no_hook, no_memory_imported, function_key}
+use Rattle.link_laws.proofs.Stores.{IsOpaqueOf, ShimsAt, resource_core, IsLoweredFor, IsFunctionOf, IsFunctionExported, IsServedAs, IsShimGivenAt, Serves, IsFilledWith, AreFilled, main_module, IsPlanned, IsPlannedUser, IsFirstMemory, IsOptionHeld, main_key, main_function, IsRequiredAt, IsFunctionExport, IsAmong, IsInterfaceExport, IsItemExport, IsKeyExport, AreKeyExports, type_at_key, IsTypeAmong, IsDestroyedBy, IsOwnResource, IsOwnIfDefined, AreResources, HasNumber}
+use Rattle.link_laws.proofs.Given.{by_parts}
+use Rattle.link_laws.proofs.GivenImports.{purpose_opaque, one_purpose}
+use Rattle.link_laws.proofs.Plain.{no_hook, no_memory_imported, function_key}
 use Rattle.comp_worlds.specs.WorldContents.{exported_item}
 
 -- ---- opaque functions
@@ -124,26 +124,17 @@ module _ (w : ComponentWorld) (ok : IsWorld w) (m : Machine) where
 -- ---- options
 
 module _ (w : ComponentWorld) (ok : IsWorld w) (m : Machine) where
-  is_export : (user : ℕ) (export_ref : ExportRef) → export_ref.of ≡ Main → IsInstance m.store user 0 → IsExportOf w m user export_ref.name export_ref
-  is_export user export_ref of h = record {
-    number = 0;
-    is = record { made = h.instance; present = h.present; of = h.of };
-    of = record { world_module = main_module w; listed = refl; same = sym of };
+  -- what a user module exports is that export of an instance of it
+  function_item : {address : ℕ} {export_ref : ExportRef} (h : IsFunctionExported w m.store address export_ref) → ItemIsExport w m export_ref (ExportedBy h.user export_ref.name)
+  function_item h = record {
+    number = h.number;
+    is = record { made = h.instance.instance; present = h.instance.present; of = h.instance.of };
+    of = h.of;
     same_name = refl;
   }
 
-  main_export : (address : ℕ) (export_ref : ExportRef) → export_ref.of ≡ Main → IsMainExport m.store address export_ref.name → (type : FuncType) × (item : CoreItem) × IsOpaqueOf m.store address type item × ItemIsExport w m export_ref item
-  main_export address export_ref of h = (
-    h.type,
-    ExportedBy h.user export_ref.name,
-    h.is,
-    is_export h.user export_ref of h.of,
-  )
-
-  function_meets : (kind : Bracketed) (address : ℕ) (export_ref : ExportRef) → IsOptionFunction m.store address export_ref → CoreExportMeets w m (Some kind) address export_ref
-  function_meets kind address export_ref h =
-      let x : (type : FuncType) × (item : CoreItem) × IsOpaqueOf m.store address type item × ItemIsExport w m export_ref item = main_export address export_ref h.of h.is in
-      opaque_meets w ok m (Some kind) address x.0 x.1 (ItemIsExport w m export_ref) x.2 x.3
+  function_meets : (kind : Bracketed) (address : ℕ) (export_ref : ExportRef) → IsFunctionExported w m.store address export_ref → CoreExportMeets w m (Some kind) address export_ref
+  function_meets kind address export_ref h = opaque_meets w ok m (Some kind) address h.type (ExportedBy h.user export_ref.name) (ItemIsExport w m export_ref) h.is (function_item h)
 
   memory_meets : (address : ℕ) → IsFirstMemory w m.store address → IsMainMemory w m address
   memory_meets address h =
@@ -191,9 +182,9 @@ module _ (w : ComponentWorld) (ok : IsWorld w) (m : Machine) where
       forwarding_meets w ok m None address at (resource_core function) (IntrinsicOf (intrinsic_of function h.of)) (ItemIsOfResource m function (resource_of w id)) same h.is
       (named_function function (resource_of w id) h.of (ap (λ o. elim o [ None ↦ OfOthers | Some i ↦ item_tree i ]) h.held.present ∙ h.held.denotes))
 
-  export_meets : (kind : Option Bracketed) (address at : ℕ) (export_ref : ExportRef) (h : IsExportServed w m.store at export_ref) → Forwards w ok m address at h.is.type → CoreExportMeets w m kind address export_ref
+  export_meets : (kind : Option Bracketed) (address at : ℕ) (export_ref : ExportRef) (h : IsFunctionExported w m.store at export_ref) → Forwards w ok m address at h.type → CoreExportMeets w m kind address export_ref
   export_meets kind address at export_ref h same =
-      forwarding_meets w ok m kind address at h.is.type (ExportedBy h.is.user export_ref.name) (ItemIsExport w m export_ref) same h.is.is (is_export w ok m h.is.user export_ref h.of h.is.of)
+      forwarding_meets w ok m kind address at h.type (ExportedBy h.user export_ref.name) (ItemIsExport w m export_ref) same h.is (function_item w ok m h)
 
   -- a function meets what another one is, where it forwards to that
   function_meets_as : (t : Thing) (at : ℕ) (target : Target) → t.space ≡ spaces.CoreFunc → ((type : FuncType) (item : CoreItem) → IsOpaqueOf m.store at type item → Forwards w ok m t.address at type) → IsServedAs w m.store at target → Meets w m (resource_of w) t target
@@ -205,7 +196,7 @@ module _ (w : ComponentWorld) (ok : IsWorld w) (m : Machine) where
       (resource_meets t.address at function id h (same (resource_core function) (IntrinsicOf (intrinsic_of function h.of)) h.is))
   function_meets_as t at (ExportOf export_ref) space same h =
       subst (λ space. MeetsIn w m (resource_of w) space t.address (ExportOf export_ref)) (sym space)
-      (export_meets None t.address at export_ref h (same h.is.type (ExportedBy h.is.user export_ref.name) h.is.is))
+      (export_meets None t.address at export_ref h (same h.type (ExportedBy h.user export_ref.name) h.is))
   function_meets_as t at target space same h = absurd h
 
   -- the shims are filled at the end
@@ -219,35 +210,37 @@ module _ (w : ComponentWorld) (ok : IsWorld w) (m : Machine) where
     serves : IsServedAs w m.store function target
     same : (type : FuncType) (item : CoreItem) → IsOpaqueOf m.store function type item → Forwards w ok m address function type
 
-  shim_forwards : (address : ℕ) (at : ShimsAt) (place : ℕ) (shim : Shim) (p : Purpose) → FilledAtEnd (Some at) → slice_get (shims_of w) place ≡ Some shim → HasPurpose w shim p → address ≡ at.address + place → ForwardsFor address (target_of w p)
-  shim_forwards address at place shim p filled listed stands is =
+  shim_forwards : (address : ℕ) (at : ShimsAt) (target : Target) → FilledAtEnd (Some at) → IsShimGivenAt w at address target → ForwardsFor address target
+  shim_forwards address at target filled h =
       let shims : List Shim = shims_of w in
-      let f = AllZip-at (IsFilledWith w m.store) shims filled.1.functions place shim filled.1.each listed in
-      let same : f.2.purpose ≡ p = one_purpose w shim f.2.purpose p f.2.stands_for stands in
+      let place : ℕ = h.place in
+      let shim : Shim = h.shim in
+      let p : Purpose = h.purpose in
+      let f = AllZip-at (IsFilledWith w m.store) shims filled.1.functions place shim filled.1.each h.listed in
+      let same : f.2.purpose ≡ p = one_purpose w shim f.2.purpose p f.2.stands_for h.stands_for in
       let serves : IsServedAs w m.store f.0 (target_of w p) = subst (λ q. IsServedAs w m.store f.0 (target_of w q)) same f.2.serves in
       let place_is : 0 + place ≡ place = omega arith in
       let shim_there : IsShimAt m.store.code at.table address place (type_of_shim shim) =
-      subst (λ n. IsShimAt m.store.code at.table n place (type_of_shim shim)) (sym is)
-      (subst (λ n. IsShimAt m.store.code at.table (at.address + place) n (type_of_shim shim)) place_is (shim_at m.store.code at.table 0 at.address shims place shim filled.0 listed)) in
+      subst (λ n. IsShimAt m.store.code at.table n place (type_of_shim shim)) (sym h.is)
+      (subst (λ n. IsShimAt m.store.code at.table (at.address + place) n (type_of_shim shim)) place_is (shim_at m.store.code at.table 0 at.address shims place shim filled.0 h.listed)) in
       let slot : slice_get (map (λ f. Some f) filled.1.functions) place ≡ Some (Some f.0) = slice_get-map (λ f. Some f) filled.1.functions place ∙ ap (option_map (λ f. Some f)) f.1 in
-      let within = slice_get_within shims place shim listed in
+      let within = slice_get_within shims place shim h.listed in
       let room = filled.2 in
       let small : place < 2 ^ 32 = omega (arith, within, room) in
-      let own : (item : CoreItem) × IsOpaqueOf m.store f.0 (type_of_shim shim) item = purpose_opaque w m.store f.0 shim p stands serves in
+      let own : (item : CoreItem) × IsOpaqueOf m.store f.0 (type_of_shim shim) item = purpose_opaque w m.store f.0 shim p h.stands_for serves in
       record {
         function = f.0;
-        serves = serves;
+        serves = subst (IsServedAs w m.store f.0) h.same serves;
         same = λ type item o.
             let typed : type_of_shim shim ≡ type = one_type m.store f.0 (type_of_shim shim) type own.0 item own.1 o in
             subst (Forwards w ok m address f.0) typed
             (λ arguments now fits. filled_shims_forward m.store.code at.table address place (type_of_shim shim) (map (λ f. Some f) filled.1.functions) f.0 own.1.what 0 shim_there filled.1.slots slot own.1.present small arguments now fits);
       }
 
-  shim_meets : (t : Thing) (at : ShimsAt) (place : ℕ) (shim : Shim) (p : Purpose) → t.space ≡ spaces.CoreFunc → FilledAtEnd (Some at) → slice_get (shims_of w) place ≡ Some shim → HasPurpose w shim p → t.address ≡ at.address + place →
-      Meets w m (resource_of w) t (target_of w p)
-  shim_meets t at place shim p space filled listed stands is =
-      let x : ForwardsFor t.address (target_of w p) = shim_forwards t.address at place shim p filled listed stands is in
-      function_meets_as t x.function (target_of w p) space x.same x.serves
+  shim_meets : (t : Thing) (at : ShimsAt) (target : Target) → t.space ≡ spaces.CoreFunc → FilledAtEnd (Some at) → IsShimGivenAt w at t.address target → Meets w m (resource_of w) t target
+  shim_meets t at target space filled h =
+      let x : ForwardsFor t.address target = shim_forwards t.address at target filled h in
+      function_meets_as t x.function target space x.same x.serves
 
   -- ---- the resources that the component defines
 
@@ -255,8 +248,8 @@ module _ (w : ComponentWorld) (ok : IsWorld w) (m : Machine) where
   destructor_meets shims filled None None h = tt
   destructor_meets None filled (Some address) (Some name) h = absurd h
   destructor_meets (Some at) filled (Some address) (Some name) h =
-      let x : ForwardsFor address (ExportOf (record { of = Main; name = name })) = shim_forwards address at h.place h.shim (OfDestructor name) filled h.listed h.stands_for h.is in
-      export_meets (Some brackets.Destructor) address x.function (record { of = Main; name = name }) x.serves (x.same x.serves.is.type (ExportedBy x.serves.is.user name) x.serves.is.is)
+      let x : ForwardsFor address (ExportOf (record { of = Main; name = name })) = shim_forwards address at (ExportOf (record { of = Main; name = name })) filled h in
+      export_meets (Some brackets.Destructor) address x.function (record { of = Main; name = name }) x.serves (x.same x.serves.type (ExportedBy x.serves.user name) x.serves.is)
   destructor_meets shims filled None (Some name) h = absurd h
   destructor_meets shims filled (Some address) None h = absurd h
 
@@ -275,22 +268,20 @@ module _ (w : ComponentWorld) (ok : IsWorld w) (m : Machine) where
   pub number_defined : (shims : Option ShimsAt) (number : ℕ) → {count : ℕ} → AreResources w shims m.store.types count → number < count → IsNumberDefined m number
   number_defined shims number all less = let r : HasNumber m.store.types number = all.numbered number less in record { address = r.address; destructor = r.destructor; is = r.is }
 
-  -- ---- what main is given
+  -- ---- what a user module is given
 
-  serves_meets : (shims : Option ShimsAt) → FilledAtEnd shims → (t : Thing) (role : Import) → t.space ≡ spaces.CoreFunc → Serves w shims m.store t.address role → Meets w m (resource_of w) t (link_of w Main role)
-  serves_meets shims filled t role space (inl h) = function_meets_as t t.address (link_of w Main role) space (λ type item o. forwards_itself w ok m t.address type item o) h
-  serves_meets None filled t role space (inr h) = absurd h
-  serves_meets (Some at) filled t role space (inr h) = shim_meets t at h.place h.shim (OfImport role) space filled h.listed h.stands_for h.is
+  serves_meets : (shims : Option ShimsAt) → FilledAtEnd shims → (t : Thing) (target : Target) → t.space ≡ spaces.CoreFunc → Serves w shims m.store t.address target → Meets w m (resource_of w) t target
+  serves_meets shims filled t target space (inl h) = function_meets_as t t.address target space (λ type item o. forwards_itself w ok m t.address type item o) h
+  serves_meets None filled t target space (inr h) = absurd h
+  serves_meets (Some at) filled t target space (inr h) = shim_meets t at target space filled h
 
-  planned_served : (shims : Option ShimsAt) → FilledAtEnd shims → (t : Thing) (i : ImportType) → IsPlanned w shims m.store t i → IsServed w m (resource_of w) (main_module w) t i
-  planned_served shims filled t i h = record { target = link_of w Main h.role; said = h.said; meets = serves_meets shims filled t h.role h.space h.serves }
+  planned_served : (shims : Option ShimsAt) → FilledAtEnd shims → (of : WorldModule) (t : Thing) (i : ImportType) → IsPlanned w shims m.store of t i → IsServed w m (resource_of w) of t i
+  planned_served shims filled of t i h = record { target = h.target; said = h.said; meets = serves_meets shims filled t h.target h.space h.serves }
 
   instance_served : (shims : Option ShimsAt) → FilledAtEnd shims → (i : ModuleInstance) (of : WorldModule) → slice_get (user_modules w) i.module_number ≡ Some of → IsPlannedUser w shims m.store i → AreServed w m (resource_of w) of i
-  instance_served shims filled i of e h =
-      let main : (i.module_number ≡ 0) × (main_module w ≡ of) = listed_main w ok i.module_number of e in
-      subst (λ (o : WorldModule). AreServed w m (resource_of w) o i) main.1 (AllZip-weaker (planned_served shims filled) i.given w.main.imported (h main.0))
+  instance_served shims filled i of listed h = AllZip-weaker (planned_served shims filled of) i.given of.found.imported (h of listed)
 
-  -- each import of main is served
+  -- each import of a user module is served
   pub users_served : (shims : Option ShimsAt) → FilledAtEnd shims → AllByRecursion (IsPlannedUser w shims m.store) m.store.module_instances → UsersServed w m (resource_of w)
   users_served shims filled all = record { resources = same_resources (component_types w ++ own_resources w); each = λ instance i of present listed. instance_served shims filled i of listed (at_index m.store.module_instances instance i all present) }
     where
@@ -377,25 +368,23 @@ is_instance _ e = cc
 
 module _ (n : Naming) (w : ComponentWorld) (ok : IsWorld w) (apart : AreExportsApart n w) (m : Machine) (exported : AllZip (IsNamedExport n w m.store) w.main_exports m.scope.exports) where
   -- the lift of a required function that is found meets the link table
-  lift_met : (key : WorldKey) (name : List ℕ) (address : ℕ) → IsRequiredAt w m.store (main_function key name) address →
-      option_and_then (export_of spaces.Func name) (exports_at w m (name_of n w.resolve key).name (exported_item w key)) ≡ Some (record { space = spaces.Func; name = name; address = address }) →
-      IsProvided n w m (resource_of w) (main_function key name)
-  lift_met key name address h found =
-      let lifted_with : List TargetOption = lift_options w (main_function key name) in
-      let export_ref : ExportRef = record { of = Main; name = h.name } in
-      let entry : (type : FuncType) × (item : CoreItem) × IsOpaqueOf m.store h.is.core type item × ItemIsExport w m export_ref item = main_export w ok m h.is.core export_ref refl h.is.of in
+  lift_met : (r : RequiredFunction) (address : ℕ) → IsRequiredAt w m.store r address →
+      option_and_then (export_of spaces.Func r.function) (exports_at w m (name_of n w.resolve r.key).name (exported_item w r.key)) ≡ Some (record { space = spaces.Func; name = r.function; address = address }) → IsProvided n w m (resource_of w) r
+  lift_met r address h found =
+      let lifted_with : List TargetOption = lift_options w r in
+      let entry : ExportRef = record { of = r.of; name = h.name } in
       record {
         address = address;
-        target = Lifted export_ref lifted_with;
+        target = Lifted entry lifted_with;
         wit = h.wit;
         provided = found;
-        said = ap (option_map (λ core. Lifted (record { of = Main; name = core }) lifted_with)) h.role;
+        said = ap (option_map (λ core. Lifted (record { of = r.of; name = core }) lifted_with)) h.role;
         type_of = h.exported;
         meets = record {
           core = h.is.core;
           held = h.is.held;
           is = h.is.is;
-          enters = opaque_meets w ok m (Some (entry_kind lifted_with)) h.is.core entry.0 entry.1 (ItemIsExport w m export_ref) entry.2 entry.3;
+          enters = function_meets w ok m (entry_kind lifted_with) h.is.core entry h.is.of;
           same = AllZip-weaker (option_meets w ok m) h.is.held lifted_with h.is.with_options;
         };
       }
@@ -423,7 +412,7 @@ module _ (n : Naming) (w : ComponentWorld) (ok : IsWorld w) (apart : AreExportsA
       let name_is : (name_of n w.resolve key).name ≡ f.name = ap (λ (k : WorldKey). (name_of n w.resolve k).name) key_is ∙ own_name n w f.name in
       let x : FindsNamed n w m.store spaces.Func f.name m.scope.exports = finds_named n w m.store spaces.Func refl is_function f.name w.main_exports m.scope.exports exported i key at name_is (function_space key f item) in
       let is : IsRequiredAt w m.store (main_function (keys.Name f.name) f.name) x.export.address = own_function f x.key x.export x.in_space (sym x.is.named ∙ x.named) x.is.is in
-      lift_met key f.name x.export.address (subst (λ (k : WorldKey). IsRequiredAt w m.store (main_function k f.name) x.export.address) (sym key_is) is)
+      lift_met (main_function key f.name) x.export.address (subst (λ (k : WorldKey). IsRequiredAt w m.store (main_function k f.name) x.export.address) (sym key_is) is)
       (ap (λ o. option_and_then (export_of spaces.Func f.name) (exports_at w m (name_of n w.resolve key).name o)) item
       ∙ (x.found ∙ ap (λ (e : Export). Some e) (by_parts x.export spaces.Func f.name x.in_space x.named)))
 
@@ -445,7 +434,7 @@ module _ (n : Naming) (w : ComponentWorld) (ok : IsWorld w) (apart : AreExportsA
   among_provided : (key : WorldKey) (exports : List Export) → exports_at w m (name_of n w.resolve key).name (exported_item w key) ≡ Some exports → (names : List (List ℕ)) →
       AllByRecursion (IsAmong w m.store exports) (map (main_function key) names) → AllByRecursion (IsProvided n w m (resource_of w)) (map (main_function key) names)
   among_provided key exports at [] h = tt
-  among_provided key exports at (name ∷ names) h = (lift_met key name h.0.address h.0.is (ap (option_and_then (export_of spaces.Func name)) at ∙ h.0.found), among_provided key exports at names h.1)
+  among_provided key exports at (name ∷ names) h = (lift_met (main_function key name) h.0.address h.0.is (ap (option_and_then (export_of spaces.Func name)) at ∙ h.0.found), among_provided key exports at names h.1)
 
   types_provided : (key : WorldKey) (exports : List Export) → exports_at w m (name_of n w.resolve key).name (exported_item w key) ≡ Some exports → (ts : List (List ℕ × TypeId)) →
       AllByRecursion (IsTypeAmong w m.store exports) (map (type_at_key key) ts) → AllByRecursion (IsTypeProvided n w m) (map (type_at_key key) ts)

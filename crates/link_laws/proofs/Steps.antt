@@ -1,6 +1,5 @@
 -- A definition that keeps its rule runs, and the store agrees with the longer list.
-use Rattle.std.proofs.Common.{arith, ◌≤◌, ◌+◌, ◌^◌, ◌⊎◌, inl, inr, ◌==◌, ◌≡◌, ◌∙◌, ℕ, zero, suc, ◌<◌, Bool, true, false, List, [], ◌∷◌, ◌++◌, length, map, filter, get_or, refl, sym, ap, ap₂, subst, append-nil, add-one, length-append, Option, Some, None, is_some, IsTrue, if◌then◌else◌}
-use Rattle.std.proofs.lemmas.List.{length-map}
+use Rattle.std.proofs.Common.{arith, ◌+◌, ◌^◌, ◌⊎◌, inl, inr, ◌≡◌, ◌∙◌, ℕ, zero, suc, ◌<◌, Bool, true, false, List, [], ◌∷◌, ◌++◌, length, map, filter, get_or, refl, sym, ap, ap₂, subst, append-nil, add-one, length-append, Option, Some, None, is_some, if◌then◌else◌}
 use Rattle.std.proofs.lemmas.List.Elements.{filter-append, Contains-append_cases}
 use Rattle.std.proofs.lemmas.Grind.{flat_map-append}
 use Rattle.std.proofs.lemmas.Option.{none-some, get_or_from_slice_get}
@@ -35,14 +34,13 @@ use Rattle.comp_bytes.specs.declared.def.CoreInlineExport.{CoreInlineExport}
 use Rattle.comp_bytes.specs.declared.def.Item.TheVariants as items
 use Rattle.comp_bytes.specs.declared.def.Def.{Def}
 use Rattle.comp_bytes.specs.declared.def.Def.TheVariants as defs
-use Rattle.comp_worlds.specs.Worlds.{IsWorld}
 use Rattle.comp_trees.specs.Trees.{Origin, Resource, ImportedAt, DefinedAt, ResourceAt, Tree, FunctionTree, is_known}
 use Rattle.comp_trees.specs.DefinedTrees.{TypeTree, OfValues, OfFunctions, OfOthers, value_tree, function_tree, defined_tree}
 use Rattle.comp_trees.specs.DefinedScopes.{type_tree}
 use Rattle.nested_terms.specs.Nested.{type_named}
 use Rattle.comp_inventories.specs.Inventories.{Inventory, OfInstances, InstanceEntry, Denoting, ImportedInstance, NestedInstance, OtherInstance, entry_tree, no_type, type_if_named, type_of_instance, function_of_instance, instance_imported, types_made, functions_made, instances_made, imports_made, resources_made, surroundings_of, inventory, scope_of}
 use Rattle.comp_trees.specs.Members.{AreMembersRight}
-use Rattle.comp_terms.specs.Generated.{shims_number, fixup_number}
+use Rattle.comp_terms.specs.Generated.{shims_number, OfDestructor, target_of}
 use Rattle.comp_terms.specs.Terms.{IsInstanceOf, IsResource, intrinsic_of, imports_in}
 use Rattle.world_shims.specs.WorldShims.{shims_of}
 use Rattle.shim_runs.specs.ShimRuns.{instance_exports}
@@ -53,21 +51,17 @@ use Rattle.wit_data.specs.declared.functions.AbiVariant.TheVariants.{GuestImport
 use Rattle.comp_inventories.proofs.Inventories.{inventory-push}
 use Rattle.core_types.specs.declared.types.FuncType.{FuncType}
 use Rattle.comp_worlds.specs.declared.world.ComponentWorld.{ComponentWorld}
-use Rattle.core_types.specs.declared.types.ValType.{ValType}
-use Rattle.core_runs.specs.Values.{Value}
-use Rattle.core_types.specs.declared.types.ValType.TheVariants.{I32}
-use Rattle.core_runs.specs.Store.{Opaque, Answer, Gives, Traps, Event, Instantiated, Now, Cell, Foreign}
-use Rattle.core_runs.specs.Execution.{answered, seen, renewed}
+use Rattle.comp_worlds.specs.declared.world.ValidatedModule.{ValidatedModule}
+use Rattle.core_runs.specs.Store.{Opaque, Now}
 use Rattle.comp_runs.specs.Store.{Thing, Export, HeldOption, HeldEncoding, HeldMemory, HeldRealloc, HeldPostReturn, HeldAsync, HeldCallback, CoreItem, Lowering, IntrinsicOf, Function, Imported, Lifting, TypeItem, TreeOf, ImportedResource, OwnResource, item_tree, tree_held, own_resources as resources_among, InstanceTypeOf, ModuleInstance, Store}
 use Rattle.comp_links.specs.Targets.{ResourceFunction, New, Rep, Drop}
-use Rattle.comp_links.specs.Modules.{WorldModule}
 use Rattle.comp_links.specs.Lists.{own_resources}
 use Rattle.comp_links.specs.Links.{destructor_of}
 use Rattle.comp_roles.specs.declared.offered.ExternType.{ExternType}
 use Rattle.comp_roles.specs.declared.offered.ExternType.TheVariants as externs
 use Rattle.comp_roles.specs.declared.offered.ImportType.{ImportType}
 use Rattle.comp_terms.specs.Rules.{AliasesUser, AliasesShim, IsEntry, AreEntries, AliasesImported, AliasesNested, AliasesType as MayAliasType, HasFunctionType, HasResource, HasOwnResource, HasImportedFunction, IsOptionRight, IsLowerOptionRight, IsTypeRight, IsDestructorRight, DefinesResource, IsItemRight}
-use Rattle.comp_runs.specs.Machine.{Scope, Machine, Outcome, Done, Trapped, Open, Stuck, with_some, address_at, is_of, export_named, all_some, resumed, with_opaque}
+use Rattle.comp_runs.specs.Machine.{Scope, Machine, with_some, address_at, is_of, export_named, all_some, with_opaque}
 use Rattle.comp_runs.specs.Instances.{matching, argument_for, type_kind, given_to, type_scope, known_function, type_item}
 use Rattle.comp_runs.specs.Signatures.{is_async, core_signature, intrinsic_signature}
 use Rattle.comp_runs.specs.Running.{core_entry, held, options_held, type_of_function as function_type_of, lowered_signature, if_own, own_address, addressed, run}
@@ -77,98 +71,17 @@ use Rattle.instance_laws.proofs.Held.{keeps_same, keeps_more, keeps_grown, AreHe
 use Rattle.instance_laws.proofs.Members.{each_joined}
 use Rattle.instance_laws.proofs.Importing.{instance_type_made, import_runs, aliases_function, aliases_type, aliases_nested_type}
 use Rattle.link_laws.specs.Composition.{GeneratedModules, at_root, item_instantiates}
-use Rattle.link_laws.specs.Linking.{module_meanings, LetsRun}
+use Rattle.link_laws.specs.Linking.{module_meanings}
 use Rattle.link_laws.proofs.Zips.{all_some-self}
-use Rattle.link_laws.proofs.Stores.{IsOpaqueOf, IsUserItem, IsUserExport, IsUserInstance, ShimsAt, IsModuleInstance, IsNamedEntry, ExportsShims, MayHaveShims, IsTypeAt, resource_core, IsResourceItem, DefIs, Means, makes, IsTypeEntry, entry_of, IsFunctionEntry, IsInstanceThing, main_module, IsPlannedUser, IsAliasedItem, IsHeldOption, NumberedFrom, Agrees, AreKeyExports, IsDestroyedBy, IsOwnResource, AreResources}
-use Rattle.link_laws.proofs.Given.{of_shims, module_there, address_there, all_held, scope_there, entry_there, held_there, type_there, instance_type_there, instance_there, imported_there, user_there, space_of_kind, offered_there, destructor_shim}
-use Rattle.link_laws.proofs.Plain.{only, IsFunctionImport, listed_main}
+use Rattle.link_laws.proofs.Outcomes.{machine, no_answers, quiet, users_among, Steps}
+use Rattle.link_laws.proofs.Stores.{IsOpaqueOf, IsUserItem, IsUserExport, IsUserInstance, ShimsAt, IsModuleInstance, IsNamedEntry, ExportsShims, MayHaveShims, IsTypeAt, resource_core, IsResourceItem, DefIs, Means, makes, IsTypeEntry, entry_of, IsFunctionEntry, IsInstanceThing, IsPlannedUser, IsAliasedItem, IsHeldOption, NumberedFrom, Agrees, AreKeyExports, IsShimGiven, IsDestroyedBy, IsOwnResource, AreResources}
+use Rattle.link_laws.proofs.Given.{of_shims, module_there, address_there, all_held, scope_there, entry_there, held_there, type_there, instance_type_there, instance_there, imported_there, user_there, space_of_kind, offered_there, shim_there}
+use Rattle.link_laws.proofs.Plain.{only, IsFunctionImport}
 use Rattle.link_laws.proofs.Kept.{ShimsKept, shims_same, MayHaveShims-kept, keeps_all, IsHeldOption-kept, Keeps, address_at-append, things_kept, keeps_store, keeps_type, keeps_function, keeps_opaque, keeps_core_instance, keeps_module, Means-kept, IsTypeEntry-kept, IsFunctionEntry-kept, IsInstanceThing-kept, IsPlannedUser-kept, AreKeyExports-kept, AreResources-more, AreResources-push}
 
 -- a list without generated modules
 abbrev pub no_modules : GeneratedModules
 no_modules = record { shims = None; fixup = None }
-
--- the machine of a scope, a store, and the changing state
-abbrev pub machine : Scope → Store → Now → Machine
-machine c s now = record { scope = c; store = s; now = now }
-
--- no event so far, and no answer left
-abbrev pub no_answers : Now
-no_answers = record { globals = []; answers = []; events = []; moments = [] }
-
--- what a run has seen so far, and how many globals there are
-pub record IsNow (es : List Event) (count : ℕ) (now : Now) : Type 0 where
-  pub events : now.events ≡ es
-  pub moments : length now.moments ≡ length es
-  pub globals : length now.globals ≡ count
-
--- a run ends with this scope, this store, this many globals and these events, or with an answer that doesn't let it go to
--- its end
-abbrev pub IsGood : Scope → Store → ℕ → List Event → List (List ValType) → List Answer → Outcome → Type 0
-IsGood c s g es questions answers (Done m) = (m.scope ≡ c) × (m.store ≡ s) × IsNow es g m.now
-IsGood c s g es questions answers (Trapped m) = (LetsRun questions answers → ⊥) × (length m.now.moments ≤ length es)
-IsGood c s g es questions answers (Open m) = (LetsRun questions answers → ⊥) × (length m.now.moments ≤ length es)
-IsGood c s g es questions answers Stuck = ⊥
-
--- the user modules that a definition instantiates: main
-abbrev pub users_among : List ℕ → List ℕ
-users_among numbers = filter (λ n. n == 0) numbers
-
-abbrev pub users_in : Def → List ℕ
-users_in d = users_among (at_root item_instantiates d)
-
--- the calls of the outside that a definition makes, by their result types, and what is seen of them
-abbrev pub asks : Def → List (List ValType)
-asks d = map (λ n. []) (users_in d)
-
-abbrev pub events_of : Def → List Event
-events_of d = map (λ n. Instantiated n) (users_in d)
-
-abbrev pub seen_by : List Def → List Event
-seen_by ds = flat_map events_of ds
-
--- one call more
-one_more : (c : Scope) (s : Store) (g : ℕ) (es : List Event) (questions : List (List ValType)) (cell : ℕ) (answers : List Answer) (o : Outcome) →
-    IsGood c s g es questions answers o → IsGood c s g es ([] ∷ questions) (Gives [] cell ∷ answers) o
-one_more c s g es questions cell answers (Done m) h = h
-one_more c s g es questions cell answers (Trapped m) h = (λ l. h.0 l.1, h.1)
-one_more c s g es questions cell answers (Open m) h = (λ l. h.0 l.1, h.1)
-one_more c s g es questions cell answers Stuck h = h
-
-pub good_answered : (c : Scope) (s : Store) (g : ℕ) (es : List Event) (questions : List (List ValType)) (answers : List Answer) (now : Now) (m : Machine) (next : List Value → Machine → Outcome) →
-    length now.moments ≤ length es →
-    ((values : List Value) (after : Now) → after.events ≡ now.events → after.moments ≡ now.moments → length after.globals ≡ length now.globals →
-    IsGood c s g es questions after.answers (next values (record m { now = after }))) →
-    IsGood c s g es ([] ∷ questions) answers (resumed (answered [] answers now) m next)
-good_answered c s g es questions [] now m next few h = (λ l. l, few)
-good_answered c s g es questions (Traps ∷ answers) now m next few h = (λ l. l, few)
-good_answered c s g es questions (Gives [] number ∷ answers) now m next few h = one_more c s g es questions number answers _ (h [] _ refl refl (length-map now.globals (renewed number)))
-good_answered c s g es questions (Gives (v ∷ values) number ∷ answers) now m next few h = (λ l. absurd (no l.0), few)
-  where
-    no : IsTrue false → ⊥
-    no e = cc
-
--- a definition runs, and the rest is run from this scope, this store and this many globals
-pub record Runs (w : ComponentWorld) (gen : GeneratedModules) (d : Def) (c : Scope) (s : Store) (g : ℕ) (c' : Scope) (s' : Store) (g' : ℕ) : Type 0 where
-  pub continues : (e : Scope) (t : Store) (k : ℕ) (es : List Event) (questions : List (List ValType)) (rest : List Def) →
-      ((now : Now) → IsNow (es ++ events_of d) g' now → IsGood e t k ((es ++ events_of d) ++ seen_by rest) questions now.answers (run (module_meanings w gen) rest (machine c' s' now))) →
-      (now : Now) → IsNow es g now → IsGood e t k (es ++ (events_of d ++ seen_by rest)) (asks d ++ questions) now.answers (run (module_meanings w gen) (d ∷ rest) (machine c s now))
-
--- a definition that calls nothing outside
-pub quiet : (w : ComponentWorld) (gen : GeneratedModules) (d : Def) (c : Scope) (s : Store) (g : ℕ) (c' : Scope) (s' : Store) → users_in d ≡ [] →
-    ((rest : List Def) (now : Now) → run (module_meanings w gen) (d ∷ rest) (machine c s now) ≡ run (module_meanings w gen) rest (machine c' s' now)) → Runs w gen d c s g c' s' g
-quiet w gen d c s g c' s' none same = record {
-  continues = λ e t k es questions rest go now at.
-      let after : List Event → Type 0 =
-      λ l. (n : Now) → IsNow l g n → IsGood e t k (l ++ seen_by rest) questions n.answers (run (module_meanings w gen) rest (machine c' s' n)) in
-      let first : after (es ++ []) = subst (λ (ns : List ℕ). after (es ++ map (λ n. Instantiated n) ns)) none go in
-      let plain : after es = subst after (append-nil es) first in
-      subst (λ (ns : List ℕ). IsGood e t k (es ++ (map (λ n. Instantiated n) ns ++ seen_by rest)) (map (λ n. []) ns ++ questions) now.answers (run (module_meanings w gen) (d ∷ rest) (machine c s now))) (sym none)
-      (subst (IsGood e t k (es ++ seen_by rest) questions now.answers) (sym (same rest now)) (plain now at));
-}
-
-abbrev pub Steps : ComponentWorld → GeneratedModules → List Def → Scope → Store → ℕ → Def → Type 0
-Steps w gen earlier c s g d = (c' : Scope) × (s' : Store) × (g' : ℕ) × Runs w gen d c s g c' s' g' × Agrees w (earlier ++ d ∷ []) c' s'
 
 pub filter-push : {X : Type 0} (p : X → Bool) (b : Bool) (xs : List X) (x : X) → p x ≡ b → filter p (xs ++ x ∷ []) ≡ (if b then filter p xs ++ x ∷ [] else filter p xs)
 filter-push p true xs x e = rw (filter-append p xs (x ∷ []), e) refl
@@ -195,15 +108,12 @@ consecutive-push k [] n t h e = (e ∙ sym h, ap suc h)
 consecutive-push k (x ∷ ts) n t h e = (h.0, consecutive-push (suc k) ts n t h.1 e)
 
 -- a number that is none of a new one's is an old one
-pub not_last : (numbers : List ℕ) (n : ℕ) → (0 ≡ n → ⊥) → Contains (numbers ++ 0 ∷ []) n → Contains numbers n
-not_last numbers n other h = by (Contains-append_cases numbers (0 ∷ []) n h)
+pub not_last : (numbers : List ℕ) (new n : ℕ) → (new ≡ n → ⊥) → Contains (numbers ++ new ∷ []) n → Contains numbers n
+not_last numbers new n other h = by (Contains-append_cases numbers (new ∷ []) n h)
   where
-    by : Contains numbers n ⊎ Contains (0 ∷ []) n → Contains numbers n
+    by : Contains numbers n ⊎ Contains (new ∷ []) n → Contains numbers n
     by (inl k) = k
-    by (inr k) = absurd (other (only 0 n k))
-
-pub not_fixup : (w : ComponentWorld) → 0 ≡ fixup_number w → ⊥
-not_fixup w e = let no : 0 ≡ suc (shims_number w) = e in absurd (omega (arith, no))
+    by (inr k) = absurd (other (only new n k))
 
 -- an opaque function is at the address at which it was added, and its known item is the one given
 opaque_there : (item : CoreItem) (type : FuncType) (s : Store) → IsOpaqueOf (with_opaque item type s) (length s.code.functions) type item
@@ -253,39 +163,13 @@ given_one : (c : Scope) (s : Store) (now : Now) (type : FuncType) (o : Option Th
 given_one c s now type None = refl
 given_one c s now type (Some t) = matching_same c s now type t.space t.address
 
-pub given_same : (w : ComponentWorld) (c : Scope) (s : Store) (now : Now) (arguments : List (List ℕ × List Export)) (is : List ImportType) → AllByRecursion (IsFunctionImport w) is →
+pub given_same : (w : ComponentWorld) (m : ValidatedModule) (c : Scope) (s : Store) (now : Now) (arguments : List (List ℕ × List Export)) (is : List ImportType) → AllByRecursion (IsFunctionImport w m) is →
     map (given_to (machine c s now) arguments) is ≡ map (given_to (machine c s no_answers) arguments) is
-given_same w c s now arguments [] h = refl
-given_same w c s now arguments (i ∷ is) h =
+given_same w m c s now arguments [] h = refl
+given_same w m c s now arguments (i ∷ is) h =
     let SameFor : ExternType → Type 0 =
     λ ty. option_and_then (matching (machine c s now) ty) (argument_for arguments (type_kind ty) i.module_name i.field) ≡ option_and_then (matching (machine c s no_answers) ty) (argument_for arguments (type_kind ty) i.module_name i.field) in
-    ap₂ (λ x xs. x ∷ xs) (subst SameFor (sym h.0.typed) (given_one c s now h.0.type (argument_for arguments kinds.Func i.module_name i.field))) (given_same w c s now arguments is h.1)
-
--- one event more is among all of them
-pub few : (es : List Event) (g : ℕ) (rest : List Def) (now : Now) → IsNow es g now → length (seen now (Instantiated 0)).moments ≤ length (es ++ (Instantiated 0 ∷ seen_by rest))
-few es g rest now at =
-    let before : length now.moments ≡ length es = at.moments in
-    let more : length (now.moments ++ now.globals ∷ []) ≡ length now.moments + 1 = length-append now.moments (now.globals ∷ []) in
-    let all : length (es ++ (Instantiated 0 ∷ seen_by rest)) ≡ length es + suc (length (seen_by rest)) = length-append es (Instantiated 0 ∷ seen_by rest) in
-    omega (arith, before, more, all)
-
-pub one_event : (es : List Event) (g k : ℕ) (now after : Now) → IsNow es g now → after.events ≡ (seen now (Instantiated 0)).events → after.moments ≡ (seen now (Instantiated 0)).moments → length after.globals ≡ k →
-    IsNow (es ++ Instantiated 0 ∷ []) k after
-one_event es g k now after at events moments count = record {
-  events = events ∙ ap (λ l. l ++ Instantiated 0 ∷ []) at.events;
-  moments = ap (λ (l : List (List Cell)). length l) moments ∙ (length-append now.moments (now.globals ∷ []) ∙ (ap (λ n. n + 1) at.moments ∙ sym (length-append es (Instantiated 0 ∷ []))));
-  globals = count;
-}
-
--- a moment with this many globals
-pub cells : ℕ → List Cell
-cells zero = []
-cells (suc n) = Foreign 0 I32 ∷ cells n
-
-pub length-cells : (n : ℕ) → length (cells n) ≡ n
-unfolding cells
-length-cells zero = refl
-length-cells (suc n) = ap suc (length-cells n)
+    ap₂ (λ x xs. x ∷ xs) (subst SameFor (sym h.0.typed) (given_one c s now h.0.type (argument_for arguments kinds.Func i.module_name i.field))) (given_same w m c s now arguments is h.1)
 
 -- the exports of an instance in a store with other instances
 module _ (s : Store) (core_instances : List (List Export)) (module_instances : List ModuleInstance) (user : ℕ) where
@@ -403,7 +287,7 @@ module _ {w : ComponentWorld} {earlier : List Def} {c : Scope} {s : Store} (a : 
     with_thing c t count,
     s',
     g,
-    quiet w gen d c s g (with_thing c t count) s' (ap users_among none) same,
+    quiet w gen d c s g (with_thing c t count) s' (ap (users_among w) none) same,
     agrees_with d (with_thing c t count) s' t a.shims (shims_same a.shims) refl keeps means made
         (rw (filter-push (is_of spaces.CoreModule) false c.items t other, modules) a.modules)
         (rw (users, none) (sym (append-nil (map (λ (u : ModuleInstance). u.module_number) s.module_instances))))
@@ -431,7 +315,7 @@ module _ {w : ComponentWorld} {earlier : List Def} {c : Scope} {s : Store} (a : 
   resource_held : (destructor : Option ℕ) (name : Option (List ℕ)) → IsDestructorRight w earlier destructor name → HoldsResource w a.shims c s destructor name
   resource_held None None h = record { held = None; made = λ now. refl; destroyed = tt }
   resource_held (Some index) (Some name) h =
-      let x = destructor_shim a index name h in
+      let x : (x : ℕ) × (address_at spaces.CoreFunc index c.items ≡ Some x) × IsShimGiven w a.shims x (target_of w (OfDestructor name)) = shim_there a h.place h.shim (OfDestructor name) h.listed h.stands_for h.is in
       record { held = Some x.0; made = λ now. ap (option_map (λ (n : ℕ). OwnResource (resources_among s.types) (Some n))) x.1; destroyed = x.2 }
   resource_held None (Some name) h = absurd h
   resource_held (Some index) None h = absurd h
@@ -717,19 +601,26 @@ module _ {w : ComponentWorld} {earlier : List Def} {c : Scope} {s : Store} (a : 
       })
       (tt, tt, tt) refl refl refl refl refl refl a.imports a.resources
 
-  -- what an alias of an export of main finds
-  user_found : IsWorld w → (kind : ExportKind) (instance : ℕ) (name : List ℕ) → AliasesUser w earlier kind instance name → FindsExport w earlier c s kind instance name
-  user_found ok kind instance name h =
-      let number : h.number ≡ 0 = (listed_main w ok h.number h.of h.listed).0 in
-      let main : main_module w ≡ h.of = (listed_main w ok h.number h.of h.listed).1 in
-      let of : IsInstanceOf earlier instance 0 = subst (IsInstanceOf earlier instance) number h.is in
-      let m : (x : ℕ) × (address_at spaces.CoreInstance instance c.items ≡ Some x) × IsUserInstance w s x = user_there a of in
-      let offered : found name w.main.offered ≡ Some h.type = subst (λ (o : WorldModule). found name o.found.offered ≡ Some h.type) (sym main) h.offered in
-      let x = offered_there a m.0 m.2 name h.type offered in
+  -- what an alias of an export of a user module finds
+  user_found : (kind : ExportKind) (instance : ℕ) (name : List ℕ) → AliasesUser w earlier kind instance name → FindsExport w earlier c s kind instance name
+  user_found kind instance name h =
+      let m : (x : ℕ) × (address_at spaces.CoreInstance instance c.items ≡ Some x) × IsUserInstance s h.number h.of x = user_there a h.of h.listed h.is in
+      let x = offered_there a h.number h.of m.0 m.2 name h.type h.offered in
       record {
         export = x.0;
         space = x.2 ∙ space_of_kind kind h.type h.of_kind;
-        is = record { number = 0; of = of; names = inl (record { number_is = refl; type = h.type; offered = offered; of_kind = h.of_kind }); from = m.0; exports = m.2.exports; export = x.0; at = m.1; present = m.2.present; found = x.1; is = refl };
+        is = record {
+          number = h.number;
+          of = h.is;
+          names = inl (record { of = h.of; listed = h.listed; type = h.type; offered = h.offered; of_kind = h.of_kind });
+          from = m.0;
+          exports = m.2.exports;
+          export = x.0;
+          at = m.1;
+          present = m.2.present;
+          found = x.1;
+          is = refl;
+        };
         found = x.1;
       }
 
@@ -748,9 +639,9 @@ module _ {w : ComponentWorld} {earlier : List Def} {c : Scope} {s : Store} (a : 
         found = there;
       }
 
-  alias_found : IsWorld w → (kind : ExportKind) (instance : ℕ) (name : List ℕ) → AliasesUser w earlier kind instance name ⊎ AliasesShim w earlier kind instance name → FindsExport w earlier c s kind instance name
-  alias_found ok kind instance name (inl h) = user_found ok kind instance name h
-  alias_found ok kind instance name (inr h) = subst (λ k. FindsExport w earlier c s k instance name) (sym h.function) (shim_found instance name (subst (λ k. AliasesShim w earlier k instance name) h.function h))
+  alias_found : (kind : ExportKind) (instance : ℕ) (name : List ℕ) → AliasesUser w earlier kind instance name ⊎ AliasesShim w earlier kind instance name → FindsExport w earlier c s kind instance name
+  alias_found kind instance name (inl h) = user_found kind instance name h
+  alias_found kind instance name (inr h) = subst (λ k. FindsExport w earlier c s k instance name) (sym h.function) (shim_found instance name (subst (λ k. AliasesShim w earlier k instance name) h.function h))
 
   -- the same, in a scope with one item more
   aliased_item : (kind : ExportKind) (instance : ℕ) (name : List ℕ) (f : FindsExport w earlier c s kind instance name) (d : Def) (t : Thing) → IsAliasedItem w (earlier ++ d ∷ []) (c.items ++ t ∷ []) s kind instance name f.export.address
@@ -767,23 +658,23 @@ module _ {w : ComponentWorld} {earlier : List Def} {c : Scope} {s : Store} (a : 
     is = f.is.is;
   }
 
-  pub step_alias : IsWorld w → (kind : ExportKind) (instance : ℕ) (name : List ℕ) → AliasesUser w earlier kind instance name ⊎ AliasesShim w earlier kind instance name → Steps w gen earlier c s g (defs.Item (items.Alias (aliases.CoreExport kind instance name)))
-  step_alias ok kinds.Func instance name h =
+  pub step_alias : (kind : ExportKind) (instance : ℕ) (name : List ℕ) → AliasesUser w earlier kind instance name ⊎ AliasesShim w earlier kind instance name → Steps w gen earlier c s g (defs.Item (items.Alias (aliases.CoreExport kind instance name)))
+  step_alias kinds.Func instance name h =
       let d : Def = defs.Item (items.Alias (aliases.CoreExport kinds.Func instance name)) in
-      let f : FindsExport w earlier c s kinds.Func instance name = alias_found ok kinds.Func instance name h in
+      let f : FindsExport w earlier c s kinds.Func instance name = alias_found kinds.Func instance name h in
       let t : Thing = record { space = spaces.CoreFunc; address = f.export.address } in
       quiet_step d c.imports s t (λ rest now. rw (f.is.at, f.is.present, f.found, f.space) refl) (keeps_store c.items t s)
       (record { space = refl; is = aliased_item kinds.Func instance name f d t }) (tt, tt, tt) refl refl refl refl refl refl a.imports a.resources
-  step_alias ok kinds.Memory instance name h =
+  step_alias kinds.Memory instance name h =
       let d : Def = defs.Item (items.Alias (aliases.CoreExport kinds.Memory instance name)) in
-      let f : FindsExport w earlier c s kinds.Memory instance name = alias_found ok kinds.Memory instance name h in
+      let f : FindsExport w earlier c s kinds.Memory instance name = alias_found kinds.Memory instance name h in
       let t : Thing = record { space = spaces.CoreMemory; address = f.export.address } in
       quiet_step d c.imports s t (λ rest now. rw (f.is.at, f.is.present, f.found, f.space) refl) (keeps_store c.items t s)
       (record { space = refl; is = aliased_item kinds.Memory instance name f d t }) (tt, tt, tt) refl refl refl refl refl refl a.imports a.resources
-  step_alias ok kinds.Table instance name (inl h) = absurd h.of_kind
-  step_alias ok kinds.Table instance name (inr h) = let no = h.function in cc
-  step_alias ok kinds.Global instance name (inl h) = absurd h.of_kind
-  step_alias ok kinds.Global instance name (inr h) = let no = h.function in cc
+  step_alias kinds.Table instance name (inl h) = absurd h.of_kind
+  step_alias kinds.Table instance name (inr h) = let no = h.function in cc
+  step_alias kinds.Global instance name (inl h) = absurd h.of_kind
+  step_alias kinds.Global instance name (inr h) = let no = h.function in cc
 
   pub step_module : (bytes : List ℕ) → Steps w gen earlier c s g (defs.Item (items.CoreModule bytes))
   step_module bytes =

@@ -33,15 +33,15 @@ use Rattle.comp_roles.specs.declared.imports.Import.{Import}
 use Rattle.comp_roles.specs.declared.offered.ImportType.{ImportType}
 use Rattle.comp_worlds.specs.WorldContents.{core_name_of, exported_item, function_exported}
 use Rattle.comp_worlds.specs.declared.world.ComponentWorld.{ComponentWorld}
-use Rattle.comp_links.specs.Targets.{Main, ExportRef, WorldFunction, TargetOption, ResourceFunction, New, Rep, Drop, Target, Lowered, ExportOf, OfResource}
+use Rattle.comp_links.specs.Targets.{UserModule, Main, ExportRef, WorldFunction, TargetOption, ResourceFunction, New, Rep, Drop, Target, Lowered, ExportOf, OfResource}
 use Rattle.comp_links.specs.Targets as targets
-use Rattle.comp_links.specs.Modules.{WorldModule}
+use Rattle.comp_links.specs.Modules.{WorldModule, user_modules, IsModule}
 use Rattle.comp_links.specs.Lists.{IsOriginOf, resource_of, RequiredKey, RequiredFunction, functions_required, RequiredType, types_required, type_of_world, own_resources}
 use Rattle.comp_links.specs.Links.{lift_options, link_of, link_at, destructor_of}
 use Rattle.shim_plan.specs.declared.shims.Shim.{Shim}
 use Rattle.world_shims.specs.WorldShims.{shims_of}
 use Rattle.shim_runs.specs.ShimRuns.{AreShimsFrom, instance_exports}
-use Rattle.comp_terms.specs.Generated.{shims_number, fixup_number, IsShimOf, IsShimOfDestructor, Purpose, target_of, HasPurpose}
+use Rattle.comp_terms.specs.Generated.{shims_number, fixup_number, Purpose, OfImport, OfDestructor, target_of, HasPurpose}
 use Rattle.comp_terms.specs.Terms.{CoreExport, IsInstanceOf, intrinsic_of, imports_in}
 use Rattle.comp_terms.specs.Planned.{IsTypeOf, type_of_function}
 use Rattle.comp_terms.specs.Rules.{IsOfKind}
@@ -85,27 +85,32 @@ pub record IsInstance (s : Store) (user number : ℕ) : Type 0 where
   pub present : slice_get s.module_instances user ≡ Some instance
   pub of : instance.module_number ≡ number
 
--- the core instance is an instance of main, with all that main offers
-pub record IsUserInstance (w : ComponentWorld) (s : Store) (address : ℕ) : Type 0 where
+-- the core instance is an instance of this user module, which has this number, with all that the module offers
+pub record IsUserInstance (s : Store) (number : ℕ) (of : WorldModule) (address : ℕ) : Type 0 where
   pub exports : List Export
   pub user : ℕ
   pub present : slice_get s.core_instances address ≡ Some exports
-  pub is : IsInstance s user 0
+  pub is : IsInstance s user number
   pub same : is.instance.exports ≡ exports
-  pub each : AllZip (IsUserExport s user) exports w.main.offered
+  pub each : AllZip (IsUserExport s user) exports of.found.offered
 
 -- where the shims are: the address of the first, and that of their table
 pub record ShimsAt : Type 0 where
   pub address : ℕ
   pub table : ℕ
 
--- what an instance of a module exports: of main, of the shims, or of the fixup
+-- what an instance of a module exports: of a user module, of the shims, or of the fixup
+pub record AreUserExports (w : ComponentWorld) (s : Store) (user number : ℕ) (exports : List Export) : Type 0 where
+  pub of : WorldModule
+  pub listed : slice_get (user_modules w) number ≡ Some of
+  pub each : AllZip (IsUserExport s user) exports of.found.offered
+
 abbrev pub AreShimExports : ComponentWorld → Option ShimsAt → ℕ → List Export → Type 0
 AreShimExports w None number exports = ⊥
 AreShimExports w (Some at) number exports = (number ≡ shims_number w) × (exports ≡ instance_exports (shims_of w) at.address at.table)
 
 abbrev pub AreModuleExports : ComponentWorld → Option ShimsAt → Store → ℕ → ℕ → List Export → Type 0
-AreModuleExports w at s user number exports = ((number ≡ 0) × AllZip (IsUserExport s user) exports w.main.offered) ⊎ AreShimExports w at number exports ⊎ (number ≡ fixup_number w)
+AreModuleExports w at s user number exports = AreUserExports w s user number exports ⊎ AreShimExports w at number exports ⊎ (number ≡ fixup_number w)
 
 -- the core instance is an instance of the module of this number
 pub record IsModuleInstance (w : ComponentWorld) (at : Option ShimsAt) (s : Store) (number address : ℕ) : Type 0 where
@@ -181,11 +186,12 @@ pub record IsLiftedItem (things : List Thing) (s : Store) (core : ℕ) (written 
   pub typed : IsTypeAt things s kind type
   pub is : slice_get s.functions address ≡ Some (Lifting of held type)
 
--- what an alias names of an instance of a module: an export of main, of a kind that validation found, or a shim
+-- what an alias names of an instance of a module: an export of a user module, of a kind that validation found, or a shim
 pub record NamesUser (w : ComponentWorld) (number : ℕ) (kind : ExportKind) (name : List ℕ) : Type 0 where
-  pub number_is : number ≡ 0
+  pub of : WorldModule
+  pub listed : slice_get (user_modules w) number ≡ Some of
   pub type : ExternType
-  pub offered : found name w.main.offered ≡ Some type
+  pub offered : found name of.found.offered ≡ Some type
   pub of_kind : IsOfKind kind type
 
 -- an alias of an export of a module's instance
@@ -284,12 +290,15 @@ pub record IsInstanceThing (s : Store) (e : InstanceEntry) (t : Thing) : Type 0 
 abbrev pub main_module : ComponentWorld → WorldModule
 main_module w = record { of = Main; found = w.main }
 
--- the core function is main's export of this name
-pub record IsMainExport (s : Store) (address : ℕ) (name : List ℕ) : Type 0 where
+-- the core function is this export of a user module, of the type that validation found
+pub record IsFunctionExported (w : ComponentWorld) (s : Store) (address : ℕ) (export_ref : ExportRef) : Type 0 where
+  pub number : ℕ
+  pub of : IsModule w number export_ref.of
   pub user : ℕ
+  pub instance : IsInstance s user number
   pub type : FuncType
-  pub is : IsOpaqueOf s address type (ExportedBy user name)
-  pub of : IsInstance s user 0
+  pub is : IsOpaqueOf s address type (ExportedBy user export_ref.name)
+  pub offered : found export_ref.name of.world_module.found.offered ≡ Some (externs.Func type)
 
 -- the memory is what an instance of main exports under this name
 pub record IsMemoryOfMain (s : Store) (address : ℕ) (name : List ℕ) : Type 0 where
@@ -306,18 +315,13 @@ pub record IsFirstMemory (w : ComponentWorld) (s : Store) (address : ℕ) : Type
   pub first : first_memory w.main.exports.exports ≡ Some (name, type)
   pub is : IsMemoryOfMain s address name
 
--- the function is what an option names, an export of main
-pub record IsOptionFunction (s : Store) (address : ℕ) (export_ref : ExportRef) : Type 0 where
-  pub of : export_ref.of ≡ Main
-  pub is : IsMainExport s address export_ref.name
-
 -- an option is what the target names
 abbrev pub IsOptionHeld : ComponentWorld → Store → HeldOption → TargetOption → Type 0
 IsOptionHeld w s (HeldEncoding e) (targets.Encoding e') = e ≡ e'
 IsOptionHeld w s (HeldMemory a) targets.Memory = IsFirstMemory w s a
-IsOptionHeld w s (HeldRealloc a) (targets.Realloc export_ref) = IsOptionFunction s a export_ref
-IsOptionHeld w s (HeldPostReturn a) (targets.PostReturn export_ref) = IsOptionFunction s a export_ref
-IsOptionHeld w s (HeldCallback a) (targets.Callback export_ref) = IsOptionFunction s a export_ref
+IsOptionHeld w s (HeldRealloc a) (targets.Realloc export_ref) = IsFunctionExported w s a export_ref
+IsOptionHeld w s (HeldPostReturn a) (targets.PostReturn export_ref) = IsFunctionExported w s a export_ref
+IsOptionHeld w s (HeldCallback a) (targets.Callback export_ref) = IsFunctionExported w s a export_ref
 IsOptionHeld w s HeldAsync targets.Async = Unit {0}
 IsOptionHeld w s held option = ⊥
 
@@ -343,45 +347,45 @@ pub record IsFunctionOf (s : Store) (address : ℕ) (function : ResourceFunction
   pub is : IsOpaqueOf s address (resource_core function) (IntrinsicOf (intrinsic_of function of))
   pub held : IsHeldAs s.types (OfValues (ResourceAt resource)) of
 
--- the core function is an export of main, of the type that validation found
-pub record IsExportServed (w : ComponentWorld) (s : Store) (address : ℕ) (export_ref : ExportRef) : Type 0 where
-  pub of : export_ref.of ≡ Main
-  pub is : IsMainExport s address export_ref.name
-  pub offered : found export_ref.name w.main.offered ≡ Some (externs.Func is.type)
-
 -- the core function is what the target names
 abbrev pub IsServedAs : ComponentWorld → Store → ℕ → Target → Type 0
 IsServedAs w s address (Lowered function options) = IsLoweredFor w s address function options
 IsServedAs w s address (OfResource function id) = IsFunctionOf s address function (resource_of w id)
-IsServedAs w s address (ExportOf export_ref) = IsExportServed w s address export_ref
+IsServedAs w s address (ExportOf export_ref) = IsFunctionExported w s address export_ref
 IsServedAs w s address target = ⊥
 
--- the core function is a shim that stands for what an import of this role is to be given
-pub record IsShimGivenAt (w : ComponentWorld) (at : ShimsAt) (address : ℕ) (role : Import) : Type 0 where
+-- the core function is a shim that hands on to what this target names
+pub record IsShimGivenAt (w : ComponentWorld) (at : ShimsAt) (address : ℕ) (target : Target) : Type 0 where
   pub place : ℕ
   pub shim : Shim
+  pub purpose : Purpose
   pub listed : slice_get (shims_of w) place ≡ Some shim
-  pub stands_for : IsShimOf w shim role
+  pub stands_for : HasPurpose w shim purpose
+  pub same : target_of w purpose ≡ target
   pub is : address ≡ at.address + place
 
-abbrev pub IsShimGiven : ComponentWorld → Option ShimsAt → ℕ → Import → Type 0
-IsShimGiven w None address role = ⊥
-IsShimGiven w (Some at) address role = IsShimGivenAt w at address role
+abbrev pub IsShimGiven : ComponentWorld → Option ShimsAt → ℕ → Target → Type 0
+IsShimGiven w None address target = ⊥
+IsShimGiven w (Some at) address target = IsShimGivenAt w at address target
 
--- it is what an import of this role is to be given, or a shim for it
-abbrev pub Serves : ComponentWorld → Option ShimsAt → Store → ℕ → Import → Type 0
-Serves w shims s address role = IsServedAs w s address (link_of w Main role) ⊎ IsShimGiven w shims address role
+-- the shims may be given to this user module: of each role, they hand on to what its imports are to be given
+abbrev pub TakesShims : ComponentWorld → UserModule → Type 0
+TakesShims w of = (role : Import) → target_of w (OfImport role) ≡ link_of w of role
 
--- what an import of main is given, by the link table
-pub record IsPlanned (w : ComponentWorld) (shims : Option ShimsAt) (s : Store) (t : Thing) (i : ImportType) : Type 0 where
-  pub role : Import
-  pub said : link_at w (main_module w) i.module_name i.field ≡ Some (link_of w Main role)
+-- it is what the target names, or a shim for it
+abbrev pub Serves : ComponentWorld → Option ShimsAt → Store → ℕ → Target → Type 0
+Serves w shims s address target = IsServedAs w s address target ⊎ IsShimGiven w shims address target
+
+-- what an import of a user module is given, by the link table
+pub record IsPlanned (w : ComponentWorld) (shims : Option ShimsAt) (s : Store) (of : WorldModule) (t : Thing) (i : ImportType) : Type 0 where
+  pub target : Target
+  pub said : link_at w of i.module_name i.field ≡ Some target
   pub space : t.space ≡ spaces.CoreFunc
-  pub serves : Serves w shims s t.address role
+  pub serves : Serves w shims s t.address target
 
--- an instance of main is given all that it imports
+-- an instance of a user module is given all that the module imports
 abbrev pub IsPlannedUser : ComponentWorld → Option ShimsAt → Store → ModuleInstance → Type 0
-IsPlannedUser w shims s u = u.module_number ≡ 0 → AllZip (IsPlanned w shims s) u.given w.main.imported
+IsPlannedUser w shims s u = (of : WorldModule) → slice_get (user_modules w) u.module_number ≡ Some of → AllZip (IsPlanned w shims s of) u.given of.found.imported
 
 -- ---- the shims
 
@@ -415,20 +419,20 @@ abbrev pub MayHaveShims : ComponentWorld → Store → List ℕ → Option Shims
 MayHaveShims w s numbers None = Contains numbers (shims_number w) → ⊥
 MayHaveShims w s numbers (Some at) = AreShims w s numbers at
 
--- the function is lifted from main's export of this name, with these options and this type
-pub record IsLiftedFrom (w : ComponentWorld) (s : Store) (address : ℕ) (name : List ℕ) (options : List TargetOption) (type : FunctionTree) : Type 0 where
+-- the function is lifted from this export of a user module, with these options and this type
+pub record IsLiftedFrom (w : ComponentWorld) (s : Store) (address : ℕ) (entry : ExportRef) (options : List TargetOption) (type : FunctionTree) : Type 0 where
   pub core : ℕ
   pub held : List HeldOption
   pub is : slice_get s.functions address ≡ Some (Lifting core held type)
-  pub of : IsMainExport s core name
+  pub of : IsFunctionExported w s core entry
   pub with_options : AllZip (IsOptionHeld w s) held options
 
--- an export of an instance of a user module, at the address of this index
-pub record IsCoreExportAt (w : ComponentWorld) (things : List Thing) (s : Store) (index : ℕ) (e : CoreExport) : Type 0 where
+-- an export of an instance of this user module, at the address of this index
+pub record IsCoreExportAt (from : WorldModule) (things : List Thing) (s : Store) (index : ℕ) (e : CoreExport) : Type 0 where
   pub address : ℕ
   pub at : address_at (kind_space e.kind) index things ≡ Some address
   pub type : ExternType
-  pub offered : found e.name w.main.offered ≡ Some type
+  pub offered : found e.name from.found.offered ≡ Some type
   pub of_kind : IsOfKind e.kind type
   pub user : ℕ
   pub of : IsInstance s user e.of
@@ -457,7 +461,7 @@ pub record IsRequiredAt (w : ComponentWorld) (s : Store) (r : RequiredFunction) 
   pub wit : WitFunction
   pub role : core_name_of w r.key r.function ≡ Some name
   pub exported : function_exported w r.key r.function ≡ Some wit
-  pub is : IsLiftedFrom w s address name (lift_options w r) (type_of_function w wit)
+  pub is : IsLiftedFrom w s address (record { of = r.of; name = name }) (lift_options w r) (type_of_function w wit)
 
 -- the export is one; or is an instance that exports one for each function that is required at a key, under its name, and what each
 -- type denotes that is
@@ -499,22 +503,10 @@ AreKeyExports w s (key ∷ keys) (e ∷ es) = IsKeyExport w s key e × AreKeyExp
 
 -- ---- resources that the component defines
 
--- the core function is a shim that stands for the destructor that main exports under this name
-pub record IsDestructorAt (w : ComponentWorld) (at : ShimsAt) (address : ℕ) (name : List ℕ) : Type 0 where
-  pub place : ℕ
-  pub shim : Shim
-  pub listed : slice_get (shims_of w) place ≡ Some shim
-  pub stands_for : IsShimOfDestructor w shim name
-  pub is : address ≡ at.address + place
-
-abbrev pub IsDestructorGiven : ComponentWorld → Option ShimsAt → ℕ → List ℕ → Type 0
-IsDestructorGiven w None address name = ⊥
-IsDestructorGiven w (Some at) address name = IsDestructorAt w at address name
-
--- it is one where main exports one
+-- the core function is a shim for the destructor that main exports under this name, where there is one
 abbrev pub IsDestroyedBy : ComponentWorld → Option ShimsAt → Option ℕ → Option (List ℕ) → Type 0
 IsDestroyedBy w shims None None = Unit {0}
-IsDestroyedBy w shims (Some address) (Some name) = IsDestructorGiven w shims address name
+IsDestroyedBy w shims (Some address) (Some name) = IsShimGiven w shims address (target_of w (OfDestructor name))
 IsDestroyedBy w shims destructor name = ⊥
 
 -- a resource of the component's own, by its number

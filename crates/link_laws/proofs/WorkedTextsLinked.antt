@@ -37,7 +37,7 @@ use Rattle.comp_terms.specs.Rules.{IsBuilt, AliasesShim, InstantiatesFixup, Inst
 use Rattle.comp_runs.specs.Machine.{Machine}
 use Rattle.link_laws.specs.Composition.{IsComposed}
 use Rattle.link_laws.specs.Linking.{outcome, IsLinked, Links}
-use Rattle.link_laws.proofs.Given.{one_purpose}
+use Rattle.link_laws.proofs.GivenImports.{one_purpose}
 use Rattle.link_laws.proofs.Stores.{main_module}
 use Rattle.link_laws.proofs.Runs.{composed, links}
 use Rattle.link_laws.proofs.Worked.{made, machine_of, one_apart, root_import}

@@ -1,0 +1,257 @@
+-- What the arguments of a user module's instantiation are, and what its imports find among them.
+use Rattle.std.proofs.Common.{◌≡◌, ◌∙◌, inl, inr, ℕ, List, [], ◌∷◌, map, refl, sym, ap, subst, Option, Some}
+use Rattle.std.proofs.lemmas.Option.{same_Some, none-some}
+use Rattle.std.specs.List.{AllZip, AllByRecursion}
+use Rattle.std.specs.Option.{option_map, option_and_then}
+use Rattle.comp_lists.specs.Found.{found}
+use Rattle.comp_lists.proofs.Lists.{AllZip-weaker}
+use Rattle.comp_bytes.specs.Spaces.{kind_space}
+use Rattle.comp_bytes.specs.ItemIndices.{in_space}
+use Rattle.core_types.specs.declared.types.FuncType.{FuncType}
+use Rattle.core_runs.specs.Store.{Func, Opaque}
+use Rattle.comp_bytes.specs.declared.space.Space.TheVariants as spaces
+use Rattle.standard_kinds.specs.declared.kinds.ExportKind.{ExportKind}
+use Rattle.standard_kinds.specs.declared.kinds.ExportKind.TheVariants as kinds
+use Rattle.comp_bytes.specs.declared.def.CoreArgument.{CoreArgument}
+use Rattle.comp_bytes.specs.declared.def.CoreInlineExport.{CoreInlineExport}
+use Rattle.comp_bytes.specs.declared.def.Def.{Def}
+use Rattle.wit_data.specs.declared.worlds.WorldKey.TheVariants as keys
+use Rattle.wit_data.specs.declared.functions.AbiVariant.TheVariants.{GuestImport}
+use Rattle.comp_trees.specs.Trees.{Resource}
+use Rattle.world_values.specs.Items.{functions_of, root_function_at}
+use Rattle.comp_roles.specs.CoreImports.{fields_of}
+use Rattle.comp_roles.specs.CoreTypes.{called_type}
+use Rattle.comp_worlds.specs.Typed.{type_of_import}
+use Rattle.comp_worlds.specs.WorldContents.{items_of}
+use Rattle.comp_worlds.specs.Worlds.{IsImportRole, IsImportGroup}
+use Rattle.comp_roles.specs.declared.imports.Import.{Import}
+use Rattle.comp_roles.specs.declared.imports.Import.TheVariants as imports
+use Rattle.comp_roles.specs.declared.imports.ImportInstance.{ImportInstance}
+use Rattle.comp_roles.specs.declared.imports.ImportInstance.TheVariants as instances
+use Rattle.comp_worlds.specs.declared.world.ComponentWorld.{ComponentWorld}
+use Rattle.comp_runs.specs.Store.{Thing, Export, CoreItem, Lowering, IntrinsicOf, ExportedBy, Store}
+use Rattle.comp_roles.specs.declared.offered.ExternType.TheVariants as externs
+use Rattle.comp_roles.specs.declared.offered.ImportType.{ImportType}
+use Rattle.wit_data.specs.declared.ids.TypeId.{TypeId}
+use Rattle.comp_links.specs.Targets.{UserModule, Main, WorldFunction, TargetOption, OfRoot, OfInterface, Lowered, OfResource, ResourceFunction, New, Rep, Drop}
+use Rattle.comp_links.specs.Modules.{WorldModule}
+use Rattle.comp_links.specs.Lists.{resource_of}
+use Rattle.comp_links.specs.Links.{lower_options, link_of, link_in, link_at}
+use Rattle.shim_plan.specs.Kinds.{kind_name}
+use Rattle.shim_plan.specs.declared.shims.Shim.{Shim}
+use Rattle.world_shims.specs.WorldShims.{type_of_shim}
+use Rattle.comp_terms.specs.Generated.{role_of_kind, Purpose, OfImport, OfDestructor, target_of, HasPurpose}
+use Rattle.comp_terms.specs.Terms.{Term, Is, intrinsic_of}
+use Rattle.comp_terms.specs.Terms as terms
+use Rattle.comp_terms.specs.Planned.{IsTermFor, IsItemFor, IsGivenFor, IsEntryFor, IsArgumentFor}
+use Rattle.comp_runs.specs.Machine.{Scope, Machine, address_at, all_some}
+use Rattle.comp_runs.specs.Instances.{of_kind, matching, given_to}
+use Rattle.comp_runs.specs.Signatures.{core_signature}
+use Rattle.comp_runs.specs.Running.{core_argument}
+use Rattle.link_laws.proofs.Zips.{all_some-zip, found-zip}
+use Rattle.comp_worlds.proofs.Roles.{bound_some}
+use Rattle.link_laws.proofs.Plain.{IsFunctionImport, lowered_type, same_signature-refl, function_type_in, named_main, fields_right}
+use Rattle.link_laws.proofs.Given.{thing_there, target_there, shim_there, shim_typed, IsFunctionTyped, func_kind, at_some}
+use Rattle.link_laws.proofs.Stores.{IsOpaqueOf, IsNamedEntry, IsInlineInstance, ShimsAt, IsFunctionOf, IsServedAs, resource_core, IsShimGiven, TakesShims, Serves, IsPlanned, Agrees}
+
+-- ---- the core types of what is given
+
+-- a function of a resource's handles is opaque, and has its core type
+resource_opaque : (s : Store) (address : ℕ) (function : ResourceFunction) (resource : Resource) (type : FuncType) → Some (externs.Func (resource_core function)) ≡ Some (externs.Func type) → IsFunctionOf s address function resource →
+    (item : CoreItem) × IsOpaqueOf s address type item
+resource_opaque s address function resource type fits h =
+    let item : CoreItem = IntrinsicOf (intrinsic_of function h.of) in
+    (item, subst (λ t. IsOpaqueOf s address t item) (ap (function_type_in type) (same_Some (externs.Func (resource_core function)) (externs.Func type) fits)) h.is)
+
+-- what serves a role is opaque, and has the core type that the role requires
+pub served_opaque : (w : ComponentWorld) (s : Store) (of : UserModule) (address : ℕ) (role : Import) (type : FuncType) → IsImportRole w role → type_of_import w.resolve (items_of w) role ≡ Some (externs.Func type) →
+    IsServedAs w s address (link_of w of role) → (item : CoreItem) × IsOpaqueOf s address type item
+served_opaque w s of address (imports.WorldFunc (keys.Name text) function abi) type right fits h =
+    let asked : called_type w.resolve GuestImport h.typed.wit ≡ externs.Func type =
+    same_Some (called_type w.resolve GuestImport h.typed.wit) (externs.Func type)
+    (sym (ap (option_map (called_type w.resolve GuestImport)) h.typed.imported) ∙ (ap (λ abi. option_map (called_type w.resolve abi) (root_function_at (items_of w).imports (keys.Name text))) (sym right.2) ∙ fits)) in
+    let typed : externs.Func (core_signature h.type []) ≡ externs.Func type = lowered_type w h.type h.typed.wit h.typed.typed ∙ asked in
+    (Lowering h.lowered.of h.held, subst (λ t. IsOpaqueOf s address t (Lowering h.lowered.of h.held)) (ap (function_type_in type) typed) h.lowered.is)
+served_opaque w s of address (imports.InterfaceFunc key id function abi) type right fits h =
+    let asked : called_type w.resolve GuestImport h.typed.wit ≡ externs.Func type =
+    same_Some (called_type w.resolve GuestImport h.typed.wit) (externs.Func type)
+    (sym (ap (option_map (called_type w.resolve GuestImport)) h.typed.imported) ∙ (ap (λ abi. option_map (called_type w.resolve abi) (found function (functions_of w.resolve id))) (sym right.2) ∙ fits)) in
+    let typed : externs.Func (core_signature h.type []) ≡ externs.Func type = lowered_type w h.type h.typed.wit h.typed.typed ∙ asked in
+    (Lowering h.lowered.of h.held, subst (λ t. IsOpaqueOf s address t (Lowering h.lowered.of h.held)) (ap (function_type_in type) typed) h.lowered.is)
+served_opaque w s of address (imports.ImportedResourceDrop key interface id) type right fits h = resource_opaque s address Drop (resource_of w id) type fits h
+served_opaque w s of address (imports.ExportedResourceDrop key id) type right fits h = resource_opaque s address Drop (resource_of w id) type fits h
+served_opaque w s of address (imports.ExportedResourceRep key id) type right fits h = resource_opaque s address Rep (resource_of w id) type fits h
+served_opaque w s of address (imports.ExportedResourceNew key id) type right fits h = resource_opaque s address New (resource_of w id) type fits h
+served_opaque w s of address role type right fits h = absurd right
+
+-- what a shim hands on to is opaque, and has the shim's core type
+pub purpose_opaque : (w : ComponentWorld) (s : Store) (address : ℕ) (shim : Shim) (p : Purpose) → HasPurpose w shim p → IsServedAs w s address (target_of w p) → (item : CoreItem) × IsOpaqueOf s address (type_of_shim shim) item
+purpose_opaque w s address shim (OfImport role) stands h = served_opaque w s Main address role (type_of_shim shim) stands.right stands.typed h
+purpose_opaque w s address shim (OfDestructor name) stands h =
+    let offered : found name w.main.offered ≡ Some (externs.Func h.type) = subst (λ (o : WorldModule). found name o.found.offered ≡ Some (externs.Func h.type)) (sym (named_main w h.number h.of).1) h.offered in
+    let typed : externs.Func h.type ≡ externs.Func (type_of_shim shim) = same_Some (externs.Func h.type) (externs.Func (type_of_shim shim)) (sym offered ∙ stands.typed) in
+    (ExportedBy h.user name, subst (λ t. IsOpaqueOf s address t (ExportedBy h.user name)) (ap (function_type_in (type_of_shim shim)) typed) h.is)
+
+-- a shim stands for one thing
+pub one_purpose : (w : ComponentWorld) (shim : Shim) (p q : Purpose) → HasPurpose w shim p → HasPurpose w shim q → p ≡ q
+one_purpose w shim (OfImport role) (OfImport other) h k = ap OfImport (same_Some role other (sym h.of_kind ∙ k.of_kind))
+one_purpose w shim (OfImport role) (OfDestructor name) h k = absurd (none-some role (ap (role_of_kind w) (sym k.of_kind) ∙ h.of_kind))
+one_purpose w shim (OfDestructor name) (OfImport role) h k = absurd (none-some role (ap (role_of_kind w) (sym h.of_kind) ∙ k.of_kind))
+one_purpose w shim (OfDestructor name) (OfDestructor other) h k = ap (λ kind. OfDestructor (kind_name kind)) (sym h.of_kind ∙ k.of_kind)
+
+-- ---- what an import is given
+
+-- the terms that these targets name are core functions
+module _ (w : ComponentWorld) (ds : List Def) where
+  lowering_kind : (kind : ExportKind) (index : ℕ) (function : WorldFunction) (options : List TargetOption) (term : Term) → Is ds (kind_space kind) index term → IsTermFor w (Lowered function options) term → kind ≡ kinds.Func
+  lowering_kind kinds.Func index function options (terms.Lowering origin type written) is asked = refl
+  lowering_kind kinds.Table index function options (terms.Lowering origin type written) is asked = absurd is
+  lowering_kind kinds.Memory index function options (terms.Lowering origin type written) is asked = absurd is
+  lowering_kind kinds.Global index function options (terms.Lowering origin type written) is asked = absurd is
+  lowering_kind kind index function options term is asked = absurd asked
+
+  resource_kind : (kind : ExportKind) (index : ℕ) (function : ResourceFunction) (id : TypeId) (term : Term) → Is ds (kind_space kind) index term → IsTermFor w (OfResource function id) term → kind ≡ kinds.Func
+  resource_kind kinds.Func index function id (terms.OfResource same resource) is asked = refl
+  resource_kind kinds.Table index function id (terms.OfResource same resource) is asked = absurd is
+  resource_kind kinds.Memory index function id (terms.OfResource same resource) is asked = absurd is
+  resource_kind kinds.Global index function id (terms.OfResource same resource) is asked = absurd is
+  resource_kind kind index function id term is asked = absurd asked
+
+  -- so is what an import of a role is to be given
+  role_kind : (of : UserModule) (kind : ExportKind) (index : ℕ) (role : Import) → IsImportRole w role → IsItemFor w ds (kind_space kind) index (link_of w of role) → kind ≡ kinds.Func
+  role_kind of kind index (imports.WorldFunc (keys.Name text) function abi) right h = lowering_kind kind index (OfRoot text) (lower_options w of (imports.WorldFunc (keys.Name text) function abi)) h.term h.is h.asked
+  role_kind of kind index (imports.InterfaceFunc key interface function abi) right h = lowering_kind kind index (OfInterface interface function) (lower_options w of (imports.InterfaceFunc key interface function abi)) h.term h.is h.asked
+  role_kind of kind index (imports.ImportedResourceDrop key interface id) right h = resource_kind kind index Drop id h.term h.is h.asked
+  role_kind of kind index (imports.ExportedResourceDrop key id) right h = resource_kind kind index Drop id h.term h.is h.asked
+  role_kind of kind index (imports.ExportedResourceRep key id) right h = resource_kind kind index Rep id h.term h.is h.asked
+  role_kind of kind index (imports.ExportedResourceNew key id) right h = resource_kind kind index New id h.term h.is h.asked
+  role_kind of kind index role right h = absurd right
+
+-- The core function is what an import of this role, of this user module, is to be given, or a shim for that; and it has the core type that
+-- the role requires.
+pub record IsRoleServed (w : ComponentWorld) (shims : Option ShimsAt) (s : Store) (of : UserModule) (address : ℕ) (role : Import) : Type 0 where
+  pub serves : Serves w shims s address (link_of w of role)
+  pub typed : (type : FuncType) → type_of_import w.resolve (items_of w) role ≡ Some (externs.Func type) → IsFunctionTyped s address type
+
+-- the item of the export is so for this field of a user module's imports
+pub record IsFieldExport (w : ComponentWorld) (shims : Option ShimsAt) (s : Store) (of : UserModule) (e : Export) (field : List ℕ × Import) : Type 0 where
+  pub named : e.name ≡ field.0
+  pub space : e.space ≡ spaces.CoreFunc
+  pub is : IsRoleServed w shims s of e.address field.1
+
+-- the argument has an export for each field of this module, as planned
+pub record IsOffered (w : ComponentWorld) (shims : Option ShimsAt) (s : Store) (of : UserModule) (a : List ℕ × List Export) (group : List ℕ × ImportInstance) : Type 0 where
+  pub named : a.0 ≡ group.0
+  pub each : AllZip (IsFieldExport w shims s of) a.1 (fields_of group.1)
+
+-- what a user module is given, to which the shims may be given
+module _ {w : ComponentWorld} {earlier : List Def} {c : Scope} {s : Store} (a : Agrees w earlier c s) (of : UserModule) (takes : TakesShims w of) where
+  -- what is given for an import is the item that the link table names, or a shim
+  role_there : (kind : ExportKind) (index : ℕ) (role : Import) → IsImportRole w role → IsGivenFor w of earlier (kind_space kind) index role →
+      (kind ≡ kinds.Func) × (x : ℕ) × (address_at spaces.CoreFunc index c.items ≡ Some x) × IsRoleServed w a.shims s of x role
+  role_there kind index role right (inl h) =
+      let function : kind ≡ kinds.Func = role_kind w earlier of kind index role right h in
+      let x = target_there a index (link_of w of role) (subst (λ k. IsItemFor w earlier (kind_space k) index (link_of w of role)) function h) in
+      let opaque : (type : FuncType) → type_of_import w.resolve (items_of w) role ≡ Some (externs.Func type) → (item : CoreItem) × IsOpaqueOf s x.0 type item =
+      λ type fits. served_opaque w s of x.0 role type right fits x.2 in (
+        function,
+        x.0,
+        x.1,
+        record {
+          serves = inl x.2;
+          typed = λ type fits. let o : (item : CoreItem) × IsOpaqueOf s x.0 type item = opaque type fits in record { function = Opaque o.1.what type; present = o.1.present; typed = refl };
+        },
+      )
+  role_there kind index role right (inr h) =
+      let x : (x : ℕ) × (address_at spaces.CoreFunc index c.items ≡ Some x) × IsShimGiven w a.shims x (target_of w (OfImport role)) = shim_there a h.place h.shim (OfImport role) h.listed h.stands_for h.is in
+      let y : (x : ℕ) × (address_at spaces.CoreFunc index c.items ≡ Some x) × IsFunctionTyped s x (type_of_shim h.shim) = shim_typed a h.place h.shim h.listed h.is in
+      let same : y.0 ≡ x.0 = same_Some y.0 x.0 (sym y.1 ∙ x.1) in (
+        func_kind kind h.in_space,
+        x.0,
+        x.1,
+        record {
+          serves = inr (subst (IsShimGiven w a.shims x.0) (takes role) x.2);
+          typed = λ type fits.
+              let own : type_of_shim h.shim ≡ type = ap (function_type_in type) (same_Some (externs.Func (type_of_shim h.shim)) (externs.Func type) (sym h.stands_for.typed ∙ fits)) in
+              subst (IsFunctionTyped s x.0) own (subst (λ n. IsFunctionTyped s n (type_of_shim h.shim)) same y.2);
+        },
+      )
+
+  -- the entries of an inline instance, as they were put into the store
+  fields_there : (es : List CoreInlineExport) (xs : List Export) (fs : List (List ℕ × Import)) → AllByRecursion (λ f. IsImportRole w f.1) fs → AllZip (IsEntryFor w of earlier) es fs → AllZip (IsNamedEntry c.items) es xs →
+      AllZip (IsFieldExport w a.shims s of) xs fs
+  fields_there [] [] [] r h n = tt
+  fields_there (e ∷ es) (x ∷ xs) (f ∷ fs) r h n =
+      let i : (e.kind ≡ kinds.Func) × (y : ℕ) × (address_at spaces.CoreFunc e.index c.items ≡ Some y) × IsRoleServed w a.shims s of y f.1 = role_there e.kind e.index f.1 r.0 h.0.serves in
+      let kind : kind_space e.kind ≡ spaces.CoreFunc = ap kind_space i.0 in
+      let at : address_at spaces.CoreFunc e.index c.items ≡ Some x.address = subst (λ space. address_at space e.index c.items ≡ Some x.address) kind n.0.at in
+      let same : i.1 ≡ x.address = same_Some i.1 x.address (sym i.2 ∙ at) in
+      (record { named = n.0.named ∙ h.0.named; space = n.0.space ∙ kind; is = subst (λ y. IsRoleServed w a.shims s of y f.1) same i.3 }, fields_there es xs fs r.1 h.1 n.1)
+  fields_there [] (x ∷ xs) fs r h n = absurd n
+  fields_there (e ∷ es) [] fs r h n = absurd n
+  fields_there [] [] (f ∷ fs) r h n = absurd h
+  fields_there (e ∷ es) (x ∷ xs) [] r h n = absurd h
+
+  module _ (m : Machine) (items : m.scope.items ≡ c.items) (instances : m.store.core_instances ≡ s.core_instances) where
+    argument_there : (x : CoreArgument) (g : List ℕ × ImportInstance) → IsImportGroup w g → IsArgumentFor w of earlier x g → (y : List ℕ × List Export) × (core_argument m x ≡ Some y) × IsOffered w a.shims s of y g
+    argument_there x g right h =
+        let b : (y : ℕ) × (address_at spaces.CoreInstance x.instance c.items ≡ Some y) × IsInlineInstance c.items s h.serves.entries y = thing_there a h.serves.made in
+        ((x.name, b.2.exports), rw (items, b.1, instances, b.2.present) refl, record { named = h.named; each = fields_there h.serves.entries b.2.exports (fields_of g.1) (fields_right w g right) h.serves.each b.2.each })
+
+    abbrev IsArgument : CoreArgument → List ℕ × ImportInstance → Type 0
+    IsArgument x g = IsImportGroup w g × IsArgumentFor w of earlier x g
+
+    with_groups : (xs : List CoreArgument) (gs : List (List ℕ × ImportInstance)) → AllByRecursion (IsImportGroup w) gs → AllZip (IsArgumentFor w of earlier) xs gs → AllZip IsArgument xs gs
+    with_groups [] [] r h = tt
+    with_groups (x ∷ xs) (g ∷ gs) r h = ((r.0, h.0), with_groups xs gs r.1 h.1)
+    with_groups [] (g ∷ gs) r h = absurd h
+    with_groups (x ∷ xs) [] r h = absurd h
+
+    -- the arguments of the module's instantiation
+    pub arguments_there : (xs : List CoreArgument) (gs : List (List ℕ × ImportInstance)) → AllByRecursion (IsImportGroup w) gs → AllZip (IsArgumentFor w of earlier) xs gs →
+        (ys : List (List ℕ × List Export)) × (all_some (map (core_argument m) xs) ≡ Some ys) × AllZip (IsOffered w a.shims s of) ys gs
+    arguments_there xs gs r h = all_some-zip (IsOffered w a.shims s of) (core_argument m) IsArgument (λ x g k. argument_there x g k.0 k.1) xs gs (with_groups xs gs r h)
+
+-- ---- what the imports of a user module find
+
+-- a function matches an import of its core type
+matches_function : (m : Machine) (t : Thing) (type : FuncType) → t.space ≡ spaces.CoreFunc → IsFunctionTyped m.store t.address type → matching m (externs.Func type) t ≡ Some t
+matches_function m t type space h = rw (space, h.present, h.typed, same_signature-refl type) refl
+
+-- an import that has a role is to be given what the link table says of the role
+linked_in : (w : ComponentWorld) (of : UserModule) (instance : ImportInstance) (field : List ℕ) (role : Import) → found field (fields_of instance) ≡ Some role → link_in w of field instance ≡ Some (link_of w of role)
+linked_in w of (instances.Names fields) field role e = ap (option_map (link_of w of)) e
+linked_in w of (instances.Whole which) field role e = absurd (none-some role e)
+
+module _ (w : ComponentWorld) (shims : Option ShimsAt) (of : WorldModule) (m : Machine) where
+  -- an export serves the role of a field; the exports of an argument serve those of a module's imports
+  abbrev IsFor : Export → Import → Type 0
+  IsFor e role = (e.space ≡ spaces.CoreFunc) × IsRoleServed w shims m.store of.of e.address role
+
+  abbrev AreFor : List Export → ImportInstance → Type 0
+  AreFor es instance = AllZip (IsFieldExport w shims m.store of.of) es (fields_of instance)
+
+  fields_named : (es : List Export) (fs : List (List ℕ × Import)) → AllZip (IsFieldExport w shims m.store of.of) es fs →
+      AllZip (λ (x : List ℕ × Export) (z : List ℕ × Import). (x.0 ≡ z.0) × IsFor x.1 z.1) (map (λ (e : Export). (e.name, e)) es) fs
+  fields_named [] [] h = tt
+  fields_named (e ∷ es) (f ∷ fs) h = ((h.0.named, (h.0.space, h.0.is)), fields_named es fs h.1)
+  fields_named [] (f ∷ fs) h = absurd h
+  fields_named (e ∷ es) [] h = absurd h
+
+  groups_named : (arguments : List (List ℕ × List Export)) (gs : List (List ℕ × ImportInstance)) → AllZip (IsOffered w shims m.store of.of) arguments gs →
+      AllZip (λ (x : List ℕ × List Export) (z : List ℕ × ImportInstance). (x.0 ≡ z.0) × AreFor x.1 z.1) arguments gs
+  groups_named arguments gs h = AllZip-weaker (λ a g o. (o.named, o.each)) arguments gs h
+
+  -- each import of the module finds what was planned for it
+  pub given_there : (arguments : List (List ℕ × List Export)) → AllZip (IsOffered w shims m.store of.of) arguments of.found.imports.modules → (i : ImportType) → IsFunctionImport w of.found i →
+      (t : Thing) × (given_to m arguments i ≡ Some t) × IsPlanned w shims m.store of t i
+  given_there arguments h i p =
+      let roles : List (List ℕ × ImportInstance) = of.found.imports.modules in
+      let g = bound_some (λ (o : ImportInstance). found i.field (fields_of o)) (found i.module_name roles) p.role p.has_role in
+      let a = found-zip AreFor i.module_name arguments roles g.0 (groups_named arguments roles h) g.1 in
+      let e = found-zip IsFor i.field (map (λ (e : Export). (e.name, e)) a.0) (fields_of g.0) p.role (fields_named a.0 (fields_of g.0) a.2) g.2 in
+      let x : Export = e.0 in
+      let t : Thing = record { space = x.space; address = x.address } in
+      let function : IsFunctionTyped m.store x.address p.type = e.2.1.typed p.type p.fits in
+      let said : link_at w of i.module_name i.field ≡ Some (link_of w of.of p.role) = ap (option_and_then (link_in w of.of i.field)) g.1 ∙ linked_in w of.of g.0 i.field p.role g.2 in
+      (t, rw (p.typed, a.1, e.1, at_some x e.2.0) (matches_function m t p.type e.2.0 function), record { target = link_of w of.of p.role; said = said; space = e.2.0; serves = e.2.1.serves })
