@@ -9,6 +9,7 @@
 //! component on standard output), `running` (a run).
 #![tactic(auto)]
 
+mod adapters;
 mod arguments;
 mod fault;
 mod flags;
