@@ -1,6 +1,7 @@
 -- What the calls of an encoder make of it: its initial state, and its state after each call that succeeds. The rules are this
 -- project's own: the component model's standard defines components, and not how they are made.
-use Rattle.std.specs.Prelude.{Bool, List, [], ℕ, ◌++◌, Option, Some, None, true, false}
+use Rattle.std.specs.Prelude.{Bool, List, [], ◌∷◌, ℕ, ◌++◌, Option, Some, None, true, false}
+use Rattle.comp_roles.specs.declared.libraries.LibraryInfo.{LibraryInfo}
 use Rattle.world_values.specs.declared.gathered.Part.{Part}
 use Rattle.world_values.specs.declared.gathered.ExportKey.{ExportKey}
 use Rattle.world_values.specs.declared.options.EncoderOptions.{EncoderOptions}
@@ -42,6 +43,20 @@ module _ {L B F : Type 0} (l : lower.Ghosts L B F) where
         };
       }
 
+  -- a further module as the lower layer reads it, with the keys that it has to export, and the metadata of all modules with its own
+  abbrev pub read_part : Encoder L B → List ℕ → Part B × B
+  read_part e bytes =
+      let decoded : List ℕ × B = l.decoded e.lower bytes in
+      let merged = l.merged e.lower e.gathered.combined decoded.1 in
+      (record { bytes = decoded.0; own = decoded.1; required = merged.exports }, merged.combined)
+
+  -- The state after an accepted adapter, which is a library where it has arguments: it comes after those that were added before,
+  -- the keys of this module are required of it, and its metadata is merged with theirs.
+  abbrev pub after_adapter : Encoder L B → List ℕ → List ℕ → Option LibraryInfo → Encoder L B
+  after_adapter e name bytes info =
+      let read = read_part e bytes in
+      record e { gathered = record e.gathered { adapters = e.gathered.adapters ++ (name, record { part = read.0; library_info = info }) ∷ []; combined = read.1 } }
+
   -- the encoder with `validate` on or off
   abbrev pub validating : Encoder L B → Bool → Encoder L B
   validating e on = record e { gathered = record e.gathered { options = record e.gathered.options { validate = on } } }
@@ -57,6 +72,10 @@ module _ {L B F : Type 0} (l : lower.Ghosts L B F) where
   -- the encoder with the rejection of names in an older mangling on or off
   abbrev pub rejecting_legacy_names : Encoder L B → Bool → Encoder L B
   rejecting_legacy_names e on = record e { gathered = record e.gathered { options = record e.gathered.options { reject_legacy_names = on } } }
+
+  -- the encoder with reallocs that grow the memory on or off
+  abbrev pub growing_memory : Encoder L B → Bool → Encoder L B
+  growing_memory e on = record e { gathered = record e.gathered { options = record e.gathered.options { realloc_via_memory_grow = on } } }
 
   -- the encoder with canonical names on or off
   abbrev pub emitting_canonical_names : Encoder L B → Bool → Encoder L B

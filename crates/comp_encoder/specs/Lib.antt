@@ -1,4 +1,5 @@
 pub mod Encoder
+pub mod Adapters
 pub mod CanonicalNames
 pub mod NamesMet
 pub mod Prepared

@@ -1,27 +1,29 @@
 //! The encoder's calls.
 
-ghost use Rattle.std.specs.Prelude.{◌≡◌, ◌++◌, IfOk, IfErr, OnOk, OnErr, IsOk, if◌then◌else◌, ◌≢◌, [], MatchBool};
+ghost use Rattle.std.specs.Prelude.{◌≡◌, ◌++◌, IfOk, IfErr, OnOk, OnErr, IsOk, Some, None, if◌then◌else◌, ◌≢◌, [], MatchBool};
 ghost use Rattle.comp_encoder.specs.Encoder.{main_bytes, naming};
 ghost use Rattle.comp_encoder.specs.Prepared.{IsWorldOf};
-ghost use Rattle.comp_encoder.specs.Calls.{fresh, validating, naming_generated, merging_versions, emitting_canonical_names, renaming_imports, rejecting_legacy_names, after_module};
-ghost use Rattle.comp_encoder.specs.Refusals.{ModuleCause, IsModuleRefusal, NoWorldCause, NoEncodeCause, IsEncodeRefusal};
+ghost use Rattle.comp_encoder.specs.Calls.{fresh, validating, naming_generated, merging_versions, emitting_canonical_names, renaming_imports, rejecting_legacy_names, growing_memory, after_module, after_adapter, read_part};
+ghost use Rattle.comp_encoder.specs.Refusals.{ModuleCause, IsModuleRefusal, IsAdapterRefusal, NoAdapterCause, NoWorldCause, NoEncodeCause, IsEncodeRefusal};
 ghost use Rattle.comp_worlds.specs.Encodable.{IsEncodable};
 ghost use Rattle.comp_encoder.specs.Component.{IsComponentOf, IsEncoding};
 ghost use Rattle.comp_encoder.specs.Outputs.{NoOutputCause, IsOutputRefusal};
 
+use crate::adapters::{check_arguments, put_adapter};
 use crate::fault::EncodeFault;
 use crate::output::{OutputFault, component_bytes};
 use comp_imports::ImportNames;
 use comp_lists::{Keyed, Text};
+use comp_roles::LibraryInfo;
 use comp_worlds::{ComponentWorld, Lower};
 use std::alloc::Global;
 use std::marker::Model;
-use world_values::{EncoderOptions, Gathered, Part};
+use world_values::{EncoderOptions, Gathered, GatheredAdapter, Part};
 
 /// What was gathered so far, and the lower layer that reads it.
 ///
-/// An encoder makes a component of a main module. `module` gives it the module, `encode` returns the
-/// component's bytes, and a call that refuses leaves the encoder unchanged.
+/// An encoder makes a component of a main module and its adapters. `module` gives it the module, `adapter` and `library` give it
+/// adapters, `encode` returns the component's bytes, and a call that refuses leaves the encoder unchanged.
 pub struct ComponentEncoder<L: Lower> {
     alloc: Global,
     lower: L,
@@ -148,6 +150,16 @@ impl<L: Lower> ComponentEncoder<L> {
         self
     }
 
+    /// Whether reallocs that adapters need grow the memory. It is off at first. The lower layer may refuse adapters that are no
+    /// libraries where it is on.
+    pub fn realloc_via_memory_grow(&mut self, on: bool) -> &mut Self
+        ensures same_reference { result.ghost_name ≡ self.entry.ghost_name }
+        ensures set { result.now ≡ growing_memory L.Lower self.old on }
+    {
+        self.gathered.options.realloc_via_memory_grow = on;
+        self
+    }
+
     /// Takes the main module: a core module with the metadata that the lower layer reads from it. It replaces one
     /// that was given before, but the exports that one required are still required.
     ///
@@ -194,6 +206,110 @@ impl<L: Lower> ComponentEncoder<L> {
         ensures cause { IfErr result (IsModuleRefusal L.Lower self.old bytes.now) }
     {
         self.add_module(bytes)?;
+        Ok(self)
+    }
+
+    /// A further module as the lower layer reads it, with the keys that it has to export, and the metadata of all modules with its own.
+    fn read(&self, bytes: &[u8]) -> Result<(Part<L::Bindgen>, L::Bindgen), EncodeFault<L::Fault>>
+        ensures ok { IfOk result (λ r. r ≡ read_part L.Lower self.now bytes.now) }
+        ensures refused { IsOk result → (f : L.Fault) → ¬ ModuleCause L.Lower self.now bytes.now f }
+        ensures cause { IfErr result (IsModuleRefusal L.Lower self.now bytes.now) }
+    {
+        let (bytes, own) = self
+            .lower
+            .decode(self.alloc, bytes)
+            .map_err(|f| fault_of(&self.lower, f))?;
+        let merged = self
+            .lower
+            .merge(self.alloc, &self.gathered.combined, &own)
+            .map_err(|f| fault_of(&self.lower, f))?;
+        let part = Part {
+            bytes,
+            own,
+            required: merged.exports,
+        };
+        Ok((part, merged.combined))
+    }
+
+    /// Takes an adapter, which is a library where it has arguments.
+    fn add(
+        &mut self,
+        name: &str,
+        bytes: &[u8],
+        library_info: Option<LibraryInfo>,
+    ) -> Result<(), EncodeFault<L::Fault>>
+        ensures ok { OnOk result (self.new ≡ after_adapter L.Lower self.old name.now bytes.now library_info) }
+        ensures err { OnErr result (self.new ≡ self.old) }
+        ensures refused { IsOk result → NoAdapterCause L.Lower self.old name.now bytes.now library_info }
+        ensures cause { IfErr result (IsAdapterRefusal L.Lower self.old name.now bytes.now library_info) }
+    {
+        let (part, combined) = self.read(bytes)?;
+        check_arguments(self.alloc, &self.gathered.adapters, name, &library_info)?;
+        let adapter = GatheredAdapter { part, library_info };
+        put_adapter(self.alloc, &mut self.gathered.adapters, name, adapter)?;
+        self.gathered.combined = combined;
+        Ok(())
+    }
+
+    /// Takes an adapter under a name: a further core module with the metadata that the lower layer reads from it. It comes after
+    /// those that were added before.
+    ///
+    /// It refuses when out of memory, where the lower layer refuses the bytes, or their metadata together with the earlier modules',
+    /// and where an adapter or a library of this name was added before. A refusal leaves the encoder unchanged.
+    pub fn add_adapter(&mut self, name: &str, bytes: &[u8]) -> Result<(), EncodeFault<L::Fault>>
+        ensures ok { OnOk result (self.new ≡ after_adapter L.Lower self.old name.now bytes.now None) }
+        ensures err { OnErr result (self.new ≡ self.old) }
+        ensures refused { IsOk result → NoAdapterCause L.Lower self.old name.now bytes.now None }
+        ensures cause { IfErr result (IsAdapterRefusal L.Lower self.old name.now bytes.now None) }
+    {
+        self.add(name, bytes, None)
+    }
+
+    /// [`add_adapter`](ComponentEncoder::add_adapter), returning the encoder, so that calls can be chained. The state after a refusal
+    /// is in that call's contract.
+    pub fn adapter(&mut self, name: &str, bytes: &[u8]) -> Result<&mut Self, EncodeFault<L::Fault>>
+        ensures same_reference { IfOk result (λ r. r.ghost_name ≡ self.entry.ghost_name) }
+        ensures ok { IfOk result (λ r. r.now ≡ after_adapter L.Lower self.old name.now bytes.now None) }
+        ensures refused { IsOk result → NoAdapterCause L.Lower self.old name.now bytes.now None }
+        ensures cause { IfErr result (IsAdapterRefusal L.Lower self.old name.now bytes.now None) }
+    {
+        self.add_adapter(name, bytes)?;
+        Ok(self)
+    }
+
+    /// Takes a library under a name: an adapter with the arguments that satisfy its imports.
+    ///
+    /// It refuses as [`add_adapter`](ComponentEncoder::add_adapter) does, and where an argument names an adapter that wasn't added
+    /// before: the first such name is reported, arguments and the items of each in order. Where the lower layer refuses too, that is
+    /// reported. A refusal leaves the encoder unchanged.
+    pub fn add_library(
+        &mut self,
+        name: &str,
+        bytes: &[u8],
+        info: LibraryInfo,
+    ) -> Result<(), EncodeFault<L::Fault>>
+        ensures ok { OnOk result (self.new ≡ after_adapter L.Lower self.old name.now bytes.now (Some info)) }
+        ensures err { OnErr result (self.new ≡ self.old) }
+        ensures refused { IsOk result → NoAdapterCause L.Lower self.old name.now bytes.now (Some info) }
+        ensures cause { IfErr result (IsAdapterRefusal L.Lower self.old name.now bytes.now (Some info)) }
+    {
+        self.add(name, bytes, Some(info))
+    }
+
+    /// [`add_library`](ComponentEncoder::add_library), returning the encoder, so that calls can be chained. The state after a refusal
+    /// is in that call's contract.
+    pub fn library(
+        &mut self,
+        name: &str,
+        bytes: &[u8],
+        info: LibraryInfo,
+    ) -> Result<&mut Self, EncodeFault<L::Fault>>
+        ensures same_reference { IfOk result (λ r. r.ghost_name ≡ self.entry.ghost_name) }
+        ensures ok { IfOk result (λ r. r.now ≡ after_adapter L.Lower self.old name.now bytes.now (Some info)) }
+        ensures refused { IsOk result → NoAdapterCause L.Lower self.old name.now bytes.now (Some info) }
+        ensures cause { IfErr result (IsAdapterRefusal L.Lower self.old name.now bytes.now (Some info)) }
+    {
+        self.add_library(name, bytes, info)?;
         Ok(self)
     }
 

@@ -27,6 +27,12 @@ pub enum EncodeFault<F> {
     /// earlier modules', or of all that was gathered.
     #[error("E3 Lower: {0}")]
     Lower(F),
+    /// An argument of the library `library` names the adapter `name`, and none of that name was added before.
+    #[error("E4 UnknownAdapter library={library} name={name}")]
+    UnknownAdapter {
+        library: Text,
+        name: Text,
+    },
     /// Canonical names are on, and two imports, or two exports, both keyed by an interface, have one canonical name: `name`.
     /// `first` and `second` are their names with the whole version.
     #[error("E5 CanonicalNames first={first} second={second} name={name}")]
@@ -68,6 +74,11 @@ pub enum EncodeFault<F> {
     #[error("E16 TooMany excess={excess}")]
     TooMany {
         excess: Excess,
+    },
+    /// An adapter or a library of this name was added before.
+    #[error("E18 AdapterTwice name={name}")]
+    AdapterTwice {
+        name: Text,
     },
 }
 

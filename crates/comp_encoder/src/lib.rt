@@ -9,10 +9,12 @@
 //! the world says, and links when it is run (`link_laws`; the machine is in `comp_runs`, over the core code
 //! of `core_runs`). A refusal leaves the encoder unchanged.
 //!
-//! In reading order: `fault` (why a call refuses), `canonical_names` (whether two interfaces have one canonical name),
-//! `output` (the component of a world, as bytes), `encoder` (the calls). Nothing here depends on files, nor on how a lower layer gets its results.
+//! In reading order: `fault` (why a call refuses), `adapters` (the table of adapters, and the names in a library's arguments),
+//! `canonical_names` (whether two interfaces have one canonical name), `output` (the component of a world, as bytes), `encoder` (the
+//! calls). Nothing here depends on files, nor on how a lower layer gets its results.
 #![tactic(auto)]
 
+mod adapters;
 mod canonical_names;
 mod encoder;
 mod fault;
@@ -20,6 +22,7 @@ mod output;
 
 pub use canonical_names::check_duplicate_canonical_names;
 pub use comp_imports::ImportNames;
+pub use comp_roles::{Instance, Item, LibraryArgument, LibraryInfo, MainOrAdapter};
 pub use comp_state::EncodingState;
 pub use comp_worlds::Lower;
 pub use encoder::ComponentEncoder;
