@@ -65,15 +65,15 @@ module _ {L B F : Type 0} (l : lower.Ghosts L B F) where
   Adapted out e [] es r = Encoded out e es r
   Adapted out e (adapter ∷ adapters) es r =
       AfterRead adapter.file (λ bytes more ended.
-        IsRefused (IsAdapterRefusal l e adapter.name bytes None) more ended
-        ⊎ (NoAdapterCause l e adapter.name bytes None × Adapted out (after_adapter l e adapter.name bytes None) adapters more ended)) es r
+      IsRefused (IsAdapterRefusal l e adapter.name bytes None) more ended
+      ⊎ (NoAdapterCause l e adapter.name bytes None × Adapted out (after_adapter l e adapter.name bytes None) adapters more ended)) es r
 
   -- MAIN is read and given to the encoder, and then the adapters.
   abbrev pub Supplied : List ℕ → Encoder L B → List ℕ → List Adapter → List Event → Result ⊤ (RunFault F) → Type 0
   Supplied out e main adapters es r =
       AfterRead main (λ bytes more ended.
-        IsRefused (IsModuleRefusal l e bytes) more ended
-        ⊎ (((f : F) → ¬ ModuleCause l e bytes f) × Adapted out (after_module l e bytes) adapters more ended)) es r
+      IsRefused (IsModuleRefusal l e bytes) more ended
+      ⊎ (((f : F) → ¬ ModuleCause l e bytes f) × Adapted out (after_module l e bytes) adapters more ended)) es r
 
   -- What was read and put, and how the run ended: MAIN and then the adapters are read, each once, in the order of the arguments; OUT is
   -- put, once and last, where what was read has a component, which is what is put; nothing else is read or put.

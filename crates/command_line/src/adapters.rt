@@ -41,11 +41,7 @@ pub(crate) fn are_adapters(words: &[String]) -> bool
 }
 
 /// Adds the adapter that a word names, where it has a `=`.
-fn add_adapter(
-    alloc: Global,
-    adapters: &mut Seq<Adapter>,
-    word: &str,
-) -> Result<(), AllocError>
+fn add_adapter(alloc: Global, adapters: &mut Seq<Adapter>, word: &str) -> Result<(), AllocError>
     ensures { OnOk result (adapters.new ≡ adapters.old ++ option_to_list (adapter_of word.now)) }
 {
     if let Some((name, file)) = split_once(word, '=') {
