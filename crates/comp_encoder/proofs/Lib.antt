@@ -3,3 +3,4 @@ mod Naming
 mod Answered
 mod MeetingNames
 mod ExportsApart
+mod Adding

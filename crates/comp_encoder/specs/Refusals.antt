@@ -1,12 +1,9 @@
 -- When the encoder's calls refuse. The rules are this project's own; the string encoding that a
 -- function needs is the Canonical ABI's `string-encoding`.
-use Rattle.std.specs.Prelude.{◌≡◌, ◌≢◌, ◌≤◌, ◌^◌, ℕ, List, [], Option, Some, None, IsSome, ⊤, false, ◌⊎◌, IsTrue}
-use Rattle.comp_lists.specs.Found.{found}
-use Rattle.comp_roles.specs.declared.libraries.LibraryInfo.{LibraryInfo}
+use Rattle.std.specs.Prelude.{◌≡◌, ◌≢◌, ◌≤◌, ◌^◌, ℕ, List, [], ⊤, false, ◌⊎◌, IsTrue}
 use Rattle.wit_data.specs.declared.ids.WorldId.{WorldId}
 use Rattle.wit_data.specs.declared.resolve.Resolve.{Resolve}
 use Rattle.comp_worlds.specs.declared.lower.Lower as lower
-use Rattle.comp_encoder.specs.Adapters.{Adapters, unknown_adapter}
 use Rattle.comp_encoder.specs.Encoder.{Encoder, main_bytes, naming}
 use Rattle.core_options.specs.Causes.{LacksMemory, LacksRealloc, LacksEncoding, ExportsLater}
 use Rattle.comp_worlds.specs.WorldContents.{core_imports}
@@ -48,14 +45,6 @@ IsCanonicalRefusal r world Memory = ⊤
 IsCanonicalRefusal r world (CanonicalNames first second name) = IsShared r world first second name
 IsCanonicalRefusal r world fault = ⊥
 
--- A refusal of an adapter of this name for the adapters that were added before is out of memory, or has its cause: an argument
--- names one that wasn't added, or there is one of its own name.
-abbrev pub IsAddRefusal : {B F : Type 0} → Adapters B → List ℕ → Option LibraryInfo → EncodeFault F → Type 0
-IsAddRefusal adapters name info Memory = ⊤
-IsAddRefusal adapters name info (UnknownAdapter library unknown) = (library ≡ name) × (unknown_adapter adapters info ≡ Some unknown)
-IsAddRefusal adapters name info (AdapterTwice twice) = (twice ≡ name) × IsSome (found name adapters)
-IsAddRefusal adapters name info fault = ⊥
-
 module _ {L B F : Type 0} (l : lower.Ghosts L B F) where
   -- why the lower layer refuses a module: for its bytes, or for its metadata together with the earlier modules'
   abbrev pub ModuleCause : Encoder L B → List ℕ → F → Type 0
@@ -75,17 +64,6 @@ module _ {L B F : Type 0} (l : lower.Ghosts L B F) where
   IsModuleRefusal e bytes (Output fault) = ⊥
   IsModuleRefusal e bytes (TooMany excess) = ⊥
   IsModuleRefusal e bytes (AdapterTwice name) = ⊥
-
-  -- a refusal of an adapter is out of memory, or has its cause: that of the lower layer, or one of the adapters before
-  abbrev pub IsAdapterRefusal : Encoder L B → List ℕ → List ℕ → Option LibraryInfo → EncodeFault F → Type 0
-  IsAdapterRefusal e name bytes info (Lower f) = IsModuleRefusal e bytes (Lower f)
-  IsAdapterRefusal e name bytes info fault = IsAddRefusal e.gathered.adapters name info fault
-
-  -- no cause of a refusal of an adapter holds, apart from memory
-  pub record NoAdapterCause (e : Encoder L B) (name bytes : List ℕ) (info : Option LibraryInfo) : Type 0 where
-    pub accepted : (f : F) → ¬ ModuleCause e bytes f
-    pub known : unknown_adapter e.gathered.adapters info ≡ None
-    pub new : found name e.gathered.adapters ≡ None
 
   -- a refusal of `encode` is out of memory, or has its cause
   abbrev pub IsEncodeRefusal : Encoder L B → EncodeFault F → Type 0

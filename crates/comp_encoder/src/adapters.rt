@@ -4,8 +4,7 @@ ghost use Rattle.std.specs.Prelude.{◌≡◌, ◌∷◌, ◌++◌, [], Some, No
 ghost use Rattle.std.specs.Option.{option_copied};
 ghost use Rattle.comp_lists.specs.Found.{found};
 ghost use Rattle.comp_roles.specs.Lookups.{first_some};
-ghost use Rattle.comp_encoder.specs.Adapters.{unknown_module, unknown_in, unknown_adapter};
-ghost use Rattle.comp_encoder.specs.Refusals.{IsAddRefusal};
+ghost use Rattle.comp_encoder.specs.Adapters.{unknown_module, unknown_in, unknown_adapter, IsAddRefusal};
 
 use crate::fault::EncodeFault;
 use comp_lists::{Keyed, Text};
@@ -40,9 +39,8 @@ fn unknown_in_items<'a, B>(
     ensures { option_copied result ≡ first_some (λ i. unknown_module adapters.now i.which) items.now }
 {
     for item in items {
-        let unknown = unknown_module(adapters, &item.which);
-        if unknown.is_some() {
-            return unknown;
+        if let Some(name) = unknown_module(adapters, &item.which) {
+            return Some(name);
         }
     }
     None
@@ -69,9 +67,8 @@ fn unknown_in_arguments<'a, B>(
     ensures { option_copied result ≡ first_some (λ a. unknown_in adapters.now a.instance) arguments.now }
 {
     for argument in arguments {
-        let unknown = unknown_in(adapters, &argument.instance);
-        if unknown.is_some() {
-            return unknown;
+        if let Some(name) = unknown_in(adapters, &argument.instance) {
+            return Some(name);
         }
     }
     None

@@ -4,7 +4,8 @@ ghost use Rattle.std.specs.Prelude.{◌≡◌, ◌++◌, IfOk, IfErr, OnOk, OnEr
 ghost use Rattle.comp_encoder.specs.Encoder.{main_bytes, naming};
 ghost use Rattle.comp_encoder.specs.Prepared.{IsWorldOf};
 ghost use Rattle.comp_encoder.specs.Calls.{fresh, validating, naming_generated, merging_versions, emitting_canonical_names, renaming_imports, rejecting_legacy_names, growing_memory, after_module, after_adapter, read_part};
-ghost use Rattle.comp_encoder.specs.Refusals.{ModuleCause, IsModuleRefusal, IsAdapterRefusal, NoAdapterCause, NoWorldCause, NoEncodeCause, IsEncodeRefusal};
+ghost use Rattle.comp_encoder.specs.Adapters.{IsAdapterRefusal, NoAdapterCause};
+ghost use Rattle.comp_encoder.specs.Refusals.{ModuleCause, IsModuleRefusal, NoWorldCause, NoEncodeCause, IsEncodeRefusal};
 ghost use Rattle.comp_worlds.specs.Encodable.{IsEncodable};
 ghost use Rattle.comp_encoder.specs.Component.{IsComponentOf, IsEncoding};
 ghost use Rattle.comp_encoder.specs.Outputs.{NoOutputCause, IsOutputRefusal};

@@ -126,6 +126,7 @@ tables w bytes is = whole_has_tables (stub_parts bytes) w is
 
 pub no_cause : (g : Gathered ⊤) (f : StubFault) → (take 8 (main_bytes g.main) ≡ core_preamble) × (g.adapters ≡ []) → ¬ PrepareCause layers.NoEncoding g f
 no_cause g faults.Memory core h = h
+no_cause g (faults.Gathered adapters) core h = cc
 no_cause g faults.Refused core (inl h) = cc
 no_cause g faults.Refused core (inr (inl h)) = h core.0
 no_cause g faults.Refused core (inr (inr h)) = h core.1

@@ -75,11 +75,19 @@ stub_world bytes = whole_of (stub_parts bytes)
 abbrev pub world_of : Gathered ⊤ → ComponentWorld
 world_of gathered = stub_world (main_bytes gathered.main)
 
--- it is the refusing one, or main is no core module, or there are adapters
+-- it is the listing one, and the module is no core module
+abbrev pub DecodeCause : StubLower → List ℕ → StubFault → Type 0
+DecodeCause layer bytes faults.Memory = ⊥
+DecodeCause layer bytes faults.Refused = (layer ≡ layers.Listing) × (take 8 bytes ≢ core_preamble)
+DecodeCause layer bytes (faults.Gathered adapters) = ⊥
+
+-- it is the refusing one, or main is no core module, or there are adapters; or it is the listing one
 abbrev pub PrepareCause : StubLower → Gathered ⊤ → StubFault → Type 0
 PrepareCause layer gathered faults.Memory = ⊥
+PrepareCause layer gathered (faults.Gathered adapters) = layer ≡ layers.Listing
 PrepareCause layer gathered faults.Refused = (layer ≡ layers.Refusing) ⊎ (take 8 (main_bytes gathered.main) ≢ core_preamble) ⊎ (gathered.adapters ≢ [])
 
 abbrev pub is_memory : StubFault → Bool
 is_memory faults.Memory = true
 is_memory faults.Refused = false
+is_memory (faults.Gathered adapters) = false

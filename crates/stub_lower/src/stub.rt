@@ -4,8 +4,8 @@ ghost use Rattle.std.specs.Prelude.{◌≡◌, ◌≢◌, ◌⊎◌, [], IfOk, I
 ghost use Rattle.core_types.specs.Core.{core_preamble};
 ghost use Rattle.comp_worlds.specs.Encodable.{IsEncodable};
 ghost use Rattle.comp_worlds.specs.WorldTables.{HasTables};
-ghost use Rattle.stub_lower.specs.Stub.{stub_world};
-ghost use Rattle.stub_lower.specs.declared.stub.StubFault.TheVariants.{Memory};
+ghost use Rattle.stub_lower.specs.Stub.{stub_world, decoded_of};
+ghost use Rattle.stub_lower.specs.declared.stub.StubFault.TheVariants.{Memory, Refused};
 
 use crate::worlds::world;
 use comp_lists::{Bytes, Keyed, Seq, Text};
@@ -15,14 +15,17 @@ use thiserror::Error;
 use world_values::{Gathered, GatheredAdapter, Merged};
 
 /// Why the stub refuses.
-#[derive(Clone, Copy, Debug, PartialEq, Eq, Error)]
+#[derive(Debug, Drop, PartialEq, Eq, Error)]
 pub enum StubFault {
     /// An allocation failed.
     #[error("S1 Memory")]
     Memory,
-    /// It is the refusing one, or main is no core module, or there are adapters.
+    /// It is the refusing one, or a module is no core module, or there are adapters.
     #[error("S2 Refused")]
     Refused,
+    /// It is the listing one, and these are the adapters.
+    #[error("S3 Gathered adapters={adapters}")]
+    Gathered { adapters: Text },
 }
 
 impl From<AllocError> for StubFault {
@@ -41,6 +44,8 @@ pub enum StubLower {
     NoEncoding,
     /// It prepares no world.
     Refusing,
+    /// It takes core modules alone, and prepares no world: it reports the adapters that were gathered.
+    Listing,
 }
 
 /// Whether these bytes begin with the preamble of a core module.
@@ -91,12 +96,63 @@ fn world_alone(
     world_of_core(alloc, bytes)
 }
 
+/// A module's bytes as they are, with no metadata.
+fn decoded(alloc: Global, bytes: &[u8]) -> Result<(Bytes, ()), AllocError>
+    ensures { IfOk result (λ p. p ≡ decoded_of bytes.now) }
+{
+    Ok((Seq::from_vec(Vec::from_slice(alloc, bytes)?), ()))
+}
+
+/// The same of a core module.
+fn decoded_core(alloc: Global, bytes: &[u8]) -> Result<(Bytes, ()), StubFault>
+    ensures ok { IfOk result (λ p. p ≡ decoded_of bytes.now) }
+    ensures refused { IsOk result → take 8 bytes.now ≡ core_preamble }
+    ensures cause { IfErr result (λ f. (f ≡ Memory) ⊎ (f ≡ Refused) × (take 8 bytes.now ≢ core_preamble)) }
+{
+    if is_core_module(bytes) {
+        Ok(decoded(alloc, bytes)?)
+    } else {
+        Err(StubFault::Refused)
+    }
+}
+
+/// An adapter as a text: its name and the number of its bytes, and of a library that of its arguments.
+fn listed(alloc: Global, name: &str, adapter: &GatheredAdapter<()>) -> Result<String, AllocError> {
+    let bytes = adapter.part.bytes.len();
+    match &adapter.library_info {
+        None => format!(in alloc; "{name}={bytes}"),
+        Some(info) => format!(in alloc; "{name}={bytes}+{}", info.arguments.len()),
+    }
+}
+
+/// The adapters as a text, in order.
+fn listing(alloc: Global, adapters: &Keyed<Text, GatheredAdapter<()>>) -> Result<Text, AllocError> {
+    let mut text = String::new(alloc);
+    for (name, adapter) in adapters.iter() {
+        if !text.is_empty() {
+            text.push_str(" ")?;
+        }
+        text.push_str(&listed(alloc, name.as_str(), adapter)?)?;
+    }
+    Ok(Text::from_string(text))
+}
+
+/// The refusal that reports the adapters.
+fn gathered_fault(alloc: Global, adapters: &Keyed<Text, GatheredAdapter<()>>) -> StubFault
+    ensures { result ≢ Refused }
+{
+    match listing(alloc, adapters) {
+        Ok(adapters) => StubFault::Gathered { adapters },
+        Err(_) => StubFault::Memory,
+    }
+}
+
 impl Lower for StubLower {
     type Bindgen = ();
 
     type Fault = StubFault;
 
-    ghost use Rattle.stub_lower.specs.Stub.{decoded_of, merged_of, world_of, PrepareCause, is_memory};
+    ghost use Rattle.stub_lower.specs.Stub.{decoded_of, merged_of, world_of, DecodeCause, PrepareCause, is_memory};
 
     ghost empty_is = { λ _. tt };
 
@@ -106,7 +162,7 @@ impl Lower for StubLower {
 
     ghost prepared = { λ _. world_of };
 
-    ghost decode_cause = { λ _ bytes f. ⊥ };
+    ghost decode_cause = { DecodeCause };
 
     ghost merge_cause = { λ _ first second f. ⊥ };
 
@@ -117,7 +173,10 @@ impl Lower for StubLower {
     fn empty(&self, _alloc: Global) {}
 
     fn decode(&self, alloc: Global, bytes: &[u8]) -> Result<(Bytes, ()), StubFault> {
-        Ok((Seq::from_vec(Vec::from_slice(alloc, bytes)?), ()))
+        match self {
+            StubLower::Listing => decoded_core(alloc, bytes),
+            _ => Ok(decoded(alloc, bytes)?),
+        }
     }
 
     fn merge(&self, alloc: Global, _first: &(), _second: &()) -> Result<Merged<()>, StubFault> {
@@ -131,6 +190,7 @@ impl Lower for StubLower {
     fn prepare(&self, alloc: Global, gathered: &Gathered<()>) -> Result<ComponentWorld, StubFault> {
         match self {
             StubLower::Refusing => Err(StubFault::Refused),
+            StubLower::Listing => Err(gathered_fault(alloc, &gathered.adapters)),
             StubLower::NoEncoding => match &gathered.main {
                 Some(part) => world_alone(alloc, part.bytes.as_slice(), &gathered.adapters),
                 None => unreachable!(),
