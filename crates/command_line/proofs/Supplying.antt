@@ -6,11 +6,13 @@ use Rattle.atomic_files.specs.Steps.{Unchanged}
 use Rattle.comp_worlds.specs.declared.lower.Lower as lower
 use Rattle.comp_encoder.specs.Encoder.{Encoder}
 use Rattle.comp_encoder.specs.Calls.{after_module, after_adapter}
-use Rattle.comp_encoder.specs.Refusals.{ModuleCause, NoAdapterCause, IsModuleRefusal, IsAdapterRefusal, IsEncodeRefusal}
+use Rattle.comp_encoder.specs.Adapters.{NoAdapterCause, IsAdapterRefusal}
+use Rattle.comp_encoder.specs.Refusals.{ModuleCause, IsModuleRefusal, NoEncodeCause, IsEncodeRefusal}
 use Rattle.comp_encoder.specs.declared.fault.EncodeFault.{EncodeFault}
+use Rattle.comp_encoder.specs.Component.{IsEncoding}
 use Rattle.command_line.specs.Events.{happen, events_of_read, events_of_put, device_faults}
 use Rattle.command_line.specs.Faults.{of_put, of_read, reported_faults}
-use Rattle.command_line.specs.Making.{begun, AfterRead, IsRefused, IsPut, Leads, IsMade, Encoded, Adapted, Supplied, Made}
+use Rattle.command_line.specs.Making.{begun, AfterRead, IsRefused, IsPut, Leads, Encoded, Adapted, Supplied, Made}
 use Rattle.command_line.specs.declared.adapters.Adapter.{Adapter}
 use Rattle.command_line.specs.declared.arguments.Arguments.{Arguments}
 use Rattle.command_line.specs.declared.store.Event.{Event}
@@ -68,10 +70,6 @@ module _ {L B F : Type 0} (l : lower.Ghosts L B F) where
       Leads {V = ⊤} {F = F} (Adapted l out e (adapter ∷ rest)) (λ _. Adapted l out new rest) (Read name bytes ∷ []) (Ok tt)
   adapter_given out rest e new adapter name bytes k h accepted = λ more r then. (k, inr (accepted, subst (λ now. Adapted l out now rest more r) h then))
 
-  -- the encoder made the component
-  pub encoded : (out : List ℕ) (e : Encoder L B) (component : List ℕ) → IsMade l e component → Leads {V = List ℕ} {F = F} (Encoded l out e) (λ c. IsPut out c) [] (Ok component)
-  encoded out e component made = λ more r put. inr (component, made, put)
-
   -- What was given so far of a list of adapters: with these events the encoder came from one state to another, and what holds of the rest
   -- holds of all.
   pub record GivenSoFar (e now : Encoder L B) (all rest : List Adapter) (before after : Option (List Event)) : Type 0 where
@@ -110,6 +108,13 @@ module _ {L B F : Type 0} (l : lower.Ghosts L B F) where
     two_happened before between after h.events es h.happened k,
     λ out. rw ends (h.onward out es (Err fault) (leads out rest)),
   )
+
+  -- the encoder made the component
+  pub is_encoded : (out main : List ℕ) (adapters : List Adapter) (start begins e : Encoder L B) (es : List Event) (component : List ℕ) → start ≡ begins →
+      Leads {V = ⊤} {F = F} (Supplied l out start main adapters) (λ _. Encoded l out e) es (Ok tt) → NoEncodeCause l e → IsEncoding l e component →
+      (more : List Event) (r : Result ⊤ (RunFault F)) → IsPut out component more r → Supplied l out begins main adapters (es ++ more) r
+  is_encoded out main adapters start begins e es component same leads clear is = λ more r put.
+      subst (λ s. Supplied l out s main adapters (es ++ more) r) same (leads more r (inr (component, record { clear = clear; encoded = is }, put)))
 
   -- the encoder made no component
   pub not_encoded : (out main : List ℕ) (adapters : List Adapter) (start begins e : Encoder L B) (es : List Event) (fault : EncodeFault F) → start ≡ begins →

@@ -4,7 +4,8 @@ use Rattle.std.specs.Prelude.{◌≡◌, ℕ, not, List, [], ◌∷◌, ◌++◌
 use Rattle.comp_worlds.specs.declared.lower.Lower as lower
 use Rattle.comp_encoder.specs.Encoder.{Encoder}
 use Rattle.comp_encoder.specs.Calls.{fresh, validating, naming_generated, merging_versions, emitting_canonical_names, after_module, after_adapter}
-use Rattle.comp_encoder.specs.Refusals.{ModuleCause, IsModuleRefusal, NoAdapterCause, IsAdapterRefusal, NoEncodeCause, IsEncodeRefusal}
+use Rattle.comp_encoder.specs.Adapters.{NoAdapterCause, IsAdapterRefusal}
+use Rattle.comp_encoder.specs.Refusals.{ModuleCause, IsModuleRefusal, NoEncodeCause, IsEncodeRefusal}
 use Rattle.comp_encoder.specs.Component.{IsEncoding}
 use Rattle.comp_encoder.specs.declared.fault.EncodeFault.{EncodeFault}
 use Rattle.command_line.specs.Faults.{no_memory}
