@@ -38,8 +38,8 @@ module _ {F : Type 0} where
   IsPut out component _ r = ⊥
 
 module _ {V F : Type 0} where
-  -- What was done is the beginning of a run: with these events it led to a value with which the run goes on as the rest of one, or it
-  -- ended the run by a fault.
+  -- These events are the beginning of a run: where they led to a value, whatever the rest makes of it is the rest of such a run; where
+  -- they led to a fault, the run is over.
   abbrev pub Leads : (List Event → Result ⊤ (RunFault F) → Type 0) → (V → List Event → Result ⊤ (RunFault F) → Type 0) → List Event → Result V (RunFault F) → Type 0
   Leads Whole Rest es (Ok v) = (more : List Event) (r : Result ⊤ (RunFault F)) → Rest v more r → Whole (es ++ more) r
   Leads Whole Rest es (Err f) = Whole es (Err f)
