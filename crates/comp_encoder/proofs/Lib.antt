@@ -3,4 +3,3 @@ mod Naming
 mod Answered
 mod MeetingNames
 mod ExportsApart
-mod Adding

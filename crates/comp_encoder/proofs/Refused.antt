@@ -1,5 +1,5 @@
--- Refusals of the encoding state, as refusals of the encoder.
-use Rattle.std.proofs.Common.{◌≡◌, subst, sym, Result, Ok, Err}
+-- Refusals of the lower layer and of the encoding state, as refusals of the encoder.
+use Rattle.std.proofs.Common.{◌≡◌, ℕ, List, inl, inr, subst, sym, Result, Ok, Err}
 use Rattle.std.specs.Prelude.{IfErr}
 use Rattle.std.specs.Result.{IsErrAnd}
 use Rattle.comp_worlds.specs.declared.world.ComponentWorld.{ComponentWorld}
@@ -14,11 +14,16 @@ use Rattle.comp_encoder.specs.CanonicalNames.{IsShared}
 use Rattle.comp_encoder.specs.Outputs.{IsCheckCause, IsOutputRefusal, NoOutputCause}
 use Rattle.comp_encoder.specs.declared.output.OutputFault.{OutputFault}
 use Rattle.comp_encoder.specs.declared.output.OutputFault.TheVariants as outputs
-use Rattle.comp_encoder.specs.Refusals.{of_state, of_output, IsEncodeRefusal, NoWorldCause, NoEncodeCause}
+use Rattle.comp_encoder.specs.Refusals.{of_state, of_output, ModuleCause, IsEncodeRefusal, NoWorldCause, NoEncodeCause}
 use Rattle.core_options.specs.declared.fault.StateFault.{StateFault}
 use Rattle.core_options.specs.declared.fault.StateFault.TheVariants as state
 
 module _ {L B F : Type 0} (l : lower.Ghosts L B F) where
+  pub no_module_cause : (e : Encoder L B) (bytes : List ℕ) → ((f : F) → ¬ l.decode_cause e.lower bytes f) → ((f : F) → ¬ l.merge_cause e.lower e.gathered.combined (l.decoded e.lower bytes).1 f) →
+      (f : F) → ¬ ModuleCause l e bytes f
+  no_module_cause e bytes decodes merges f (inl h) = decodes f h
+  no_module_cause e bytes decodes merges f (inr h) = merges f h
+
   pub from_state : (e : Encoder L B) (w : ComponentWorld) (s : StateFault) → IsWorldOf l e w → IsCause w s → IsEncodeRefusal l e (of_state s)
   from_state e w state.Memory is h = tt
   from_state e w (state.NoMemory place) is h = subst (λ (x : ComponentWorld). LacksMemory x (core_imports x) (required_functions x) place) is.prepared h
