@@ -69,7 +69,7 @@ fn world_of_core(alloc: Global, bytes: &[u8]) -> Result<ComponentWorld, StubFaul
     ensures valid { IfOk result IsEncodable }
     ensures tables { IfOk result HasTables }
     ensures refused { IsOk result → take 8 bytes.now ≡ core_preamble }
-    ensures cause { IfErr result (λ f. f ≢ Memory → take 8 bytes.now ≢ core_preamble) }
+    ensures cause { IfErr result (λ f. (f ≡ Memory) ⊎ (f ≡ Refused) × (take 8 bytes.now ≢ core_preamble)) }
 {
     if is_core_module(bytes) {
         Ok(world(alloc, bytes)?)
@@ -88,7 +88,7 @@ fn world_alone(
     ensures valid { IfOk result IsEncodable }
     ensures tables { IfOk result HasTables }
     ensures refused { IsOk result → (take 8 bytes.now ≡ core_preamble) × (adapters.now ≡ []) }
-    ensures cause { IfErr result (λ f. f ≢ Memory → (take 8 bytes.now ≢ core_preamble) ⊎ (adapters.now ≢ [])) }
+    ensures cause { IfErr result (λ f. (f ≡ Memory) ⊎ (f ≡ Refused) × ((take 8 bytes.now ≢ core_preamble) ⊎ (adapters.now ≢ []))) }
 {
     if has_adapters(adapters) {
         return Err(StubFault::Refused);
