@@ -75,6 +75,25 @@ expect 'all flags' 0 '' new flags_made.wasm main.wasm --validate --no-names --ca
 holds 'change nothing without interfaces' flags_made.wasm "$top/examples/component.wasm"
 expect 'one of three flags twice' 2 "$usage" new kept.wasm main.wasm --no-names --canonical --no-names
 
+# No component with an adapter is encoded yet; that is told once all files were read and taken.
+left_out='error: E3 Lower: P8 LeftOut what="adapter"'
+cp empty.wasm b=c.wasm
+expect 'an adapter' 1 "$left_out" new kept.wasm main.wasm --adapt a=empty.wasm
+expect 'two adapters among flags' 1 "$left_out" new kept.wasm main.wasm --validate --adapt a=empty.wasm --no-names --adapt b=empty.wasm
+expect 'an adapter whose file has a = in its name' 1 "$left_out" new kept.wasm main.wasm --adapt a=b=c.wasm
+expect 'an adapter without a name' 1 "$left_out" new kept.wasm main.wasm --adapt =empty.wasm
+expect 'an adapter whose name is that of a flag' 1 "$left_out" new kept.wasm main.wasm --adapt --validate=empty.wasm
+expect 'an adapter that is not there' 1 'error: read "none.wasm"' new kept.wasm main.wasm --adapt a=empty.wasm --adapt b=none.wasm --adapt c=cut.wasm
+expect 'an adapter without a file' 1 'error: read ""' new kept.wasm main.wasm --adapt a=
+expect 'an adapter that is cut' 1 'error: E3 Lower: P2 NotModule' new kept.wasm main.wasm --adapt a=cut.wasm --adapt b=none.wasm
+expect 'a MAIN that is cut, before an adapter' 1 'error: E3 Lower: P2 NotModule' new kept.wasm cut.wasm --adapt a=none.wasm
+expect 'an adapter with the exports of MAIN' 1 'error: E3 Lower: P7 MergeConflict name="g"' new kept.wasm main.wasm --adapt a=main.wasm
+expect 'an adapter in the place of one of its name' 1 "$left_out" new kept.wasm main.wasm --adapt a=empty.wasm --adapt a=b=c.wasm
+expect 'a word without =' 2 "$usage" new kept.wasm main.wasm --adapt empty.wasm
+expect '--adapt as the last word' 2 "$usage" new kept.wasm main.wasm --adapt a=empty.wasm --adapt
+expect '--adapt before a flag' 2 "$usage" new kept.wasm none.wasm --adapt --validate
+expect '--adapt before MAIN' 2 "$usage" new kept.wasm --adapt a=empty.wasm main.wasm
+
 # A module that imports `f` of `a:b/i`, which takes a string: it is lowered behind a shim, and two modules are generated.
 shims=$top/crates/reader_mutations/data/shims.wasm
 {
@@ -145,12 +164,13 @@ if [ "$(cat status)" -eq 1 ] && [ ! -s err ]; then echo 'ok: an output that nobo
 
 cat >help <<'HELP'
 usage: component_new new OUT MAIN [options] | defs FILE
-  --canonical     new: have the canonical part of versions in names, and the rest as suffixes
-  --no-merge      new: don't merge imports of compatible versions
-  --no-names      new: don't name the functions of the core modules that are generated
-  --validate      new: check the names of the component's imports and exports
-  -h, --help      print this text
-  --version       print the version of the program, and the kit that it is proved with
+  --adapt NAME=FILE  new: add the adapter in FILE under this name; any number of times
+  --canonical        new: have the canonical part of versions in names, and the rest as suffixes
+  --no-merge         new: don't merge imports of compatible versions
+  --no-names         new: don't name the functions of the core modules that are generated
+  --validate         new: check the names of the component's imports and exports
+  -h, --help         print this text
+  --version          print the version of the program, and the kit that it is proved with
 HELP
 printf 'component_new 0.1.0, proved with %s\n' "$(rt version)" >version
 for word in --help -h help; do prints "$word" 0 help '' "$word"; done

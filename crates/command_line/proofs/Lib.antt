@@ -1,3 +1,4 @@
 mod Steps
+mod Supplying
 mod Lines
 mod Words

@@ -1,13 +1,20 @@
 -- What the program's arguments ask for. (The program's own: its command line.)
-use Rattle.std.specs.Prelude.{ℕ, Bool, true, false, List, [], ◌∷◌, codes, ⊤, Option, Some, None, option_map, if◌then◌else◌}
+use Rattle.std.specs.Prelude.{ℕ, Bool, true, false, List, [], ◌∷◌, codes, ⊤, Option, Some, None, option_map, option_and_then, if◌then◌else◌}
 use Rattle.std.specs.Str.{bytes_eq}
+use Rattle.command_line.specs.Adapters.{adapter_words, flag_words, adapters_of}
 use Rattle.command_line.specs.Flags.{flags_of}
+use Rattle.command_line.specs.declared.adapters.Adapter.{Adapter}
 use Rattle.command_line.specs.declared.arguments.Request.{Request}
 use Rattle.command_line.specs.declared.arguments.Request.TheVariants as requests
 use Rattle.command_line.specs.declared.flags.Flags.{Flags}
 
-abbrev pub making : List ℕ → List ℕ → Flags → Request
-making out main flags = requests.New (record { out = out; main = main; flags = flags })
+abbrev pub making : List ℕ → List ℕ → List Adapter → Flags → Request
+making out main adapters flags = requests.New (record { out = out; main = main; adapters = adapters; flags = flags })
+
+-- what `new` asks for with the component's file, the module's and these words behind them: flags and adapters, in any order
+abbrev pub of_new : List ℕ → List ℕ → List (List ℕ) → Option Request
+of_new out main words =
+    option_and_then (λ adapters. option_map (making out main adapters) (flags_of (flag_words words))) (adapters_of (adapter_words words))
 
 -- what one word asks for
 abbrev pub of_one_word : List ℕ → Option Request
@@ -18,11 +25,11 @@ of_one_word word =
     else (if bytes_eq word (codes "--version") then Some requests.Version else None)))
 
 -- what the words after the program's name ask for: help or the version; or `defs` with a file; or `new` with the component's
--- file and the module's, and then flags
+-- file and the module's, and then flags and adapters
 abbrev pub request_of : List (List ℕ) → Option Request
 request_of (word ∷ []) = of_one_word word
 request_of (command ∷ file ∷ []) = if bytes_eq command (codes "defs") then Some (requests.Defs file) else None
-request_of (command ∷ out ∷ main ∷ words) = if bytes_eq command (codes "new") then option_map (making out main) (flags_of words) else None
+request_of (command ∷ out ∷ main ∷ words) = if bytes_eq command (codes "new") then of_new out main words else None
 request_of _ = None
 
 -- files are named, so that memory is needed for their names

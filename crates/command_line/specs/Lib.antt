@@ -1,3 +1,4 @@
+pub mod Adapters
 pub mod Flags
 pub mod Arguments
 pub mod Events

@@ -14,9 +14,10 @@ usage_line = codes "usage: component_new new OUT MAIN [options] | defs FILE\n"
 -- a line for each option
 abbrev pub option_lines : List ℕ
 option_lines =
-    codes "  --canonical     new: have the canonical part of versions in names, and the rest as suffixes\n" ++ codes "  --no-merge      new: don't merge imports of compatible versions\n"
-    ++ codes "  --no-names      new: don't name the functions of the core modules that are generated\n" ++ codes "  --validate      new: check the names of the component's imports and exports\n"
-    ++ codes "  -h, --help      print this text\n" ++ codes "  --version       print the version of the program, and the kit that it is proved with\n"
+    codes "  --adapt NAME=FILE  new: add the adapter in FILE under this name; any number of times\n"
+    ++ codes "  --canonical        new: have the canonical part of versions in names, and the rest as suffixes\n" ++ codes "  --no-merge         new: don't merge imports of compatible versions\n"
+    ++ codes "  --no-names         new: don't name the functions of the core modules that are generated\n" ++ codes "  --validate         new: check the names of the component's imports and exports\n"
+    ++ codes "  -h, --help         print this text\n" ++ codes "  --version          print the version of the program, and the kit that it is proved with\n"
 
 -- the usage line, and a line for each option
 abbrev pub help_text : List ℕ

@@ -1,19 +1,21 @@
 //! What the program is asked for.
 
-ghost use Rattle.std.specs.Prelude.{◌≡◌, map, string_bytes, option_map, IfOk, IfErr};
-ghost use Rattle.command_line.specs.Arguments.{NamesFiles, request_of, of_one_word, making, is_listing};
-ghost use Rattle.command_line.specs.Flags.{flags_of};
+ghost use Rattle.std.specs.Prelude.{◌≡◌, map, filter_map, string_bytes, IfOk, IfErr};
+ghost use Rattle.command_line.specs.Adapters.{adapter_of, adapter_words};
+ghost use Rattle.command_line.specs.Arguments.{NamesFiles, request_of, of_new, of_one_word, making, is_listing};
 ghost use Rattle.command_line.specs.declared.arguments.Request.TheVariants as requests;
 
+use crate::adapters::{Adapter, adapters, are_adapters};
 use crate::flags::Flags;
-use comp_lists::Text;
+use comp_lists::{Seq, Text};
 use std::alloc::{AllocError, Global};
 
-/// The names of the files of a run of `new`: the file for the component, and the module's; and the flags.
+/// The names of the files of a run of `new`: the file for the component, the module's, and those of the adapters; and the flags.
 #[derive(Drop)]
 pub(crate) struct Arguments {
     pub out: Text,
     pub main: Text,
+    pub adapters: Seq<Adapter>,
     pub flags: Flags,
 }
 
@@ -31,12 +33,25 @@ pub(crate) enum Request {
 }
 
 impl Request {
-    fn making(alloc: Global, out: &str, main: &str, flags: Flags) -> Result<Request, AllocError>
-        ensures { IfOk result (λ r. r ≡ making out.now main.now flags) }
+    /// What `new` asks for, with these flags and the adapters among the words after the files.
+    fn making(
+        alloc: Global,
+        out: &str,
+        main: &str,
+        words: &[String],
+        flags: Flags,
+    ) -> Result<Request, AllocError>
+        ensures { IfOk result (λ r. r ≡ making out.now main.now (filter_map adapter_of (adapter_words (map string_bytes words.now))) flags) }
     {
+        let adapters = adapters(alloc, words)?;
         let out = Text::from_str(alloc, out)?;
         let main = Text::from_str(alloc, main)?;
-        Ok(Request::New(Arguments { out, main, flags }))
+        Ok(Request::New(Arguments {
+            out,
+            main,
+            adapters,
+            flags,
+        }))
     }
 
     /// What `new` asks for, with these words after the files.
@@ -46,11 +61,14 @@ impl Request {
         main: &str,
         words: &[String],
     ) -> Result<Option<Request>, AllocError>
-        ensures ok { IfOk result (λ r. r ≡ option_map (making out.now main.now) (flags_of (map string_bytes words.now))) }
-        ensures err { IfErr result (λ _. NamesFiles (option_map (making out.now main.now) (flags_of (map string_bytes words.now)))) }
+        ensures ok { IfOk result (λ r. r ≡ of_new out.now main.now (map string_bytes words.now)) }
+        ensures err { IfErr result (λ _. NamesFiles (of_new out.now main.now (map string_bytes words.now))) }
     {
+        if !are_adapters(words) {
+            return Ok(None);
+        }
         match Flags::read(words) {
-            Some(flags) => Ok(Some(Request::making(alloc, out, main, flags)?)),
+            Some(flags) => Ok(Some(Request::making(alloc, out, main, words, flags)?)),
             None => Ok(None),
         }
     }
@@ -84,8 +102,8 @@ impl Request {
             [command, file] if command.as_str() == "defs" => {
                 Ok(Some(Request::listing(alloc, file.as_str())?))
             }
-            [command, out, main, flags @ ..] if command.as_str() == "new" => {
-                Request::of_new(alloc, out, main, flags)
+            [command, out, main, words @ ..] if command.as_str() == "new" => {
+                Request::of_new(alloc, out, main, words)
             }
             _ => Ok(None),
         }

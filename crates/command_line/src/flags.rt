@@ -1,8 +1,10 @@
 //! The flags of `new`.
 
 ghost use Rattle.std.specs.Prelude.{◌≡◌, map, string_bytes};
-ghost use Rattle.std.specs.List.{list_all};
-ghost use Rattle.command_line.specs.Flags.{has, is_flag, are_apart, flags_of};
+ghost use Rattle.command_line.specs.Adapters.{flag_words};
+ghost use Rattle.command_line.specs.Flags.{has, is_flag, are_flags, flags_of};
+
+use crate::adapters::is_adapt;
 
 /// What the flags of a run of `new` ask for.
 #[derive(Clone, Copy, Debug, PartialEq, Eq)]
@@ -17,16 +19,23 @@ pub(crate) struct Flags {
     pub(crate) validate: bool,
 }
 
-/// Whether a word is among these.
+/// Whether a flag is among these words.
 fn has(words: &[String], flag: &str) -> bool
-    ensures { result ≡ has (map string_bytes words.now) flag.now }
+    ensures { result ≡ has (flag_words (map string_bytes words.now)) flag.now }
 {
-    for word in words {
-        if word.as_str() == flag {
-            return true;
+    let mut rest = words;
+    loop {
+        match rest {
+            [] => return false,
+            [option, _, behind @ ..] if is_adapt(option.as_str()) => rest = behind,
+            [word, behind @ ..] => {
+                if word.as_str() == flag {
+                    return true;
+                }
+                rest = behind;
+            }
         }
     }
-    false
 }
 
 fn is_flag(word: &str) -> bool
@@ -35,35 +44,31 @@ fn is_flag(word: &str) -> bool
     word == "--canonical" || word == "--no-merge" || word == "--no-names" || word == "--validate"
 }
 
+/// Whether all words but those of adapters are flags, each at most once.
 fn are_flags(words: &[String]) -> bool
-    ensures { result ≡ list_all is_flag (map string_bytes words.now) }
+    ensures { result ≡ are_flags (flag_words (map string_bytes words.now)) }
 {
-    for word in words {
-        if !is_flag(word.as_str()) {
-            return false;
+    let mut rest = words;
+    loop {
+        match rest {
+            [] => return true,
+            [option, _, behind @ ..] if is_adapt(option.as_str()) => rest = behind,
+            [word, behind @ ..] => {
+                if !is_flag(word.as_str()) || has(behind, word.as_str()) {
+                    return false;
+                }
+                rest = behind;
+            }
         }
     }
-    true
-}
-
-/// Whether no word is there twice.
-fn are_apart(words: &[String]) -> bool
-    ensures { result ≡ are_apart (map string_bytes words.now) }
-{
-    for index in 0..words.len() {
-        if has(&words[index + 1..], words[index].as_str()) {
-            return false;
-        }
-    }
-    true
 }
 
 impl Flags {
-    /// The flags that words are, where they are flags, each at most once.
+    /// The flags among these words, where all words but those of adapters are flags, each at most once.
     pub(crate) fn read(words: &[String]) -> Option<Flags>
-        ensures { result ≡ flags_of (map string_bytes words.now) }
+        ensures { result ≡ flags_of (flag_words (map string_bytes words.now)) }
     {
-        if !are_flags(words) || !are_apart(words) {
+        if !are_flags(words) {
             return None;
         }
         Some(Flags {

@@ -17,12 +17,13 @@ const USAGE: &[u8] = b"usage: component_new new OUT MAIN [options] | defs FILE\n
 
 /// The text for `--help`: the usage line, and a line for each option.
 pub(crate) const HELP: &[u8] = b"usage: component_new new OUT MAIN [options] | defs FILE\n\
-    \x20 --canonical     new: have the canonical part of versions in names, and the rest as suffixes\n\
-    \x20 --no-merge      new: don't merge imports of compatible versions\n\
-    \x20 --no-names      new: don't name the functions of the core modules that are generated\n\
-    \x20 --validate      new: check the names of the component's imports and exports\n\
-    \x20 -h, --help      print this text\n\
-    \x20 --version       print the version of the program, and the kit that it is proved with\n";
+    \x20 --adapt NAME=FILE  new: add the adapter in FILE under this name; any number of times\n\
+    \x20 --canonical        new: have the canonical part of versions in names, and the rest as suffixes\n\
+    \x20 --no-merge         new: don't merge imports of compatible versions\n\
+    \x20 --no-names         new: don't name the functions of the core modules that are generated\n\
+    \x20 --validate         new: check the names of the component's imports and exports\n\
+    \x20 -h, --help         print this text\n\
+    \x20 --version          print the version of the program, and the kit that it is proved with\n";
 
 /// The line for `--version`.
 pub(crate) const VERSION: &[u8] =

@@ -3,9 +3,11 @@
 //! before them.
 //!
 //! In reading order: `modules` (modules, and their components), `store` (a store in memory, and writers that fail), `rows`
-//! (modules through the encoder's calls), `canonical` (canonical names of worlds), `runs` (runs of the commands).
+//! (modules through the encoder's calls), `canonical` (canonical names of worlds), `runs` (runs of the commands), `adapting` (runs with adapters).
 #![tactic(auto)]
 
+#[cfg(test)]
+mod adapting;
 #[cfg(test)]
 mod canonical;
 #[cfg(test)]

@@ -4,7 +4,7 @@ use crate::modules::{
     COMPONENT, CUT, DIGIT_FIRST, EMPTY, EMPTY_COMPONENT, LINES, MAIN, NAMED_COMPONENT, OPEN,
     PACKAGE, SHIMMED, UNNAMED_COMPONENT,
 };
-use crate::store::{OneFile, Refusing};
+use crate::store::{Files, Refusing};
 use command_line::{Event, StoreFault, run_with, start_with};
 use plain_lower::PlainLower;
 use std::alloc::{AllocError, Global};
@@ -27,7 +27,7 @@ fn texts(alloc: Global, words: &[&str]) -> Result<Vec<String>, AllocError> {
     Ok(texts)
 }
 
-fn run_on(alloc: Global, words: &[&str], store: &mut OneFile) -> Result<Answer, AllocError> {
+fn run_on(alloc: Global, words: &[&str], store: &mut Files) -> Result<Answer, AllocError> {
     let words = texts(alloc, words)?;
     let mut out = Vec::new(alloc);
     let mut err = Vec::new(alloc);
@@ -37,7 +37,7 @@ fn run_on(alloc: Global, words: &[&str], store: &mut OneFile) -> Result<Answer, 
 
 /// A run on the file `main.wasm` with one call of the store refused.
 fn refused(alloc: Global, calls: u32, fault: StoreFault) -> Result<Answer, AllocError> {
-    let mut store = OneFile::new(alloc, "main.wasm", EMPTY)?;
+    let mut store = Files::new(alloc, "main.wasm", EMPTY)?;
     store.refusal = Some((calls, fault));
     run_on(alloc, &["new", "out.wasm", "main.wasm"], &mut store)
 }
@@ -64,7 +64,7 @@ fn wrong_arguments_are_reported_before_anything_is_read(rt: HostRuntime) {
         &["defs", "main.wasm", "--canonical"],
     ];
     for words in wrong {
-        let mut store = OneFile::new(alloc, "main.wasm", EMPTY).expect(&rt, "memory");
+        let mut store = Files::new(alloc, "main.wasm", EMPTY).expect(&rt, "memory");
         let answer = run_on(alloc, words, &mut store).expect(&rt, "memory");
         assert_eq!(rt; answer.status, 2);
         assert_eq!(rt;
@@ -95,7 +95,7 @@ fn a_refusal_of_the_store_is_reported(rt: HostRuntime) {
 #[test]
 fn a_name_is_printed_in_quotes(rt: HostRuntime) {
     let alloc = rt.alloc();
-    let mut store = OneFile::new(alloc, "main.wasm", EMPTY).expect(&rt, "memory");
+    let mut store = Files::new(alloc, "main.wasm", EMPTY).expect(&rt, "memory");
     let answer = run_on(alloc, &["new", "out.wasm", "a \"b\"\n"], &mut store).expect(&rt, "memory");
     assert_eq!(rt; answer.status, 1);
     assert_eq!(rt;
@@ -107,7 +107,7 @@ fn a_name_is_printed_in_quotes(rt: HostRuntime) {
 #[test]
 fn the_status_reports_where_no_line_can(rt: HostRuntime) {
     let alloc = rt.alloc();
-    let mut store = OneFile::new(alloc, "main.wasm", EMPTY).expect(&rt, "memory");
+    let mut store = Files::new(alloc, "main.wasm", EMPTY).expect(&rt, "memory");
     let words = texts(alloc, &["new", "out.wasm", "other.wasm"]).expect(&rt, "memory");
     let kind = ErrorKind::BrokenPipe;
     let (mut out, mut err) = (Refusing { kind }, Refusing { kind });
@@ -124,7 +124,7 @@ fn the_status_reports_where_no_line_can(rt: HostRuntime) {
 
 /// What a run on the file `main.wasm` printed, where it made no component.
 fn reported(alloc: Global, main: &[u8]) -> Result<String, Fail> {
-    let mut store = OneFile::new(alloc, "main.wasm", main)?;
+    let mut store = Files::new(alloc, "main.wasm", main)?;
     let answer = run_on(alloc, &["new", "out.wasm", "main.wasm"], &mut store)?;
     match store.log.as_slice() {
         [Event::Read { .. }] if answer.status == 1 && answer.out.is_empty() => {}
@@ -153,7 +153,7 @@ fn refusals_of_the_encoder_are_reported(rt: HostRuntime) -> Result<(), Fail> {
 
 /// Whether a run on this module says nothing, and puts this component after it read the module.
 fn puts(alloc: Global, words: &[&str], main: &[u8], component: &[u8]) -> Result<bool, Fail> {
-    let mut store = OneFile::new(alloc, "main.wasm", main)?;
+    let mut store = Files::new(alloc, "main.wasm", main)?;
     let answer = run_on(alloc, words, &mut store)?;
     match store.log.as_slice() {
         [Event::Read { name, .. }, Event::Put { name: out, bytes }] => Ok(
@@ -197,7 +197,7 @@ fn ends(
     out: &str,
     err: &str,
 ) -> Result<bool, Fail> {
-    let mut store = OneFile::new(alloc, "main.wasm", main)?;
+    let mut store = Files::new(alloc, "main.wasm", main)?;
     let answer = run_on(alloc, words, &mut store)?;
     Ok(
         answer.status == status
@@ -228,7 +228,7 @@ fn refused_output(
     words: &[&str],
     kind: ErrorKind,
 ) -> Result<(u8, Vec<u8>), AllocError> {
-    let mut store = OneFile::new(alloc, "main.wasm", COMPONENT)?;
+    let mut store = Files::new(alloc, "main.wasm", COMPONENT)?;
     let words = texts(alloc, words)?;
     let mut err = Vec::new(alloc);
     let mut out = Refusing { kind };
@@ -271,12 +271,13 @@ fn nothing_is_reported_where_nobody_reads_the_output(rt: HostRuntime) -> Result<
 fn help_and_version_are_printed(rt: HostRuntime) -> Result<(), Fail> {
     let alloc = rt.alloc();
     let help = "usage: component_new new OUT MAIN [options] | defs FILE\n\
-        \x20 --canonical     new: have the canonical part of versions in names, and the rest as suffixes\n\
-        \x20 --no-merge      new: don't merge imports of compatible versions\n\
-        \x20 --no-names      new: don't name the functions of the core modules that are generated\n\
-        \x20 --validate      new: check the names of the component's imports and exports\n\
-        \x20 -h, --help      print this text\n\
-        \x20 --version       print the version of the program, and the kit that it is proved with\n";
+        \x20 --adapt NAME=FILE  new: add the adapter in FILE under this name; any number of times\n\
+        \x20 --canonical        new: have the canonical part of versions in names, and the rest as suffixes\n\
+        \x20 --no-merge         new: don't merge imports of compatible versions\n\
+        \x20 --no-names         new: don't name the functions of the core modules that are generated\n\
+        \x20 --validate         new: check the names of the component's imports and exports\n\
+        \x20 -h, --help         print this text\n\
+        \x20 --version          print the version of the program, and the kit that it is proved with\n";
     let version = "component_new 0.1.0, proved with rattle-kit-13f logic dac8208d650f15bf\n";
     for (word, text) in [
         ("--help", help),
@@ -296,7 +297,7 @@ fn started(alloc: Global, arguments: &[&[u8]]) -> Result<(u8, Vec<u8>), Fail> {
     for argument in arguments {
         list.push(Vec::from_slice(alloc, argument)?)?;
     }
-    let mut store = OneFile::new(alloc, "main.wasm", MAIN)?;
+    let mut store = Files::new(alloc, "main.wasm", MAIN)?;
     let mut out = Vec::new(alloc);
     let mut err = Vec::new(alloc);
     let status = start_with(

@@ -9,25 +9,53 @@ use std::alloc::{AllocError, Global};
 use std::io;
 use std::io::{ErrorKind, Write};
 
-/// One file, what was read and put so far, and how many calls come before one is refused.
+/// A file in memory.
 #[derive(Drop)]
 pub(crate) struct OneFile {
-    pub alloc: Global,
     pub name: Text,
     pub bytes: Bytes,
+}
+
+/// Files in memory, what was read and put so far, and how many calls come before one is refused.
+#[derive(Drop)]
+pub(crate) struct Files {
+    pub alloc: Global,
+    pub files: Seq<OneFile>,
     pub log: Seq<Event>,
     pub refusal: Option<(u32, StoreFault)>,
 }
 
-impl OneFile {
-    pub(crate) fn new(alloc: Global, name: &str, bytes: &[u8]) -> Result<OneFile, AllocError> {
-        Ok(OneFile {
+impl Files {
+    /// One file.
+    pub(crate) fn new(alloc: Global, name: &str, bytes: &[u8]) -> Result<Files, AllocError> {
+        let mut files = Files {
             alloc,
-            name: Text::from_str(alloc, name)?,
-            bytes: Seq::from_vec(Vec::from_slice(alloc, bytes)?),
+            files: Seq::new(alloc),
             log: Seq::new(alloc),
             refusal: None,
-        })
+        };
+        files.add(name, bytes)?;
+        Ok(files)
+    }
+
+    /// One more file.
+    pub(crate) fn add(&mut self, name: &str, bytes: &[u8]) -> Result<(), AllocError>
+        ensures { self.new.log ≡ self.old.log }
+    {
+        let name = Text::from_str(self.alloc, name)?;
+        let bytes = Seq::from_vec(Vec::from_slice(self.alloc, bytes)?);
+        self.files.push(OneFile { name, bytes })?;
+        Ok(())
+    }
+
+    /// The bytes of a file that is there.
+    fn bytes_of(&self, name: &str) -> Result<Option<Bytes>, AllocError> {
+        for file in self.files.as_slice() {
+            if file.name.as_str() == name {
+                return Ok(Some(file.bytes.clone(self.alloc)?));
+            }
+        }
+        Ok(None)
     }
 
     /// Counts a call, and says whether it is refused.
@@ -44,11 +72,10 @@ impl OneFile {
         }
     }
 
-    fn give(&mut self, name: &str) -> Result<Vec<u8>, StoreFault>
+    fn give(&mut self, name: &str, bytes: Bytes) -> Result<Vec<u8>, StoreFault>
         ensures { self.new.log ≡ self.old.log ++ events_of_read name.now result }
     {
-        let given = Vec::from_slice(self.alloc, self.bytes.as_slice())?;
-        let bytes = self.bytes.clone(self.alloc)?;
+        let given = Vec::from_slice(self.alloc, bytes.as_slice())?;
         let name = Text::from_str(self.alloc, name)?;
         self.log.push(Event::Read { name, bytes })?;
         Ok(given)
@@ -81,7 +108,7 @@ impl OneFile {
     }
 }
 
-impl Store for OneFile {
+impl Store for Files {
     ghost events = { λ s. Some s.log };
 
     ghost files = { λ _. None };
@@ -90,8 +117,10 @@ impl Store for OneFile {
         match self.refusal() {
             Some(StoreFault::Memory) => Err(StoreFault::Memory),
             Some(StoreFault::Device) => self.refuse_read(name),
-            None if self.name.as_str() == name => self.give(name),
-            None => self.refuse_read(name),
+            None => match self.bytes_of(name)? {
+                Some(bytes) => self.give(name, bytes),
+                None => self.refuse_read(name),
+            },
         }
     }
 

@@ -1,0 +1,29 @@
+use Rattle.std.proofs.Common.{◌≡◌, [], Some, map, string_bytes, refl, rules, sym, subst}
+use Rattle.command_line.specs.Arguments.{request_of}
+use Rattle.command_line.specs.Messages.{help_text}
+use Rattle.command_line.specs.Running.{Performed}
+use Rattle.command_line.specs.declared.arguments.Request.TheVariants as requests
+use Rattle.command_line.proofs.Steps.{nothing_happened, reported_text}
+use Rattle.command_line.proofs.Supplying.{reported_made}
+use Rattle.command_line.proofs.running.perform.Goals as goal
+
+pub returns-in-Ok-Some-New-clause-performed : goal.returns-in-Ok-Some-New-clause-performed
+returns-in-Ok-Some-New-clause-performed g c =
+    let made = c.make.ensures.made in
+    let out = g.W.Write.contents c.args.out.now in
+    let asked : request_of (map string_bytes c.args.words.now) ≡ Some (requests.New c.in-Ok-Some-New.arguments) = search rules in
+    subst (λ request. Performed g.L.Lower c.args.lower request (g.S.Store.events c.args.store.now) (g.S.Store.events c.make.new.store) out out c.make.result) (sym asked) (record {
+      events = made.0;
+      happened = made.1;
+      did = (made.2, refl);
+      counted = reported_made g.L.Lower c.args.lower c.in-Ok-Some-New.arguments made.0 c.make.result made.2;
+    })
+
+pub returns-in-Ok-Some-Help-clause-performed : goal.returns-in-Ok-Some-Help-clause-performed
+returns-in-Ok-Some-Help-clause-performed g c =
+    let before = g.W.Write.contents c.args.out.now in
+    let after = g.W.Write.contents c.print.new.out in
+    let events = g.S.Store.events c.args.store.now in
+    let asked : request_of (map string_bytes c.args.words.now) ≡ Some requests.Help = search rules in
+    subst (λ request. Performed g.L.Lower c.args.lower request events events before after c.print.result) (sym asked)
+    (record { events = []; happened = nothing_happened events; did = (refl, c.print.ensures); counted = reported_text help_text before after c.print.result c.print.ensures })
