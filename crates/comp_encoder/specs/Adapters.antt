@@ -1,6 +1,6 @@
 -- When an adapter or a library is refused, and which adapters the arguments of a library name. The rules are this project's own:
 -- the component model's standard defines components, and not how they are made.
-use Rattle.std.specs.Prelude.{◌≡◌, ℕ, List, Option, Some, None, IsSome, is_some, if◌then◌else◌, ⊤}
+use Rattle.std.specs.Prelude.{◌≡◌, ℕ, List, Option, Some, None, is_some, if◌then◌else◌, ⊤}
 use Rattle.comp_lists.specs.Found.{found}
 use Rattle.comp_roles.specs.Lookups.{first_some}
 use Rattle.comp_roles.specs.declared.libraries.Instance.{Instance}
@@ -36,7 +36,7 @@ module _ {B : Type 0} (adapters : Adapters B) where
   unknown_adapter (Some info) = first_some (λ a. unknown_in a.instance) info.arguments
 
 -- A refusal of an adapter of this name for the adapters that were added before is out of memory, or has its cause: an argument
--- names one that wasn't added, or there is one of its own name.
+-- names one that wasn't added.
 abbrev pub IsAddRefusal : {B F : Type 0} → Adapters B → List ℕ → Option LibraryInfo → EncodeFault F → Type 0
 IsAddRefusal adapters name info Memory = ⊤
 IsAddRefusal adapters name info (UnknownAdapter library unknown) = (library ≡ name) × (unknown_adapter adapters info ≡ Some unknown)

@@ -52,8 +52,8 @@ module _ {L B F : Type 0} (l : lower.Ghosts L B F) where
       let merged = l.merged e.lower e.gathered.combined decoded.1 in
       (record { bytes = decoded.0; own = decoded.1; required = merged.exports }, merged.combined)
 
-  -- The state after an accepted adapter, which is a library where it has arguments: it comes after those that were added before,
-  -- the keys of this module are required of it, and its metadata is merged with theirs.
+  -- The state after an accepted adapter, which is a library where it has arguments: it takes the place of one of its name, or comes
+  -- after those that were added before. The keys of this module alone are required of it, and its metadata is merged with theirs.
   abbrev pub after_adapter : Encoder L B → List ℕ → List ℕ → Option LibraryInfo → Encoder L B
   after_adapter e name bytes info =
       let read = read_part e bytes in
