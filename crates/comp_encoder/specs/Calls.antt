@@ -1,6 +1,6 @@
 -- What the calls of an encoder make of it: its initial state, and its state after each call that succeeds. The rules are this
 -- project's own: the component model's standard defines components, and not how they are made.
-use Rattle.std.specs.Prelude.{Bool, List, [], ◌∷◌, ℕ, ◌++◌, Option, Some, None, true, false}
+use Rattle.std.specs.Prelude.{Bool, List, [], ℕ, ◌++◌, Option, Some, None, true, false}
 use Rattle.std.specs.Str.{bytes_eq}
 use Rattle.indexmap.specs.IndexMap.{insert_entry}
 use Rattle.comp_roles.specs.declared.libraries.LibraryInfo.{LibraryInfo}
