@@ -96,11 +96,11 @@ interface_item ids key name = do
   id ← ok_or (lookup (is_same_interface name) ids) nowhere
   Ok (key_of key id, made_items.Interface id)
 
--- a function that does not belong to a type yet
-unfoldable pub function_item : Side → ItemKey → Func → Making → Result ((WorldKey × WorldItem) × Making) Failure
-function_item side key f m = do
+-- a function that does not belong to a type yet: one that is exported names types of imported interfaces too
+unfoldable pub function_item : ItemKey → Func → Making → Result ((WorldKey × WorldItem) × Making) Failure
+function_item key f m = do
   name ← plain_name key
-  made ← function_of side (plain f.is_async) f m
+  made ← function_of sides.Imported (plain f.is_async) f m
   Ok ((made_keys.Name name, made_items.Function made.0), made.1)
 
 unfoldable pub imported_type : ItemKey → List Node → Making → Result ((WorldKey × WorldItem) × Making) Failure
@@ -119,7 +119,7 @@ paired m item = Ok (item, m)
 
 abbrev pub item_of : Side → Ids → ItemKey → Item → Making → Result ((WorldKey × WorldItem) × Making) Failure
 item_of side ids key (items.Interface name) m = interface_item ids key name >>= paired m
-item_of side ids key (items.Function f) m = function_item side key f m
+item_of side ids key (items.Function f) m = function_item key f m
 item_of side ids key (items.«Type» ns) m = type_item side key ns m
 
 unfoldable pub with_item : Side → Ids → ItemKey → Item → Items × Making → Result (Items × Making) Failure

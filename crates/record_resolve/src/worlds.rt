@@ -157,20 +157,19 @@ fn interface_item(
     }
 }
 
-/// A function that does not belong to a type yet.
+/// A function that does not belong to a type yet. One that is exported names types of imported interfaces too.
 #[tactic(auto, unfolding(crate::specs::Worlds::function_item))]
 fn function_item(
     alloc: Global,
     making: &mut Making,
-    side: Side,
     key: &ItemKey,
     function: &Func,
 ) -> Result<(WorldKey, WorldItem), Failure>
-    ensures { Makes result making.new (function_item side key.now function.now making.old) }
+    ensures { Makes result making.new (function_item key.now function.now making.old) }
 {
     let name = plain_name(alloc, key)?;
     let kind = plain(function.is_async);
-    let made = make_function(alloc, making, side, kind, function)?;
+    let made = make_function(alloc, making, Side::Imported, kind, function)?;
     Ok((WorldKey::Name(name), WorldItem::Function(made)))
 }
 
@@ -225,7 +224,7 @@ fn make_item(
 {
     match item {
         Item::Interface(name) => interface_item(alloc, ids, key, name),
-        Item::Function(function) => function_item(alloc, making, side, key, function),
+        Item::Function(function) => function_item(alloc, making, key, function),
         Item::Type(nodes) => type_item(alloc, making, side, key, nodes.as_slice()),
     }
 }
