@@ -24,7 +24,7 @@ made_of n w validate bytes ds valid none encodes built named = record {
   encodes = encodes;
   scoped = built.0;
   generated = modules_of w built.1.generated built.1.are_generated;
-  composed = composed n w ds valid.valid built.1;
+  composed = composed n w ds built.1;
   links = links n w ds valid.valid (exports_apart n w valid.valid none) built.1;
   named = named;
 }

@@ -7,7 +7,7 @@ use Rattle.comp_worlds.specs.declared.lower.Lower as lower
 use Rattle.comp_encoder.specs.Encoder.{Encoder, naming}
 use Rattle.comp_encoder.specs.Prepared.{IsWorldOf}
 use Rattle.comp_links.specs.Lists.{required_functions}
-use Rattle.comp_worlds.specs.WorldContents.{core_imports}
+use Rattle.comp_links.specs.Modules.{user_imports}
 use Rattle.core_options.specs.Causes.{IsCause, LacksMemory, LacksRealloc, LacksEncoding, ExportsLater}
 use Rattle.comp_check.specs.declared.fault.CheckFault.TheVariants as checks
 use Rattle.comp_encoder.specs.CanonicalNames.{IsShared}
@@ -26,8 +26,8 @@ module _ {L B F : Type 0} (l : lower.Ghosts L B F) where
 
   pub from_state : (e : Encoder L B) (w : ComponentWorld) (s : StateFault) → IsWorldOf l e w → IsCause w s → IsEncodeRefusal l e (of_state s)
   from_state e w state.Memory is h = tt
-  from_state e w (state.NoMemory place) is h = subst (λ (x : ComponentWorld). LacksMemory x (core_imports x) (required_functions x) place) is.prepared h
-  from_state e w (state.NoRealloc place) is h = subst (λ (x : ComponentWorld). LacksRealloc x (core_imports x) (required_functions x) place) is.prepared h
+  from_state e w (state.NoMemory place) is h = subst (λ (x : ComponentWorld). LacksMemory x (user_imports x) (required_functions x) place) is.prepared h
+  from_state e w (state.NoRealloc place) is h = subst (λ (x : ComponentWorld). LacksRealloc x (user_imports x) (required_functions x) place) is.prepared h
   from_state e w (state.NoEncoding place) is h = subst (λ x. LacksEncoding x place) is.prepared h
   from_state e w (state.LaterExport interface used) is h = subst (λ x. ExportsLater x interface used) is.prepared h
   from_state e w (state.TooMany excess) is h = h

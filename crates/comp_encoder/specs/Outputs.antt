@@ -8,7 +8,8 @@ use Rattle.comp_check.specs.declared.fault.CheckFault.{CheckFault}
 use Rattle.comp_check.specs.declared.fault.CheckFault.TheVariants as checks
 use Rattle.comp_names.specs.NameForm.{IsFormed}
 use Rattle.comp_names.specs.Names.{OccursTwice}
-use Rattle.comp_worlds.specs.WorldContents.{core_imports, exported_item}
+use Rattle.comp_links.specs.Modules.{user_imports}
+use Rattle.comp_worlds.specs.WorldContents.{exported_item}
 use Rattle.comp_worlds.specs.declared.world.ComponentWorld.{ComponentWorld}
 use Rattle.wit_data.specs.declared.ids.InterfaceId.{InterfaceId}
 use Rattle.wit_data.specs.declared.worlds.WorldItem.TheVariants as world_items
@@ -73,8 +74,8 @@ IsOutputRefusal n w validate (outputs.Check fault) = IsTrue validate × IsCheckC
 -- no cause of a refusal holds, apart from memory and sizes
 pub record NoOutputCause (n : Naming) (w : ComponentWorld) (validate : Bool) : Type 0 where
   pub canonical : NoSharedName n.canonical w
-  pub memory : (place : List ℕ) → LacksMemory w (core_imports w) (required_functions w) place → ⊥
-  pub realloc : (place : List ℕ) → LacksRealloc w (core_imports w) (required_functions w) place → ⊥
+  pub memory : (place : List ℕ) → LacksMemory w (user_imports w) (required_functions w) place → ⊥
+  pub realloc : (place : List ℕ) → LacksRealloc w (user_imports w) (required_functions w) place → ⊥
   pub encodings : (place : List ℕ) → LacksEncoding w place → ⊥
   pub order : (interface used : List ℕ) → ExportsLater w interface used → ⊥
   pub names : IsTrue validate → (fault : CheckFault) → IsNameCause n w fault → ⊥

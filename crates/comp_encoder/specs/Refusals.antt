@@ -6,7 +6,7 @@ use Rattle.wit_data.specs.declared.resolve.Resolve.{Resolve}
 use Rattle.comp_worlds.specs.declared.lower.Lower as lower
 use Rattle.comp_encoder.specs.Encoder.{Encoder, main_bytes, naming}
 use Rattle.core_options.specs.Causes.{LacksMemory, LacksRealloc, LacksEncoding, ExportsLater}
-use Rattle.comp_worlds.specs.WorldContents.{core_imports}
+use Rattle.comp_links.specs.Modules.{user_imports}
 use Rattle.comp_links.specs.Lists.{required_functions}
 use Rattle.comp_check.specs.declared.fault.CheckFault.TheVariants as checks
 use Rattle.comp_encoder.specs.CanonicalNames.{IsShared}
@@ -71,8 +71,8 @@ module _ {L B F : Type 0} (l : lower.Ghosts L B F) where
   IsEncodeRefusal e (Lower f) = (l.memory_fault e.lower f ≡ false) × l.prepare_cause e.lower e.gathered f
   IsEncodeRefusal e (CanonicalNames first second name) =
       let w = l.prepared e.lower e.gathered in IsTrue e.gathered.options.emit_canonical_names × IsShared w.resolve w.world first second name
-  IsEncodeRefusal e (NoMemory place) = let w = l.prepared e.lower e.gathered in LacksMemory w (core_imports w) (required_functions w) place
-  IsEncodeRefusal e (NoRealloc place) = let w = l.prepared e.lower e.gathered in LacksRealloc w (core_imports w) (required_functions w) place
+  IsEncodeRefusal e (NoMemory place) = let w = l.prepared e.lower e.gathered in LacksMemory w (user_imports w) (required_functions w) place
+  IsEncodeRefusal e (NoRealloc place) = let w = l.prepared e.lower e.gathered in LacksRealloc w (user_imports w) (required_functions w) place
   IsEncodeRefusal e (NoEncoding place) = LacksEncoding (l.prepared e.lower e.gathered) place
   IsEncodeRefusal e (LaterExport interface used) = ExportsLater (l.prepared e.lower e.gathered) interface used
   IsEncodeRefusal e (Output fault) = IsTrue e.gathered.options.validate × IsCheckCause (naming e) (l.prepared e.lower e.gathered) fault

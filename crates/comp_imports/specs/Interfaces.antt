@@ -1,7 +1,7 @@
 -- What is known while interfaces are imported: what is used of them, what their types are made of, and which is the next one.
 -- (The rules are this project's own.)
 use Rattle.std.specs.Prelude.{◌≡◌, ◌≢◌, ◌<◌, ℕ, nat_eq, Bool, true, List, [], Some, slice_get, is_some, IsSome}
-use Rattle.std.specs.List.{AllByRecursion, flat_map}
+use Rattle.std.specs.List.{AllByRecursion, flat_map, list_any}
 use Rattle.std.specs.Map.{lookup}
 use Rattle.std.specs.Str.{bytes_eq}
 use Rattle.std.specs.Ordering.{on, eq_of_both}
@@ -29,7 +29,9 @@ use Rattle.comp_trees.specs.DefinedScopes.{Denotes}
 use Rattle.type_scopes.specs.Interfaces.{used_among}
 use Rattle.type_scopes.specs.Titles.{is_one_of}
 use Rattle.interface_needs.specs.Needs.{IsImported}
-use Rattle.comp_links.specs.Roles.{is_used_of}
+use Rattle.comp_roles.specs.CoreImports.{fields_of}
+use Rattle.comp_roles.specs.declared.imports.ImportInstance.{ImportInstance}
+use Rattle.comp_links.specs.Roles.{is_named, interface_function, is_used_of}
 use Rattle.comp_terms.specs.Terms.{imports_in}
 use Rattle.comp_terms.specs.Rules.{Landmark, import_marked}
 use Rattle.root_imports.specs.Interfaces.{IsFoundInterface}
@@ -38,6 +40,10 @@ use Rattle.comp_imports.specs.declared.interface_function.InterfaceFunction.{Int
 -- a function of an interface is another one
 abbrev pub is_same_function : InterfaceFunction → InterfaceFunction → Bool
 is_same_function = eq_of_both (on (λ k. k.interface.index) nat_eq) (on (λ k. k.name) bytes_eq)
+
+-- whether one of the imports from a module uses this function
+abbrev pub uses_function : InterfaceFunction → List ℕ × ImportInstance → Bool
+uses_function k g = list_any (λ f. is_named k.name (interface_function k.interface f.1)) (fields_of g.1)
 
 -- the functions of interfaces that core imports use are those of a table
 pub record AreInterfaceUses (w : ComponentWorld) (uses : List (InterfaceFunction × Unit {0})) : Type 0 where

@@ -8,7 +8,7 @@ ghost use Rattle.std.specs.List.{list_any};
 ghost use Rattle.comp_links.specs.Roles.{is_named, interface_function};
 ghost use Rattle.wit_data.specs.Sound.{HasInterface};
 ghost use Rattle.interface_needs.specs.Needs.{AreUsedNames, AreFunctionsApart};
-ghost use Rattle.comp_imports.specs.Interfaces.{is_same_function, AreInterfaceUses};
+ghost use Rattle.comp_imports.specs.Interfaces.{is_same_function, uses_function, AreInterfaceUses};
 
 use crate::interface_function::InterfaceFunction;
 use comp_lists::{Keyed, Text};
@@ -43,7 +43,25 @@ fn add_interface_functions(
     Ok(())
 }
 
-/// The functions of interfaces that imports of main use.
+/// Adds the functions of interfaces that the imports of a module use.
+#[tactic(auto, using(comp_links::proofs::Groups::or_assoc))]
+fn add_uses_by(
+    alloc: Global,
+    uses: &mut Keyed<InterfaceFunction, ()>,
+    modules: &Keyed<Text, ImportInstance>,
+) -> Result<(), AllocError>
+    ensures { OnOk result ((k : InterfaceFunction) → is_some (lookup (is_same_function k) uses.new) ≡ (is_some (lookup (is_same_function k) uses.old) || list_any (uses_function k) modules.now)) }
+{
+    for (_, instance) in modules.iter() {
+        if let ImportInstance::Names(fields) = instance {
+            add_interface_functions(alloc, uses, fields)?;
+        }
+    }
+    Ok(())
+}
+
+/// The functions of interfaces that imports of user modules use.
+#[tactic(auto, using(comp_links::proofs::Groups::after_main, comp_links::proofs::Groups::after_adapter))]
 pub(crate) fn interface_uses(
     alloc: Global,
     world: &ComponentWorld,
@@ -51,10 +69,9 @@ pub(crate) fn interface_uses(
     ensures { IfOk result (AreInterfaceUses world.now) }
 {
     let mut uses = Keyed::new(alloc);
-    for (_, instance) in world.main.imports.modules.iter() {
-        if let ImportInstance::Names(fields) = instance {
-            add_interface_functions(alloc, &mut uses, fields)?;
-        }
+    add_uses_by(alloc, &mut uses, &world.main.imports.modules)?;
+    for (_, adapter) in world.adapters.iter() {
+        add_uses_by(alloc, &mut uses, &adapter.info.imports.modules)?;
     }
     Ok(uses)
 }
@@ -78,7 +95,7 @@ fn add_if_used(
     Ok(())
 }
 
-/// The names of those functions of an interface that imports of main use.
+/// The names of those functions of an interface that imports of user modules use.
 pub(crate) fn used_names(
     alloc: Global,
     world: &ComponentWorld,

@@ -1,2 +1,4 @@
 pub mod WorkedRoles
 pub mod WorkedImports
+pub mod Groups
+pub mod OnlyMain

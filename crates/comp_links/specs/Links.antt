@@ -8,9 +8,8 @@ use Rattle.standard_kinds.specs.declared.kinds.StringEncoding.{StringEncoding}
 use Rattle.world_values.specs.CoreExports.{post_returns}
 use Rattle.world_values.specs.Items.{functions_of, root_function_at}
 use Rattle.comp_worlds.specs.Lookups.{resolved_realloc}
-use Rattle.comp_worlds.specs.WorldContents.{items_of, function_exported, core_name_of}
+use Rattle.comp_worlds.specs.WorldContents.{items_of, function_exported, core_name_in}
 use Rattle.wit_data.specs.declared.functions.AbiVariant.TheVariants.{GuestExport}
-use Rattle.wit_data.specs.declared.ids.TypeId.{TypeId}
 use Rattle.wit_data.specs.declared.worlds.WorldKey.{WorldKey}
 use Rattle.wit_data.specs.declared.worlds.WorldKey.TheVariants as keys
 use Rattle.comp_options.specs.Options.{needs, import_set, export_set}
@@ -25,10 +24,11 @@ use Rattle.comp_roles.specs.declared.imports.ImportInstance.TheVariants as insta
 use Rattle.comp_roles.specs.declared.libraries.MainOrAdapter.{MainOrAdapter}
 use Rattle.comp_roles.specs.declared.libraries.MainOrAdapter.TheVariants as modules
 use Rattle.comp_worlds.specs.declared.world.ComponentWorld.{ComponentWorld}
-use Rattle.comp_worlds.specs.declared.world.WorldAdapter.{WorldAdapter}
+use Rattle.comp_worlds.specs.declared.world.ValidatedModule.{ValidatedModule}
+use Rattle.comp_roles.specs.declared.exports.Export.{Export}
 use Rattle.comp_links.specs.Targets.{UserModule, Main, Adapter, ExportRef, TargetOption, Memory, Realloc, Encoding, Async, PostReturn, Target, OfRoot, OfInterface, Lowered, ExportOf, MainMemory, New, Rep, Drop, OfResource, Lifted, Unlinked}
-use Rattle.comp_links.specs.Modules.{WorldModule}
-use Rattle.comp_links.specs.Lists.{RequiredFunction}
+use Rattle.comp_links.specs.Modules.{WorldModule, module_found}
+use Rattle.comp_links.specs.Lists.{RequiredFunction, ProvidedType}
 use Rattle.comp_links.specs.Roles.{import_encoding, export_encoding}
 
 -- an option, if it is needed and there is what it names
@@ -49,19 +49,26 @@ lower_needs w (imports.WorldFunc key function abi) = option_map_or (import_set a
 lower_needs w (imports.InterfaceFunc key id function abi) = option_map_or (import_set abi w.resolve.types) (found function (functions_of w.resolve id)) 0
 lower_needs w role = 0
 
--- the realloc of calls of a module's imports: one that it exports, or, for a library that has none, one of main's
+-- a module by its name, which main has none of
+abbrev pub name_of_user : UserModule → Option (List ℕ)
+name_of_user Main = None
+name_of_user (Adapter name) = Some name
+
 abbrev pub export_at : Option (List ℕ) × List ℕ → ExportRef
 export_at (None, name) = record { of = Main; name = name }
 export_at (Some adapter, name) = record { of = Adapter adapter; name = name }
 
+-- the realloc of calls with these exports in view: one of the module's own, or, for a library that has none, main's general one
+abbrev pub realloc_of : ComponentWorld → UserModule → (Export → Bool) → Option ExportRef
+realloc_of w of test = option_and_then (λ (m : ValidatedModule). option_map export_at (resolved_realloc w (name_of_user of) (realloc_for test m.exports.exports))) (module_found w of)
+
+-- the realloc of calls of a module's imports
 abbrev pub lower_realloc : ComponentWorld → UserModule → Option ExportRef
-lower_realloc w Main = option_map export_at (resolved_realloc w None (realloc_for is_import_realloc w.main.exports.exports))
-lower_realloc w (Adapter name) =
-    option_and_then (λ (a : WorldAdapter). option_map export_at (resolved_realloc w (Some name) (realloc_for is_import_realloc a.info.exports.exports))) (found name w.adapters)
+lower_realloc w of = realloc_of w of is_import_realloc
 
 -- the options with which the function of a role is lowered: those that its type needs
 abbrev pub lower_options : ComponentWorld → UserModule → Import → List TargetOption
-lower_options w m role = options_in (lower_needs w role) (lower_realloc w m) (import_encoding w role)
+lower_options w m role = options_in (lower_needs w role) (lower_realloc w m) (import_encoding w m role)
 
 -- ---- lifts
 
@@ -69,26 +76,30 @@ lower_options w m role = options_in (lower_needs w role) (lower_realloc w m) (im
 abbrev pub lift_needs : ComponentWorld → WorldKey → List ℕ → ℕ
 lift_needs w key name = option_map_or (export_set GuestExport w.resolve.types) (function_exported w key name) 0
 
--- the realloc of calls of exports, and the post-return of the function of this name at a key, among the exports of main
-abbrev pub lift_realloc : ComponentWorld → Option (List ℕ)
-lift_realloc w = realloc_for is_export_realloc w.main.exports.exports
-
-abbrev pub post_return_of : ComponentWorld → WorldKey → List ℕ → Option (List ℕ)
-post_return_of w key name = of_function key name (post_returns w.main.exports.exports)
-
--- the destructor of a resource, by the name of main's first export with that role
-abbrev pub destructor_of : ComponentWorld → TypeId → Option (List ℕ)
-destructor_of w id = first_export (is_dtor id) w.main.exports.exports
+-- the realloc of calls of a module's exports
+abbrev pub lift_realloc : ComponentWorld → UserModule → Option ExportRef
+lift_realloc w of = realloc_of w of is_export_realloc
 
 abbrev pub export_of : UserModule → List ℕ → ExportRef
 export_of m name = record { of = m; name = name }
 
+-- the core export that implements a required function, its post-return, and the destructor of a resource, among the exports of the
+-- module that has to export it: the first export with that role
+abbrev pub core_name : ComponentWorld → RequiredFunction → Option (List ℕ)
+core_name w r = option_and_then (λ (m : ValidatedModule). core_name_in m.exports.exports r.key r.function) (module_found w r.of)
+
+abbrev pub post_return_of : ComponentWorld → RequiredFunction → Option (List ℕ)
+post_return_of w r = option_and_then (λ (m : ValidatedModule). of_function r.key r.function (post_returns m.exports.exports)) (module_found w r.of)
+
+abbrev pub destructor_of : ComponentWorld → ProvidedType → Option ExportRef
+destructor_of w p = option_map (export_of p.of) (option_and_then (λ (m : ValidatedModule). first_export (is_dtor p.id) m.exports.exports) (module_found w p.of))
+
 -- the options with which a required function is lifted: those that its type needs, and its post-return
 abbrev pub needed_options : ComponentWorld → RequiredFunction → List TargetOption
-needed_options w r = options_in (lift_needs w r.key r.function) (option_map (export_of r.of) (lift_realloc w)) (export_encoding w r.key r.function)
+needed_options w r = options_in (lift_needs w r.key r.function) (lift_realloc w r.of) (export_encoding w r.of r.key r.function)
 
 abbrev pub lift_options : ComponentWorld → RequiredFunction → List TargetOption
-lift_options w r = needed_options w r ++ if_needed true (option_map PostReturn (option_map (export_of r.of) (post_return_of w r.key r.function)))
+lift_options w r = needed_options w r ++ if_needed true (option_map PostReturn (option_map (export_of r.of) (post_return_of w r)))
 
 -- ---- the link table
 
@@ -123,4 +134,4 @@ link_at w m module_name field = option_and_then (link_in w m.of field) (found mo
 
 -- what a required function is to be lifted from: the core export that implements it
 abbrev pub lift_of : ComponentWorld → RequiredFunction → Option Target
-lift_of w r = option_map (λ core. Lifted (export_of r.of core) (lift_options w r)) (core_name_of w r.key r.function)
+lift_of w r = option_map (λ core. Lifted (export_of r.of core) (lift_options w r)) (core_name w r)

@@ -26,11 +26,12 @@ use Rattle.comp_worlds.specs.WorldContents.{items_of, imported_types, interface_
 use Rattle.world_values.specs.Items.{functions_of, functions_in}
 use Rattle.nested_terms.specs.Naming.{import_names, type_import_name, numbered}
 use Rattle.comp_worlds.specs.declared.world.ComponentWorld.{ComponentWorld}
+use Rattle.comp_worlds.specs.declared.world.WorldAdapter.{WorldAdapter}
 use Rattle.wit_data.specs.declared.types.Type.TheVariants.{Id}
 use Rattle.comp_trees.specs.Trees.{Origin, Resource, ImportedAt, DefinedAt}
 use Rattle.comp_trees.specs.WitTrees.{wit_tree}
 use Rattle.comp_trees.specs.DefinedTrees.{TypeTree, OfValues}
-use Rattle.comp_links.specs.Targets.{UserModule, Main, WorldFunction, OfRoot, OfInterface}
+use Rattle.comp_links.specs.Targets.{UserModule, Main, Adapter, WorldFunction, OfRoot, OfInterface}
 use Rattle.comp_links.specs.Naming.{Naming, plain_name, name_of, import_name}
 use Rattle.comp_links.specs.Roles.{used_functions, used_functions_of}
 
@@ -109,6 +110,20 @@ origin_of_type w id = elim (interface_at w.resolve.types id.index) [
   | Some interface ↦ record { number = number_of_interface interface (import_entries w); inner = Some (type_name w id) }
 ]
 
+-- ---- required exports
+
+-- the key of an export that a user module has to provide
+pub record RequiredKey : Type 0 where
+  pub of : UserModule
+  pub key : WorldKey
+
+abbrev pub keys_of_adapter : List ℕ × WorldAdapter → List RequiredKey
+keys_of_adapter a = map (λ key. record { of = Adapter a.0; key = key }) a.1.required_exports
+
+-- those of main, then those of the adapters in order
+abbrev pub required_keys : ComponentWorld → List RequiredKey
+required_keys w = map (λ key. record { of = Main; key = key }) w.main_exports ++ flat_map keys_of_adapter w.adapters
+
 -- ---- resources
 
 -- the types that an item of the world lists, each with its name
@@ -116,13 +131,24 @@ abbrev pub types_in : ComponentWorld → Option WorldItem → List (List ℕ × 
 types_in w (Some (items.Interface id)) = named_types w.resolve id
 types_in w item = []
 
--- the resources that the component defines: those that the interfaces list which main has to export, in order
+-- the resources that the component defines: those that the interfaces list which user modules have to export, in order
 abbrev pub is_resource : TypeDefKind → Bool
 is_resource kinds.Resource = true
 is_resource kind = false
 
+-- a type, for the user module that has to export it
+pub record ProvidedType : Type 0 where
+  pub of : UserModule
+  pub id : TypeId
+
+abbrev pub types_provided : ComponentWorld → RequiredKey → List ProvidedType
+types_provided w r = map (λ t. record { of = r.of; id = t.1 }) (types_in w (exported_item w r.key))
+
+abbrev pub provided_resources : ComponentWorld → List ProvidedType
+provided_resources w = filter (λ p. is_resource (kind_at w.resolve.types p.id.index)) (flat_map (types_provided w) (required_keys w))
+
 abbrev pub own_resources : ComponentWorld → List TypeId
-own_resources w = filter (λ id. is_resource (kind_at w.resolve.types id.index)) (flat_map (λ key. map (λ t. t.1) (types_in w (exported_item w key))) w.main_exports)
+own_resources w = map (λ p. p.id) (provided_resources w)
 
 -- The resource that a type of the world is, where it is one: the component defines it, and then it is known by its number among
 -- these, from n on; or it is imported.
@@ -173,14 +199,6 @@ abbrev pub instance_type_names : ComponentWorld → List (List (List ℕ))
 instance_type_names w = flat_map (names_in w) (import_entries w)
 
 -- ---- exports
-
--- the key of an export that a user module has to provide
-pub record RequiredKey : Type 0 where
-  pub of : UserModule
-  pub key : WorldKey
-
-abbrev pub required_keys : ComponentWorld → List RequiredKey
-required_keys w = map (λ key. record { of = Main; key = key }) w.main_exports
 
 abbrev pub sort_of : Option WorldItem → Sort
 sort_of (Some (items.Function f)) = sorts.Func
@@ -263,7 +281,7 @@ nested_lists w item = []
 
 -- the lists of names of all nested components, in the order of the exports
 abbrev pub nested_names : ComponentWorld → List (List (List ℕ))
-nested_names w = flat_map (λ key. nested_lists w (exported_item w key)) w.main_exports
+nested_names w = flat_map (λ r. nested_lists w (exported_item w r.key)) (required_keys w)
 
 -- the names of exported interfaces are apart: one that is the name of two is the name of one
 abbrev pub IsExportedInterface : ComponentWorld → WorldKey → Type 0

@@ -2,6 +2,7 @@
 -- Canonical ABI: each function is called with a string encoding).
 use Rattle.std.specs.Prelude.{◌==◌, ℕ, Bool, true, false, List, ◌∷◌, ◌++◌, Option, Some, None, filter, map, if◌then◌else◌, IsTrue, IsSome}
 use Rattle.std.specs.List.{list_any}
+use Rattle.std.specs.Option.{option_and_then}
 use Rattle.std.specs.Str.{bytes_eq}
 use Rattle.comp_roles.specs.Functions.{of_function}
 use Rattle.comp_roles.specs.CoreImports.{fields_of}
@@ -14,6 +15,9 @@ use Rattle.comp_roles.specs.declared.imports.Import.{Import}
 use Rattle.comp_roles.specs.declared.imports.Import.TheVariants as imports
 use Rattle.comp_roles.specs.declared.imports.ImportInstance.{ImportInstance}
 use Rattle.comp_worlds.specs.declared.world.ComponentWorld.{ComponentWorld}
+use Rattle.comp_worlds.specs.declared.world.ValidatedModule.{ValidatedModule}
+use Rattle.comp_links.specs.Targets.{UserModule}
+use Rattle.comp_links.specs.Modules.{module_found, import_groups}
 
 -- whether this is the name of the root function of a role
 abbrev pub is_named : List ℕ → Option (List ℕ) → Bool
@@ -27,9 +31,9 @@ is_any_import text fields = list_any (λ f. is_named text (imported_name f.1)) f
 abbrev pub uses_from : List ℕ → List ℕ × ImportInstance → Bool
 uses_from text group = is_any_import text (fields_of group.1)
 
--- whether an import of main uses the root function of this name
+-- whether an import of a user module uses the root function of this name
 abbrev pub is_used : ComponentWorld → List ℕ → Bool
-is_used w text = list_any (uses_from text) w.main.imports.modules
+is_used w text = list_any (uses_from text) (import_groups w)
 
 -- the root functions that core imports use, in the order of the world
 abbrev pub used_functions : ComponentWorld → List (List ℕ)
@@ -40,9 +44,9 @@ abbrev pub interface_function : InterfaceId → Import → Option (List ℕ)
 interface_function id (imports.InterfaceFunc key other name abi) = if id.index == other.index then Some name else None
 interface_function id role = None
 
--- whether an import of main uses the function of this name of an interface
+-- whether an import of a user module uses the function of this name of an interface
 abbrev pub is_used_of : ComponentWorld → InterfaceId → List ℕ → Bool
-is_used_of w id text = list_any (λ g. list_any (λ f. is_named text (interface_function id f.1)) (fields_of g.1)) w.main.imports.modules
+is_used_of w id text = list_any (λ g. list_any (λ f. is_named text (interface_function id f.1)) (fields_of g.1)) (import_groups w)
 
 -- the functions of an interface that core imports use, in its order
 abbrev pub used_functions_of : ComponentWorld → InterfaceId → List (List ℕ)
@@ -55,19 +59,22 @@ needs_encoding (imports.InterfaceFunc key interface function abi) = true
 needs_encoding (imports.ExportedTaskReturn key interface function) = true
 needs_encoding role = false
 
--- the encoding with which an import is called
-abbrev pub import_encoding : ComponentWorld → Import → Option StringEncoding
-import_encoding w (imports.WorldFunc key function abi) = of_function key function w.main.metadata.import_encodings
-import_encoding w (imports.InterfaceFunc key interface function abi) = of_function key function w.main.metadata.import_encodings
-import_encoding w role = None
+-- the encoding with which a module calls an import of this role
+abbrev pub encoding_in : Import → ValidatedModule → Option StringEncoding
+encoding_in (imports.WorldFunc key function abi) m = of_function key function m.metadata.import_encodings
+encoding_in (imports.InterfaceFunc key interface function abi) m = of_function key function m.metadata.import_encodings
+encoding_in role m = None
+
+abbrev pub import_encoding : ComponentWorld → UserModule → Import → Option StringEncoding
+import_encoding w of role = option_and_then (encoding_in role) (module_found w of)
 
 -- an import that is called with a string encoding has one
-abbrev pub IsEncodedImport : ComponentWorld → Import → Type 0
-IsEncodedImport w role = IsTrue (needs_encoding role) → IsSome (import_encoding w role)
+abbrev pub IsEncodedImport : ComponentWorld → UserModule → Import → Type 0
+IsEncodedImport w of role = IsTrue (needs_encoding role) → IsSome (import_encoding w of role)
 
--- the encoding with which the function of this name at a key is lifted
-abbrev pub export_encoding : ComponentWorld → WorldKey → List ℕ → Option StringEncoding
-export_encoding w key name = of_function key name w.main.metadata.export_encodings
+-- the encoding with which the function of this name at a key is lifted, from what a module exports
+abbrev pub export_encoding : ComponentWorld → UserModule → WorldKey → List ℕ → Option StringEncoding
+export_encoding w of key name = option_and_then (λ (m : ValidatedModule). of_function key name m.metadata.export_encodings) (module_found w of)
 
 -- the text that names a core import in faults, `module::field`
 abbrev pub field_path : List ℕ → List ℕ → List ℕ

@@ -9,8 +9,7 @@ use Rattle.comp_bytes.specs.declared.def.Def.{Def}
 use Rattle.comp_bytes.specs.declared.def.Def.TheVariants as defs
 use Rattle.comp_bytes.specs.declared.def.Item.TheVariants as items
 use Rattle.std.specs.Prelude.{codes}
-use Rattle.comp_roles.specs.CoreImports.{CoreImport}
-use Rattle.comp_worlds.specs.WorldContents.{core_imports}
+use Rattle.comp_links.specs.Modules.{UserImport, user_imports}
 use Rattle.comp_worlds.specs.declared.world.ComponentWorld.{ComponentWorld}
 use Rattle.core_instances.specs.Instances.{instances_marked, AddsInstances}
 use Rattle.core_options.specs.Causes.{IsEncoded, IsEncodedExport, LacksEncoding, LacksMemory, LacksRealloc, NeedsLowering, NeedsLift, ExportsLater}
@@ -20,12 +19,11 @@ use Rattle.std.specs.List.{list_any}
 use Rattle.core_options.specs.MainOptions.{memory_name, HasLowerOptions, HasLiftOptions}
 use Rattle.comp_links.specs.Lists.{required_functions}
 use Rattle.comp_links.specs.Links.{lower_realloc, lift_realloc}
-use Rattle.comp_links.specs.Targets.{Main}
 use Rattle.comp_terms.specs.Generated.{GeneratedBytes, MayBeGenerated}
 use Rattle.comp_links.specs.Roles.{import_encoding, IsEncodedImport, export_encoding}
 use Rattle.comp_inventories.specs.Inventories.{inventory}
 use Rattle.comp_terms.specs.Terms.{imports_in}
-use Rattle.comp_terms.specs.Rules.{Grows, RightAfter, Landmark, ModuleIs, landmarks, imports_marked, exports_marked, expected, IsUnnamed, IsBuilt}
+use Rattle.comp_terms.specs.Rules.{Grows, RightAfter, Landmark, bytes_marked, landmarks, imports_marked, exports_marked, expected, IsUnnamed, IsBuilt}
 use Rattle.root_imports.specs.Growing.{Grows-then}
 
 -- a list that grew from the empty one
@@ -35,14 +33,14 @@ built_from n w o generated old new empty g =
     let right : RightAfter w [] g.more = subst (λ l. RightAfter w l g.more) empty g.right in
     record { generated = o; are_generated = generated; right = subst (λ l. RightAfter w [] l) (sym same) right; marked = ap landmarks same ∙ g.marked }
 
-pub built_by_steps : (n : Naming) (w : ComponentWorld) (a b c d e : List Def) → a ≡ [] → Grows w a b (imports_marked n w) → Grows w b c (ModuleIs w.main.bytes ∷ []) → AddsInstances w c d → Grows w d e (exports_marked n w) → IsUnnamed n w e
+pub built_by_steps : (n : Naming) (w : ComponentWorld) (a b c d e : List Def) → a ≡ [] → Grows w a b (imports_marked n w) → Grows w b c (bytes_marked w) → AddsInstances w c d → Grows w d e (exports_marked n w) → IsUnnamed n w e
 built_by_steps n w a b c d e empty imports main added exports =
     built_from n w added.generated added.are_generated a e empty
     (subst (λ m. Grows w a e m) (modules_are added.generated) (Grows-then imports (Grows-then main (Grows-then added.grows exports))))
   where
-    modules_are : (o : Option GeneratedBytes) → imports_marked n w ++ ((ModuleIs w.main.bytes ∷ []) ++ (instances_marked w o ++ exports_marked n w)) ≡ expected n w o
-    modules_are None = refl
-    modules_are (Some g) = refl
+    modules_are : (o : Option GeneratedBytes) → imports_marked n w ++ (bytes_marked w ++ (instances_marked w o ++ exports_marked n w)) ≡ expected n w o
+    modules_are None = ap (λ m. imports_marked n w ++ m) (sym (append_assoc (bytes_marked w) (instances_marked w None) (exports_marked n w)))
+    modules_are (Some g) = ap (λ m. imports_marked n w ++ m) (sym (append_assoc (bytes_marked w) (instances_marked w (Some g)) (exports_marked n w)))
 
 -- the landmarks of a list that grew from the empty one
 pub marked_from : (w : ComponentWorld) (old new : List Def) (m : List Landmark) → old ≡ [] → Grows w old new m → landmarks new ≡ m
@@ -77,21 +75,21 @@ lacks_none (Some x) h e = true≢false (ap is_some e)
 -- where everything has an encoding, nothing lacks one
 pub encoded_lacks : (w : ComponentWorld) → IsEncoded w → (place : List ℕ) → LacksEncoding w place → ⊥
 encoded_lacks w h place (inl l) =
-    lacks_none (import_encoding w l.given.role) (AllByRecursion-contains (λ (i : CoreImport). IsEncodedImport w i.role) (core_imports w) l.given h.imports l.present l.needs) l.none
-encoded_lacks w h place (inr l) = lacks_none (export_encoding w l.required.key l.required.function) (AllByRecursion-contains (IsEncodedExport w) (required_functions w) l.required h.exports l.present) l.none
+    lacks_none (import_encoding w l.given.of l.given.core.role) (AllByRecursion-contains (λ (i : UserImport). IsEncodedImport w i.of i.core.role) (user_imports w) l.given h.imports l.present l.needs) l.none
+encoded_lacks w h place (inr l) = lacks_none (export_encoding w l.required.of l.required.key l.required.function) (AllByRecursion-contains (IsEncodedExport w) (required_functions w) l.required h.exports l.present) l.none
 
 -- where main has what lowerings and lifts need, nothing is missing
-pub encoded_memory : (w : ComponentWorld) → IsEncoded w → (place : List ℕ) → LacksMemory w (core_imports w) (required_functions w) place → ⊥
+pub encoded_memory : (w : ComponentWorld) → IsEncoded w → (place : List ℕ) → LacksMemory w (user_imports w) (required_functions w) place → ⊥
 encoded_memory w h place l = lacks_none (memory_name w) (offered l.needed) l.none
   where
-    offered : NeedsLowering w 1 (core_imports w) place ⊎ NeedsLift w 1 (required_functions w) place → IsSome (memory_name w)
-    offered (inl n) = let has = AllByRecursion-contains (λ (i : CoreImport). HasLowerOptions w i.role) (core_imports w) n.given h.lowered n.present in has.memory n.needed
+    offered : NeedsLowering w 1 (user_imports w) place ⊎ NeedsLift w 1 (required_functions w) place → IsSome (memory_name w)
+    offered (inl n) = let has = AllByRecursion-contains (HasLowerOptions w) (user_imports w) n.given h.lowered n.present in has.memory n.needed
     offered (inr n) = let has = AllByRecursion-contains (HasLiftOptions w) (required_functions w) n.required h.lifted n.present in has.memory n.needed
 
-pub encoded_realloc : (w : ComponentWorld) → IsEncoded w → (place : List ℕ) → LacksRealloc w (core_imports w) (required_functions w) place → ⊥
+pub encoded_realloc : (w : ComponentWorld) → IsEncoded w → (place : List ℕ) → LacksRealloc w (user_imports w) (required_functions w) place → ⊥
 encoded_realloc w h place (inl l) =
-    let has = AllByRecursion-contains (λ (i : CoreImport). HasLowerOptions w i.role) (core_imports w) l.0.given h.lowered l.0.present in lacks_none (lower_realloc w Main) (has.realloc l.0.needed) l.1
-encoded_realloc w h place (inr l) = let has = AllByRecursion-contains (HasLiftOptions w) (required_functions w) l.0.required h.lifted l.0.present in lacks_none (lift_realloc w) (has.realloc l.0.needed) l.1
+    let has = AllByRecursion-contains (HasLowerOptions w) (user_imports w) l.needed.given h.lowered l.needed.present in lacks_none (lower_realloc w l.needed.given.of) (has.realloc l.needed.needed) l.none
+encoded_realloc w h place (inr l) = let has = AllByRecursion-contains (HasLiftOptions w) (required_functions w) l.needed.required h.lifted l.needed.present in lacks_none (lift_realloc w l.needed.required.of) (has.realloc l.needed.needed) l.none
 
 -- where interfaces are exported behind those that they use, none is exported too early
 pub encoded_order : (w : ComponentWorld) → IsEncoded w → (interface used : List ℕ) → ExportsLater w interface used → ⊥

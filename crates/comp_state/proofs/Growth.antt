@@ -4,6 +4,7 @@ use Rattle.std.proofs.lemmas.Option.{same_Some}
 use Rattle.comp_bytes.specs.declared.def.Def.{Def}
 use Rattle.comp_builder.specs.Built.{Built}
 use Rattle.wit_data.specs.declared.ids.InterfaceId.{InterfaceId}
+use Rattle.root_imports.specs.Keeping.{Root}
 use Rattle.root_imports.specs.declared.met_types.MetTypes.{MetTypes}
 use Rattle.wit_types.specs.declared.maps.TypeEncodingMaps.{TypeEncodingMaps}
 use Rattle.comp_worlds.specs.Encodable.{IsEncodable}
@@ -48,6 +49,11 @@ encoding-kept {w} {met} {old} {new} {maps} {instances} g h = record {
   made = λ s. main-kept g (h.made s);
   exports = λ s. (let e = h.exports s in record { ordered = e.ordered; at_hand = at_hand_kept w old new met met g refl e.at_hand });
 }
+
+-- and nothing else of the root has changed
+pub encoding_moved : (old new : Root) (step : Step) (functions : List (List ℕ × ℕ)) (main : Option ℕ) → new ≡ record old { items = new.items } → Extends old.items new.items → IsEncoding old.world.now old.met old.items.defs old.maps old.instances step functions main →
+    IsEncoding new.world.now new.met new.items.defs new.maps new.instances step functions main
+encoding_moved old new step functions main same g h = subst (λ (r : Root). IsEncoding r.world.now r.met new.items.defs r.maps r.instances step functions main) (sym same) (encoding-kept g h)
 
 -- while nothing is imported, the tables hold nothing
 pub encoding-started : {w : ComponentWorld} {met after : MetTypes} {old new : Built} {maps now : TypeEncodingMaps} {before instances : List (InterfaceId × ℕ)} {step : Step} {functions : List (List ℕ × ℕ)} {main : Option ℕ} →

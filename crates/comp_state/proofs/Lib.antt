@@ -1,5 +1,5 @@
-mod Alone
 mod Building
+mod CoreModules
 mod Exports
 mod Growth
 mod Nesting

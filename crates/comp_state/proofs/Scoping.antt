@@ -30,7 +30,7 @@ use Rattle.comp_bytes.specs.declared.def.Def.TheVariants as defs
 use Rattle.comp_bytes.specs.declared.def.Item.TheVariants as items
 use Rattle.comp_roles.specs.declared.imports.ImportInstance.{ImportInstance}
 use Rattle.comp_worlds.specs.declared.world.ComponentWorld.{ComponentWorld}
-use Rattle.comp_links.specs.Targets.{UserModule}
+use Rattle.comp_links.specs.Targets.{UserModule, ExportRef}
 use Rattle.comp_links.specs.Links.{destructor_of}
 use Rattle.comp_terms.specs.Exports.{IsArgumentIn, IsArgumentRight}
 use Rattle.comp_terms.specs.Planned.{IsArgumentFor}
@@ -103,7 +103,7 @@ type_within earlier (types.Defined t) h = known_defined (Within earlier) (invent
 type_within earlier (types.Resource destructor) h = absurd h
 
 -- the destructor of a resource is a core function of the list
-destructor_within : (w : ComponentWorld) (earlier : List Def) (destructor : Option ℕ) (name : Option (List ℕ)) → IsDestructorRight w earlier destructor name → AllByRecursion (Within earlier) (type_references (types.Resource destructor))
+destructor_within : (w : ComponentWorld) (earlier : List Def) (destructor : Option ℕ) (e : Option ExportRef) → IsDestructorRight w earlier destructor e → AllByRecursion (Within earlier) (type_references (types.Resource destructor))
 destructor_within w earlier None None h = tt
 destructor_within w earlier (Some index) (Some name) h = (in_range h.is.made, tt)
 destructor_within w earlier None (Some name) h = absurd h
@@ -145,7 +145,7 @@ within w earlier (defs.Item (items.Alias (aliases.CoreExport kind instance name)
 within w earlier (defs.Item (items.Alias (aliases.Outer count index))) h = absurd h
 within w earlier (defs.Item (items.Type (types.Func f))) h = (type_within earlier (types.Func f) h, tt)
 within w earlier (defs.Item (items.Type (types.Defined t))) h = (type_within earlier (types.Defined t) h, tt)
-within w earlier (defs.Item (items.Type (types.Resource destructor))) h = (destructor_within w earlier destructor (destructor_of w h.id) h.destructed, tt)
+within w earlier (defs.Item (items.Type (types.Resource destructor))) h = (destructor_within w earlier destructor (destructor_of w h.provided) h.destructed, tt)
 within w earlier (defs.Item (items.InstanceType t)) h = (tt, members_scoped (surroundings_of h.number (inventories.scope_of earlier)) (scope_of space_of earlier) (scope_counted earlier) t.members h.right)
 within w earlier (defs.Item (items.Lift core options kind)) h = ((h.0, options_within earlier options (type_at kind) h.1 (type_named earlier kind h.2.is.denotes.within, tt)), tt)
 within w earlier (defs.Item (items.Lower function options)) h = ((function_in_range h.0.is, lower_within earlier options h.1), tt)

@@ -11,7 +11,7 @@ ghost use Rattle.root_imports.specs.RootScopes.{IsRefusal};
 ghost use Rattle.comp_state.specs.declared.state.Step.TheVariants.{Started};
 ghost use Rattle.comp_state.specs.Encoding.{naming_in};
 ghost use Rattle.comp_terms.specs.Rules.{IsUnnamed, IsBuilt};
-ghost use Rattle.comp_worlds.specs.WorldContents.{core_imports};
+ghost use Rattle.comp_links.specs.Modules.{user_imports};
 ghost use Rattle.core_options.specs.Causes.{IsCause, LacksEncoding, LacksMemory, LacksRealloc, ExportsLater, IsEncoded};
 
 use crate::state::EncodingState;
@@ -61,7 +61,7 @@ impl EncodingState<'_> {
 /// The component of a validated world, definition by definition, with the names of its items. Interfaces are imported under the
 /// names that `names` makes. The modules that are generated have debug names if `debug_names` says so.
 ///
-/// Refused when out of memory, where a function is lowered or lifted with a memory or a realloc that main doesn't export (`E7`,
+/// Refused when out of memory, where a function is lowered or lifted with a memory that main doesn't export, or a realloc that there isn't (`E7`,
 /// `E8`, with the name of the import's shim, or the function that is lifted), where a function that is imported or exported has no
 /// string encoding (`E9`, with the import, or the function), where an interface uses types of another exported one that main doesn't
 /// export before it (`E11`, with both), and where a space would have more than 2^32 - 1 items, or a count or
@@ -75,8 +75,8 @@ pub fn encode_world(
     requires { IsEncodable world.now }
     ensures ok { IfOk result (λ component. Scoped component.defs × IsBuilt (naming_of names.entry) world.now component.defs) }
     ensures refused { IsOk result → (place : List ℕ) → LacksEncoding world.now place → ⊥ }
-    ensures memory { IsOk result → (place : List ℕ) → LacksMemory world.now (core_imports world.now) (required_functions world.now) place → ⊥ }
-    ensures realloc { IsOk result → (place : List ℕ) → LacksRealloc world.now (core_imports world.now) (required_functions world.now) place → ⊥ }
+    ensures memory { IsOk result → (place : List ℕ) → LacksMemory world.now (user_imports world.now) (required_functions world.now) place → ⊥ }
+    ensures realloc { IsOk result → (place : List ℕ) → LacksRealloc world.now (user_imports world.now) (required_functions world.now) place → ⊥ }
     ensures order { IsOk result → (interface used : List ℕ) → ExportsLater world.now interface used → ⊥ }
     ensures cause { IfErr result (IsCause world.now) }
 {

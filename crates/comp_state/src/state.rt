@@ -6,15 +6,15 @@ ghost use Rattle.std.specs.List.{AllByRecursion};
 ghost use Rattle.comp_builder.specs.Built.{nothing_built};
 ghost use Rattle.comp_items.specs.Items.{Extends};
 ghost use Rattle.comp_links.specs.Lists.{required_functions};
+ghost use Rattle.comp_links.specs.Modules.{UserImport, user_imports};
 ghost use Rattle.comp_links.specs.Roles.{IsEncodedImport};
 ghost use Rattle.comp_state.specs.Encoding.{naming_in};
 ghost use Rattle.comp_worlds.specs.ExportOrder.{AreExportsInOrder};
 ghost use Rattle.comp_state.specs.declared.state.Step.TheVariants.{Started, Imported, Instantiated};
 ghost use Rattle.comp_terms.specs.Exports.{exports_in};
-ghost use Rattle.comp_terms.specs.Rules.{Grows, ModuleIs, imports_marked, exports_marked, landmarks};
+ghost use Rattle.comp_terms.specs.Rules.{Grows, bytes_marked, imports_marked, exports_marked, landmarks};
 ghost use Rattle.comp_worlds.specs.Encodable.{IsEncodable};
-ghost use Rattle.comp_worlds.specs.WorldContents.{core_imports};
-ghost use Rattle.core_instances.specs.Instances.{IsMainAlone, AddsInstances};
+ghost use Rattle.core_instances.specs.Instances.{AreUserModules, AddsInstances};
 ghost use Rattle.core_options.specs.Causes.{IsCause, IsEncodedExport};
 ghost use Rattle.core_options.specs.MainOptions.{HasLowerOptions, HasLiftOptions};
 
@@ -22,7 +22,7 @@ use comp_imports::{ImportNames, import_all};
 use comp_items::ComponentItems;
 use comp_lists::{Keyed, Text};
 use comp_worlds::ComponentWorld;
-use core_instances::encode_core_instantiation;
+use core_instances::{encode_core_instantiation, encode_core_modules};
 use core_options::StateFault;
 use main_exports::export_all;
 use root_imports::RootScope;
@@ -138,30 +138,28 @@ impl EncodingState<'_> {
         Ok(())
     }
 
-    /// Appends main's core module, the first one of the component.
+    /// Appends the core modules of the user modules, main's and then those of the adapters in order: they are the first ones of the
+    /// component.
     pub fn encode_core_modules(&mut self) -> Result<(), StateFault>
         requires { landmarks self.old.built.defs ≡ imports_marked (naming_in self.old) self.old.world }
         ensures same { self.new ≡ record self.old { built = self.new.built } }
         ensures extends { Extends self.old.built self.new.built }
-        ensures grows { OnOk result (Grows self.old.world self.old.built.defs self.new.built.defs (ModuleIs self.old.world.main.bytes ∷ [])) }
-        ensures alone { OnOk result (IsMainAlone self.old.world self.new.built.defs) }
+        ensures grows { OnOk result (Grows self.old.world self.old.built.defs self.new.built.defs (bytes_marked self.old.world)) }
+        ensures users { OnOk result (AreUserModules self.old.world self.new.built.defs) }
         ensures cause { IfErr result (IsCause self.old.world) }
     {
-        let world = self.root.world;
-        self.root
-            .items
-            .core_module(Some("main"), world.main.bytes.as_slice())?;
+        encode_core_modules(&mut self.root)?;
         Ok(())
     }
 
-    /// Makes main's instance, and before and after it the instances of the module of shims and of the fixup, where main needs
-    /// shims.
+    /// Makes the instances of the user modules, and before and after them those of the module of shims and of the fixup, where a
+    /// module needs shims.
     ///
     /// `E9` where an import of a function has no string encoding, `E7` where a function is lowered with a memory and main exports
-    /// none, `E8` where it is lowered with a realloc and main exports none for imports, and `E11` where an exported interface uses types
+    /// none, `E8` where it is lowered with a realloc and there is none for the module, and `E11` where an exported interface uses types
     /// of another one that main doesn't export before it.
     pub fn encode_core_instantiation(&mut self) -> Result<(), StateFault>
-        requires alone { IsMainAlone self.old.world self.old.built.defs }
+        requires users { AreUserModules self.old.world self.old.built.defs }
         requires imported { self.old.step ≡ Imported }
         ensures world { self.new.world ≡ self.old.world }
         ensures names { naming_in self.new ≡ naming_in self.old }
@@ -169,8 +167,8 @@ impl EncodingState<'_> {
         ensures extends { Extends self.old.built self.new.built }
         ensures ordered { OnOk result (AreExportsInOrder self.old.world) }
         ensures added { OnOk result (AddsInstances self.old.world self.old.built.defs self.new.built.defs) }
-        ensures encoded { OnOk result (AllByRecursion (λ i. IsEncodedImport self.old.world i.role) (core_imports self.old.world)) }
-        ensures lowered { OnOk result (AllByRecursion (λ i. HasLowerOptions self.old.world i.role) (core_imports self.old.world)) }
+        ensures encoded { OnOk result (AllByRecursion (λ (i : UserImport). IsEncodedImport self.old.world i.of i.core.role) (user_imports self.old.world)) }
+        ensures lowered { OnOk result (AllByRecursion (HasLowerOptions self.old.world) (user_imports self.old.world)) }
         ensures cause { IfErr result (IsCause self.old.world) }
     {
         let main = encode_core_instantiation(&mut self.root, &self.functions, self.debug_names)?;

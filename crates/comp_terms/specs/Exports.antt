@@ -1,11 +1,11 @@
 -- The instances of nested components, and what the component exports: functions, and such instances in the place of
 -- interfaces (component model, explainer: instance definitions, export definitions).
-use Rattle.std.specs.Prelude.{◌≡◌, ◌<◌, ◌&&◌, ℕ, List, [], ◌∷◌, length, map, get_or, slice_get, Option, Some, None, if◌then◌else◌}
+use Rattle.std.specs.Prelude.{◌≡◌, ◌<◌, ℕ, List, length, map, get_or, slice_get, Some}
 use Rattle.std.specs.List.{AllByRecursion, IsDistinct, flat_map}
 use Rattle.std.specs.Str.{bytes_eq}
 use Rattle.comp_bytes.specs.ItemIndices.{IsAt}
 use Rattle.comp_bytes.specs.ScopeNames.{def_export, item_import}
-use Rattle.comp_bytes.specs.Spaces.{is_space, items_in, sort_space}
+use Rattle.comp_bytes.specs.Spaces.{items_in}
 use Rattle.comp_bytes.specs.declared.space.Sort.{Sort}
 use Rattle.comp_bytes.specs.declared.space.Sort.TheVariants as sorts
 use Rattle.comp_bytes.specs.declared.space.Space.TheVariants as spaces
@@ -26,8 +26,8 @@ use Rattle.nested_terms.specs.Nested.{NestedFunction, NestedImport, ImportedFunc
 use Rattle.comp_worlds.specs.WorldContents.{exported_item, function_exported}
 use Rattle.comp_worlds.specs.declared.world.ComponentWorld.{ComponentWorld}
 use Rattle.comp_links.specs.Links.{lift_of}
-use Rattle.comp_links.specs.Lists.{RequiredFunction, functions_required, type_of_world, IsTypeImport}
-use Rattle.comp_links.specs.Targets.{Main, Target}
+use Rattle.comp_links.specs.Lists.{RequiredKey, required_keys, RequiredFunction, functions_required, type_of_world, IsTypeImport}
+use Rattle.comp_links.specs.Targets.{Target}
 use Rattle.comp_terms.specs.Planned.{type_of_function, IsLiftFor}
 
 -- the items of a nested component are right, where some types are given for its imports
@@ -97,11 +97,11 @@ pub record IsRequiredLift (w : ComponentWorld) (ds : List Def) (r : RequiredFunc
 
 -- the next required export is a function, and the function of this index is its lift
 pub record ExportsFunction (w : ComponentWorld) (earlier : List Def) (index : ℕ) : Type 0 where
-  pub key : WorldKey
+  pub required : RequiredKey
   pub function : WitFunction
-  pub next : slice_get w.main_exports (exports_in earlier) ≡ Some key
-  pub item : exported_item w key ≡ Some (world_items.Function function)
-  pub lifted : IsRequiredLift w earlier (record { of = Main; key = key; function = function.name }) index
+  pub next : slice_get (required_keys w) (exports_in earlier) ≡ Some required
+  pub item : exported_item w required.key ≡ Some (world_items.Function function)
+  pub lifted : IsRequiredLift w earlier (record { of = required.of; key = required.key; function = function.name }) index
 
 -- an instance of a nested component that was given these arguments, and exports this, exports the lift of a required function
 -- under the name of the function
@@ -119,13 +119,13 @@ ExportsTypes w id exported = AllByRecursion (λ t. type_named t.0 exported ≡ S
 -- the next required export is an interface, and the instance of this index exports each of its types, and the lift of each of its
 -- functions
 pub record ExportsInterface (w : ComponentWorld) (earlier : List Def) (index : ℕ) : Type 0 where
-  pub key : WorldKey
+  pub required : RequiredKey
   pub id : InterfaceId
-  pub next : slice_get w.main_exports (exports_in earlier) ≡ Some key
-  pub item : exported_item w key ≡ Some (world_items.Interface id)
+  pub next : slice_get (required_keys w) (exports_in earlier) ≡ Some required
+  pub item : exported_item w required.key ≡ Some (world_items.Interface id)
   pub component : ℕ
   pub arguments : List Argument
   pub instance : IsAt earlier spaces.Instance index (defs.Item (items.Instantiate component arguments))
   pub nested : InstantiatesNested earlier component arguments
   pub types : ExportsTypes w id (exports_after nested.given empty_scope nested.definitions)
-  pub each : AllByRecursion (PassesOn w earlier arguments (exports_after nested.given empty_scope nested.definitions)) (functions_required w (record { of = Main; key = key }))
+  pub each : AllByRecursion (PassesOn w earlier arguments (exports_after nested.given empty_scope nested.definitions)) (functions_required w required)

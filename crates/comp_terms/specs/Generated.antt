@@ -7,23 +7,20 @@ use Rattle.comp_lists.specs.Found.{found}
 use Rattle.core_bytes.specs.Modules.{Encodes}
 use Rattle.wit_data.specs.Keys.{is_same_key}
 use Rattle.wit_data.specs.declared.ids.InterfaceId.{InterfaceId}
-use Rattle.wit_data.specs.declared.ids.TypeId.{TypeId}
 use Rattle.wit_data.specs.declared.worlds.WorldItem.{WorldItem}
 use Rattle.wit_data.specs.declared.worlds.WorldItem.TheVariants as items
 use Rattle.wit_data.specs.declared.worlds.WorldKey.{WorldKey}
 use Rattle.wit_data.specs.declared.worlds.WorldKey.TheVariants as keys
-use Rattle.comp_roles.specs.declared.exports.Export.TheVariants as exports
 use Rattle.comp_roles.specs.declared.imports.Import.{Import}
 use Rattle.comp_roles.specs.declared.imports.Import.TheVariants as imports
-use Rattle.comp_roles.specs.declared.libraries.MainOrAdapter.TheVariants as users
 use Rattle.comp_roles.specs.declared.offered.ExternType.TheVariants as externs
 use Rattle.comp_worlds.specs.Typed.{type_of_import}
 use Rattle.comp_worlds.specs.WorldContents.{items_of}
 use Rattle.comp_worlds.specs.Worlds.{IsImportRole}
 use Rattle.comp_worlds.specs.declared.world.ComponentWorld.{ComponentWorld}
-use Rattle.comp_links.specs.Links.{link_of}
-use Rattle.comp_links.specs.Modules.{user_modules}
-use Rattle.comp_links.specs.Targets.{Main, Target, ExportOf}
+use Rattle.comp_links.specs.Links.{link_of, module_of}
+use Rattle.comp_links.specs.Modules.{WorldModule, user_modules}
+use Rattle.comp_links.specs.Targets.{UserModule, Adapter, ExportRef, Target, ExportOf}
 use Rattle.shim_plan.specs.declared.kinds.ShimKind.{ShimKind}
 use Rattle.shim_plan.specs.declared.kinds.ShimKind.TheVariants as kinds
 use Rattle.shim_plan.specs.declared.shims.Shim.{Shim}
@@ -65,36 +62,43 @@ interface_in item = None
 abbrev pub interface_imported : ComponentWorld → WorldKey → Option InterfaceId
 interface_imported w key = option_and_then interface_in (lookup (is_same_key key) (items_of w).imports)
 
--- the role of the imports that are given a shim of this kind
-abbrev pub role_of_kind : ComponentWorld → ShimKind → Option Import
-role_of_kind w (kinds.IndirectLowering None function which encoding) = Some (imports.WorldFunc (keys.Name function.name) function.name function.abi)
-role_of_kind w (kinds.IndirectLowering (Some key) function which encoding) = option_map (λ id. imports.InterfaceFunc key id function.name function.abi) (interface_imported w key)
+-- the module and the role of the imports that are given a shim of this kind
+abbrev pub role_of_kind : ComponentWorld → ShimKind → Option (UserModule × Import)
+role_of_kind w (kinds.IndirectLowering None function which encoding) = Some (module_of which, imports.WorldFunc (keys.Name function.name) function.name function.abi)
+role_of_kind w (kinds.IndirectLowering (Some key) function which encoding) = option_map (λ id. (module_of which, imports.InterfaceFunc key id function.name function.abi)) (interface_imported w key)
 role_of_kind w kind = None
 
--- the shim stands for what imports of this role are to be given, and has their core type
-pub record IsShimOf (w : ComponentWorld) (s : Shim) (role : Import) : Type 0 where
-  pub of_kind : role_of_kind w s.kind ≡ Some role
+-- the shim stands for what imports of this role in a module are to be given, and has their core type
+pub record IsShimOf (w : ComponentWorld) (s : Shim) (of : UserModule) (role : Import) : Type 0 where
+  pub of_kind : role_of_kind w s.kind ≡ Some (of, role)
   pub right : IsImportRole w role
   pub typed : type_of_import w.resolve (items_of w) role ≡ Some (externs.Func (type_of_shim s))
 
--- the shim stands for the destructor that main exports under this name, and has the core type that validation found
-pub record IsShimOfDestructor (w : ComponentWorld) (s : Shim) (name : List ℕ) : Type 0 where
-  pub of_kind : s.kind ≡ kinds.ResourceDtor users.Main name
-  pub resource : TypeId
-  pub exported : Contains w.main.exports.exports (name, exports.ResourceDtor resource)
-  pub typed : found name w.main.offered ≡ Some (externs.Func (type_of_shim s))
+-- the export of a user module that a shim of this kind stands for
+abbrev pub export_of_kind : ShimKind → Option ExportRef
+export_of_kind (kinds.Adapter adapter name) = Some (record { of = Adapter adapter; name = name })
+export_of_kind (kinds.ResourceDtor which name) = Some (record { of = module_of which; name = name })
+export_of_kind kind = None
 
--- what a shim stands for: what imports of a role are to be given, or the destructor that main exports under a name
+-- the shim stands for this export, and has the core type that validation found
+pub record IsShimOfExport (w : ComponentWorld) (s : Shim) (e : ExportRef) : Type 0 where
+  pub of_kind : export_of_kind s.kind ≡ Some e
+  pub exporting : WorldModule
+  pub listed : Contains (user_modules w) exporting
+  pub same : exporting.of ≡ e.of
+  pub typed : found e.name exporting.found.offered ≡ Some (externs.Func (type_of_shim s))
+
+-- what a shim stands for: what imports of a role in a module are to be given, or an export of a module
 pub data Purpose : Type 0 where
-  OfImport : (role : Import) → Purpose
-  OfDestructor : (name : List ℕ) → Purpose
+  OfImport : (of : UserModule) (role : Import) → Purpose
+  OfExport : (export_ref : ExportRef) → Purpose
 
 -- what the shim hands on to, as a target
 abbrev pub target_of : ComponentWorld → Purpose → Target
-target_of w (OfImport role) = link_of w Main role
-target_of w (OfDestructor name) = ExportOf (record { of = Main; name = name })
+target_of w (OfImport of role) = link_of w of role
+target_of w (OfExport e) = ExportOf e
 
 -- the shim stands for this
 abbrev pub HasPurpose : ComponentWorld → Shim → Purpose → Type 0
-HasPurpose w s (OfImport role) = IsShimOf w s role
-HasPurpose w s (OfDestructor name) = IsShimOfDestructor w s name
+HasPurpose w s (OfImport of role) = IsShimOf w s of role
+HasPurpose w s (OfExport e) = IsShimOfExport w s e

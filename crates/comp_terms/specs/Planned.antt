@@ -30,7 +30,7 @@ use Rattle.comp_links.specs.Links.{link_of}
 use Rattle.comp_links.specs.Roles.{IsEncodedImport}
 use Rattle.shim_plan.specs.declared.shims.Shim.{Shim}
 use Rattle.world_shims.specs.WorldShims.{shims_of}
-use Rattle.comp_terms.specs.Generated.{shims_number, IsShimOf, IsShimOfDestructor, Purpose, target_of, HasPurpose}
+use Rattle.comp_terms.specs.Generated.{shims_number, Purpose, target_of, HasPurpose}
 use Rattle.comp_terms.specs.Terms.{CoreExport, TermOption, Term, IsExported, IsLifting, Is}
 use Rattle.comp_terms.specs.Terms as terms
 
@@ -78,26 +78,20 @@ pub record IsItemFor (w : ComponentWorld) (ds : List Def) (space : Space) (index
   pub is : Is ds space index term
   pub asked : IsTermFor w target term
 
--- the core function of this index is a shim that stands for what an import of this role is to be given
-pub record IsShimFor (w : ComponentWorld) (ds : List Def) (space : Space) (index : ℕ) (role : Import) : Type 0 where
+-- the item of this index in a space is a shim that stands for what the target names
+pub record IsShimFor (w : ComponentWorld) (ds : List Def) (space : Space) (index : ℕ) (target : Target) : Type 0 where
   pub place : ℕ
   pub shim : Shim
+  pub purpose : Purpose
   pub listed : slice_get (shims_of w) place ≡ Some shim
-  pub stands_for : IsShimOf w shim role
+  pub stands_for : HasPurpose w shim purpose
+  pub same : target_of w purpose ≡ target
   pub in_space : space ≡ spaces.CoreFunc
   pub is : IsExported ds index (record { of = shims_number w; kind = kinds.Func; name = decimal place })
 
--- the core function of this index is a shim that stands for the destructor that main exports under this name
-pub record IsDestructorFor (w : ComponentWorld) (ds : List Def) (index : ℕ) (name : List ℕ) : Type 0 where
-  pub place : ℕ
-  pub shim : Shim
-  pub listed : slice_get (shims_of w) place ≡ Some shim
-  pub stands_for : IsShimOfDestructor w shim name
-  pub is : IsExported ds index (record { of = shims_number w; kind = kinds.Func; name = decimal place })
-
--- the item of this index is what an import of this role is given: what the link table says, or a shim that stands for it
-abbrev pub IsGivenFor : ComponentWorld → UserModule → List Def → Space → ℕ → Import → Type 0
-IsGivenFor w of ds space index role = IsItemFor w ds space index (link_of w of role) ⊎ IsShimFor w ds space index role
+-- the item of this index is given where the target is asked for: it is what the target names, or a shim that stands for that
+abbrev pub IsGivenFor : ComponentWorld → List Def → Space → ℕ → Target → Type 0
+IsGivenFor w ds space index target = IsItemFor w ds space index target ⊎ IsShimFor w ds space index target
 
 -- the function of this index is a lift of this type that the target names
 pub record IsLiftFor (w : ComponentWorld) (ds : List Def) (index : ℕ) (target : Target) (type : FunctionTree) : Type 0 where
@@ -111,8 +105,8 @@ pub record IsLiftFor (w : ComponentWorld) (ds : List Def) (index : ℕ) (target 
 -- the entry of an inline instance is what the import of this field is given
 pub record IsEntryFor (w : ComponentWorld) (of : UserModule) (ds : List Def) (e : CoreInlineExport) (field : List ℕ × Import) : Type 0 where
   pub named : e.name ≡ field.0
-  pub serves : IsGivenFor w of ds (kind_space e.kind) e.index field.1
-  pub encoded : IsEncodedImport w field.1
+  pub serves : IsGivenFor w ds (kind_space e.kind) e.index (link_of w of field.1)
+  pub encoded : IsEncodedImport w of field.1
 
 -- the core instance is an inline instance with an entry for each field, in order
 pub record IsInlineInstanceFor (w : ComponentWorld) (of : UserModule) (ds : List Def) (index : ℕ) (fields : List (List ℕ × Import)) : Type 0 where

@@ -14,7 +14,6 @@ use Rattle.standard_kinds.specs.declared.kinds.ExportKind.{ExportKind}
 use Rattle.standard_kinds.specs.declared.kinds.ExportKind.TheVariants as kinds
 use Rattle.comp_bytes.specs.declared.space.Sort.{Sort}
 use Rattle.comp_bytes.specs.declared.space.Sort.TheVariants as sorts
-use Rattle.comp_bytes.specs.declared.types.ExternName.{ExternName}
 use Rattle.comp_bytes.specs.declared.types.TypeDef.{TypeDef}
 use Rattle.comp_bytes.specs.declared.types.TypeDef.TheVariants as types
 use Rattle.comp_bytes.specs.declared.types.Alias.{Alias}
@@ -49,15 +48,15 @@ use Rattle.nested_terms.specs.Nested.{NestedExport, function_import, type_named}
 use Rattle.comp_worlds.specs.WorldContents.{exported_item}
 use Rattle.comp_worlds.specs.declared.world.ComponentWorld.{ComponentWorld}
 use Rattle.comp_links.specs.Roles.{is_used}
-use Rattle.comp_links.specs.Targets.{Main}
+use Rattle.comp_links.specs.Targets.{ExportRef, ExportOf}
 use Rattle.comp_links.specs.Modules.{WorldModule, user_modules}
 use Rattle.comp_links.specs.Naming.{Naming}
-use Rattle.comp_links.specs.Lists.{ImportEntry, ImportedInterface, WorldType, RootFunction, import_entries, names_of_interface, type_of_world, Stated, root_function, root_type, described_sort, stated_import, stated_export, functions_of_interface, nested_export_names, own_resources, AreNames}
+use Rattle.comp_links.specs.Lists.{ImportEntry, ImportedInterface, WorldType, RootFunction, import_entries, names_of_interface, type_of_world, Stated, root_function, root_type, described_sort, stated_import, stated_export, functions_of_interface, nested_export_names, RequiredKey, required_keys, ProvidedType, provided_resources, AreNames}
 use Rattle.comp_links.specs.Links.{destructor_of}
 use Rattle.comp_terms.specs.Terms.{InstanceOf as InstanceTerm, imports_in, IsFunctionType, IsResource, IsImportedFunction, Is}
 use Rattle.world_shims.specs.WorldShims.{shims_of}
 use Rattle.comp_terms.specs.Generated.{shims_number, fixup_number, GeneratedBytes, MayBeGenerated}
-use Rattle.comp_terms.specs.Planned.{IsArgumentFor, AreFillsFor, IsDestructorFor}
+use Rattle.comp_terms.specs.Planned.{IsArgumentFor, AreFillsFor, IsShimFor}
 use Rattle.comp_terms.specs.Exports.{IsNestedRight, IsNestedFor, InstantiatesNested, ExportsFunction, ExportsInterface}
 
 -- ---- landmarks
@@ -244,17 +243,17 @@ IsTypeRight scope (types.Func f) = is_known_function (function_tree scope f) ≡
 IsTypeRight scope (types.Defined t) = is_known (defined_tree scope t) ≡ true
 IsTypeRight scope (types.Resource destructor) = ⊥
 
--- the destructor of a resource that the component defines is a shim for the one that main exports, where it does
-abbrev pub IsDestructorRight : ComponentWorld → List Def → Option ℕ → Option (List ℕ) → Type 0
+-- the destructor of a resource that the component defines is a shim for the one that a user module exports, where it does
+abbrev pub IsDestructorRight : ComponentWorld → List Def → Option ℕ → Option ExportRef → Type 0
 IsDestructorRight w earlier None None = Unit {0}
-IsDestructorRight w earlier (Some index) (Some name) = IsDestructorFor w earlier index name
-IsDestructorRight w earlier destructor name = ⊥
+IsDestructorRight w earlier (Some index) (Some e) = IsShimFor w earlier spaces.CoreFunc index (ExportOf e)
+IsDestructorRight w earlier destructor e = ⊥
 
 -- the next resource that the component defines
 pub record DefinesResource (w : ComponentWorld) (earlier : List Def) (destructor : Option ℕ) : Type 0 where
-  pub id : TypeId
-  pub next : slice_get (own_resources w) (inventory earlier).resources ≡ Some id
-  pub destructed : IsDestructorRight w earlier destructor (destructor_of w id)
+  pub provided : ProvidedType
+  pub next : slice_get (provided_resources w) (inventory earlier).resources ≡ Some provided
+  pub destructed : IsDestructorRight w earlier destructor (destructor_of w provided)
 
 -- a type of instances: its members are right in an import of some number
 pub record IsInstanceTypeRight (earlier : List Def) (members : List Member) : Type 0 where
@@ -340,22 +339,29 @@ abbrev pub nested_marked : ComponentWorld → Option WorldItem → List Landmark
 nested_marked w (Some (world_items.Interface id)) = NestedOf (import_names (functions_of_interface w id)) (nested_export_names w id) ∷ []
 nested_marked w item = []
 
-abbrev pub export_marked : Naming → ComponentWorld → WorldKey → List Landmark
-export_marked n w key = nested_marked w (exported_item w key) ++ Exported (stated_export n w (record { of = Main; key = key })) ∷ []
+abbrev pub export_marked : Naming → ComponentWorld → RequiredKey → List Landmark
+export_marked n w r = nested_marked w (exported_item w r.key) ++ Exported (stated_export n w r) ∷ []
 
 abbrev pub exports_marked : Naming → ComponentWorld → List Landmark
-exports_marked n w = flat_map (export_marked n w) w.main_exports
+exports_marked n w = flat_map (export_marked n w) (required_keys w)
 
 -- the landmarks of the resources that the component defines
 abbrev pub resources_marked : ComponentWorld → List Landmark
-resources_marked w = map (λ id. ResourceDefined) (own_resources w)
+resources_marked w = map (λ id. ResourceDefined) (provided_resources w)
 
--- the landmarks of the core modules and their instances, where these modules are generated. The resources are defined before main
--- is instantiated, and after the shims
+-- the landmarks of the user modules, and of their instances
+abbrev pub bytes_marked : ComponentWorld → List Landmark
+bytes_marked w = map (λ (m : WorldModule). ModuleIs m.found.bytes) (user_modules w)
+
+abbrev pub users_marked : ComponentWorld → List Landmark
+users_marked w = map InstanceOf (range_with_len 0 (length (user_modules w)))
+
+-- the landmarks of the core modules and their instances, where these modules are generated. The resources are defined before the user
+-- modules are instantiated, and after the shims
 abbrev pub modules_marked : ComponentWorld → Option GeneratedBytes → List Landmark
-modules_marked w None = ModuleIs w.main.bytes ∷ (resources_marked w ++ InstanceOf 0 ∷ [])
+modules_marked w None = bytes_marked w ++ (resources_marked w ++ users_marked w)
 modules_marked w (Some g) =
-    ModuleIs w.main.bytes ∷ ModuleIs g.shims ∷ InstanceOf (shims_number w) ∷ (resources_marked w ++ InstanceOf 0 ∷ ModuleIs g.fixup ∷ InstanceOf (fixup_number w) ∷ [])
+    bytes_marked w ++ (ModuleIs g.shims ∷ InstanceOf (shims_number w) ∷ (resources_marked w ++ (users_marked w ++ ModuleIs g.fixup ∷ InstanceOf (fixup_number w) ∷ [])))
 
 -- the landmarks of a component without the names of its items
 abbrev pub expected : Naming → ComponentWorld → Option GeneratedBytes → List Landmark

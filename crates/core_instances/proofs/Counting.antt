@@ -1,5 +1,5 @@
 -- The landmarks of a list say how many core modules there are, and which are instantiated.
-use Rattle.std.proofs.Common.{◌≡◌, ◌∙◌, ◌+◌, false, ℕ, suc, List, [], ◌∷◌, ◌++◌, Option, Some, None, refl, sym, ap, filter_map, length, map}
+use Rattle.std.proofs.Common.{arith, ◌≡◌, ◌≤◌, ◌∙◌, ◌+◌, false, ℕ, suc, List, [], ◌∷◌, ◌++◌, Option, Some, None, refl, sym, ap, filter_map, length, map}
 use Rattle.std.proofs.lemmas.List.{length-append}
 use Rattle.std.proofs.lemmas.List.Elements.{filter_map-append}
 use Rattle.std.proofs.lemmas.List.Sums.{length-filter}
@@ -19,7 +19,7 @@ use Rattle.comp_bytes.specs.declared.types.Description.{Description}
 use Rattle.comp_bytes.specs.declared.types.Description.TheVariants as descriptions
 use Rattle.standard_kinds.specs.declared.kinds.ExportKind.TheVariants as kinds
 use Rattle.comp_worlds.specs.declared.world.ComponentWorld.{ComponentWorld}
-use Rattle.comp_terms.specs.Rules.{Grows, Landmark, ModuleIs, ResourceDefined, instance_number, instances_in, landmark, landmarks}
+use Rattle.comp_terms.specs.Rules.{Grows, Landmark, ModuleIs, InstanceOf, ResourceDefined, instance_number, instances_in, landmark, landmarks}
 
 -- ---- core modules
 
@@ -99,3 +99,16 @@ no_modules_defined (x ∷ xs) more = no_modules_defined xs more
 pub no_instances_defined : {X : Type 0} (xs : List X) (more : List Landmark) → filter_map instance_number (map (λ x. ResourceDefined) xs ++ more) ≡ filter_map instance_number more
 no_instances_defined [] more = refl
 no_instances_defined (x ∷ xs) more = no_instances_defined xs more
+
+-- and instances are no modules
+pub no_modules_made : (numbers : List ℕ) (more : List Landmark) → filter_map module_mark (map InstanceOf numbers ++ more) ≡ filter_map module_mark more
+no_modules_made [] more = refl
+no_modules_made (n ∷ numbers) more = no_modules_made numbers more
+
+pub instances_made : (numbers : List ℕ) → filter_map instance_number (map InstanceOf numbers) ≡ numbers
+instances_made [] = refl
+instances_made (n ∷ numbers) = ap (λ l. n ∷ l) (instances_made numbers)
+
+-- a list that grew has no fewer core modules
+pub no_fewer : {w : ComponentWorld} {old new : List Def} {marks : List Landmark} → Grows w old new marks → items_in spaces.CoreModule old ≤ items_in spaces.CoreModule new
+no_fewer {w} {old} {new} {marks} g = let grown = modules_grown g in omega (arith, grown)

@@ -1,4 +1,4 @@
--- The destructor of a resource is a shim, where main exports one.
+-- The destructor of a resource of main is a shim, where main exports one.
 use Rattle.std.proofs.Common.{◌≡◌, ℕ, Bool, true, false, true≢false, List, [], ◌∷◌, Option, Some, None, IsSome, Contains, refl, sym, ap, subst, if◌then◌else◌}
 use Rattle.std.proofs.lemmas.Bool.Decides.{Decides-eqb}
 use Rattle.std.proofs.lemmas.Option.{none-some, same_Some}
@@ -11,8 +11,10 @@ use Rattle.comp_roles.specs.declared.libraries.MainOrAdapter.TheVariants as user
 use Rattle.wit_data.specs.declared.ids.TypeId.{TypeId}
 use Rattle.comp_worlds.specs.Encodable.{IsEncodable}
 use Rattle.comp_worlds.specs.declared.world.ComponentWorld.{ComponentWorld}
-use Rattle.comp_links.specs.Links.{destructor_of}
-use Rattle.comp_terms.specs.Generated.{shims_number}
+use Rattle.std.specs.Option.{option_map}
+use Rattle.comp_links.specs.Links.{export_of, destructor_of}
+use Rattle.comp_links.specs.Targets.{Main}
+use Rattle.comp_terms.specs.Generated.{shims_number, OfExport}
 use Rattle.comp_terms.specs.Rules.{IsDestructorRight}
 use Rattle.comp_terms.specs.Terms.{IsExported}
 use Rattle.interface_needs.proofs.Lists.{contains_first, contains_later}
@@ -34,17 +36,21 @@ destructor_exported id (x ∷ xs) name e = by (is_dtor id x.1) refl e (destructo
     by true h e later = subst (λ n. Contains (x ∷ xs) (n, exports.ResourceDtor id)) (same_Some x.0 name e) (subst (λ r. Contains (x ∷ xs) (x.0, r)) (of_dtor id x.1 h) (contains_first x xs))
     by false h e later = contains_later x xs (name, exports.ResourceDtor id) (later e)
 
-pub destructed : (w : ComponentWorld) → IsEncodable w → (ds : List Def) (id : TypeId) (name : List ℕ) → destructor_of w id ≡ Some name → (o : Option ℕ) → IsShimAlias w ds (kinds.ResourceDtor users.Main name) o → IsDestructorRight w ds o (destructor_of w id)
+pub destructed : (w : ComponentWorld) → IsEncodable w → (ds : List Def) (id : TypeId) (name : List ℕ) → first_export (is_dtor id) w.main.exports.exports ≡ Some name → (o : Option ℕ) → IsShimAlias w ds (kinds.ResourceDtor users.Main name) o →
+    IsDestructorRight w ds o (destructor_of w (record { of = Main; id = id }))
 destructed w ok ds id name is None h =
-    let there = destructor_there w name id (destructor_exported id w.main.exports.exports name is) in
+    let there = destructor_there w Main w.main refl name id (destructor_exported id w.main.exports.exports name is) in
     absurd (true≢false (sym (subst (λ o. IsSome o) h there)))
 destructed w ok ds id name is (Some index) h =
     let f = found_shim w ok (kinds.ResourceDtor users.Main name) h.0 h.1 in
-    subst (IsDestructorRight w ds (Some index)) (sym is)
+    subst (λ (o : Option (List ℕ)). IsDestructorRight w ds (Some index) (option_map (export_of Main) o)) (sym is)
     (record {
       place = f.0;
       shim = h.0;
+      purpose = OfExport (record { of = Main; name = name });
       listed = f.1;
-      stands_for = given_destructor w ok name h.0 h.1;
+      stands_for = given_destructor w ok Main name h.0 h.1;
+      same = refl;
+      in_space = refl;
       is = subst (λ n. IsExported ds index (record { of = shims_number w; kind = core.Func; name = n })) f.3 h.2;
     })

@@ -19,7 +19,10 @@ use Rattle.world_values.specs.Mentions.{same_interface}
 use Rattle.comp_worlds.specs.ExportOrder.{AreExportsInOrder, IsExportedAt, exported_before, interface_among, required_interfaces, used_exports}
 use Rattle.comp_worlds.specs.WorldContents.{exported_item}
 use Rattle.comp_worlds.specs.declared.world.ComponentWorld.{ComponentWorld}
-use Rattle.comp_links.specs.Lists.{types_in}
+use Rattle.comp_worlds.specs.Encodable.{IsEncodable}
+use Rattle.comp_links.specs.Lists.{ProvidedType, types_in}
+use Rattle.comp_links.specs.Targets.{Main}
+use Rattle.comp_links.proofs.OnlyMain.{main_resources, resources_of_main, own_of_main}
 use Rattle.comp_terms.specs.Rules.{Grows, Landmark, ResourceDefined, resources_marked}
 use Rattle.core_options.specs.Causes.{IsCauseAmong}
 use Rattle.core_options.specs.declared.fault.StateFault.{StateFault}
@@ -82,6 +85,14 @@ module _ (w : ComponentWorld) where
   abbrev pub marks_at : List WorldKey → List Landmark
   marks_at keys = map (λ t. ResourceDefined) (filter (is_own w) (flat_map (λ key. map (λ t. t.1) (types_in w (exported_item w key))) keys))
 
+  -- those of all keys are the component's
+  marks_of_main : IsEncodable w → resources_marked w ≡ marks_at w.main_exports
+  marks_of_main ok = ap (λ (ps : List ProvidedType). map (λ t. ResourceDefined) ps) (resources_of_main w ok.valid) ∙ same_marks (main_resources w)
+    where
+      same_marks : (ids : List TypeId) → map (λ (p : ProvidedType). ResourceDefined) (map (λ id. record { of = Main; id = id }) ids) ≡ map (λ (id : TypeId). ResourceDefined) ids
+      same_marks [] = refl
+      same_marks (id ∷ ids) = ap (λ l. ResourceDefined ∷ l) (same_marks ids)
+
   -- the interface of a key has the types that are listed there
   same_ids : (key : WorldKey) → ids_at key ≡ types_at w key
   same_ids key = by (exported_item w key)
@@ -125,8 +136,8 @@ module _ (w : ComponentWorld) where
     ids_more = ap (flat_map ids_at) more ∙ (flat_map-append ids_at (take number keys) (key ∷ []) ∙ ap (λ x. flat_map ids_at (take number keys) ++ x) (append-nil (ids_at key)))
 
     -- its resources are the next ones
-    pub next_resources : (inventory old.items.defs).resources ≡ 0 → AreNextResources w mid.items.defs (entries_at w key)
-    next_resources none =
+    pub next_resources : IsEncodable w → (inventory old.items.defs).resources ≡ 0 → AreNextResources w mid.items.defs (entries_at w key)
+    next_resources ok none =
         let s = split_at keys number key at in
         let all : flat_map ids_at keys ≡ flat_map ids_at (take number keys) ++ (ids_at key ++ flat_map ids_at s.rest) = ap (flat_map ids_at) s.parts ∙ flat_map-append ids_at (take number keys) (key ∷ s.rest) in
         let grown = resources_grown h.grows in
@@ -134,8 +145,8 @@ module _ (w : ComponentWorld) where
         record {
           before = filter (is_own w) (flat_map ids_at (take number keys));
           after = filter (is_own w) (flat_map ids_at s.rest);
-          parts = ap (filter (is_own w)) all ∙ (filter-append (is_own w) (flat_map ids_at (take number keys)) (ids_at key ++ flat_map ids_at s.rest)
-              ∙ ap (λ l. filter (is_own w) (flat_map ids_at (take number keys)) ++ l) (filter-append (is_own w) (ids_at key) (flat_map ids_at s.rest)));
+          parts = own_of_main w ok.valid ∙ (ap (filter (is_own w)) all ∙ (filter-append (is_own w) (flat_map ids_at (take number keys)) (ids_at key ++ flat_map ids_at s.rest)
+              ∙ ap (λ l. filter (is_own w) (flat_map ids_at (take number keys)) ++ l) (filter-append (is_own w) (ids_at key) (flat_map ids_at s.rest))));
           count = omega (arith, grown, many, none);
         }
 
@@ -202,8 +213,8 @@ module _ (w : ComponentWorld) where
     all : take number w.main_exports ≡ w.main_exports
     all = take_all number w.main_exports (omega (arith, whole))
 
-    pub keys_grow : Grows w old.items.defs new.items.defs (resources_marked w)
-    keys_grow = subst (λ ks. Grows w old.items.defs new.items.defs (marks_at ks)) all h.grows
+    pub keys_grow : IsEncodable w → Grows w old.items.defs new.items.defs (resources_marked w)
+    keys_grow ok = subst (λ (marks : List Landmark). Grows w old.items.defs new.items.defs marks) (ap marks_at all ∙ sym (marks_of_main ok)) h.grows
 
     pub keys_defined : AllByRecursion (IsDefinedType w new.items.defs) (exported_types w)
     keys_defined = subst (λ ks. AllByRecursion (IsDefinedType w new.items.defs) (flat_map (types_at w) ks)) all h.defined

@@ -2,6 +2,8 @@ pub mod Counting
 mod Made
 mod Needs
 mod Ordering
+mod UserInstances
+mod AddedModules
 mod Recording
 mod Unplanned
 pub mod Resourced

@@ -1,16 +1,13 @@
 -- What was imported stays what it is while definitions are added, and it is what main and the fixup are given.
-use Rattle.std.proofs.Common.{◌≡◌, ◌<◌, ℕ, List, Option, Some, None, IfSome, subst, sym}
+use Rattle.std.proofs.Common.{◌≡◌, ◌<◌, ℕ, List, Option, Some, None, subst, sym}
 use Rattle.std.specs.Option.{option_copied}
 use Rattle.comp_builder.specs.Built.{Built}
 use Rattle.comp_items.specs.Items.{Extends}
 use Rattle.comp_bytes.specs.declared.def.Def.{Def}
-use Rattle.comp_items.proofs.Kept.{Longer, at-kept, instance-kept}
+use Rattle.comp_items.proofs.Kept.{Longer, instance-kept}
 use Rattle.comp_items.proofs.Remembering.{longer}
-use Rattle.comp_terms.specs.Terms.{IsInstanceOf}
 use Rattle.comp_worlds.specs.declared.world.ComponentWorld.{ComponentWorld}
-use Rattle.comp_roles.specs.Reallocs.{is_import_realloc, realloc_for}
-use Rattle.core_options.specs.MainOptions.{OffersFunction, memory_name}
-use Rattle.core_options.proofs.Offered.{import_realloc_if_offered}
+use Rattle.core_options.specs.MainOptions.{IsUser, AreUserInstances, memory_name}
 use Rattle.main_fixup.specs.Filling.{AreFillSources}
 use Rattle.main_fixup.specs.declared.sources.FillSources.{FillSources}
 use Rattle.main_instance.specs.Sources.{AreSources, IsShimInstance}
@@ -29,15 +26,14 @@ use Rattle.root_imports.specs.Keeping.{Root, RootMoved}
 use Rattle.root_imports.specs.Met.{AreExportsMet}
 use Rattle.core_instances.specs.ExportedTypes.{AreShimSources}
 use Rattle.core_instances.specs.declared.own_resources.ShimSources.{ShimSources}
-use Rattle.core_instances.specs.Instances.{AreImportsMade, IsFirstModule}
+use Rattle.core_instances.specs.Instances.{AreImportsMade}
 
 module _ {w : ComponentWorld} {met : MetTypes} {old new : Built} {maps : TypeEncodingMaps} {instances : List (InterfaceId × ℕ)} (g : Extends old new) where
-  pub sources_after : (s : ImportSources) → AreImportsMade w s.functions.now met old.defs maps instances → AreExportsMet w met → s.shims.now ≡ shims_of w → IsShimInstance w new.defs s.shim_instance → AreSources w s met new.defs maps instances
-  sources_after s h exports planned there = record { exports = exports; valid = h.valid; imports = FindsImports-kept (longer g) h.imports; used = h.used; shims = planned; shim_instance = there; tables = tables_kept w met instances old new maps g h.tables; passed = h.passed }
+  pub sources_after : (s : ImportSources) → IsUser w s.user → AreImportsMade w s.functions.now met old.defs maps instances → AreExportsMet w met → s.shims.now ≡ shims_of w → IsShimInstance w new.defs s.shim_instance → AreSources w s met new.defs maps instances
+  sources_after s user h exports planned there = record { user = user; exports = exports; valid = h.valid; imports = FindsImports-kept (longer g) h.imports; used = h.used; shims = planned; shim_instance = there; tables = tables_kept w met instances old new maps g h.tables; passed = h.passed }
 
-  pub fills_after : (s : FillSources) → AreImportsMade w s.functions.now met old.defs maps instances → IsInstanceOf new.defs s.options.instance 0 → option_copied s.options.memory ≡ memory_name w →
-      option_copied s.options.realloc ≡ realloc_for is_import_realloc w.main.exports.exports → AreFillSources w s met new.defs maps instances
-  fills_after s h made memory realloc = record { valid = h.valid; imports = FindsImports-kept (longer g) h.imports; used = h.used; options = record { made = made; memory = memory; offered = subst (λ (o : Option (List ℕ)). IfSome o (OffersFunction w)) (sym realloc) (import_realloc_if_offered w h.valid.valid) }; realloc = realloc; tables = tables_kept w met instances old new maps g h.tables; passed = h.passed }
+  pub fills_after : (s : FillSources) → AreImportsMade w s.functions.now met old.defs maps instances → AreUserInstances w new.defs s.instances.now → option_copied s.memory ≡ memory_name w → AreFillSources w s met new.defs maps instances
+  fills_after s h made memory = record { valid = h.valid; imports = FindsImports-kept (longer g) h.imports; used = h.used; memory = memory; users = made; tables = tables_kept w met instances old new maps g h.tables; passed = h.passed }
 
 -- what was imported is still there in the root after more steps
 pub made_after : {w : ComponentWorld} {functions : List (List ℕ × ℕ)} (old new : Root) → RootMoved w old new → AreImportsMade w functions old.met old.items.defs old.maps old.instances →
@@ -50,13 +46,10 @@ made_after {w} old new k h = record {
   passed = subst (λ (last : Option TypeId). AllByRecursion (λ (t : List ℕ × TypeId). t.1.index < next_of last) (imported_types w)) (sym k.last) h.passed;
 }
 
--- so is the instance of the module of shims, and main's module
+-- so is the instance of the module of shims
 pub shim_instance-kept : (w : ComponentWorld) {old new : List Def} → Longer old new → (o : Option ℕ) → IsShimInstance w old o → IsShimInstance w new o
 shim_instance-kept w g None h = h
 shim_instance-kept w g (Some index) h = instance-kept g h
-
-pub first-kept : {w : ComponentWorld} {old new : List Def} → Longer old new → IsFirstModule w old → IsFirstModule w new
-first-kept g h = record { made = at-kept g h.made }
 
 pub shim_sources-kept : (w : ComponentWorld) {old new : List Def} → Longer old new → (s : ShimSources) → AreShimSources w old s → AreShimSources w new s
 shim_sources-kept w g s h = record { shims = h.shims; instance = shim_instance-kept w g s.instance h.instance }

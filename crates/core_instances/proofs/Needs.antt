@@ -1,4 +1,4 @@
--- Main has what the calls of its imports need, where it has what their shims need.
+-- There is what the calls of imports need, where there is what their shims need.
 use Rattle.std.proofs.Common.{◌≡◌, ◌∙◌, Bool, true, false, ℕ, zero, suc, slice_get, is_some, List, [], ◌∷◌, Option, Some, None, IsSome, IsTrue, Contains, refl, sym, ap, subst, true≢false}
 use Rattle.std.proofs.lemmas.Option.{same_Some}
 use Rattle.std.specs.List.{AllByRecursion}
@@ -6,13 +6,13 @@ use Rattle.standard_kinds.specs.declared.kinds.StringEncoding.{StringEncoding}
 use Rattle.comp_lists.proofs.Lists.{AllByRecursion-contains}
 use Rattle.interface_needs.proofs.Lists.{all_of_each}
 use Rattle.comp_options.specs.Options.{needs}
-use Rattle.comp_roles.specs.CoreImports.{CoreImport}
 use Rattle.comp_roles.specs.declared.imports.Import.{Import}
 use Rattle.comp_roles.specs.declared.imports.Import.TheVariants as imports
 use Rattle.comp_worlds.specs.Encodable.{IsEncodable}
-use Rattle.comp_worlds.specs.WorldContents.{core_imports}
 use Rattle.comp_worlds.specs.declared.world.ComponentWorld.{ComponentWorld}
-use Rattle.comp_links.specs.Links.{lower_needs}
+use Rattle.comp_links.specs.Links.{lower_needs, lower_realloc}
+use Rattle.comp_links.specs.Modules.{UserImport, user_imports}
+use Rattle.comp_links.specs.Targets.{UserModule}
 use Rattle.comp_links.specs.Roles.{import_encoding, IsEncodedImport}
 use Rattle.shim_plan.specs.Plans.{shim_of}
 use Rattle.shim_plan.specs.declared.kinds.ShimKind.{ShimKind}
@@ -39,37 +39,41 @@ known None h = absurd (true≢false (sym h))
 
 module _ (w : ComponentWorld) (ok : IsEncodable w) (has : AllByRecursion (HasShimOptions w) (shims_of w)) where
   -- no options
-  without : (i : CoreImport) → Contains (core_imports w) i → needs (lower_needs w i.role) 1 ≡ false → HasLowerOptions w i.role
+  without : (i : UserImport) → Contains (user_imports w) i → needs (lower_needs w i.core.role) 1 ≡ false → HasLowerOptions w i
   without i there e =
-      let none : lower_needs w i.role ≡ 0 = role_without w i.role (import_role w ok i there) e in
+      let none : lower_needs w i.core.role ≡ 0 = role_without w i.core.role (import_role w ok i there) e in
       record { memory = λ h. absurd (true≢false (sym h ∙ e)); realloc = λ h. absurd (true≢false (sym h ∙ ap (λ n. needs n 2) none)) }
 
   -- those of a shim
-  through : (i : CoreImport) → Contains (core_imports w) i → needs (lower_needs w i.role) 1 ≡ true → (encoding : StringEncoding) → import_encoding w i.role ≡ Some encoding → (kind : ShimKind) → kind_of_import i.role encoding ≡ Some kind → HasLowerOptions w i.role
+  through : (i : UserImport) → Contains (user_imports w) i → needs (lower_needs w i.core.role) 1 ≡ true → (encoding : StringEncoding) → import_encoding w i.of i.core.role ≡ Some encoding → (kind : ShimKind) → kind_of_import i.of i.core.role encoding ≡ Some kind → HasLowerOptions w i
   through i there e encoding encoded kind is =
       let s = known (shim_of kind (shims_of w)) (shim_there w ok i there encoding encoded e kind is) in
       let at = found_shim w ok kind s.0 s.1 in
-      let own : kind_of_import i.role encoding ≡ Some s.0.kind = is ∙ ap Some (sym at.2) in
-      let j : (j : CoreImport) × StandsFor w s.0 j = for_role w s.0 i.role encoding own (all_at (StandsForOne w) (shims_of w) at.0 s.0 (each_stands w ok) at.1) in
+      let own : kind_of_import i.of i.core.role encoding ≡ Some s.0.kind = is ∙ ap Some (sym at.2) in
+      let j : (j : UserImport) × StandsFor w s.0 j = for_role w s.0 i.of i.core.role encoding own (all_at (StandsForOne w) (shims_of w) at.0 s.0 (each_stands w ok) at.1) in
       let given = given_shim w ok i there encoding encoded kind is s.0 s.1 in
-      let same : j.0.role ≡ i.role = same_Some j.0.role i.role (sym j.1.is.of_kind ∙ given.of_kind) in
-      let options : s.0.options.0 ≡ lower_needs w i.role = j.1.options ∙ ap (lower_needs w) same in
-      let offered : HasShimOptions w s.0 = all_at (HasShimOptions w) (shims_of w) at.0 s.0 has at.1 in
-      record { memory = λ h. offered.memory (subst (λ n. IsTrue (needs n 1)) (sym options) h); realloc = λ h. offered.realloc (subst (λ n. IsTrue (needs n 2)) (sym options) h) }
+      let same : (j.0.of, j.0.core.role) ≡ (i.of, i.core.role) = same_Some (j.0.of, j.0.core.role) (i.of, i.core.role) (sym j.1.is.of_kind ∙ given.of_kind) in
+      let offered : HasLowerOptions w j.0 = all_at (HasShimOptions w) (shims_of w) at.0 s.0 has at.1 j.0 j.1 in
+      record {
+        memory = λ h. offered.memory (subst (λ (p : UserModule × Import). IsTrue (needs (lower_needs w p.1) 1)) (sym same) h);
+        realloc = λ h.
+            subst (λ (p : UserModule × Import). IsSome (lower_realloc w p.0)) same (offered.realloc (subst (λ (p : UserModule × Import). IsTrue (needs (lower_needs w p.1) 2)) (sym same) h));
+      }
 
-  one : (name field : List ℕ) (role : Import) → Contains (core_imports w) (record { module_name = name; field = field; role = role }) → IsEncodedImport w role → (b : Bool) → needs (lower_needs w role) 1 ≡ b → HasLowerOptions w role
-  one name field role there encoded false e = without (record { module_name = name; field = field; role = role }) there e
-  one name field (imports.WorldFunc key function abi) there encoded true e =
-      let i : CoreImport = record { module_name = name; field = field; role = imports.WorldFunc key function abi } in
-      let n = known (import_encoding w i.role) (encoded refl) in
+  one : (of : UserModule) (name field : List ℕ) (role : Import) → Contains (user_imports w) (record { of = of; core = record { module_name = name; field = field; role = role } }) → IsEncodedImport w of role → (b : Bool) → needs (lower_needs w role) 1 ≡ b →
+      HasLowerOptions w (record { of = of; core = record { module_name = name; field = field; role = role } })
+  one of name field role there encoded false e = without (record { of = of; core = record { module_name = name; field = field; role = role } }) there e
+  one of name field (imports.WorldFunc key function abi) there encoded true e =
+      let i : UserImport = record { of = of; core = record { module_name = name; field = field; role = imports.WorldFunc key function abi } } in
+      let n = known (import_encoding w of i.core.role) (encoded refl) in
       through i there e n.0 n.1 _ refl
-  one name field (imports.InterfaceFunc key id function abi) there encoded true e =
-      let i : CoreImport = record { module_name = name; field = field; role = imports.InterfaceFunc key id function abi } in
-      let n = known (import_encoding w i.role) (encoded refl) in
+  one of name field (imports.InterfaceFunc key id function abi) there encoded true e =
+      let i : UserImport = record { of = of; core = record { module_name = name; field = field; role = imports.InterfaceFunc key id function abi } } in
+      let n = known (import_encoding w of i.core.role) (encoded refl) in
       through i there e n.0 n.1 _ refl
-  one name field role there encoded true e = absurd (true≢false (sym e))
+  one of name field role there encoded true e = absurd (true≢false (sym e))
 
-pub all_lowered : (w : ComponentWorld) → IsEncodable w → AllByRecursion (HasShimOptions w) (shims_of w) → AllByRecursion (λ i. IsEncodedImport w i.role) (core_imports w) → AllByRecursion (λ i. HasLowerOptions w i.role) (core_imports w)
+pub all_lowered : (w : ComponentWorld) → IsEncodable w → AllByRecursion (HasShimOptions w) (shims_of w) → AllByRecursion (λ (i : UserImport). IsEncodedImport w i.of i.core.role) (user_imports w) → AllByRecursion (HasLowerOptions w) (user_imports w)
 all_lowered w ok has encoded =
-    all_of_each (λ (i : CoreImport). HasLowerOptions w i.role) (core_imports w)
-    (λ i there. one w ok has i.module_name i.field i.role there (AllByRecursion-contains (λ (i : CoreImport). IsEncodedImport w i.role) (core_imports w) i encoded there) (needs (lower_needs w i.role) 1) refl)
+    all_of_each (HasLowerOptions w) (user_imports w)
+    (λ i there. one w ok has i.of i.core.module_name i.core.field i.core.role there (AllByRecursion-contains (λ (i : UserImport). IsEncodedImport w i.of i.core.role) (user_imports w) i encoded there) (needs (lower_needs w i.core.role) 1) refl)

@@ -9,7 +9,11 @@ use Rattle.comp_bytes.specs.declared.def.Def.TheVariants as defs
 use Rattle.comp_inventories.specs.Inventories.{inventory, scope_of}
 use Rattle.comp_items.specs.Items.{Extends}
 use Rattle.comp_links.specs.Links.{destructor_of}
-use Rattle.comp_links.specs.Lists.{own_resources, type_of_world}
+use Rattle.std.specs.Option.{option_map}
+use Rattle.std.proofs.lemmas.Option.{slice_get-map}
+use Rattle.comp_links.specs.Lists.{ProvidedType, own_resources, provided_resources, type_of_world}
+use Rattle.comp_links.specs.Targets.{Main}
+use Rattle.comp_links.proofs.OnlyMain.{main_resources, resources_of_main, own_of_main}
 use Rattle.comp_terms.specs.Rules.{Grows, IsDestructorRight, IsRight, ResourceDefined}
 use Rattle.comp_terms.specs.Terms.{IsResource}
 use Rattle.comp_trees.specs.DefinedScopes.{Denotes}
@@ -46,9 +50,17 @@ pub resource_denotes : (w : ComponentWorld) → IsEncodable w → (id : TypeId) 
     (old mid new : List Def) → Grows w old mid [] → slice_get (own_resources w) (inventory old).resources ≡ Some id → (index : ℕ) → IsResource new index (DefinedAt (inventory mid).resources) → Denotes (scope_of new) index (type_of_world w id)
 resource_denotes w ok id within resource old mid new g next index h = subst (λ t. Denotes (scope_of new) index t) (tree_of_next w ok id within resource (inventory mid).resources (still_next w id old mid g next)) h.denotes
 
-pub resource_grows : (w : ComponentWorld) (id : TypeId) (old mid new : List Def) (destructor : Option ℕ) → Grows w old mid [] → slice_get (own_resources w) (inventory old).resources ≡ Some id → IsDestructorRight w mid destructor (destructor_of w id) → new ≡ mid ++ resource_of destructor ∷ [] → Grows w old new (ResourceDefined ∷ [])
-resource_grows w id old mid new destructor g next destructed added =
-    let right : IsRight w mid (resource_of destructor) = record { id = id; next = still_next w id old mid g next; destructed = destructed } in
+-- main has to export it
+provided_next : (w : ComponentWorld) → IsEncodable w → (number : ℕ) (id : TypeId) → slice_get (own_resources w) number ≡ Some id → slice_get (provided_resources w) number ≡ Some (record { of = Main; id = id })
+provided_next w ok number id next =
+    let main_type : TypeId → ProvidedType = λ id. record { of = Main; id = id } in
+    ap (λ (ps : List ProvidedType). slice_get ps number) (resources_of_main w ok.valid)
+    ∙ (slice_get-map main_type (main_resources w) number
+    ∙ (ap (λ (ids : List TypeId). option_map main_type (slice_get ids number)) (sym (own_of_main w ok.valid)) ∙ ap (option_map main_type) next))
+
+pub resource_grows : (w : ComponentWorld) → IsEncodable w → (id : TypeId) (old mid new : List Def) (destructor : Option ℕ) → Grows w old mid [] → slice_get (own_resources w) (inventory old).resources ≡ Some id → IsDestructorRight w mid destructor (destructor_of w (record { of = Main; id = id })) → new ≡ mid ++ resource_of destructor ∷ [] → Grows w old new (ResourceDefined ∷ [])
+resource_grows w ok id old mid new destructor g next destructed added =
+    let right : IsRight w mid (resource_of destructor) = record { provided = record { of = Main; id = id }; next = provided_next w ok (inventory mid).resources id (still_next w id old mid g next); destructed = destructed } in
     Grows-then g (Grows-by (resource_of destructor) added right)
 
 -- ---- the root

@@ -1,14 +1,13 @@
 -- What the core instances add to a component, and what is taken as given (component model, explainer: core instances; this
 -- project's own).
-use Rattle.std.specs.Prelude.{◌≡◌, ℕ, Bool, List, [], ◌∷◌, ◌++◌, length, map, Option, Some, None}
-use Rattle.std.specs.List.{range_with_len, flat_map}
+use Rattle.std.specs.Prelude.{◌≡◌, ◌≤◌, ◌^◌, ℕ, suc, Bool, List, [], ◌∷◌, ◌++◌, length, map, slice_get, Option, Some, None}
+use Rattle.std.specs.List.{AllByRecursion, IsDistinct, range_with_len, flat_map}
+use Rattle.std.specs.Map.{keys_of}
+use Rattle.std.specs.Str.{bytes_eq}
 use Rattle.core_bytes.specs.Modules.{Encodes}
-use Rattle.comp_bytes.specs.ItemIndices.{IsAt}
 use Rattle.comp_bytes.specs.Spaces.{items_in}
 use Rattle.comp_bytes.specs.declared.space.Space.TheVariants as spaces
-use Rattle.comp_bytes.specs.declared.def.Item.TheVariants as items
 use Rattle.comp_bytes.specs.declared.def.Def.{Def}
-use Rattle.comp_bytes.specs.declared.def.Def.TheVariants as defs
 use Rattle.wit_data.specs.declared.ids.InterfaceId.{InterfaceId}
 use Rattle.wit_data.specs.declared.ids.TypeId.{TypeId}
 use Rattle.root_imports.specs.declared.met_types.MetTypes.{MetTypes}
@@ -23,8 +22,15 @@ use Rattle.comp_links.specs.Lists.{type_of_world}
 use Rattle.interface_needs.specs.RootNeeds.{interface_of_item}
 use Rattle.comp_worlds.specs.declared.world.ComponentWorld.{ComponentWorld}
 use Rattle.comp_links.specs.Modules.{user_modules}
+use Rattle.comp_links.specs.Roles.{IsEncodedImport}
+use Rattle.comp_links.specs.Targets.{UserModule as User, Adapter}
+use Rattle.comp_worlds.specs.Uses.{imports_of}
+use Rattle.comp_worlds.specs.Lookups.{module_name}
+use Rattle.core_options.specs.declared.modules.UserModule.{UserModule}
+use Rattle.comp_worlds.specs.declared.world.ValidatedModule.{ValidatedModule}
+use Rattle.comp_worlds.specs.declared.world.WorldAdapter.{WorldAdapter}
 use Rattle.comp_terms.specs.Generated.{shims_number, fixup_number, GeneratedBytes, MayBeGenerated}
-use Rattle.comp_terms.specs.Rules.{Grows, Landmark, ModuleIs, InstanceOf, instances_in, resources_marked}
+use Rattle.comp_terms.specs.Rules.{Grows, Landmark, ModuleIs, InstanceOf, instances_in, resources_marked, users_marked}
 use Rattle.comp_terms.specs.Terms.{IsInstanceOf}
 use Rattle.root_imports.specs.RootScopes.{AreTablesRight, ArePassed}
 use Rattle.root_imports.specs.Imports.{FindsImports, FindsUsed}
@@ -49,16 +55,49 @@ pub record AreImportsMade (w : ComponentWorld) (functions : List (List ℕ × �
   pub tables : AreTablesRight w met instances ds maps
   pub passed : ArePassed w met
 
--- the first core module is main's
-pub record IsFirstModule (w : ComponentWorld) (ds : List Def) : Type 0 where
-  pub made : IsAt ds spaces.CoreModule 0 (defs.Item (items.CoreModule w.main.bytes))
-
--- it is the only one, nothing is instantiated, and no resource is defined
-pub record IsMainAlone (w : ComponentWorld) (ds : List Def) : Type 0 where
-  pub first : IsFirstModule w ds
-  pub alone : items_in spaces.CoreModule ds ≡ 1
+-- the core modules are the user modules; nothing is instantiated, and no resource is defined
+pub record AreUserModules (w : ComponentWorld) (ds : List Def) : Type 0 where
+  pub count : items_in spaces.CoreModule ds ≡ length (user_modules w)
+  pub room : length (user_modules w) ≤ 2 ^ 32
   pub nothing : instances_in ds ≡ []
   pub none : (inventory ds).resources ≡ 0
+
+-- each user module is one of the core modules, so that it can be instantiated
+pub record HasUserModules (w : ComponentWorld) (ds : List Def) : Type 0 where
+  pub there : length (user_modules w) ≤ items_in spaces.CoreModule ds
+  pub room : length (user_modules w) ≤ 2 ^ 32
+
+-- main, as a user module
+pub record IsMainUser (w : ComponentWorld) (u : UserModule) : Type 0 where
+  pub number : u.number ≡ 0
+  pub named : module_name u.which ≡ None
+  pub found : u.found.now ≡ w.main
+
+-- the same user module
+pub record IsSameUser (u v : UserModule) : Type 0 where
+  pub number : v.number ≡ u.number
+  pub named : module_name v.which ≡ module_name u.which
+  pub found : v.found.now ≡ u.found.now
+
+-- the imports of a user module that need a string encoding have one
+abbrev pub IsEncodedUser : ComponentWorld → User → ValidatedModule → Type 0
+IsEncodedUser w of m = AllByRecursion (λ i. IsEncodedImport w of i.role) (imports_of m)
+
+-- those of the adapters
+abbrev pub AreEncodedAdapters : ComponentWorld → List (List ℕ × WorldAdapter) → Type 0
+AreEncodedAdapters w adapters = AllByRecursion (λ a. IsEncodedUser w (Adapter a.0) a.1.info) adapters
+
+-- the instances of the first of these adapters are found by their names
+pub record AreAdapterInstances (w : ComponentWorld) (ds : List Def) (table : List (List ℕ × ℕ)) (adapters : List (List ℕ × WorldAdapter)) : Type 0 where
+  pub names : map (λ e. e.0) table ≡ map (λ a. a.0) adapters
+  pub each : (place : ℕ) (e : List ℕ × ℕ) → slice_get table place ≡ Some e → IsInstanceOf ds e.1 (suc place)
+
+-- all adapters have an instance, in order, and what their imports need
+pub record AllAdapters (w : ComponentWorld) (old new : List Def) (table : List (List ℕ × ℕ)) : Type 0 where
+  pub grows : Grows w old new (map InstanceOf (range_with_len 1 (length w.adapters)))
+  pub made : AreAdapterInstances w new table w.adapters
+  pub apart : IsDistinct bytes_eq (keys_of w.adapters)
+  pub encoded : AreEncodedAdapters w w.adapters
 
 -- ---- types of exported interfaces
 
@@ -82,12 +121,12 @@ pub record IsDefinedType (w : ComponentWorld) (ds : List Def) (t : TypeId) : Typ
 -- ---- what is added
 
 -- the landmarks of the core instances and of the modules that are generated for them, and of the resources that are defined before
--- main's instance
+-- the user modules are instantiated
 abbrev pub instances_marked : ComponentWorld → Option GeneratedBytes → List Landmark
-instances_marked w None = resources_marked w ++ InstanceOf 0 ∷ []
-instances_marked w (Some g) = ModuleIs g.shims ∷ InstanceOf (shims_number w) ∷ (resources_marked w ++ InstanceOf 0 ∷ ModuleIs g.fixup ∷ InstanceOf (fixup_number w) ∷ [])
+instances_marked w None = resources_marked w ++ users_marked w
+instances_marked w (Some g) = ModuleIs g.shims ∷ InstanceOf (shims_number w) ∷ (resources_marked w ++ (users_marked w ++ ModuleIs g.fixup ∷ InstanceOf (fixup_number w) ∷ []))
 
--- the instance of main, between those of the shims and of the fixup, where there are any
+-- the instances of the user modules, between those of the shims and of the fixup, where there are any
 pub record AddsInstances (w : ComponentWorld) (old new : List Def) : Type 0 where
   pub generated : Option GeneratedBytes
   pub are_generated : MayBeGenerated w generated

@@ -1,36 +1,55 @@
 //! The core instances, in order.
 #![tactic(auto, using(comp_items::proofs::Extending::extends_none, comp_items::proofs::Extending::extends_same, comp_items::proofs::Extending::extends_then))]
 
-ghost use Rattle.std.specs.Prelude.{IfOk, IfErr, OnOk};
+ghost use Rattle.std.specs.Prelude.{◌≡◌, IfOk, IfErr, OnOk};
+ghost use Rattle.std.specs.Option.{option_copied};
 ghost use Rattle.std.specs.List.{AllByRecursion};
 ghost use Rattle.root_imports.specs.Keeping.{RootMoved};
 ghost use Rattle.comp_links.specs.Roles.{IsEncodedImport};
 ghost use Rattle.comp_terms.specs.Terms.{IsInstanceOf};
-ghost use Rattle.comp_worlds.specs.WorldContents.{core_imports};
+ghost use Rattle.comp_links.specs.Modules.{UserImport, user_imports};
 ghost use Rattle.comp_worlds.specs.ExportOrder.{AreExportsInOrder};
 ghost use Rattle.root_imports.specs.Met.{AreExportsMet};
-ghost use Rattle.core_instances.specs.Instances.{AreImportsMade, IsMainAlone, AddsInstances};
+ghost use Rattle.core_instances.specs.Instances.{AreImportsMade, AreUserModules, AddsInstances};
 ghost use Rattle.core_options.specs.Causes.{IsCause};
 ghost use Rattle.core_options.specs.MainOptions.{HasLowerOptions};
 
 use crate::exported_types::define_exported_types;
 use crate::fixup::encode_indirect_lowerings;
-use crate::main_module::instantiate_main_module;
 use crate::own_resources::ShimSources;
 use crate::plan::plan_shims;
+use crate::users::{instantiate_users, main_user, sources_of};
 use comp_lists::{Keyed, Text};
 use comp_worlds::ComponentWorld;
-use core_options::{OptionSources, StateFault, memory_name};
+use core_options::{StateFault, UserInstances, memory_name};
 use main_fixup::FillSources;
-use main_instance::{ImportSources, encode_shim_instantiation};
+use main_instance::encode_shim_instantiation;
 use root_imports::RootScope;
 
-/// Adds the module of shims and its instance, the types of exported interfaces, main's instance, and the fixup's module and its
-/// instance; without those of shims and fixup, where main needs no shims. The answer is the index of main's instance. `functions` has the root functions that were imported,
-/// by their names. After a refusal the definitions that were made until then stay.
+/// What the fixup's lowerings are made from.
+fn fill_sources<'a>(
+    functions: &'a Keyed<Text, u32>,
+    memory: Option<&'a str>,
+    instances: &'a UserInstances,
+) -> FillSources<'a>
+    ensures functions { result.functions.now ≡ functions.now }
+    ensures memory { option_copied result.memory ≡ option_copied memory.entry }
+    ensures instances { result.instances.now ≡ instances.now }
+{
+    FillSources {
+        functions,
+        memory,
+        instances,
+    }
+}
+
+/// Adds the module of shims and its instance, the types of exported interfaces, the instances of the user modules, and the fixup's
+/// module and its instance; without those of shims and fixup, where no module needs shims. The answer is the index of main's instance.
+/// `functions` has the root functions that were imported, by their names. After a refusal the definitions that were made until then
+/// stay.
 ///
 /// `E9` where an import of a function has no string encoding, `E7` where a function is lowered with a memory and main exports none,
-/// `E8` where it is lowered with a realloc and main exports none for imports, and `E11` where an exported interface uses types of another
+/// `E8` where it is lowered with a realloc and there is none for the module, and `E11` where an exported interface uses types of another
 /// one that main doesn't export before it.
 pub fn encode_core_instantiation(
     root: &mut RootScope<'_, ComponentWorld>,
@@ -38,14 +57,14 @@ pub fn encode_core_instantiation(
     debug_names: bool,
 ) -> Result<u32, StateFault>
     requires made { AreImportsMade root.old.world.now functions.now root.old.met root.old.items.defs root.old.maps root.old.instances }
-    requires alone { IsMainAlone root.old.world.now root.old.items.defs }
+    requires users { AreUserModules root.old.world.now root.old.items.defs }
     ensures moved { RootMoved root.old.world.now root.old root.new }
     ensures added { OnOk result (AddsInstances root.old.world.now root.old.items.defs root.new.items.defs) }
     ensures ordered { OnOk result (AreExportsInOrder root.old.world.now) }
     ensures met { OnOk result (AreExportsMet root.old.world.now root.new.met) }
     ensures made { IfOk result (λ index. IsInstanceOf root.new.items.defs index 0) }
-    ensures encoded { OnOk result (AllByRecursion (λ i. IsEncodedImport root.old.world.now i.role) (core_imports root.old.world.now)) }
-    ensures lowered { OnOk result (AllByRecursion (λ i. HasLowerOptions root.old.world.now i.role) (core_imports root.old.world.now)) }
+    ensures encoded { OnOk result (AllByRecursion (λ (i : UserImport). IsEncodedImport root.old.world.now i.of i.core.role) (user_imports root.old.world.now)) }
+    ensures lowered { OnOk result (AllByRecursion (HasLowerOptions root.old.world.now) (user_imports root.old.world.now)) }
     ensures cause { IfErr result (IsCause root.old.world.now) }
 {
     let shims = plan_shims(root.items.allocator(), root.world)?;
@@ -55,21 +74,10 @@ pub fn encode_core_instantiation(
         instance: shim_instance,
     };
     define_exported_types(root, shims_made)?;
-    let sources = ImportSources {
-        functions,
-        shims: &shims,
-        shim_instance,
-    };
-    let instance = instantiate_main_module(root, &sources)?;
     let world = root.world;
-    let sources = FillSources {
-        functions,
-        options: OptionSources {
-            instance,
-            memory: memory_name(world),
-            realloc: world.main.exports.import_realloc_for(None, ""),
-        },
-    };
+    let sources = sources_of(main_user(world), functions, &shims, shim_instance);
+    let instances = instantiate_users(root, &sources)?;
+    let sources = fill_sources(functions, memory_name(world), &instances);
     encode_indirect_lowerings(root, &sources, &shims, shim_instance, debug_names)?;
-    Ok(instance)
+    Ok(instances.main)
 }

@@ -9,6 +9,7 @@ ghost use Rattle.comp_inventories.specs.Inventories.{inventory};
 ghost use Rattle.comp_items.specs.Items.{Extends};
 ghost use Rattle.comp_links.specs.Links.{destructor_of};
 ghost use Rattle.comp_links.specs.Lists.{own_resources};
+ghost use Rattle.comp_links.specs.Targets.{Main};
 ghost use Rattle.comp_roles.specs.declared.libraries.MainOrAdapter.TheVariants as users;
 ghost use Rattle.comp_terms.specs.Rules.{Grows, IsDestructorRight, ResourceDefined};
 ghost use Rattle.core_instances.specs.Instances.{IsDefinedType};
@@ -70,7 +71,7 @@ fn destructor_shim(
     ensures same { root.new ≡ record root.old { items = root.new.items } }
     ensures extends { Extends root.old.items root.new.items }
     ensures grows { OnOk result (Grows root.old.world.now root.old.items.defs root.new.items.defs []) }
-    ensures right { IfOk result (λ index. IsDestructorRight root.old.world.now root.new.items.defs index (destructor_of root.old.world.now id)) }
+    ensures right { IfOk result (λ index. IsDestructorRight root.old.world.now root.new.items.defs index (destructor_of root.old.world.now (record { of = Main; id = id }))) }
     ensures cause { IfErr result IsRefusal }
 {
     let world = root.world;

@@ -1,4 +1,4 @@
-//! The shims of main.
+//! The shims of a world.
 
 ghost use Rattle.std.specs.Prelude.{◌≡◌, IfOk, IfErr};
 ghost use Rattle.comp_worlds.specs.Encodable.{IsEncodable};
@@ -10,7 +10,6 @@ use comp_worlds::ComponentWorld;
 use core_options::StateFault;
 use shim_plan::{ShimFault, Shims};
 use std::alloc::Global;
-use world_shims::main_shims;
 
 /// Why shims can't be planned, as a fault of the encoding.
 fn plan_fault(fault: ShimFault) -> StateFault
@@ -22,15 +21,15 @@ fn plan_fault(fault: ShimFault) -> StateFault
     }
 }
 
-/// The shims that main needs, in order.
+/// The shims that the user modules need, in order.
 ///
-/// `E9` for the first import of main that needs a shim and has no string encoding.
+/// `E9` for the first import that needs a shim and has no string encoding.
 pub(crate) fn plan_shims(alloc: Global, world: &ComponentWorld) -> Result<Shims, StateFault>
     requires { IsEncodable world.now }
     ensures ok { IfOk result (λ shims. shims ≡ shims_of world.now) }
     ensures cause { IfErr result (IsCause world.now) }
 {
-    match main_shims(alloc, world) {
+    match world_shims::plan_shims(alloc, world) {
         Ok(shims) => Ok(shims),
         Err(fault) => Err(plan_fault(fault)),
     }

@@ -2,3 +2,4 @@ pub mod Refusals
 pub mod Offered
 pub mod OptionTerms
 pub mod Aliases
+pub mod Reallocs

@@ -4,7 +4,7 @@ use Rattle.std.specs.Prelude.{◌≡◌, ◌≤◌, ◌^◌, ◌⊎◌, ◌++◌
 use Rattle.std.specs.List.{AllByRecursion}
 use Rattle.comp_roles.specs.CoreImports.{CoreImport}
 use Rattle.comp_worlds.specs.ExportOrder.{AreExportsInOrder, IsLaterExport}
-use Rattle.comp_worlds.specs.WorldContents.{core_imports, exported_item}
+use Rattle.comp_worlds.specs.WorldContents.{exported_item}
 use Rattle.wit_data.specs.Names.{key_text}
 use Rattle.wit_data.specs.declared.ids.InterfaceId.{InterfaceId}
 use Rattle.wit_data.specs.declared.worlds.WorldItem.TheVariants as items
@@ -18,7 +18,8 @@ use Rattle.comp_options.specs.Options.{needs}
 use Rattle.comp_options.specs.OptionLists.{lacks_memory, lacks_realloc}
 use Rattle.comp_options.specs.declared.required.OptionFault.{OptionFault}
 use Rattle.comp_options.specs.declared.required.OptionFault.TheVariants as missing
-use Rattle.comp_links.specs.Targets.{Main}
+use Rattle.comp_links.specs.Targets.{ExportRef}
+use Rattle.comp_links.specs.Modules.{UserImport, user_imports}
 use Rattle.comp_links.specs.Lists.{RequiredFunction, required_functions}
 use Rattle.comp_links.specs.Links.{lower_needs, lower_realloc, lift_needs, lift_realloc}
 use Rattle.core_options.specs.MainOptions.{memory_name, HasLowerOptions, HasLiftOptions}
@@ -35,18 +36,18 @@ of_option name missing.NoMemory = faults.NoMemory name
 of_option name missing.NoRealloc = faults.NoRealloc name
 
 -- one of these core imports needs a string encoding, and has none
-pub record LacksImportEncoding (w : ComponentWorld) (imports : List CoreImport) (place : List ℕ) : Type 0 where
-  pub given : CoreImport
+pub record LacksImportEncoding (w : ComponentWorld) (imports : List UserImport) (place : List ℕ) : Type 0 where
+  pub given : UserImport
   pub present : Contains imports given
-  pub needs : IsTrue (needs_encoding given.role)
-  pub none : import_encoding w given.role ≡ None
-  pub at : place ≡ field_path given.module_name given.field
+  pub needs : IsTrue (needs_encoding given.core.role)
+  pub none : import_encoding w given.of given.core.role ≡ None
+  pub at : place ≡ field_path given.core.module_name given.core.field
 
 -- one of these required functions has no string encoding
 pub record LacksExportEncoding (w : ComponentWorld) (functions : List RequiredFunction) (place : List ℕ) : Type 0 where
   pub required : RequiredFunction
   pub present : Contains functions required
-  pub none : export_encoding w required.key required.function ≡ None
+  pub none : export_encoding w required.of required.key required.function ≡ None
   pub at : place ≡ required.function
 
 -- the name of the shim of a core import
@@ -54,11 +55,11 @@ abbrev pub indirect_name : CoreImport → List ℕ
 indirect_name i = codes "indirect-" ++ (i.module_name ++ (codes "-" ++ i.field))
 
 -- one of these core imports is lowered with an option of this bit
-pub record NeedsLowering (w : ComponentWorld) (bit : ℕ) (imports : List CoreImport) (place : List ℕ) : Type 0 where
-  pub given : CoreImport
+pub record NeedsLowering (w : ComponentWorld) (bit : ℕ) (imports : List UserImport) (place : List ℕ) : Type 0 where
+  pub given : UserImport
   pub present : Contains imports given
-  pub needed : IsTrue (needs (lower_needs w given.role) bit)
-  pub at : place ≡ indirect_name given
+  pub needed : IsTrue (needs (lower_needs w given.core.role) bit)
+  pub at : place ≡ indirect_name given.core
 
 -- one of these required functions is lifted with an option of this bit
 pub record NeedsLift (w : ComponentWorld) (bit : ℕ) (functions : List RequiredFunction) (place : List ℕ) : Type 0 where
@@ -68,13 +69,21 @@ pub record NeedsLift (w : ComponentWorld) (bit : ℕ) (functions : List Required
   pub at : place ≡ required.function
 
 -- a function is lowered or lifted with a memory, and main exports none
-pub record LacksMemory (w : ComponentWorld) (imports : List CoreImport) (functions : List RequiredFunction) (place : List ℕ) : Type 0 where
+pub record LacksMemory (w : ComponentWorld) (imports : List UserImport) (functions : List RequiredFunction) (place : List ℕ) : Type 0 where
   pub needed : NeedsLowering w 1 imports place ⊎ NeedsLift w 1 functions place
   pub none : memory_name w ≡ None
 
--- a function is lowered or lifted with a realloc, and main exports none for it
-abbrev pub LacksRealloc : ComponentWorld → List CoreImport → List RequiredFunction → List ℕ → Type 0
-LacksRealloc w imports functions place = (NeedsLowering w 2 imports place × (lower_realloc w Main ≡ None)) ⊎ (NeedsLift w 2 functions place × (lift_realloc w ≡ None))
+-- a function is lowered, or lifted, with a realloc, and there is none for the module
+pub record LacksLowerRealloc (w : ComponentWorld) (imports : List UserImport) (place : List ℕ) : Type 0 where
+  pub needed : NeedsLowering w 2 imports place
+  pub none : lower_realloc w needed.given.of ≡ None
+
+pub record LacksLiftRealloc (w : ComponentWorld) (functions : List RequiredFunction) (place : List ℕ) : Type 0 where
+  pub needed : NeedsLift w 2 functions place
+  pub none : lift_realloc w needed.required.of ≡ None
+
+abbrev pub LacksRealloc : ComponentWorld → List UserImport → List RequiredFunction → List ℕ → Type 0
+LacksRealloc w imports functions place = LacksLowerRealloc w imports place ⊎ LacksLiftRealloc w functions place
 
 -- the name of an exported interface: that of a key at which it is exported, with its whole version
 pub record IsExportName (w : ComponentWorld) (id : InterfaceId) (name : List ℕ) : Type 0 where
@@ -91,7 +100,7 @@ pub record ExportsLater (w : ComponentWorld) (interface used : List ℕ) : Type 
   pub used_named : IsExportName w other used
 
 -- the cause of a fault, where these imports are given what they need and these functions are lifted
-abbrev pub IsCauseAmong : ComponentWorld → List CoreImport → List RequiredFunction → StateFault → Type 0
+abbrev pub IsCauseAmong : ComponentWorld → List UserImport → List RequiredFunction → StateFault → Type 0
 IsCauseAmong w imports functions faults.Memory = Unit {0}
 IsCauseAmong w imports functions (faults.NoEncoding place) = LacksImportEncoding w imports place ⊎ LacksExportEncoding w functions place
 IsCauseAmong w imports functions (faults.NoMemory place) = LacksMemory w imports functions place
@@ -106,8 +115,8 @@ IsListRefusal set memory realloc name (faults.NoMemory place) = IsTrue (lacks_me
 IsListRefusal set memory realloc name (faults.NoRealloc place) = IsTrue (lacks_realloc set realloc) × (place ≡ name)
 IsListRefusal set memory realloc name fault = ⊥
 
--- the same, where they name exports of main: its memory, and this realloc
-abbrev pub IsOptionRefusal : ComponentWorld → ℕ → Option (List ℕ) → List ℕ → StateFault → Type 0
+-- the same, where they name main's memory and this realloc
+abbrev pub IsOptionRefusal : ComponentWorld → ℕ → Option ExportRef → List ℕ → StateFault → Type 0
 IsOptionRefusal w set realloc name faults.Memory = Unit {0}
 IsOptionRefusal w set realloc name (faults.TooMany excess) = 2 ^ 32 ≤ excess
 IsOptionRefusal w set realloc name (faults.NoMemory place) = IsTrue (needs set 1) × (memory_name w ≡ None) × (place ≡ name)
@@ -117,21 +126,21 @@ IsOptionRefusal w set realloc name (faults.LaterExport interface used) = ⊥
 
 -- a core import of the world, or a required function, has no string encoding
 abbrev pub LacksEncoding : ComponentWorld → List ℕ → Type 0
-LacksEncoding w place = LacksImportEncoding w (core_imports w) place ⊎ LacksExportEncoding w (required_functions w) place
+LacksEncoding w place = LacksImportEncoding w (user_imports w) place ⊎ LacksExportEncoding w (required_functions w) place
 
 -- the cause of a fault
 abbrev pub IsCause : ComponentWorld → StateFault → Type 0
-IsCause w = IsCauseAmong w (core_imports w) (required_functions w)
+IsCause w = IsCauseAmong w (user_imports w) (required_functions w)
 
 -- a required function has a string encoding
 abbrev pub IsEncodedExport : ComponentWorld → RequiredFunction → Type 0
-IsEncodedExport w r = IsSome (export_encoding w r.key r.function)
+IsEncodedExport w r = IsSome (export_encoding w r.of r.key r.function)
 
--- each core import that needs a string encoding, and each required function, has one, main has what lowerings and lifts need, and
+-- each core import that needs a string encoding, and each required function, has one, there is what lowerings and lifts need, and
 -- interfaces are exported behind those that they use
 pub record IsEncoded (w : ComponentWorld) : Type 0 where
-  pub imports : AllByRecursion (λ i. IsEncodedImport w i.role) (core_imports w)
+  pub imports : AllByRecursion (λ i. IsEncodedImport w i.of i.core.role) (user_imports w)
   pub exports : AllByRecursion (IsEncodedExport w) (required_functions w)
-  pub lowered : AllByRecursion (λ i. HasLowerOptions w i.role) (core_imports w)
+  pub lowered : AllByRecursion (HasLowerOptions w) (user_imports w)
   pub lifted : AllByRecursion (HasLiftOptions w) (required_functions w)
   pub ordered : AreExportsInOrder w

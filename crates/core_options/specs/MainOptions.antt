@@ -1,9 +1,10 @@
--- What the options of lowerings and lifts name (Canonical ABI: `canon lower`, `canon lift` and their options): exports of
--- main's instance.
-use Rattle.std.specs.Prelude.{◌≡◌, ℕ, List, Option, Some, None, true, IsTrue, IfSome, IsSome}
+-- What the options of lowerings and lifts name (Canonical ABI: `canon lower`, `canon lift` and their options): exports of the
+-- instances of user modules.
+use Rattle.std.specs.Prelude.{◌≡◌, ℕ, List, Option, Some, None, IsTrue, IfSome, IsSome, slice_get}
 use Rattle.std.specs.Option.{option_copied, option_map}
 use Rattle.std.specs.List.{AllZip}
-use Rattle.standard_kinds.specs.declared.kinds.ExportKind.{ExportKind}
+use denote.Ref.{Bor}
+use Rattle.standard_kinds.specs.declared.kinds.ExportKind.TheVariants as kinds
 use Rattle.comp_lists.specs.Found.{found}
 use Rattle.comp_bytes.specs.declared.canon.CanonicalOption.{CanonicalOption}
 use Rattle.comp_bytes.specs.declared.def.Def.{Def}
@@ -11,42 +12,118 @@ use Rattle.core_types.specs.declared.types.FuncType.{FuncType}
 use Rattle.core_types.specs.declared.types.MemoryType.{MemoryType}
 use Rattle.comp_options.specs.Options.{needs}
 use Rattle.comp_roles.specs.Lookups.{first_memory}
-use Rattle.comp_roles.specs.declared.imports.Import.{Import}
 use Rattle.comp_roles.specs.declared.offered.ExternType.TheVariants as externs
 use Rattle.comp_worlds.specs.declared.world.ComponentWorld.{ComponentWorld}
-use Rattle.comp_links.specs.Targets.{Main, TargetOption}
+use Rattle.comp_worlds.specs.declared.world.ValidatedModule.{ValidatedModule}
+use Rattle.comp_worlds.specs.Lookups.{module_name}
+use Rattle.comp_worlds.specs.declared.modules.CustomModule.{CustomModule}
+use Rattle.comp_worlds.specs.declared.modules.CustomModule.TheVariants as named
+use Rattle.comp_links.specs.Targets.{UserModule as User, Main, Adapter, ExportRef, TargetOption}
+use Rattle.comp_links.specs.Modules.{WorldModule, user_modules, module_found, UserImport}
 use Rattle.comp_links.specs.Lists.{RequiredFunction}
 use Rattle.comp_links.specs.Links.{lower_needs, lower_realloc, lift_needs, lift_realloc}
 use Rattle.comp_terms.specs.Terms.{CoreExport, TermOption, IsInstanceOf, IsExported, IsOption}
+use Rattle.comp_terms.specs.Planned.{IsExportFor, IsOptionFor}
+use Rattle.core_options.specs.declared.modules.UserModule.{UserModule}
+use Rattle.core_options.specs.declared.modules.InstanceExport.{InstanceExport}
+use Rattle.core_options.specs.declared.modules.UserInstances.{UserInstances}
 use Rattle.core_options.specs.declared.options.OptionSources.{OptionSources}
-use Rattle.comp_terms.specs.Planned.{IsOptionFor}
 
--- validation found a function, or a memory, of this name among the exports of main
-abbrev pub OffersFunction : ComponentWorld → List ℕ → Type 0
-OffersFunction w name = (type : FuncType) × (found name w.main.offered ≡ Some (externs.Func type))
+-- ---- user modules
 
-abbrev pub OffersMemory : ComponentWorld → List ℕ → Type 0
-OffersMemory w name = (type : MemoryType) × (found name w.main.offered ≡ Some (externs.Memory type))
+-- a user module as code names it
+abbrev pub user_of_name : Option (List ℕ) → User
+user_of_name None = Main
+user_of_name (Some name) = Adapter name
 
--- an export of main
-abbrev pub of_main : ExportKind → List ℕ → CoreExport
-of_main kind name = record { of = 0; kind = kind; name = name }
+abbrev pub user_of : CustomModule → User
+user_of which = user_of_name (module_name which)
 
--- the index is an alias of main's export of this name, where there is a name
-abbrev pub IsAliasIf : List Def → ExportKind → Option (List ℕ) → Option ℕ → Type 0
-IsAliasIf ds kind None None = Unit {0}
-IsAliasIf ds kind (Some name) (Some index) = IsExported ds index (of_main kind name)
-IsAliasIf ds kind name index = ⊥
+-- what validation found of the module that code names, as a module of the world
+abbrev pub module_named : CustomModule → ValidatedModule → WorldModule
+module_named which m = record { of = user_of which; found = m }
+
+-- a user module of the world
+pub record IsUser (w : ComponentWorld) (u : UserModule) : Type 0 where
+  pub listed : slice_get (user_modules w) u.number ≡ Some (module_named u.which u.found.now)
+  pub named : module_found w (user_of u.which) ≡ Some u.found.now
+
+-- the instance of the adapter of this number is found by its name
+pub record IsAdapterInstance (ds : List Def) (table : List (List ℕ × ℕ)) (number : ℕ) (name : List ℕ) : Type 0 where
+  pub instance : ℕ
+  pub there : found name table ≡ Some instance
+  pub made : IsInstanceOf ds instance number
+
+-- the instances of all user modules of the world
+pub record AreUserInstances (w : ComponentWorld) (ds : List Def) (u : UserInstances) : Type 0 where
+  pub main : IsInstanceOf ds u.main 0
+  pub adapters : (number : ℕ) (name : List ℕ) (m : WorldModule) → slice_get (user_modules w) number ≡ Some m → m.of ≡ Adapter name → IsAdapterInstance ds u.adapters number name
+
+-- ---- what they export
+
+-- validation found a function, or a memory, of this name among the exports of a module
+abbrev pub OffersFunction : ValidatedModule → List ℕ → Type 0
+OffersFunction m name = (type : FuncType) × (found name m.offered ≡ Some (externs.Func type))
+
+abbrev pub OffersMemory : ValidatedModule → List ℕ → Type 0
+OffersMemory m name = (type : MemoryType) × (found name m.offered ≡ Some (externs.Memory type))
+
+-- an export of a user module that is instantiated, as the link table names it
+abbrev pub export_ref_of : InstanceExport → ExportRef
+export_ref_of e = record { of = user_of e.of; name = e.name.now }
+
+-- it is a function that validation found among the exports of the module, whose instance is this
+pub record IsInstanceExport (w : ComponentWorld) (ds : List Def) (e : InstanceExport) : Type 0 where
+  pub number : ℕ
+  pub exporting : WorldModule
+  pub made : IsInstanceOf ds e.instance number
+  pub listed : slice_get (user_modules w) number ≡ Some exporting
+  pub same : exporting.of ≡ user_of e.of
+  pub offered : OffersFunction exporting.found e.name.now
+
+-- an export of main, or of the module whose instance is the other one, by what a look-up across modules found
+abbrev pub instance_for : CustomModule → ℕ → ℕ → ℕ
+instance_for named.Main main instance = main
+instance_for (named.Adapter name) main instance = instance
+
+abbrev pub placed_export : ℕ → ℕ → CustomModule × Bor (List ℕ) → InstanceExport
+placed_export main instance p = record { instance = instance_for p.0 main instance; of = p.0; name = p.1 }
+
+-- ---- aliases
+
+-- the index is an alias of what a target names as an export
+pub record IsAliasOf (w : ComponentWorld) (ds : List Def) (index : ℕ) (e : ExportRef) : Type 0 where
+  pub exported : CoreExport
+  pub is : IsExported ds index exported
+  pub function : exported.kind ≡ kinds.Func
+  pub named : IsExportFor w exported e
+
+-- the memory that main exports under this name
+abbrev pub memory_of_main : List ℕ → CoreExport
+memory_of_main name = record { of = 0; kind = kinds.Memory; name = name }
+
+-- the index is an alias of the memory of this name, or of this export, where there is one
+abbrev pub IsMemoryIf : List Def → Option (List ℕ) → Option ℕ → Type 0
+IsMemoryIf ds None None = Unit {0}
+IsMemoryIf ds (Some name) (Some index) = IsExported ds index (memory_of_main name)
+IsMemoryIf ds name index = ⊥
+
+abbrev pub IsAliasIf : ComponentWorld → List Def → Option ExportRef → Option ℕ → Type 0
+IsAliasIf w ds None None = Unit {0}
+IsAliasIf w ds (Some e) (Some index) = IsAliasOf w ds index e
+IsAliasIf w ds e index = ⊥
+
+-- ---- options
 
 -- the name of the memory of options
 abbrev pub memory_name : ComponentWorld → Option (List ℕ)
 memory_name w = option_map (λ m. m.0) (first_memory w.main.exports.exports)
 
--- main's instance, the name of the memory, and that of a function of main, if it exports them
+-- main's instance, the name of its memory, and the realloc, where there is one
 pub record AreOptionSources (w : ComponentWorld) (ds : List Def) (s : OptionSources) : Type 0 where
   pub made : IsInstanceOf ds s.instance 0
   pub memory : option_copied s.memory ≡ memory_name w
-  pub offered : IfSome (option_copied s.realloc) (OffersFunction w)
+  pub realloc : IfSome s.realloc (IsInstanceExport w ds)
 
 -- the options name what those of the target do, by terms between them
 pub record NameOptions (w : ComponentWorld) (ds : List Def) (written : List CanonicalOption) (options : List TargetOption) : Type 0 where
@@ -54,12 +131,12 @@ pub record NameOptions (w : ComponentWorld) (ds : List Def) (written : List Cano
   pub are : AllZip (IsOption ds) written terms
   pub asked : AllZip (IsOptionFor w) terms options
 
--- main has the memory and the realloc that a lift of a required function needs
+-- main has the memory, and there is the realloc, that a lift of a required function needs
 pub record HasLiftOptions (w : ComponentWorld) (r : RequiredFunction) : Type 0 where
   pub memory : IsTrue (needs (lift_needs w r.key r.function) 1) → IsSome (memory_name w)
-  pub realloc : IsTrue (needs (lift_needs w r.key r.function) 2) → IsSome (lift_realloc w)
+  pub realloc : IsTrue (needs (lift_needs w r.key r.function) 2) → IsSome (lift_realloc w r.of)
 
--- main has the memory and the realloc that a call of the function of a role needs
-pub record HasLowerOptions (w : ComponentWorld) (role : Import) : Type 0 where
-  pub memory : IsTrue (needs (lower_needs w role) 1) → IsSome (memory_name w)
-  pub realloc : IsTrue (needs (lower_needs w role) 2) → IsSome (lower_realloc w Main)
+-- and that a call of an imported function needs
+pub record HasLowerOptions (w : ComponentWorld) (i : UserImport) : Type 0 where
+  pub memory : IsTrue (needs (lower_needs w i.core.role) 1) → IsSome (memory_name w)
+  pub realloc : IsTrue (needs (lower_needs w i.core.role) 2) → IsSome (lower_realloc w i.of)

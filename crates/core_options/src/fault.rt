@@ -19,7 +19,7 @@ pub enum StateFault {
     /// of the function that is lifted.
     #[error("E7 NoMemory place={place}")]
     NoMemory { place: Text },
-    /// A function is lowered or lifted with a realloc, and main exports none for it. `place` is as for the memory.
+    /// A function is lowered or lifted with a realloc, and there is none for calls of its module. `place` is as for the memory.
     #[error("E8 NoRealloc place={place}")]
     NoRealloc { place: Text },
     /// The world has no string encoding for a function. `place` is `module::field` of a core import, or the

@@ -1,4 +1,4 @@
-//! The options of lowerings and lifts, and what they name among the exports of main.
+//! The options of lowerings and lifts, and what they name among the exports of user modules.
 //!
 //! Component model, binary format: `canonopt`; Canonical ABI: `canon lower`, `canon lift`, `realloc`, `string-encoding`.
 #![tactic(auto, using(comp_items::proofs::Extending::extends_none, comp_items::proofs::Extending::extends_same, comp_items::proofs::Extending::extends_then))]
@@ -6,8 +6,7 @@
 ghost use Rattle.std.specs.Prelude.{◌≡◌, [], Some, IfOk, IfErr, IfSome, OnOk, IsSome, IsTrue, false};
 ghost use Rattle.std.specs.Option.{option_copied, option_map};
 ghost use Rattle.comp_items.specs.Items.{Extends};
-ghost use Rattle.comp_links.specs.Links.{export_of, options_in};
-ghost use Rattle.comp_links.specs.Targets.{Main};
+ghost use Rattle.comp_links.specs.Links.{options_in};
 ghost use Rattle.comp_options.specs.Options.{needs};
 ghost use Rattle.comp_options.specs.OptionLists.{when, options_of, lacks_memory, lacks_realloc};
 ghost use Rattle.comp_roles.specs.Functions.{of_function};
@@ -15,11 +14,12 @@ ghost use Rattle.comp_terms.specs.Rules.{Grows};
 ghost use Rattle.comp_terms.specs.Terms.{IsInstanceOf};
 ghost use Rattle.comp_worlds.specs.Encodable.{IsEncodable};
 ghost use Rattle.core_options.specs.Causes.{IsListRefusal, IsOptionRefusal, of_option};
-ghost use Rattle.core_options.specs.MainOptions.{OffersFunction, IsAliasIf, memory_name, AreOptionSources, NameOptions};
+ghost use Rattle.core_options.specs.MainOptions.{export_ref_of, IsMemoryIf, memory_name, AreOptionSources, NameOptions};
 ghost use Rattle.root_imports.specs.RootScopes.{IsRefusal};
 ghost use Rattle.standard_kinds.specs.declared.kinds.ExportKind.TheVariants as kinds;
 
 use crate::fault::StateFault;
+use crate::modules::{InstanceExport, alias_if};
 use bitflags::Flags;
 use byte_encoding::BuildFault;
 use comp_bytes::CanonicalOption;
@@ -47,15 +47,15 @@ pub fn encoding_of(
     Ok(encodings.get(&wanted).copied())
 }
 
-/// Main's instance, and the names of its exports that options name, looked up once for all functions.
+/// Main's instance with the name of its memory, and the realloc, looked up once for all functions.
 #[derive(Clone, Copy)]
 pub struct OptionSources<'a> {
     /// Main's instance.
     pub instance: u32,
     /// The memory, the first that main exports, if it exports one.
     pub memory: Option<&'a str>,
-    /// The realloc of these calls, if main exports one.
-    pub realloc: Option<&'a str>,
+    /// The realloc of these calls, if there is one.
+    pub realloc: Option<InstanceExport<'a>>,
 }
 
 /// The name of the memory that options name, the first that main exports, if it exports one.
@@ -80,35 +80,12 @@ pub fn memory_of_main(
     ensures same { root.new ≡ record root.old { items = root.new.items } }
     ensures extends { Extends root.old.items root.new.items }
     ensures grows { OnOk result (Grows root.old.world.now root.old.items.defs root.new.items.defs []) }
-    ensures memory { IfOk result (λ index. IsAliasIf root.new.items.defs kinds.Memory (memory_name root.old.world.now) index) }
+    ensures memory { IfOk result (λ index. IsMemoryIf root.new.items.defs (memory_name root.old.world.now) index) }
     ensures cause { IfErr result IsRefusal }
 {
     match memory {
         Some(name) => {
             let index = root.items.core_memory(instance, name)?;
-            Ok(Some(index))
-        }
-        None => Ok(None),
-    }
-}
-
-/// The alias of a function that main exports, if a name is given. `instance` is main's.
-pub fn function_of_main(
-    root: &mut RootScope<'_, ComponentWorld>,
-    instance: u32,
-    name: Option<&str>,
-) -> Result<Option<u32>, BuildFault>
-    requires made { IsInstanceOf root.old.items.defs instance 0 }
-    requires offered { IfSome (option_copied name) (OffersFunction root.old.world.now) }
-    ensures same { root.new ≡ record root.old { items = root.new.items } }
-    ensures extends { Extends root.old.items root.new.items }
-    ensures grows { OnOk result (Grows root.old.world.now root.old.items.defs root.new.items.defs []) }
-    ensures alias { IfOk result (λ index. IsAliasIf root.new.items.defs kinds.Func (option_copied name.entry) index) }
-    ensures cause { IfErr result IsRefusal }
-{
-    match name {
-        Some(name) => {
-            let index = root.items.core_function(instance, name)?;
             Ok(Some(index))
         }
         None => Ok(None),
@@ -153,22 +130,25 @@ fn list_options(
     Ok(options)
 }
 
-/// The name of a realloc, where one is needed.
-fn realloc_if_needed(needed: RequiredOptions, name: Option<&str>) -> Option<&str>
-    ensures { option_copied result ≡ when (needs needed.0 2) (option_copied name.entry) }
+/// A realloc, where one is needed.
+fn realloc_if_needed<'a>(
+    needed: RequiredOptions,
+    realloc: Option<InstanceExport<'a>>,
+) -> Option<InstanceExport<'a>>
+    ensures { result ≡ when (needs needed.0 2) realloc.entry }
 {
     if needed.contains(RequiredOptions::REALLOC) {
-        name
+        realloc
     } else {
         None
     }
 }
 
-/// The options of a set, in order, with which a function is lowered or lifted: the memory that main exports, a realloc of main,
-/// and the string encoding. `place` names the function in faults.
+/// The options of a set, in order, with which a function is lowered or lifted: the memory that main exports, the realloc, and the
+/// string encoding. `place` names the function in faults.
 ///
-/// `E7` where a memory is needed and main exports none, `E8` where a realloc is needed and main exports none for these calls.
-pub fn options_of_main(
+/// `E7` where a memory is needed and main exports none, `E8` where a realloc is needed and there is none for these calls.
+pub fn options_for(
     root: &mut RootScope<'_, ComponentWorld>,
     sources: &OptionSources<'_>,
     place: &Text,
@@ -180,14 +160,14 @@ pub fn options_of_main(
     ensures same { root.new ≡ record root.old { items = root.new.items } }
     ensures extends { Extends root.old.items root.new.items }
     ensures grows { OnOk result (Grows root.old.world.now root.old.items.defs root.new.items.defs []) }
-    ensures named { IfOk result (λ options. NameOptions root.old.world.now root.new.items.defs options (options_in needed.0 (option_map (export_of Main) (option_copied sources.now.realloc)) (Some encoding))) }
+    ensures named { IfOk result (λ options. NameOptions root.old.world.now root.new.items.defs options (options_in needed.0 (option_map export_ref_of sources.now.realloc) (Some encoding))) }
     ensures memory { OnOk result (IsTrue (needs needed.0 1) → IsSome (memory_name root.old.world.now)) }
-    ensures realloc { OnOk result (IsTrue (needs needed.0 2) → IsSome (option_copied sources.now.realloc)) }
-    ensures cause { IfErr result (IsOptionRefusal root.old.world.now needed.0 (option_copied sources.now.realloc) place.now) }
+    ensures realloc { OnOk result (IsTrue (needs needed.0 2) → IsSome sources.now.realloc) }
+    ensures cause { IfErr result (IsOptionRefusal root.old.world.now needed.0 (option_map export_ref_of sources.now.realloc) place.now) }
 {
     let memory = memory_of_main(root, sources.instance, sources.memory)?;
     let wanted = realloc_if_needed(needed, sources.realloc);
-    let realloc = function_of_main(root, sources.instance, wanted)?;
+    let realloc = alias_if(root, wanted)?;
     let options = list_options(
         root.items.allocator(),
         place,

@@ -21,6 +21,7 @@ use Rattle.comp_worlds.specs.WorldContents.{exported_item, interface_at, name_at
 use Rattle.comp_worlds.specs.Worlds.{IsOwnResource}
 use Rattle.comp_worlds.specs.declared.world.ComponentWorld.{ComponentWorld}
 use Rattle.comp_links.specs.Lists.{types_in, is_resource, own_resources, resource_among, origin_of_type, resource_of}
+use Rattle.comp_links.proofs.OnlyMain.{main_resources, own_of_main}
 use Rattle.interface_needs.specs.Needs.{IsImported}
 use Rattle.interface_needs.specs.RootNeeds.{IsExportedInterface}
 use Rattle.interface_needs.proofs.ExportedInterfaces.{exported_ascend, exported_every, listed_owner}
@@ -115,6 +116,10 @@ module _ (w : ComponentWorld) (ok : IsEncodable w) where
   abbrev listed : WorldKey → List TypeId
   listed key = map (λ e. e.1) (types_in w (exported_item w key))
 
+  -- main has to export all interfaces
+  own_is : own_resources w ≡ main_resources w
+  own_is = own_of_main w ok.valid
+
   listed_has : (keys : List WorldKey) (t : TypeId) → Contains (flat_map (λ key. map (λ e. e.1) (types_in w (exported_item w key))) keys) t → IsRequiredType w keys t
   listed_has keys t c =
       let i : IsInOne listed keys t = flat_contains listed keys t c in
@@ -130,7 +135,7 @@ module _ (w : ComponentWorld) (ok : IsEncodable w) where
   required_owner : (keys : List WorldKey) (t : TypeId) (h : IsRequiredType w keys t) → interface_at w.resolve.types t.index ≡ Some h.interface
   required_owner keys t h = listed_owner w ok h.interface (record { key = h.key; of = h.item }) t h.listed
 
-  own_has : (t : TypeId) → Contains (own_resources w) t → IsRequiredType w w.main_exports t
+  own_has : (t : TypeId) → Contains (main_resources w) t → IsRequiredType w w.main_exports t
   own_has t c = listed_has w.main_exports t (filter_has (λ (id : TypeId). is_resource (kind_at w.resolve.types id.index)) (flat_map listed w.main_exports) t c).0
 
   -- ---- resources that are imported
@@ -138,8 +143,9 @@ module _ (w : ComponentWorld) (ok : IsEncodable w) where
   -- a type that belongs to no exported interface
   pub resource_imported : (id : TypeId) → ((i : InterfaceId) → interface_at w.resolve.types id.index ≡ Some i → IsExportedInterface w i → ⊥) → resource_of w id ≡ ImportedAt (origin_of_type w id)
   resource_imported id none =
-      not_among (origin_of_type w id) id 0 (own_resources w)
-      (is_none_of (own_resources w) id.index
+      ap (resource_among (origin_of_type w id) id 0) own_is
+      ∙ not_among (origin_of_type w id) id 0 (main_resources w)
+      (is_none_of (main_resources w) id.index
       (λ c. let h : IsRequiredType w w.main_exports id = own_has id c in none h.interface (required_owner w.main_exports id h) (record { key = h.key; of = h.item })))
 
   -- one of an imported interface, and one of the root
@@ -179,23 +185,27 @@ module _ (w : ComponentWorld) (ok : IsEncodable w) where
       by (Some (items.NamedType id)) is d others = others d
       by None is d others = others d
 
-  own_apart : AreTypesApart (own_resources w)
+  own_apart : AreTypesApart (main_resources w)
   own_apart = apart_filtered (λ (id : TypeId). is_resource (kind_at w.resolve.types id.index)) (flat_map listed w.main_exports) (keys_apart w.main_exports ok.required_apart)
 
   -- each is known by its number
   pub resource_defined : (number : ℕ) (id : TypeId) → slice_get (own_resources w) number ≡ Some id → resource_of w id ≡ DefinedAt number
-  resource_defined number id e = among_at (origin_of_type w id) (own_resources w) own_apart 0 number id e ∙ ap DefinedAt (let s : 0 + number ≡ number = omega arith in s)
+  resource_defined number id e =
+      ap (resource_among (origin_of_type w id) id 0) own_is
+      ∙ (among_at (origin_of_type w id) (main_resources w) own_apart 0 number id (ap (λ ids. slice_get ids number) (sym own_is) ∙ e)
+      ∙ ap DefinedAt (let s : 0 + number ≡ number = omega arith in s))
 
   -- a resource of an interface that main has to export is one of them
   pub own_there : (key : WorldKey) (id : TypeId) → IsOwnResource w key id → Contains (own_resources w) id
   own_there key id h =
+      subst (λ ids. Contains ids id) (sym own_is) (
       let n = id.index in
       let within = owned_within w.resolve.types n h.interface h.owner in
       let exported : IsExportedInterface w h.interface = record { key = key; of = h.exported } in
       let named : IsSome (name_at w.resolve.types n) = (ok.types n within).named h.resource.kind in
-      by within exported (name_at w.resolve.types n) refl named
+      by within exported (name_at w.resolve.types n) refl named)
     where
-      by : id.index < length w.resolve.types → IsExportedInterface w h.interface → (o : Option (List ℕ)) → name_at w.resolve.types id.index ≡ o → IsSome o → Contains (own_resources w) id
+      by : id.index < length w.resolve.types → IsExportedInterface w h.interface → (o : Option (List ℕ)) → name_at w.resolve.types id.index ≡ o → IsSome o → Contains (main_resources w) id
       by within exported None is some = absurd (true≢false (sym some))
       by within exported (Some name) is some =
           let entry = exported_every w ok h.interface exported id.index within (owner_of w.resolve.types id.index h.interface h.owner) name (same_name w.resolve.types id.index ∙ is) in

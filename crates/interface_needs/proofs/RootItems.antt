@@ -34,7 +34,11 @@ use Rattle.world_values.specs.Items.{function_in, functions_of, function_of_item
 use Rattle.world_values.specs.Mentions.{function_types, import_types, export_types, role_types}
 use Rattle.comp_worlds.specs.Encodable.{IsEncodable, IsTypePlaced, IsFunctionPlaced, IsItemPlaced, IsExportPlaced, IsRolePlaced, place}
 use Rattle.comp_worlds.specs.Uses.{all_imports}
+use Rattle.comp_worlds.specs.Uses.{all_imports}
 use Rattle.comp_worlds.specs.WorldContents.{items_of, exported_item, core_imports, interface_at, name_at}
+use Rattle.comp_links.specs.Modules.{import_groups}
+use Rattle.comp_links.proofs.Groups.{grouped_imports, groups_right}
+use Rattle.comp_links.proofs.OnlyMain.{imports_of_main}
 use Rattle.comp_worlds.specs.Worlds.{IsImportGroup, IsImportRole, IsResource}
 use Rattle.comp_worlds.specs.declared.world.ComponentWorld.{ComponentWorld}
 use Rattle.interface_needs.specs.Needs.{IsImported}
@@ -138,22 +142,22 @@ module _ (w : ComponentWorld) (ok : IsEncodable w) (f : Function) where
       by (items.NamedType t) k i = absurd (none-some f k)
 
 module _ (w : ComponentWorld) (ok : IsEncodable w) where
-  role_right : (i : CoreImport) → Contains (core_imports w) i → IsImportRole w i.role
+  role_right : (i : CoreImport) → Contains (all_imports w.main w.adapters) i → IsImportRole w i.role
   role_right i c =
-      let one : IsInOne imports_from w.main.imports.modules i = flat_contains imports_from w.main.imports.modules i c in
+      let one : IsInOne imports_from (import_groups w) i = flat_contains imports_from (import_groups w) i (subst (λ (l : List CoreImport). Contains l i) (sym (grouped_imports w)) c) in
       let g = one.x in
       let import_of : List ℕ × Import → CoreImport = λ f. record { module_name = g.0; field = f.0; role = f.1 } in
       let field : IsImage import_of (fields_of g.1) i = map_contains import_of (fields_of g.1) i one.there in
-      let fields = fields_right w g (AllByRecursion-contains (IsImportGroup w) w.main.imports.modules g ok.valid.main.import_roles one.one) in
+      let fields = fields_right w g (AllByRecursion-contains (IsImportGroup w) (import_groups w) g (groups_right w ok.valid) one.one) in
       subst (λ (i : CoreImport). IsImportRole w i.role) field.same (AllByRecursion-contains (λ (f : List ℕ × Import). IsImportRole w f.1) (fields_of g.1) field.x fields field.there)
 
   -- a resource whose handles a core import drops
-  pub drop_known : (i : CoreImport) (key : WorldKey) (interface : Option InterfaceId) (t : TypeId) → Contains (core_imports w) i → i.role ≡ imports.ImportedResourceDrop key interface t → IsDropKnown w t
+  pub drop_known : (i : CoreImport) (key : WorldKey) (interface : Option InterfaceId) (t : TypeId) → Contains (all_imports w.main w.adapters) i → i.role ≡ imports.ImportedResourceDrop key interface t → IsDropKnown w t
   drop_known i key interface t c is =
       let es = (items_of w).imports in
       let types = w.resolve.types in
       let resource : IsResource types t.index = subst (IsImportRole w) is (role_right i c) in
-      let placed : place types es (Some (Id t)) ≤ length es = subst (IsRolePlaced w.resolve es) is (AllByRecursion-contains (λ (i : CoreImport). IsRolePlaced w.resolve es i.role) (core_imports w) i ok.roles c) in
+      let placed : place types es (Some (Id t)) ≤ length es = subst (IsRolePlaced w.resolve es) is (AllByRecursion-contains (λ (i : CoreImport). IsRolePlaced w.resolve es i.role) (core_imports w) i ok.roles (subst (λ (l : List CoreImport). Contains l i) (imports_of_main w ok.valid) c)) in
       let used : Contains (used_in w) (Id t) = role_used w i (Id t) c (subst (λ r. Contains (role_types w.resolve es r) (Id t)) (sym is) (contains_first (Id t) [])) in
       let at : IsTypePlaced w.resolve es t.index = ok.types t.index resource.present in
       record {

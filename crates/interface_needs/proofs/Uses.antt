@@ -17,34 +17,35 @@ use Rattle.comp_roles.specs.declared.imports.Import.TheVariants as imports
 use Rattle.comp_roles.specs.declared.imports.ImportInstance.{ImportInstance}
 use Rattle.world_values.specs.Items.{functions_of, root_function_at}
 use Rattle.world_values.specs.Mentions.{role_types, types_of_function, function_types, import_types, export_types}
-use Rattle.comp_worlds.specs.Uses.{all_imports, imports_of}
-use Rattle.comp_worlds.specs.WorldContents.{items_of, core_imports, imported_name}
+use Rattle.comp_worlds.specs.Uses.{all_imports}
+use Rattle.comp_worlds.specs.WorldContents.{items_of, imported_name}
 use Rattle.comp_worlds.specs.declared.world.ComponentWorld.{ComponentWorld}
+use Rattle.comp_links.specs.Modules.{import_groups}
+use Rattle.comp_links.proofs.Groups.{grouped_imports}
 use Rattle.comp_links.specs.Roles.{is_named, is_used, interface_function, is_used_of}
 use Rattle.interface_needs.proofs.Lists.{Passes, any_passes, contains_flat}
 use Rattle.interface_needs.proofs.Owners.{same_id}
 use Rattle.interface_needs.proofs.Needed.{used_in}
 
 -- what the role of a core import names is used
-pub role_used : (w : ComponentWorld) (i : CoreImport) (t : Ty) → Contains (core_imports w) i → Contains (role_types w.resolve (items_of w).imports i.role) t → Contains (used_in w) t
+pub role_used : (w : ComponentWorld) (i : CoreImport) (t : Ty) → Contains (all_imports w.main w.adapters) i → Contains (role_types w.resolve (items_of w).imports i.role) t → Contains (used_in w) t
 role_used w i t c d =
     let world = items_of w in
     let all : List CoreImport = all_imports w.main w.adapters in
-    let there : Contains all i = Contains-append_left (imports_of w.main) (flat_map (λ a. imports_of a.1.info) w.adapters) i c in
     let roles : CoreImport → List Ty = λ i. role_types w.resolve world.imports i.role in
-    Contains-append_left (flat_map roles all) (flat_map (λ e. import_types e.1) world.imports ++ flat_map (λ e. export_types w.resolve e.1) world.exports) t (contains_flat roles all i t there d)
+    Contains-append_left (flat_map roles all) (flat_map (λ e. import_types e.1) world.imports ++ flat_map (λ e. export_types w.resolve e.1) world.exports) t (contains_flat roles all i t c d)
 
 -- a core import with this role
 pub record HasCoreImport (w : ComponentWorld) (role : Import) : Type 0 where
   pub core_import : CoreImport
-  pub there : Contains (core_imports w) core_import
+  pub there : Contains (all_imports w.main w.adapters) core_import
   pub is : core_import.role ≡ role
 
 -- a role that some import of some module has
-some_role : (w : ComponentWorld) (test : Import → Bool) → list_any (λ (g : List ℕ × ImportInstance). list_any (λ (f : List ℕ × Import). test f.1) (fields_of g.1)) w.main.imports.modules ≡ true →
+some_role : (w : ComponentWorld) (test : Import → Bool) → list_any (λ (g : List ℕ × ImportInstance). list_any (λ (f : List ℕ × Import). test f.1) (fields_of g.1)) (import_groups w) ≡ true →
     (role : Import) × (test role ≡ true) × HasCoreImport w role
 some_role w test h =
-    let group : Passes (λ (g : List ℕ × ImportInstance). list_any (λ (f : List ℕ × Import). test f.1) (fields_of g.1)) w.main.imports.modules = any_passes (λ g. list_any (λ f. test f.1) (fields_of g.1)) w.main.imports.modules h in
+    let group : Passes (λ (g : List ℕ × ImportInstance). list_any (λ (f : List ℕ × Import). test f.1) (fields_of g.1)) (import_groups w) = any_passes (λ g. list_any (λ f. test f.1) (fields_of g.1)) (import_groups w) h in
     let g = group.x in
     let field : Passes (λ (f : List ℕ × Import). test f.1) (fields_of g.1) = any_passes (λ f. test f.1) (fields_of g.1) group.passes in
     let f = field.x in
@@ -53,7 +54,7 @@ some_role w test h =
       field.passes,
       record {
         core_import = import_of f;
-        there = contains_flat imports_from w.main.imports.modules g (import_of f) group.there (Contains-map import_of (fields_of g.1) f field.there);
+        there = subst (λ (l : List CoreImport). Contains l (import_of f)) (grouped_imports w) (contains_flat imports_from (import_groups w) g (import_of f) group.there (Contains-map import_of (fields_of g.1) f field.there));
         is = refl;
       },
     )

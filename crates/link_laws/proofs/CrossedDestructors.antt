@@ -42,7 +42,6 @@ use Rattle.core_runs.specs.Execution.{exec, acts}
 use Rattle.core_runs.specs.Expected.{Known, expected}
 use Rattle.wit_data.specs.Keys.{is_same_key}
 use Rattle.wit_data.specs.Values.{values_from}
-use Rattle.wit_data.specs.declared.ids.TypeId.{TypeId}
 use Rattle.wit_data.specs.declared.signatures.WasmType.TheVariants as wasm
 use Rattle.wit_data.specs.declared.types.TypeDef.{TypeDef}
 use Rattle.wit_data.specs.declared.types.TypeDefKind.TheVariants as wit_kinds
@@ -63,16 +62,15 @@ use Rattle.comp_inventories.specs.Inventories.{inventory}
 use Rattle.nested_terms.specs.Nested.{empty_scope, AreItemsRight}
 use Rattle.comp_links.proofs.WorkedImports.{interface_of, interface_id, type_id, import_of_interface}
 use Rattle.comp_links.specs.Links.{destructor_of}
-use Rattle.comp_links.specs.Lists.{AreExportsApart, own_resources, type_of_world}
+use Rattle.comp_links.specs.Lists.{AreExportsApart, ProvidedType, provided_resources, own_resources, type_of_world}
 use Rattle.comp_links.specs.Naming.{own_names}
-use Rattle.comp_links.specs.Targets.{Main, ExportRef}
-use Rattle.comp_terms.specs.Generated.{GeneratedBytes, AreGenerated, IsShimOfDestructor, OfDestructor}
+use Rattle.comp_links.specs.Targets.{Main, ExportRef, Target, ExportOf}
+use Rattle.comp_terms.specs.Generated.{GeneratedBytes, AreGenerated, IsShimOfExport, Purpose, OfImport, OfExport, target_of, HasPurpose}
 use Rattle.comp_terms.specs.Terms.{CoreExport, IsInstanceOf, IsExported}
 use Rattle.comp_terms.specs.Terms as terms
-use Rattle.comp_terms.specs.Planned.{IsFillFor, AreFillsFor, IsDestructorFor}
+use Rattle.comp_terms.specs.Planned.{IsFillFor, AreFillsFor, IsShimFor}
 use Rattle.comp_terms.specs.Exports.{IsNestedFor, InstantiatesNested, ExportsInterface}
 use Rattle.comp_terms.specs.Rules.{AliasesUser, AliasesShim, DefinesResource, IsDestructorRight, InstantiatesFixup, IsBuilt}
-use Rattle.shim_plan.specs.declared.kinds.ShimKind.{ShimKind}
 use Rattle.shim_plan.specs.declared.kinds.ShimKind.TheVariants as shim_kinds
 use Rattle.shim_plan.specs.declared.shims.Shim.{Shim}
 use Rattle.shim_runs.specs.ShimRuns.{IsShimAt}
@@ -175,7 +173,14 @@ pub s_is_second : type_of_world world (type_id 1) ≡ OfValues (ResourceAt (Defi
 unfolding values_from
 s_is_second = refl
 
-pub destroyed_by_e : destructor_of world (type_id 1) ≡ Some e
+-- main has to provide them
+abbrev of_number : ℕ → ProvidedType
+of_number number = record { of = Main; id = type_id number }
+
+abbrev of_main : List ℕ → ExportRef
+of_main text = record { of = Main; name = text }
+
+pub destroyed_by_e : destructor_of world (of_number 1) ≡ Some (of_main e)
 destroyed_by_e = refl
 
 -- ---- their shims, and the modules that are generated for them
@@ -314,27 +319,27 @@ shims_are n at = record { arguments = []; made = record { made = at } }
 main_is : (n : ℕ) → slice_get (in_space spaces.CoreInstance (ds n)) 1 ≡ Some (defs.Item (items.CoreInstantiate 0 [])) → IsInstanceOf (ds n) 1 0
 main_is n at = record { arguments = []; made = record { made = at } }
 
-stands_for_d : IsShimOfDestructor world shim_d d
-stands_for_d = record { of_kind = refl; resource = type_id 0; exported = (0, omega arith, refl); typed = refl }
+stands_for_d : IsShimOfExport world shim_d (of_main d)
+stands_for_d = record { of_kind = refl; exporting = main_module world; listed = (0, omega arith, refl); same = refl; typed = refl }
 
-stands_for_e : IsShimOfDestructor world shim_e e
-stands_for_e = record { of_kind = refl; resource = type_id 1; exported = (1, omega arith, refl); typed = refl }
+stands_for_e : IsShimOfExport world shim_e (of_main e)
+stands_for_e = record { of_kind = refl; exporting = main_module world; listed = (0, omega arith, refl); same = refl; typed = refl }
 
-shim_for_d : IsDestructorFor world (ds 5) 0 d
+shim_for_d : IsShimFor world (ds 5) spaces.CoreFunc 0 (ExportOf (of_main d))
 unfolding values_from digits
-shim_for_d = record { place = 0; shim = shim_d; listed = refl; stands_for = stands_for_d; is = record { instance = 0; made = record { made = refl }; of = shims_are 5 refl } }
+shim_for_d = record { place = 0; shim = shim_d; purpose = OfExport (of_main d); same = refl; in_space = refl; listed = refl; stands_for = stands_for_d; is = record { instance = 0; made = record { made = refl }; of = shims_are 5 refl } }
 
-shim_for_e : IsDestructorFor world (ds 6) 1 e
+shim_for_e : IsShimFor world (ds 6) spaces.CoreFunc 1 (ExportOf (of_main e))
 unfolding values_from digits
-shim_for_e = record { place = 1; shim = shim_e; listed = refl; stands_for = stands_for_e; is = record { instance = 0; made = record { made = refl }; of = shims_are 6 refl } }
+shim_for_e = record { place = 1; shim = shim_e; purpose = OfExport (of_main e); same = refl; in_space = refl; listed = refl; stands_for = stands_for_e; is = record { instance = 0; made = record { made = refl }; of = shims_are 6 refl } }
 
 pub r_defined_right : DefinesResource world (ds 5) (Some 0)
 unfolding values_from inventory
-r_defined_right = record { id = type_id 0; next = refl; destructed = shim_for_d }
+r_defined_right = record { provided = of_number 0; next = refl; destructed = shim_for_d }
 
 pub s_defined_right : DefinesResource world (ds 6) (Some 1)
 unfolding values_from inventory
-s_defined_right = record { id = type_id 1; next = refl; destructed = shim_for_e }
+s_defined_right = record { provided = of_number 1; next = refl; destructed = shim_for_e }
 
 shim_aliased_0 : AliasesShim world (ds 3) kinds.Func 0 zero_text
 unfolding values_from digits
@@ -363,7 +368,7 @@ fill_d : IsFillFor world (ds 12) (record { name = zero_text; kind = kinds.Func; 
 fill_d = record {
   named = refl;
   function = refl;
-  purpose = OfDestructor d;
+  purpose = OfExport (of_main d);
   stands_for = stands_for_d;
   serves = record { term = terms.Exported (export_as d); is = (refl, d_is); asked = record { of = record { world_module = main_module world; listed = refl; same = refl }; named = refl } };
 }
@@ -372,7 +377,7 @@ fill_e : IsFillFor world (ds 12) (record { name = one_text; kind = kinds.Func; i
 fill_e = record {
   named = refl;
   function = refl;
-  purpose = OfDestructor e;
+  purpose = OfExport (of_main e);
   stands_for = stands_for_e;
   serves = record { term = terms.Exported (export_as e); is = (refl, e_is); asked = record { of = record { world_module = main_module world; listed = refl; same = refl }; named = refl } };
 }
@@ -431,7 +436,7 @@ instantiated_15 = record {
 
 exported : ExportsInterface world (ds 15) 0
 unfolding values_from instantiated_15
-exported = record { key = key; id = interface_id 0; next = refl; item = refl; component = 0; arguments = given_as 0 1; instance = record { made = refl }; nested = instantiated_15; types = (refl, (refl, tt)); each = tt }
+exported = record { required = record { of = Main; key = key }; id = interface_id 0; next = refl; item = refl; component = 0; arguments = given_as 0 1; instance = record { made = refl }; nested = instantiated_15; types = (refl, (refl, tt)); each = tt }
 
 numbers_apart : IsDistinct bytes_eq (zero_text ∷ one_text ∷ [])
 unfolding IsDistinct
@@ -559,20 +564,17 @@ calls_e arguments now = by (fit dtor_core.params arguments) refl
 abbrev m : Machine
 m = machine_of (end_of crossed)
 
-abbrev main_d : ExportRef
-main_d = record { of = Main; name = d }
-
-not_main_d : CoreMeets world m (Some brackets.Destructor) 1 (ItemIsExport world m main_d) → ⊥
+not_main_d : CoreMeets world m (Some brackets.Destructor) 1 (ItemIsExport world m (of_main d)) → ⊥
 not_main_d c =
-    let plain_one : CoreMeets world m None 1 (ItemIsExport world m main_d) = record { target = c.target; what = c.what; item = c.item; hook = c.hook; is = c.is; known = c.known; named = c.named; hooked = c.hooked; acts = c.acts } in
-    not_d (named_item world m 1 (ItemIsExport world m main_d) plain_one own 1 (ExportedBy 1 e) refl refl (λ arguments. calls_e arguments (traps_next m))).same_name
+    let plain_one : CoreMeets world m None 1 (ItemIsExport world m (of_main d)) = record { target = c.target; what = c.what; item = c.item; hook = c.hook; is = c.is; known = c.known; named = c.named; hooked = c.hooked; acts = c.acts } in
+    not_d (named_item world m 1 (ItemIsExport world m (of_main d)) plain_one own 1 (ExportedBy 1 e) refl refl (λ arguments. calls_e arguments (traps_next m))).same_name
 
-same_resource : (id : TypeId) → slice_get (own_resources world) 0 ≡ Some id → type_id 0 ≡ id
+same_resource : (p : ProvidedType) → slice_get (provided_resources world) 0 ≡ Some p → of_number 0 ≡ p
 unfolding values_from
-same_resource id h = same_Some (type_id 0) id h
+same_resource p h = same_Some (of_number 0) p h
 
 not_defined : IsDefined world m 0 (Some 1) → ⊥
-not_defined h = not_main_d (subst (λ id. DestructorMeets world m (Some 1) (destructor_of world id)) (sym (same_resource h.id h.is)) h.destroyed)
+not_defined h = not_main_d (subst (λ p. DestructorMeets world m (Some 1) (destructor_of world p)) (sym (same_resource h.provided h.is)) h.destroyed)
 
 pub crossed_is_not_linked : IsLinked own_names world generated m → ⊥
 crossed_is_not_linked l = not_defined (l.resources 0 0 (Some 1) refl)
@@ -582,25 +584,31 @@ abbrev name_of_alias : Option Def → List ℕ
 name_of_alias (Some (defs.Item (items.Alias (aliases.CoreExport kind instance text)))) = text
 name_of_alias o = []
 
-abbrev destructor_in : ShimKind → List ℕ
-destructor_in (shim_kinds.ResourceDtor which export) = export
-destructor_in kind = []
-
-shim_there : (place : ℕ) (shim : Shim) → slice_get (shims_of world) place ≡ Some shim → one_text ≡ decimal place → shim.kind ≡ shim_kinds.ResourceDtor modules.Main d → ⊥
+shim_there : (place : ℕ) (shim : Shim) → slice_get (shims_of world) place ≡ Some shim → one_text ≡ decimal place → shim_e ≡ shim
 unfolding values_from digits
-shim_there zero shim listed named of_kind = let letters : 0x31 ≡ 0x30 = ap letter named in absurd (omega (arith, letters))
-shim_there (suc zero) shim listed named of_kind = not_d (ap (λ (x : Shim). destructor_in x.kind) (same_Some shim_e shim listed) ∙ ap destructor_in of_kind)
-shim_there (suc (suc n)) shim listed named of_kind = none-some shim listed
+shim_there zero shim listed named = let letters : 0x31 ≡ 0x30 = ap letter named in absurd (omega (arith, letters))
+shim_there (suc zero) shim listed named = same_Some shim_e shim listed
+shim_there (suc (suc n)) shim listed named = absurd (none-some shim listed)
 
-not_for_d : IsDestructorFor world (ds 5) 1 d → ⊥
-not_for_d h = shim_there h.place h.shim h.listed (ap name_of_alias h.is.made.made) h.stands_for.of_kind
+abbrev name_in : Target → List ℕ
+name_in (ExportOf export_ref) = export_ref.name
+name_in target = []
 
-first_resource : (destructor : Option ℕ) (h : DefinesResource world (ds 5) destructor) → type_id 0 ≡ h.id
+not_purpose_of_e : (p : Purpose) → HasPurpose world shim_e p → target_of world p ≡ ExportOf (of_main d) → ⊥
+not_purpose_of_e (OfImport of role) stands same = none-some (of, role) stands.of_kind
+not_purpose_of_e (OfExport export_ref) stands same = not_d (ap (λ (x : ExportRef). x.name) (same_Some (of_main e) export_ref stands.of_kind) ∙ ap name_in same)
+
+not_for_d : IsShimFor world (ds 5) spaces.CoreFunc 1 (ExportOf (of_main d)) → ⊥
+not_for_d h =
+    let shim : shim_e ≡ h.shim = shim_there h.place h.shim h.listed (ap name_of_alias h.is.made.made) in
+    not_purpose_of_e h.purpose (subst (λ (x : Shim). HasPurpose world x h.purpose) (sym shim) h.stands_for) h.same
+
+first_resource : (destructor : Option ℕ) (h : DefinesResource world (ds 5) destructor) → of_number 0 ≡ h.provided
 unfolding inventory
-first_resource destructor h = same_resource h.id h.next
+first_resource destructor h = same_resource h.provided h.next
 
 pub crossed_not_right : DefinesResource world (ds 5) (Some 1) → ⊥
-crossed_not_right h = not_for_d (subst (λ id. IsDestructorRight world (ds 5) (Some 1) (destructor_of world id)) (sym (first_resource (Some 1) h)) h.destructed)
+crossed_not_right h = not_for_d (subst (λ p. IsDestructorRight world (ds 5) (Some 1) (destructor_of world p)) (sym (first_resource (Some 1) h)) h.destructed)
 
 -- ---- the two resources crossed among the arguments
 

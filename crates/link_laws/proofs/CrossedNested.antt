@@ -19,11 +19,11 @@ use Rattle.comp_runs.specs.Store.{Export, Function, Lifting, ExportedBy}
 use Rattle.comp_runs.specs.Machine.{Machine, export_of}
 use Rattle.link_laws.specs.Meeting.{CoreMeets, ItemIsExport}
 use Rattle.link_laws.specs.Linking.{outcome, exports_at, LiftMeets, IsProvided, IsLinked}
-use Rattle.link_laws.proofs.Stores.{main_function}
+use Rattle.link_laws.proofs.Stores.{function_at_key}
 use Rattle.link_laws.proofs.Steps.{no_modules}
 use Rattle.link_laws.proofs.NamedItem.{own_item}
 use Rattle.link_laws.proofs.Worked.{plain_core, plain_tree, ended, made, machine_of}
-use Rattle.link_laws.proofs.WorkedNested.{k, key, name, world, passing_on, given_as, list_of, straight}
+use Rattle.link_laws.proofs.WorkedNested.{k, key, required, name, world, passing_on, given_as, list_of, straight}
 
 -- the first letter of a name, and the core function that a lift enters
 abbrev letter : List ℕ → ℕ
@@ -48,7 +48,7 @@ module _ (m : Machine) (found : option_and_then (export_of spaces.Func f) (expor
       let letters : 0x6b ≡ 0x67 = ap letter same in
       absurd (omega (arith, letters))
 
-  not_provided : (origins : TypeId → Resource) → IsProvided own_names world m origins (main_function key f) → ⊥
+  not_provided : (origins : TypeId → Resource) → IsProvided own_names world m origins (function_at_key required f) → ⊥
   unfolding values_from
   not_provided origins x =
       let address : 1 ≡ x.address = ap (λ (e : Export). e.address) (same_Some (record { space = spaces.Func; name = f; address = 1 }) (record { space = spaces.Func; name = f; address = x.address }) (sym found ∙ x.provided)) in

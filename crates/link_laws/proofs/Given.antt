@@ -43,10 +43,10 @@ use Rattle.shim_runs.specs.ShimRuns.{IsShimAt, instance_exports}
 use Rattle.shim_runs.proofs.Placed.{shim_at}
 use Rattle.shim_runs.proofs.Exported.{shims_found}
 use Rattle.link_laws.specs.Composition.{at_root, item_instantiates}
-use Rattle.comp_terms.specs.Generated.{shims_number, fixup_number, Purpose, target_of, HasPurpose}
+use Rattle.comp_terms.specs.Generated.{shims_number, fixup_number}
 use Rattle.comp_terms.specs.Terms.{CoreExport, TermOption, Term, Is, IsFunctionType, IsImportedFunction, IsInstanceOf, IsExported, IsOption, IsLowering, IsOfResource, intrinsic_of, IsLifting}
 use Rattle.comp_terms.specs.Terms as terms
-use Rattle.comp_terms.specs.Planned.{IsExportFor, IsMemoryFor, IsOptionFor, IsTypeOf, IsTermFor, IsItemFor, IsLiftFor}
+use Rattle.comp_terms.specs.Planned.{IsExportFor, IsMemoryFor, IsOptionFor, IsTypeOf, IsTermFor, IsItemFor, IsShimFor, IsLiftFor}
 use Rattle.comp_terms.specs.Rules.{IsOfKind}
 use Rattle.comp_runs.specs.Machine.{Scope, address_at, is_of, export_named, export_in, export_of}
 use Rattle.comp_runs.specs.Instances.{type_space, of_kind, type_at}
@@ -563,13 +563,12 @@ module _ {w : ComponentWorld} {earlier : List Def} {c : Scope} {s : Store} (a : 
   target_there index (Lifted entry options) h = absurd (no_lift index entry options h.term h.is h.asked)
   target_there index target h = absurd h.asked
 
-  -- so has a shim
-  pub shim_there : {index : ℕ} (place : ℕ) (shim : Shim) (purpose : Purpose) → slice_get (shims_of w) place ≡ Some shim → HasPurpose w shim purpose → IsExported earlier index (record { of = shims_number w; kind = kinds.Func; name = decimal place }) →
-      (x : ℕ) × (address_at spaces.CoreFunc index c.items ≡ Some x) × IsShimGiven w a.shims x (target_of w purpose)
-  shim_there {index} place shim purpose listed stands h =
-      let x = shim_exported (slice_get_within (shims_of w) place shim listed) h in
-      let given : IsShimGivenAt w x.2 x.0 (target_of w purpose) = record { place = place; shim = shim; purpose = purpose; listed = listed; stands_for = stands; same = refl; is = x.4 } in
-      (x.0, x.1, subst (λ o. IsShimGiven w o x.0 (target_of w purpose)) (sym x.3) given)
+  -- so has a shim for what the target names
+  pub shim_there : {space : Space} {index : ℕ} {target : Target} (h : IsShimFor w earlier space index target) → (x : ℕ) × (address_at spaces.CoreFunc index c.items ≡ Some x) × IsShimGiven w a.shims x target
+  shim_there {space} {index} {target} h =
+      let x = shim_exported (slice_get_within (shims_of w) h.place h.shim h.listed) h.is in
+      let given : IsShimGivenAt w x.2 x.0 target = record { place = h.place; shim = h.shim; purpose = h.purpose; listed = h.listed; stands_for = h.stands_for; same = h.same; is = x.4 } in
+      (x.0, x.1, subst (λ o. IsShimGiven w o x.0 target) (sym x.3) given)
 
   -- and it is a function of its core type
   pub shim_typed : {index : ℕ} (place : ℕ) (shim : Shim) → slice_get (shims_of w) place ≡ Some shim → IsExported earlier index (record { of = shims_number w; kind = kinds.Func; name = decimal place }) →

@@ -1,14 +1,13 @@
 -- What the arguments of a user module's instantiation are, and what its imports find among them.
-use Rattle.std.proofs.Common.{◌≡◌, ◌∙◌, inl, inr, ℕ, List, [], ◌∷◌, map, refl, sym, ap, subst, Option, Some}
+use Rattle.std.proofs.Common.{◌≡◌, ◌∙◌, inl, inr, ℕ, List, [], ◌∷◌, map, refl, sym, ap, subst, Option, Some, None}
 use Rattle.std.proofs.lemmas.Option.{same_Some, none-some}
 use Rattle.std.specs.List.{AllZip, AllByRecursion}
 use Rattle.std.specs.Option.{option_map, option_and_then}
 use Rattle.comp_lists.specs.Found.{found}
 use Rattle.comp_lists.proofs.Lists.{AllZip-weaker}
 use Rattle.comp_bytes.specs.Spaces.{kind_space}
-use Rattle.comp_bytes.specs.ItemIndices.{in_space}
 use Rattle.core_types.specs.declared.types.FuncType.{FuncType}
-use Rattle.core_runs.specs.Store.{Func, Opaque}
+use Rattle.core_runs.specs.Store.{Opaque}
 use Rattle.comp_bytes.specs.declared.space.Space.TheVariants as spaces
 use Rattle.standard_kinds.specs.declared.kinds.ExportKind.{ExportKind}
 use Rattle.standard_kinds.specs.declared.kinds.ExportKind.TheVariants as kinds
@@ -21,38 +20,41 @@ use Rattle.comp_trees.specs.Trees.{Resource}
 use Rattle.world_values.specs.Items.{functions_of, root_function_at}
 use Rattle.comp_roles.specs.CoreImports.{fields_of}
 use Rattle.comp_roles.specs.CoreTypes.{called_type}
-use Rattle.comp_worlds.specs.Typed.{type_of_import}
+use Rattle.comp_worlds.specs.Typed.{drop_type, handle_type, type_of_import}
 use Rattle.comp_worlds.specs.WorldContents.{items_of}
-use Rattle.comp_worlds.specs.Worlds.{IsImportRole, IsImportGroup}
+use Rattle.comp_worlds.specs.Worlds.{IsWorld, IsImportRole, IsImportGroup}
 use Rattle.comp_roles.specs.declared.imports.Import.{Import}
 use Rattle.comp_roles.specs.declared.imports.Import.TheVariants as imports
 use Rattle.comp_roles.specs.declared.imports.ImportInstance.{ImportInstance}
 use Rattle.comp_roles.specs.declared.imports.ImportInstance.TheVariants as instances
 use Rattle.comp_worlds.specs.declared.world.ComponentWorld.{ComponentWorld}
 use Rattle.comp_runs.specs.Store.{Thing, Export, CoreItem, Lowering, IntrinsicOf, ExportedBy, Store}
+use Rattle.comp_roles.specs.declared.offered.ExternType.{ExternType}
 use Rattle.comp_roles.specs.declared.offered.ExternType.TheVariants as externs
 use Rattle.comp_roles.specs.declared.offered.ImportType.{ImportType}
 use Rattle.wit_data.specs.declared.ids.TypeId.{TypeId}
-use Rattle.comp_links.specs.Targets.{UserModule, Main, WorldFunction, TargetOption, OfRoot, OfInterface, Lowered, OfResource, ResourceFunction, New, Rep, Drop}
+use Rattle.comp_links.specs.Targets.{UserModule, ExportRef, WorldFunction, TargetOption, Target, OfRoot, OfInterface, Lowered, OfResource, ResourceFunction, New, Rep, Drop}
 use Rattle.comp_links.specs.Modules.{WorldModule}
 use Rattle.comp_links.specs.Lists.{resource_of}
 use Rattle.comp_links.specs.Links.{lower_options, link_of, link_in, link_at}
-use Rattle.shim_plan.specs.Kinds.{kind_name}
+use Rattle.shim_plan.specs.declared.kinds.ShimKind.{ShimKind}
+use Rattle.shim_plan.specs.declared.kinds.ShimKind.TheVariants as shim_kinds
 use Rattle.shim_plan.specs.declared.shims.Shim.{Shim}
 use Rattle.world_shims.specs.WorldShims.{type_of_shim}
-use Rattle.comp_terms.specs.Generated.{role_of_kind, Purpose, OfImport, OfDestructor, target_of, HasPurpose}
+use Rattle.comp_terms.specs.Generated.{role_of_kind, export_of_kind, Purpose, OfImport, OfExport, target_of, HasPurpose}
 use Rattle.comp_terms.specs.Terms.{Term, Is, intrinsic_of}
 use Rattle.comp_terms.specs.Terms as terms
 use Rattle.comp_terms.specs.Planned.{IsTermFor, IsItemFor, IsGivenFor, IsEntryFor, IsArgumentFor}
 use Rattle.comp_runs.specs.Machine.{Scope, Machine, address_at, all_some}
-use Rattle.comp_runs.specs.Instances.{of_kind, matching, given_to}
+use Rattle.comp_runs.specs.Instances.{matching, given_to}
 use Rattle.comp_runs.specs.Signatures.{core_signature}
 use Rattle.comp_runs.specs.Running.{core_argument}
 use Rattle.link_laws.proofs.Zips.{all_some-zip, found-zip}
 use Rattle.comp_worlds.proofs.Roles.{bound_some}
-use Rattle.link_laws.proofs.Plain.{IsFunctionImport, lowered_type, same_signature-refl, function_type_in, named_main, fields_right}
+use Rattle.link_laws.proofs.Plain.{IsFunctionImport, lowered_type, same_signature-refl, function_type_in, fields_right}
+use Rattle.link_laws.proofs.Alone.{one_module}
 use Rattle.link_laws.proofs.Given.{thing_there, target_there, shim_there, shim_typed, IsFunctionTyped, func_kind, at_some}
-use Rattle.link_laws.proofs.Stores.{IsOpaqueOf, IsNamedEntry, IsInlineInstance, ShimsAt, IsFunctionOf, IsServedAs, resource_core, IsShimGiven, TakesShims, Serves, IsPlanned, Agrees}
+use Rattle.link_laws.proofs.Stores.{IsOpaqueOf, IsNamedEntry, IsInlineInstance, ShimsAt, IsFunctionOf, IsServedAs, resource_core, IsShimGiven, Serves, IsPlanned, Agrees}
 
 -- ---- the core types of what is given
 
@@ -85,19 +87,52 @@ served_opaque w s of address (imports.ExportedResourceNew key id) type right fit
 served_opaque w s of address role type right fits h = absurd right
 
 -- what a shim hands on to is opaque, and has the shim's core type
-pub purpose_opaque : (w : ComponentWorld) (s : Store) (address : ℕ) (shim : Shim) (p : Purpose) → HasPurpose w shim p → IsServedAs w s address (target_of w p) → (item : CoreItem) × IsOpaqueOf s address (type_of_shim shim) item
-purpose_opaque w s address shim (OfImport role) stands h = served_opaque w s Main address role (type_of_shim shim) stands.right stands.typed h
-purpose_opaque w s address shim (OfDestructor name) stands h =
-    let offered : found name w.main.offered ≡ Some (externs.Func h.type) = subst (λ (o : WorldModule). found name o.found.offered ≡ Some (externs.Func h.type)) (sym (named_main w h.number h.of).1) h.offered in
+pub purpose_opaque : (w : ComponentWorld) → IsWorld w → (s : Store) (address : ℕ) (shim : Shim) (p : Purpose) → HasPurpose w shim p → IsServedAs w s address (target_of w p) → (item : CoreItem) × IsOpaqueOf s address (type_of_shim shim) item
+purpose_opaque w ok s address shim (OfImport of role) stands h = served_opaque w s of address role (type_of_shim shim) stands.right stands.typed h
+purpose_opaque w ok s address shim (OfExport e) stands h =
+    let exporting : h.of.world_module ≡ stands.exporting = one_module w ok h.number h.of.world_module stands.exporting h.of.listed stands.listed (h.of.same ∙ sym stands.same) in
+    let offered : found e.name stands.exporting.found.offered ≡ Some (externs.Func h.type) = subst (λ (o : WorldModule). found e.name o.found.offered ≡ Some (externs.Func h.type)) exporting h.offered in
     let typed : externs.Func h.type ≡ externs.Func (type_of_shim shim) = same_Some (externs.Func h.type) (externs.Func (type_of_shim shim)) (sym offered ∙ stands.typed) in
-    (ExportedBy h.user name, subst (λ t. IsOpaqueOf s address t (ExportedBy h.user name)) (ap (function_type_in (type_of_shim shim)) typed) h.is)
+    (ExportedBy h.user e.name, subst (λ t. IsOpaqueOf s address t (ExportedBy h.user e.name)) (ap (function_type_in (type_of_shim shim)) typed) h.is)
+
+-- no kind is that of an import and of an export
+one_kind : (w : ComponentWorld) (kind : ShimKind) (x : UserModule × Import) (e : ExportRef) → role_of_kind w kind ≡ Some x → export_of_kind kind ≡ Some e → ⊥
+one_kind w (shim_kinds.Adapter adapter name) x e h k = none-some x h
+one_kind w (shim_kinds.ResourceDtor which name) x e h k = none-some x h
+one_kind w _ x e h k = none-some e k
 
 -- a shim stands for one thing
 pub one_purpose : (w : ComponentWorld) (shim : Shim) (p q : Purpose) → HasPurpose w shim p → HasPurpose w shim q → p ≡ q
-one_purpose w shim (OfImport role) (OfImport other) h k = ap OfImport (same_Some role other (sym h.of_kind ∙ k.of_kind))
-one_purpose w shim (OfImport role) (OfDestructor name) h k = absurd (none-some role (ap (role_of_kind w) (sym k.of_kind) ∙ h.of_kind))
-one_purpose w shim (OfDestructor name) (OfImport role) h k = absurd (none-some role (ap (role_of_kind w) (sym h.of_kind) ∙ k.of_kind))
-one_purpose w shim (OfDestructor name) (OfDestructor other) h k = ap (λ kind. OfDestructor (kind_name kind)) (sym h.of_kind ∙ k.of_kind)
+one_purpose w shim (OfImport of role) (OfImport from other) h k = ap (λ (x : UserModule × Import). OfImport x.0 x.1) (same_Some (of, role) (from, other) (sym h.of_kind ∙ k.of_kind))
+one_purpose w shim (OfImport of role) (OfExport e) h k = absurd (one_kind w shim.kind (of, role) e h.of_kind k.of_kind)
+one_purpose w shim (OfExport e) (OfImport of role) h k = absurd (one_kind w shim.kind (of, role) e k.of_kind h.of_kind)
+one_purpose w shim (OfExport e) (OfExport other) h k = ap OfExport (same_Some e other (sym h.of_kind ∙ k.of_kind))
+
+-- the core type that the imports have which are to be given what a target names
+abbrev type_of_target : ComponentWorld → Target → Option ExternType
+type_of_target w (Lowered (OfRoot text) options) = option_map (called_type w.resolve GuestImport) (root_function_at (items_of w).imports (keys.Name text))
+type_of_target w (Lowered (OfInterface id function) options) = option_map (called_type w.resolve GuestImport) (found function (functions_of w.resolve id))
+type_of_target w (OfResource Drop id) = Some drop_type
+type_of_target w (OfResource Rep id) = Some handle_type
+type_of_target w (OfResource New id) = Some handle_type
+type_of_target w target = None
+
+target_typed : (w : ComponentWorld) (of : UserModule) (role : Import) → IsImportRole w role → type_of_import w.resolve (items_of w) role ≡ type_of_target w (link_of w of role)
+target_typed w of (imports.WorldFunc (keys.Name text) function abi) right = ap (λ abi. option_map (called_type w.resolve abi) (root_function_at (items_of w).imports (keys.Name text))) right.2
+target_typed w of (imports.InterfaceFunc key id function abi) right = ap (λ abi. option_map (called_type w.resolve abi) (found function (functions_of w.resolve id))) right.2
+target_typed w of (imports.ImportedResourceDrop key interface id) right = refl
+target_typed w of (imports.ExportedResourceDrop key id) right = refl
+target_typed w of (imports.ExportedResourceRep key id) right = refl
+target_typed w of (imports.ExportedResourceNew key id) right = refl
+target_typed w of role right = absurd right
+
+-- so a shim has the core type of an import for whose target it stands
+shim_fits : (w : ComponentWorld) (shim : Shim) (p : Purpose) → HasPurpose w shim p → (of : UserModule) (role : Import) → IsImportRole w role → target_of w p ≡ link_of w of role → (type : FuncType) →
+    type_of_import w.resolve (items_of w) role ≡ Some (externs.Func type) → type_of_shim shim ≡ type
+shim_fits w shim (OfImport from other) stands of role right same type fits =
+    let one : type_of_import w.resolve (items_of w) other ≡ type_of_import w.resolve (items_of w) role = target_typed w from other stands.right ∙ (ap (type_of_target w) same ∙ sym (target_typed w of role right)) in
+    ap (function_type_in type) (same_Some (externs.Func (type_of_shim shim)) (externs.Func type) (sym stands.typed ∙ (one ∙ fits)))
+shim_fits w shim (OfExport e) stands of role right same type fits = absurd (none-some (externs.Func type) (ap (type_of_target w) same ∙ (sym (target_typed w of role right) ∙ fits)))
 
 -- ---- what an import is given
 
@@ -144,10 +179,10 @@ pub record IsOffered (w : ComponentWorld) (shims : Option ShimsAt) (s : Store) (
   pub named : a.0 ≡ group.0
   pub each : AllZip (IsFieldExport w shims s of) a.1 (fields_of group.1)
 
--- what a user module is given, to which the shims may be given
-module _ {w : ComponentWorld} {earlier : List Def} {c : Scope} {s : Store} (a : Agrees w earlier c s) (of : UserModule) (takes : TakesShims w of) where
+-- what a user module is given
+module _ {w : ComponentWorld} {earlier : List Def} {c : Scope} {s : Store} (a : Agrees w earlier c s) (of : UserModule) where
   -- what is given for an import is the item that the link table names, or a shim
-  role_there : (kind : ExportKind) (index : ℕ) (role : Import) → IsImportRole w role → IsGivenFor w of earlier (kind_space kind) index role →
+  role_there : (kind : ExportKind) (index : ℕ) (role : Import) → IsImportRole w role → IsGivenFor w earlier (kind_space kind) index (link_of w of role) →
       (kind ≡ kinds.Func) × (x : ℕ) × (address_at spaces.CoreFunc index c.items ≡ Some x) × IsRoleServed w a.shims s of x role
   role_there kind index role right (inl h) =
       let function : kind ≡ kinds.Func = role_kind w earlier of kind index role right h in
@@ -163,16 +198,16 @@ module _ {w : ComponentWorld} {earlier : List Def} {c : Scope} {s : Store} (a : 
         },
       )
   role_there kind index role right (inr h) =
-      let x : (x : ℕ) × (address_at spaces.CoreFunc index c.items ≡ Some x) × IsShimGiven w a.shims x (target_of w (OfImport role)) = shim_there a h.place h.shim (OfImport role) h.listed h.stands_for h.is in
+      let x : (x : ℕ) × (address_at spaces.CoreFunc index c.items ≡ Some x) × IsShimGiven w a.shims x (link_of w of role) = shim_there a h in
       let y : (x : ℕ) × (address_at spaces.CoreFunc index c.items ≡ Some x) × IsFunctionTyped s x (type_of_shim h.shim) = shim_typed a h.place h.shim h.listed h.is in
       let same : y.0 ≡ x.0 = same_Some y.0 x.0 (sym y.1 ∙ x.1) in (
         func_kind kind h.in_space,
         x.0,
         x.1,
         record {
-          serves = inr (subst (IsShimGiven w a.shims x.0) (takes role) x.2);
+          serves = inr x.2;
           typed = λ type fits.
-              let own : type_of_shim h.shim ≡ type = ap (function_type_in type) (same_Some (externs.Func (type_of_shim h.shim)) (externs.Func type) (sym h.stands_for.typed ∙ fits)) in
+              let own : type_of_shim h.shim ≡ type = shim_fits w h.shim h.purpose h.stands_for of role right h.same type fits in
               subst (IsFunctionTyped s x.0) own (subst (λ n. IsFunctionTyped s n (type_of_shim h.shim)) same y.2);
         },
       )

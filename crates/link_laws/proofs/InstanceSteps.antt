@@ -25,6 +25,7 @@ use Rattle.core_runs.specs.Store.{Opaque, Instantiated, Now}
 use Rattle.core_runs.specs.Execution.{seen}
 use Rattle.comp_runs.specs.Store.{Thing, Export, CoreItem, ModuleInstance, Store}
 use Rattle.comp_links.specs.Modules.{WorldModule, user_modules}
+use Rattle.comp_links.specs.Lists.{required_keys}
 use Rattle.comp_roles.specs.declared.offered.ImportType.{ImportType}
 use Rattle.comp_terms.specs.Planned.{IsFillFor}
 use Rattle.comp_terms.specs.Rules.{InstantiatesUser, InstantiatesShims, InstantiatesFixup, InstantiatesModule, instance_number, instances_in, landmark}
@@ -45,11 +46,10 @@ use Rattle.std.proofs.lemmas.List.Elements.{filter_map-append, Contains-append_l
 use Rattle.link_laws.specs.Composition.{GeneratedModules, generated_sections, at_root, item_instantiates}
 use Rattle.link_laws.specs.Linking.{module_meanings}
 use Rattle.link_laws.proofs.Zips.{all_some-each}
-use Rattle.link_laws.proofs.Stores.{IsOpaqueOf, ShimsAt, IsModuleInstance, IsInlineInstance, IsFilledWith, AreFilled, AreShims, IsServedAs, IsNamedEntry, ExportsShims, MayHaveShims, TakesShims, IsPlanned, IsPlannedUser, NumberedFrom, AreResources, Agrees}
+use Rattle.link_laws.proofs.Stores.{IsOpaqueOf, ShimsAt, IsModuleInstance, IsInlineInstance, IsFilledWith, AreFilled, AreShims, IsServedAs, IsNamedEntry, ExportsShims, MayHaveShims, IsPlanned, IsPlannedUser, NumberedFrom, AreResources, Agrees}
 use Rattle.link_laws.proofs.Given.{thing_there, target_there, user_below, apart, not_shims, not_fixup, of_shims, module_there, address_there}
 use Rattle.link_laws.proofs.GivenImports.{purpose_opaque, IsOffered, arguments_there, given_there}
 use Rattle.link_laws.proofs.Plain.{only, nothing_in, IsRightModule, module_right, IsFunctionImport, function_imports}
-use Rattle.link_laws.proofs.OnlyMain.{takes_shims}
 use Rattle.link_laws.proofs.UserExports.{Exports, Alike, all_exports, all_alike, same_exports, each_export}
 use Rattle.link_laws.proofs.Kept.{IsFilledWith-kept, ShimsKept, shims_same, MayHaveShims-kept, Keeps, things_kept, IsPlannedUser-kept, AreKeyExports-kept, AreResources-kept}
 
@@ -164,8 +164,8 @@ module _ {w : ComponentWorld} {earlier : List Def} {c : Scope} {s : Store} (a : 
       numbered_at 0 (filter (is_of spaces.CoreModule) c.items) (length s.core_modules) number a.modules (address_there a spaces.CoreModule number l) ∙ ap (λ (n : ℕ). Some n) same
 
   -- any user module: what it imports is given, and its instance exports what the module offers
-  pub step_user : (number : ℕ) (arguments : List CoreArgument) (h : InstantiatesUser w earlier number arguments) → IsRightModule w h.of → TakesShims w h.of.of → Steps w gen earlier c s g (defs.Item (items.CoreInstantiate number arguments))
-  step_user number arguments h right takes =
+  pub step_user : (number : ℕ) (arguments : List CoreArgument) (h : InstantiatesUser w earlier number arguments) → IsRightModule w h.of → Steps w gen earlier c s g (defs.Item (items.CoreInstantiate number arguments))
+  step_user number arguments h right =
       let d : Def = defs.Item (items.CoreInstantiate number arguments) in
       let of : WorldModule = h.of in
       let es : ExportTypes = of.found.offered in
@@ -179,7 +179,7 @@ module _ {w : ComponentWorld} {earlier : List Def} {c : Scope} {s : Store} (a : 
       let own : List Export = exported_by user es m0 in
       let below : number < shims_number w = user_below w number of h.listed in
       let args : (ys : List (List ℕ × List Export)) × (all_some (map (core_argument m0) arguments) ≡ Some ys) × AllZip (IsOffered w a.shims s of.of) ys roles =
-      arguments_there a of.of takes m0 refl refl arguments roles right.is.import_roles h.each in
+      arguments_there a of.of m0 refl refl arguments roles right.is.import_roles h.each in
       let plain : AllByRecursion (IsFunctionImport w of.found) is = function_imports w of right in
       let found : (ts : List Thing) × (all_some (map (given_to (machine c s no_answers) args.0) is) ≡ Some ts) × AllZip (IsPlanned w a.shims s of) ts is =
       all_some-each (IsPlanned w a.shims s of) (given_to (machine c s no_answers) args.0) is
@@ -257,7 +257,7 @@ module _ {w : ComponentWorld} {earlier : List Def} {c : Scope} {s : Store} (a : 
             planned
             there
             (sym (append-nil (map (λ (e : Export). e.name) c.exports)))
-            (AreKeyExports-kept w k w.main_exports c.exports a.lifted)
+            (AreKeyExports-kept w k (required_keys w) c.exports a.lifted)
             a.imports
             (subst (λ l. AreResources w a.shims l (inventory earlier).resources) (sym (ap (λ (m : Machine). m.store.types) more.same)) a.resources),
       )
@@ -324,7 +324,7 @@ module _ {w : ComponentWorld} {earlier : List Def} {c : Scope} {s : Store} (a : 
             (λ of listed. absurd (not_shims w number (user_below w number of listed) refl)))
             are
             (sym (append-nil (map (λ (e : Export). e.name) c.exports)))
-            (AreKeyExports-kept w k w.main_exports c.exports a.lifted)
+            (AreKeyExports-kept w k (required_keys w) c.exports a.lifted)
             a.imports
             (AreResources-kept w a.shims (Some at) new s.types (inventory earlier).resources a.resources),
       )
@@ -332,27 +332,27 @@ module _ {w : ComponentWorld} {earlier : List Def} {c : Scope} {s : Store} (a : 
   -- ---- the fixup
 
   -- what the shims stand for, among the entries of an inline instance
-  fill_there : (e : CoreInlineExport) (shim : Shim) (x : Export) → IsFillFor w earlier e shim → IsNamedEntry c.items e x → IsFilling w s shim x
-  fill_there e shim x h n =
+  fill_there : IsWorld w → (e : CoreInlineExport) (shim : Shim) (x : Export) → IsFillFor w earlier e shim → IsNamedEntry c.items e x → IsFilling w s shim x
+  fill_there ok e shim x h n =
       let kind : kind_space e.kind ≡ spaces.CoreFunc = ap kind_space h.function in
       let i : (y : ℕ) × (address_at spaces.CoreFunc e.index c.items ≡ Some y) × IsServedAs w s y (target_of w h.purpose) = target_there a e.index (target_of w h.purpose) h.serves in
       let at : address_at spaces.CoreFunc e.index c.items ≡ Some x.address = subst (λ space. address_at space e.index c.items ≡ Some x.address) kind n.at in
       let serves : IsServedAs w s x.address (target_of w h.purpose) = subst (λ y. IsServedAs w s y (target_of w h.purpose)) (same_Some i.0 x.address (sym i.1 ∙ at)) i.2 in
-      let o : (item : CoreItem) × IsOpaqueOf s x.address (type_of_shim shim) item = purpose_opaque w s x.address shim h.purpose h.stands_for serves in (
+      let o : (item : CoreItem) × IsOpaqueOf s x.address (type_of_shim shim) item = purpose_opaque w ok s x.address shim h.purpose h.stands_for serves in (
         record { named = n.named ∙ h.named; space = n.space ∙ kind; function = Opaque o.1.what (type_of_shim shim); present = o.1.present; typed = refl },
         record { purpose = h.purpose; stands_for = h.stands_for; serves = serves },
       )
 
-  fills_there : (es : List CoreInlineExport) (shims : List Shim) (xs : List Export) → AllZip (IsFillFor w earlier) es shims → AllZip (IsNamedEntry c.items) es xs → AllZip (IsFilling w s) shims xs
-  fills_there [] [] [] h n = tt
-  fills_there (e ∷ es) (shim ∷ shims) (x ∷ xs) h n = (fill_there e shim x h.0 n.0, fills_there es shims xs h.1 n.1)
-  fills_there [] (shim ∷ shims) xs h n = absurd h
-  fills_there (e ∷ es) [] xs h n = absurd h
-  fills_there [] [] (x ∷ xs) h n = absurd n
-  fills_there (e ∷ es) (shim ∷ shims) [] h n = absurd n
+  fills_there : IsWorld w → (es : List CoreInlineExport) (shims : List Shim) (xs : List Export) → AllZip (IsFillFor w earlier) es shims → AllZip (IsNamedEntry c.items) es xs → AllZip (IsFilling w s) shims xs
+  fills_there ok [] [] [] h n = tt
+  fills_there ok (e ∷ es) (shim ∷ shims) (x ∷ xs) h n = (fill_there ok e shim x h.0 n.0, fills_there ok es shims xs h.1 n.1)
+  fills_there ok [] (shim ∷ shims) xs h n = absurd h
+  fills_there ok (e ∷ es) [] xs h n = absurd h
+  fills_there ok [] [] (x ∷ xs) h n = absurd n
+  fills_there ok (e ∷ es) (shim ∷ shims) [] h n = absurd n
 
-  pub step_fixup : IsGenerated w gen → (number : ℕ) (arguments : List CoreArgument) → InstantiatesFixup w earlier number arguments → Steps w gen earlier c s g (defs.Item (items.CoreInstantiate number arguments))
-  step_fixup there number arguments h =
+  pub step_fixup : IsWorld w → IsGenerated w gen → (number : ℕ) (arguments : List CoreArgument) → InstantiatesFixup w earlier number arguments → Steps w gen earlier c s g (defs.Item (items.CoreInstantiate number arguments))
+  step_fixup ok there number arguments h =
       subst (λ n. Steps w gen earlier c s g (defs.Item (items.CoreInstantiate n arguments))) (sym h.numbered)
       (subst (λ l. Steps w gen earlier c s g (defs.Item (items.CoreInstantiate (fixup_number w) l))) (sym h.given) steps)
     where
@@ -384,7 +384,7 @@ module _ {w : ComponentWorld} {earlier : List Def} {c : Scope} {s : Store} (a : 
       actual = inline.2.exports
 
       filling : AllZip (IsFilling w s) shims actual
-      filling = fills_there h.fills.entries shims actual h.fills.each inline.2.each
+      filling = fills_there ok h.fills.entries shims actual h.fills.each inline.2.each
 
       -- it is the first fixup: the numbers of the others are below its own
       first : Contains numbers (fixup_number w) → ⊥
@@ -485,7 +485,7 @@ module _ {w : ComponentWorld} {earlier : List Def} {c : Scope} {s : Store} (a : 
             (λ of listed. absurd (not_fixup w (fixup_number w) (user_below w (fixup_number w) of listed) refl)))
             (subst (MayHaveShims w s' (numbers ++ fixup_number w ∷ [])) (sym found.1) are)
             (sym (append-nil (map (λ (e : Export). e.name) c.exports)))
-            (AreKeyExports-kept w k w.main_exports c.exports a.lifted)
+            (AreKeyExports-kept w k (required_keys w) c.exports a.lifted)
             a.imports
             a.resources,
       )
@@ -494,10 +494,10 @@ module _ {w : ComponentWorld} {earlier : List Def} {c : Scope} {s : Store} (a : 
 
   -- where a generated module is instantiated, it is one of the list
   pub step_instantiate : IsWorld w → (number : ℕ) (arguments : List CoreArgument) → ((number < shims_number w → ⊥) → IsGenerated w gen) → InstantiatesModule w earlier number arguments → Steps w gen earlier c s g (defs.Item (items.CoreInstantiate number arguments))
-  step_instantiate ok number arguments there (inl h) = step_user number arguments h (module_right w ok number h.of h.listed) (takes_shims w ok number h.of h.listed)
+  step_instantiate ok number arguments there (inl h) = step_user number arguments h (module_right w ok number h.of h.listed)
   step_instantiate ok number arguments there (inr (inl h)) =
       let generated : IsGenerated w gen = there (λ below. not_shims w number below h.numbered) in
       let own : InstantiatesShims w earlier (shims_number w) [] = subst (InstantiatesShims w earlier (shims_number w)) h.closed (subst (λ n. InstantiatesShims w earlier n arguments) h.numbered h) in
       subst (λ n. Steps w gen earlier c s g (defs.Item (items.CoreInstantiate n arguments))) (sym h.numbered)
       (subst (λ l. Steps w gen earlier c s g (defs.Item (items.CoreInstantiate (shims_number w) l))) (sym h.closed) (step_shims generated own))
-  step_instantiate ok number arguments there (inr (inr h)) = step_fixup (there (λ below. not_fixup w number below h.numbered)) number arguments h
+  step_instantiate ok number arguments there (inr (inr h)) = step_fixup ok (there (λ below. not_fixup w number below h.numbered)) number arguments h

@@ -33,11 +33,11 @@ use Rattle.comp_worlds.specs.declared.world.ComponentWorld.{ComponentWorld}
 use Rattle.comp_links.specs.Targets.{ExportRef, TargetOption, Target, Lowered, ExportOf, OfResource}
 use Rattle.comp_links.specs.Targets as targets
 use Rattle.comp_links.specs.Modules.{WorldModule}
-use Rattle.comp_links.specs.Lists.{resource_of, RequiredFunction, functions_required, RequiredType, types_required, type_of_world}
+use Rattle.comp_links.specs.Lists.{resource_of, RequiredKey, RequiredFunction, functions_required, RequiredType, types_required, type_of_world}
 use Rattle.comp_links.specs.Links.{destructor_of}
 use Rattle.shim_plan.specs.declared.shims.Shim.{Shim}
 use Rattle.world_shims.specs.WorldShims.{shims_of}
-use Rattle.comp_terms.specs.Generated.{shims_number, fixup_number, OfDestructor, target_of}
+use Rattle.comp_terms.specs.Generated.{shims_number, fixup_number, target_of}
 use Rattle.core_runs.specs.Store.{Opaque}
 use Rattle.core_runs.specs.Instances.{empty_table}
 use Rattle.comp_runs.specs.Store.{Thing, Export, HeldOption, HeldMemory, HeldRealloc, HeldPostReturn, HeldCallback, CoreItem, Function, Imported, Lifting, TypeItem, TreeOf, OwnResource, own_resources as resources_among, ModuleInstance, Store, ComponentItem}
@@ -47,11 +47,10 @@ use Rattle.instance_laws.proofs.Importing.{IsInstanceType-kept, IsInstanceEntry-
 use Rattle.shim_runs.proofs.Placed.{shims_kept}
 use Rattle.nested_terms.specs.Nested.{empty_scope, imports_after, exports_after}
 use Rattle.nested_laws.proofs.Kept.{AreGiven-kept, AreNestedExports-kept}
-use Rattle.wit_data.specs.declared.worlds.WorldKey.{WorldKey}
 use Rattle.wit_data.specs.declared.worlds.WorldItem.{WorldItem}
 use Rattle.wit_data.specs.declared.worlds.WorldItem.TheVariants as world_items
 use Rattle.link_laws.proofs.Zips.{mapped_some, AllByRecursion-join}
-use Rattle.link_laws.proofs.Stores.{IsOpaqueOf, IsUserItem, IsUserExport, IsInstance, ShimsAt, AreShimExports, AreModuleExports, IsModuleInstance, IsNamedEntry, IsTypeAt, IsHeldOption, IsArgumentHeld, ItemIs, DefIs, Means, IsEntryItem, IsTypeEntry, IsFunctionEntry, IsInstanceThing, IsFunctionExported, IsFirstMemory, IsOptionHeld, IsLoweringOf, IsServedAs, IsShimGiven, Serves, IsPlanned, IsPlannedUser, IsFilledWith, AreFilled, ExportsShims, AreShims, MayHaveShims, IsLiftedFrom, main_key, main_function, IsRequiredAt, IsAmong, IsTypeAmong, IsItemExport, IsKeyExport, AreKeyExports, IsDestroyedBy, IsOwnResource, IsOwnIfDefined, AreResources, HasNumber}
+use Rattle.link_laws.proofs.Stores.{IsOpaqueOf, IsUserItem, IsUserExport, IsInstance, ShimsAt, AreShimExports, AreModuleExports, IsModuleInstance, IsNamedEntry, IsTypeAt, IsHeldOption, IsArgumentHeld, ItemIs, DefIs, Means, IsEntryItem, IsTypeEntry, IsFunctionEntry, IsInstanceThing, IsFunctionExported, IsFirstMemory, IsOptionHeld, IsLoweringOf, IsServedAs, IsShimGiven, Serves, IsPlanned, IsPlannedUser, IsFilledWith, AreFilled, ExportsShims, AreShims, MayHaveShims, IsLiftedFrom, function_at_key, IsRequiredAt, IsAmong, IsTypeAmong, IsItemExport, IsKeyExport, AreKeyExports, IsDestroyedBy, IsOwnResource, IsOwnIfDefined, AreResources, HasNumber}
 
 -- every entry of the old scope and store is unchanged in the new ones
 pub record Keeps (a b : List Thing) (s t : Store) : Type 0 where
@@ -198,14 +197,14 @@ IsShimGiven-kept w None new same address target h = absurd h
 IsShimGiven-kept w (Some at) new same address target h = subst (λ o. IsShimGiven w o address target) (sym same) h
 
 -- so are those that stand for destructors
-IsDestroyedBy-kept : (w : ComponentWorld) (old new : Option ShimsAt) → ShimsKept old new → (destructor : Option ℕ) (name : Option (List ℕ)) → IsDestroyedBy w old destructor name → IsDestroyedBy w new destructor name
+IsDestroyedBy-kept : (w : ComponentWorld) (old new : Option ShimsAt) → ShimsKept old new → (destructor : Option ℕ) (e : Option ExportRef) → IsDestroyedBy w old destructor e → IsDestroyedBy w new destructor e
 IsDestroyedBy-kept w old new same None None h = tt
-IsDestroyedBy-kept w old new same (Some address) (Some name) h = IsShimGiven-kept w old new same address (target_of w (OfDestructor name)) h
-IsDestroyedBy-kept w old new same None (Some name) h = absurd h
+IsDestroyedBy-kept w old new same (Some address) (Some e) h = IsShimGiven-kept w old new same address (ExportOf e) h
+IsDestroyedBy-kept w old new same None (Some e) h = absurd h
 IsDestroyedBy-kept w old new same (Some address) None h = absurd h
 
 IsOwnIfDefined-kept : (w : ComponentWorld) (old new : Option ShimsAt) → ShimsKept old new → (item : TypeItem) → IsOwnIfDefined w old item → IsOwnIfDefined w new item
-IsOwnIfDefined-kept w old new same (OwnResource number destructor) h = record { id = h.id; is = h.is; destroyed = IsDestroyedBy-kept w old new same destructor (destructor_of w h.id) h.destroyed }
+IsOwnIfDefined-kept w old new same (OwnResource number destructor) h = record { provided = h.provided; is = h.is; destroyed = IsDestroyedBy-kept w old new same destructor (destructor_of w h.provided) h.destroyed }
 IsOwnIfDefined-kept w old new same item h = tt
 
 pub AreResources-kept : (w : ComponentWorld) (old new : Option ShimsAt) → ShimsKept old new → (types : List TypeItem) (count : ℕ) → AreResources w old types count → AreResources w new types count
@@ -450,26 +449,26 @@ module _ (w : ComponentWorld) {a b : List Thing} {s t : Store} (k : Keeps a b s 
   IsTypeAmong-kept : (exports : List Export) (r : RequiredType) → IsTypeAmong w s exports r → IsTypeAmong w t exports r
   IsTypeAmong-kept exports r h = record { address = h.address; found = h.found; is = IsHeldAs-kept k.types (type_of_world w r.id) h.address h.is }
 
-  IsItemExport-kept : (key : WorldKey) (e : Export) (item : Option WorldItem) → IsItemExport w s key e item → IsItemExport w t key e item
-  IsItemExport-kept key e (Some (world_items.Function f)) h = record { space = h.space; is = IsRequiredAt-kept (main_function key f.name) e.address h.is }
-  IsItemExport-kept key e (Some (world_items.Interface id)) h = record {
+  IsItemExport-kept : (r : RequiredKey) (e : Export) (item : Option WorldItem) → IsItemExport w s r e item → IsItemExport w t r e item
+  IsItemExport-kept r e (Some (world_items.Function f)) h = record { space = h.space; is = IsRequiredAt-kept (function_at_key r f.name) e.address h.is }
+  IsItemExport-kept r e (Some (world_items.Interface id)) h = record {
     space = h.space;
     exports = h.exports;
     present = k.instances.at e.address h.exports h.present;
-    each = AllByRecursion-weaker (IsAmong-kept h.exports) (functions_required w (main_key key)) h.each;
-    types = AllByRecursion-weaker (IsTypeAmong-kept h.exports) (types_required w (main_key key)) h.types;
+    each = AllByRecursion-weaker (IsAmong-kept h.exports) (functions_required w r) h.each;
+    types = AllByRecursion-weaker (IsTypeAmong-kept h.exports) (types_required w r) h.types;
   }
-  IsItemExport-kept key e item h = absurd h
+  IsItemExport-kept r e item h = absurd h
 
-  pub AreKeyExports-kept : (keys : List WorldKey) (es : List Export) → AreKeyExports w s keys es → AreKeyExports w t keys es
-  AreKeyExports-kept keys [] h = tt
+  pub AreKeyExports-kept : (rs : List RequiredKey) (es : List Export) → AreKeyExports w s rs es → AreKeyExports w t rs es
+  AreKeyExports-kept rs [] h = tt
   AreKeyExports-kept [] (e ∷ es) h = absurd h
-  AreKeyExports-kept (key ∷ keys) (e ∷ es) h = (IsItemExport-kept key e (exported_item w key) h.0, AreKeyExports-kept keys es h.1)
+  AreKeyExports-kept (r ∷ rs) (e ∷ es) h = (IsItemExport-kept r e (exported_item w r.key) h.0, AreKeyExports-kept rs es h.1)
 
 -- one more is that of the next key
-pub AreKeyExports-push : (w : ComponentWorld) (s : Store) (keys : List WorldKey) (es : List Export) (key : WorldKey) (e : Export) → AreKeyExports w s keys es → slice_get keys (length es) ≡ Some key → IsKeyExport w s key e →
-    AreKeyExports w s keys (es ++ e ∷ [])
-AreKeyExports-push w s [] [] key e h next is = absurd (none-some key next)
-AreKeyExports-push w s (k ∷ keys) [] key e h next is = (subst (λ (x : WorldKey). IsKeyExport w s x e) (sym (same_Some k key next)) is, tt)
-AreKeyExports-push w s [] (x ∷ es) key e h next is = absurd h
-AreKeyExports-push w s (k ∷ keys) (x ∷ es) key e h next is = (h.0, AreKeyExports-push w s keys es key e h.1 next is)
+pub AreKeyExports-push : (w : ComponentWorld) (s : Store) (rs : List RequiredKey) (es : List Export) (r : RequiredKey) (e : Export) → AreKeyExports w s rs es → slice_get rs (length es) ≡ Some r → IsKeyExport w s r e →
+    AreKeyExports w s rs (es ++ e ∷ [])
+AreKeyExports-push w s [] [] r e h next is = absurd (none-some r next)
+AreKeyExports-push w s (x ∷ rs) [] r e h next is = (subst (λ (y : RequiredKey). IsKeyExport w s y e) (sym (same_Some x r next)) is, tt)
+AreKeyExports-push w s [] (x ∷ es) r e h next is = absurd h
+AreKeyExports-push w s (x ∷ rs) (y ∷ es) r e h next is = (h.0, AreKeyExports-push w s rs es r e h.1 next is)

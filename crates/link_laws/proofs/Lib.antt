@@ -3,7 +3,7 @@ mod Stores
 mod Kept
 pub mod Plain
 mod ModuleMarks
-mod OnlyMain
+mod Alone
 mod Given
 mod GivenImports
 mod GivenTypes

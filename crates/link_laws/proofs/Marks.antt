@@ -2,7 +2,7 @@
 use Rattle.std.proofs.Common.{◌≡◌, ◌∙◌, ◌+◌, arith, ℕ, List, [], ◌∷◌, ◌++◌, length, map, refl, sym, ap, ap₂, append-nil, add-one, add-zero, zero-add, length-append, Option, Some, None}
 use Rattle.std.proofs.lemmas.List.{length-map}
 use Rattle.std.proofs.lemmas.Grind.{flat_map-append}
-use Rattle.std.specs.List.{flat_map, filter_map, range_with_len}
+use Rattle.std.specs.List.{flat_map, filter_map}
 use Rattle.comp_bytes.specs.ScopeNames.{Names, member_export, def_export, item_export, item_names}
 use Rattle.comp_bytes.specs.declared.types.TypeDef.TheVariants as types
 use Rattle.comp_bytes.specs.declared.def.Item.{Item}
@@ -12,23 +12,18 @@ use Rattle.comp_bytes.specs.declared.def.Def.TheVariants as defs
 use Rattle.comp_worlds.specs.declared.world.ComponentWorld.{ComponentWorld}
 use Rattle.comp_worlds.specs.WorldContents.{exported_item}
 use Rattle.comp_links.specs.Naming.{Naming, name_of}
-use Rattle.comp_links.specs.Lists.{ImportEntry, ImportedInterface, WorldType, RootFunction, Stated, root_function, root_type, import_entries, names_of_interface, stated_import, stated_imports, names_in, instance_type_names, AreNames, stated_export, stated_exports, functions_of_interface, nested_export_names, nested_lists, nested_names, own_resources}
-use Rattle.comp_links.specs.Targets.{Main}
-use Rattle.comp_terms.specs.Rules.{Landmark, Imported, ModuleIs, InstanceOf, Exported, CustomNamed, InstanceTypeOf, landmark, import_marked, imports_marked, modules_marked, exports_marked, IsBuilt, NestedOf, ResourceDefined, nested_marked, export_marked}
+use Rattle.comp_links.specs.Lists.{ImportEntry, ImportedInterface, WorldType, RootFunction, Stated, root_function, root_type, import_entries, names_of_interface, stated_import, stated_imports, names_in, instance_type_names, AreNames, stated_export, stated_exports, functions_of_interface, nested_export_names, nested_lists, nested_names, RequiredKey, required_keys, ProvidedType, provided_resources, own_resources}
+use Rattle.comp_terms.specs.Rules.{Landmark, Imported, ModuleIs, InstanceOf, Exported, CustomNamed, InstanceTypeOf, landmark, import_marked, imports_marked, resources_marked, bytes_marked, users_marked, modules_marked, exports_marked, IsBuilt, NestedOf, ResourceDefined, nested_marked, export_marked}
 use Rattle.comp_terms.specs.Generated.{shims_number, fixup_number, GeneratedBytes}
 use Rattle.comp_inventories.specs.Inventories.{Inventory, resources_made, with_def, inventory_after, inventory, empty_inventory}
-use Rattle.wit_data.specs.declared.ids.TypeId.{TypeId}
-use Rattle.wit_data.specs.declared.worlds.WorldKey.{WorldKey}
 use Rattle.wit_data.specs.declared.worlds.WorldItem.{WorldItem}
 use Rattle.wit_data.specs.declared.worlds.WorldItem.TheVariants as world_items
 use Rattle.nested_terms.specs.Naming.{import_names}
 use Rattle.nested_terms.specs.Nested.{NestedScope, function_import, with_item, IsItemRight, AreItemsRight}
 use Rattle.comp_trees.specs.DefinedTrees.{TypeTree}
 use Rattle.link_laws.specs.Composition.{at_root, item_module, item_instantiates, item_imports, item_exports, item_customs}
-use Rattle.comp_links.specs.Modules.{WorldModule}
-use Rattle.comp_terms.specs.Rules.{resources_marked}
-use Rattle.link_laws.proofs.Stores.{main_module}
-use Rattle.link_laws.proofs.ModuleMarks.{bytes_marked, numbers_marked, users_marked, marked_main, bytes_listed, numbers_listed, mapped_nothing, mapped_each, read_of, reads_users}
+use Rattle.comp_links.specs.Modules.{WorldModule, user_modules}
+use Rattle.link_laws.proofs.ModuleMarks.{bytes_listed, user_range, numbers_listed, mapped_nothing, mapped_each, read_of, reads_users}
 use Rattle.link_laws.proofs.Zips.{flat_map-marked}
 
 abbrev import_mark : Landmark → List Stated
@@ -170,17 +165,16 @@ type_of n w (WorldType name id) = refl
 type_of n w (RootFunction name) = refl
 
 -- the landmarks of the exports, seen through a function
-of_keys : {A : Type 0} (n : Naming) (w : ComponentWorld) (f : Landmark → List A) (g : WorldKey → List A) → ((key : WorldKey) → flat_map f (export_marked n w key) ≡ g key) → (keys : List WorldKey) →
-    flat_map f (flat_map (export_marked n w) keys) ≡ flat_map g keys
+of_keys : {A : Type 0} (n : Naming) (w : ComponentWorld) (f : Landmark → List A) (g : RequiredKey → List A) → ((r : RequiredKey) → flat_map f (export_marked n w r) ≡ g r) → (rs : List RequiredKey) →
+    flat_map f (flat_map (export_marked n w) rs) ≡ flat_map g rs
 of_keys n w f g same [] = refl
-of_keys n w f g same (key ∷ keys) =
-    flat_map-append f (export_marked n w key) (flat_map (export_marked n w) keys) ∙ ap₂ (λ xs ys. xs ++ ys) (same key) (of_keys n w f g same keys)
+of_keys n w f g same (r ∷ rs) = flat_map-append f (export_marked n w r) (flat_map (export_marked n w) rs) ∙ ap₂ (λ xs ys. xs ++ ys) (same r) (of_keys n w f g same rs)
 
 -- what is read of one: of its nested component, where it has one, and of the export
-of_key : {A : Type 0} (n : Naming) (w : ComponentWorld) (f : Landmark → List A) (nested exported : List A) (key : WorldKey) → flat_map f (nested_marked w (exported_item w key)) ≡ nested →
-    f (Exported (stated_export n w (record { of = Main; key = key }))) ≡ exported → flat_map f (export_marked n w key) ≡ nested ++ exported
-of_key n w f nested exported key first second =
-    flat_map-append f (nested_marked w (exported_item w key)) (Exported (stated_export n w (record { of = Main; key = key })) ∷ [])
+of_key : {A : Type 0} (n : Naming) (w : ComponentWorld) (f : Landmark → List A) (nested exported : List A) (r : RequiredKey) → flat_map f (nested_marked w (exported_item w r.key)) ≡ nested →
+    f (Exported (stated_export n w r)) ≡ exported → flat_map f (export_marked n w r) ≡ nested ++ exported
+of_key n w f nested exported r first second =
+    flat_map-append f (nested_marked w (exported_item w r.key)) (Exported (stated_export n w r) ∷ [])
     ∙ ap₂ (λ xs ys. xs ++ ys) first (ap (λ l. l ++ []) second ∙ append-nil exported)
 
 nothing_nested : {A : Type 0} (w : ComponentWorld) (f : Landmark → List A) → ((imports exports : Names) → f (NestedOf imports exports) ≡ []) → (o : Option WorldItem) → flat_map f (nested_marked w o) ≡ []
@@ -191,41 +185,37 @@ nested_of : (w : ComponentWorld) (o : Option WorldItem) → flat_map nested_mark
 nested_of w (Some (world_items.Interface id)) = refl
 nested_of w o = refl
 
-none_of_keys : {A : Type 0} (g : WorldKey → List A) → ((key : WorldKey) → g key ≡ []) → (keys : List WorldKey) → flat_map g keys ≡ []
+none_of_keys : {A : Type 0} (g : RequiredKey → List A) → ((r : RequiredKey) → g r ≡ []) → (rs : List RequiredKey) → flat_map g rs ≡ []
 none_of_keys g none [] = refl
-none_of_keys g none (key ∷ keys) = ap₂ (λ xs ys. xs ++ ys) (none key) (none_of_keys g none keys)
+none_of_keys g none (r ∷ rs) = ap₂ (λ xs ys. xs ++ ys) (none r) (none_of_keys g none rs)
 
-one_of_keys : {A : Type 0} (g : WorldKey → A) (keys : List WorldKey) → flat_map (λ key. g key ∷ []) keys ≡ map g keys
+one_of_keys : {A : Type 0} (g : RequiredKey → A) (rs : List RequiredKey) → flat_map (λ r. g r ∷ []) rs ≡ map g rs
 one_of_keys g [] = refl
-one_of_keys g (key ∷ keys) = ap (λ l. g key ∷ l) (one_of_keys g keys)
+one_of_keys g (r ∷ rs) = ap (λ l. g r ∷ l) (one_of_keys g rs)
 
 -- what reads nothing of nested components and exports
 exports_nothing : {A : Type 0} (n : Naming) (w : ComponentWorld) (f : Landmark → List A) → ((imports exports : Names) → f (NestedOf imports exports) ≡ []) → ((s : Stated) → f (Exported s) ≡ []) → flat_map f (exports_marked n w) ≡ []
 exports_nothing n w f nested exported =
-    of_keys n w f (λ key. flat_map f (export_marked n w key)) (λ key. refl) w.main_exports
-    ∙ none_of_keys (λ key. flat_map f (export_marked n w key))
-    (λ key. of_key n w f [] [] key (nothing_nested w f nested (exported_item w key)) (exported (stated_export n w (record { of = Main; key = key })))) w.main_exports
+    of_keys n w f (λ r. flat_map f (export_marked n w r)) (λ r. refl) (required_keys w)
+    ∙ none_of_keys (λ r. flat_map f (export_marked n w r))
+    (λ r. of_key n w f [] [] r (nothing_nested w f nested (exported_item w r.key)) (exported (stated_export n w r))) (required_keys w)
 
 -- what reads one thing of each export, and nothing of nested components
 exports_each : {A : Type 0} (n : Naming) (w : ComponentWorld) (f : Landmark → List A) (g : Stated → A) → ((imports exports : Names) → f (NestedOf imports exports) ≡ []) → ((s : Stated) → f (Exported s) ≡ g s ∷ []) →
-    flat_map f (exports_marked n w) ≡ map (λ key. g (stated_export n w (record { of = Main; key = key }))) w.main_exports
+    flat_map f (exports_marked n w) ≡ map (λ r. g (stated_export n w r)) (required_keys w)
 exports_each n w f g nested exported =
-    of_keys n w f (λ key. g (stated_export n w (record { of = Main; key = key })) ∷ [])
-    (λ key. of_key n w f [] (g (stated_export n w (record { of = Main; key = key })) ∷ []) key (nothing_nested w f nested (exported_item w key)) (exported (stated_export n w (record { of = Main; key = key }))))
-    w.main_exports
-    ∙ one_of_keys (λ key. g (stated_export n w (record { of = Main; key = key }))) w.main_exports
-
-mapped_twice : {X Y Z : Type 0} (f : Y → Z) (g : X → Y) (xs : List X) → map (λ x. f (g x)) xs ≡ map f (map g xs)
-mapped_twice f g [] = refl
-mapped_twice f g (x ∷ xs) = ap (λ l. f (g x) ∷ l) (mapped_twice f g xs)
+    of_keys n w f (λ r. g (stated_export n w r) ∷ [])
+    (λ r. of_key n w f [] (g (stated_export n w r) ∷ []) r (nothing_nested w f nested (exported_item w r.key)) (exported (stated_export n w r)))
+    (required_keys w)
+    ∙ one_of_keys (λ r. g (stated_export n w r)) (required_keys w)
 
 -- ---- what is read of core modules
 
-each_resource : (ids : List TypeId) (rest : List Landmark) → flat_map resource_mark rest ≡ [] → flat_map resource_mark (map (λ id. ResourceDefined) ids ++ rest) ≡ map (λ id. 0) ids
+each_resource : (ids : List ProvidedType) (rest : List Landmark) → flat_map resource_mark rest ≡ [] → flat_map resource_mark (map (λ id. ResourceDefined) ids ++ rest) ≡ map (λ id. 0) ids
 each_resource [] rest none = none
 each_resource (id ∷ ids) rest none = ap (λ l. 0 ∷ l) (each_resource ids rest none)
 
-numbers_read : (ns : List ℕ) → flat_map instance_mark (numbers_marked ns) ≡ ns
+numbers_read : (ns : List ℕ) → flat_map instance_mark (map InstanceOf ns) ≡ ns
 numbers_read [] = refl
 numbers_read (n ∷ ns) = ap (λ l. n ∷ l) (numbers_read ns)
 
@@ -233,70 +223,74 @@ all_nothing : {A : Type 0} (bytes shims shim_instance instances fixup fixup_inst
     bytes ++ (shims ++ (shim_instance ++ (instances ++ (fixup ++ (fixup_instance ++ []))))) ≡ []
 all_nothing bytes shims shim_instance instances fixup fixup_instance a b c d e f = rw (a, b, c, d, e, f) refl
 
-module _ (w : ComponentWorld) (us : List WorldModule) where
+-- the bytes of the user modules
+abbrev pub bytes_of_users : ComponentWorld → List (List ℕ)
+bytes_of_users w = map (λ (m : WorldModule). m.found.bytes) (user_modules w)
+
+abbrev module_marked : WorldModule → Landmark
+module_marked m = ModuleIs m.found.bytes
+
+module _ (w : ComponentWorld) where
   -- nothing
-  users_nothing : {A : Type 0} (g : Landmark → List A) → g ResourceDefined ≡ [] → ((bytes : List ℕ) → g (ModuleIs bytes) ≡ []) → ((number : ℕ) → g (InstanceOf number) ≡ []) → (o : Option GeneratedBytes) → flat_map g (users_marked w us o) ≡ []
-  users_nothing {A} g none m i o = reads_users g none w us o ∙ by o
+  users_nothing : {A : Type 0} (g : Landmark → List A) → g ResourceDefined ≡ [] → ((bytes : List ℕ) → g (ModuleIs bytes) ≡ []) → ((number : ℕ) → g (InstanceOf number) ≡ []) → (o : Option GeneratedBytes) → flat_map g (modules_marked w o) ≡ []
+  users_nothing {A} g none m i o = reads_users g none w o ∙ by o
     where
-      no_bytes : flat_map g (bytes_marked us) ≡ []
-      no_bytes = mapped_nothing g (λ (x : WorldModule). ModuleIs x.found.bytes) (λ x. m x.found.bytes) us
+      no_bytes : flat_map g (bytes_marked w) ≡ []
+      no_bytes = mapped_nothing g module_marked (λ x. m x.found.bytes) (user_modules w)
 
-      no_numbers : flat_map g (numbers_marked (range_with_len 0 (length us))) ≡ []
-      no_numbers = mapped_nothing g (λ (n : ℕ). InstanceOf n) i (range_with_len 0 (length us))
+      no_numbers : flat_map g (users_marked w) ≡ []
+      no_numbers = mapped_nothing g InstanceOf i (user_range w)
 
-      by : (o : Option GeneratedBytes) → read_of g w us o ≡ []
+      by : (o : Option GeneratedBytes) → read_of g w o ≡ []
       by None = ap₂ (λ xs ys. xs ++ ys) no_bytes no_numbers
       by (Some b) =
-          all_nothing (flat_map g (bytes_marked us)) (g (ModuleIs b.shims)) (g (InstanceOf (shims_number w))) (flat_map g (numbers_marked (range_with_len 0 (length us)))) (g (ModuleIs b.fixup)) (g (InstanceOf (fixup_number w)))
+          all_nothing (flat_map g (bytes_marked w)) (g (ModuleIs b.shims)) (g (InstanceOf (shims_number w))) (flat_map g (users_marked w)) (g (ModuleIs b.fixup)) (g (InstanceOf (fixup_number w)))
           no_bytes (m b.shims) (i (shims_number w)) no_numbers (m b.fixup) (i (fixup_number w))
 
   -- the modules
-  users_modules : (o : Option GeneratedBytes) → flat_map module_mark (users_marked w us o) ≡ map (λ (m : WorldModule). m.found.bytes) us ++ bytes_listed o
-  users_modules o = reads_users module_mark refl w us o ∙ by o
+  users_modules : (o : Option GeneratedBytes) → flat_map module_mark (modules_marked w o) ≡ bytes_of_users w ++ bytes_listed o
+  users_modules o = reads_users module_mark refl w o ∙ by o
     where
-      own : flat_map module_mark (bytes_marked us) ≡ map (λ (m : WorldModule). m.found.bytes) us
-      own = mapped_each module_mark (λ (x : WorldModule). ModuleIs x.found.bytes) (λ (m : WorldModule). m.found.bytes) (λ x. refl) us
+      own : flat_map module_mark (bytes_marked w) ≡ bytes_of_users w
+      own = mapped_each module_mark module_marked (λ (m : WorldModule). m.found.bytes) (λ x. refl) (user_modules w)
 
-      no_numbers : flat_map module_mark (numbers_marked (range_with_len 0 (length us))) ≡ []
-      no_numbers = mapped_nothing module_mark (λ (n : ℕ). InstanceOf n) (λ n. refl) (range_with_len 0 (length us))
+      no_numbers : flat_map module_mark (users_marked w) ≡ []
+      no_numbers = mapped_nothing module_mark InstanceOf (λ n. refl) (user_range w)
 
-      by : (o : Option GeneratedBytes) → read_of module_mark w us o ≡ map (λ (m : WorldModule). m.found.bytes) us ++ bytes_listed o
+      by : (o : Option GeneratedBytes) → read_of module_mark w o ≡ bytes_of_users w ++ bytes_listed o
       by None = ap₂ (λ xs ys. xs ++ ys) own no_numbers
       by (Some b) = ap₂ (λ xs ys. xs ++ (b.shims ∷ (ys ++ b.fixup ∷ []))) own no_numbers
 
   -- the instances
-  users_instances : (o : Option GeneratedBytes) → flat_map instance_mark (users_marked w us o) ≡ numbers_listed w us o
-  users_instances o = reads_users instance_mark refl w us o ∙ by o
+  users_instances : (o : Option GeneratedBytes) → flat_map instance_mark (modules_marked w o) ≡ numbers_listed w o
+  users_instances o = reads_users instance_mark refl w o ∙ by o
     where
-      no_bytes : flat_map instance_mark (bytes_marked us) ≡ []
-      no_bytes = mapped_nothing instance_mark (λ (x : WorldModule). ModuleIs x.found.bytes) (λ x. refl) us
+      no_bytes : flat_map instance_mark (bytes_marked w) ≡ []
+      no_bytes = mapped_nothing instance_mark module_marked (λ x. refl) (user_modules w)
 
-      by : (o : Option GeneratedBytes) → read_of instance_mark w us o ≡ numbers_listed w us o
-      by None = ap₂ (λ xs ys. xs ++ ys) no_bytes (numbers_read (range_with_len 0 (length us)))
-      by (Some b) = ap₂ (λ xs ys. xs ++ (shims_number w ∷ (ys ++ fixup_number w ∷ []))) no_bytes (numbers_read (range_with_len 0 (length us)))
+      by : (o : Option GeneratedBytes) → read_of instance_mark w o ≡ numbers_listed w o
+      by None = ap₂ (λ xs ys. xs ++ ys) no_bytes (numbers_read (user_range w))
+      by (Some b) = ap₂ (λ xs ys. xs ++ (shims_number w ∷ (ys ++ fixup_number w ∷ []))) no_bytes (numbers_read (user_range w))
 
   -- the resources
-  users_resources : (o : Option GeneratedBytes) → flat_map resource_mark (users_marked w us o) ≡ map (λ id. 0) (own_resources w)
+  users_resources : (o : Option GeneratedBytes) → flat_map resource_mark (modules_marked w o) ≡ map (λ id. 0) (provided_resources w)
   users_resources o = by o
     where
-      instances : List Landmark
-      instances = numbers_marked (range_with_len 0 (length us))
+      no_bytes : flat_map resource_mark (bytes_marked w) ≡ []
+      no_bytes = mapped_nothing resource_mark module_marked (λ x. refl) (user_modules w)
 
-      no_bytes : flat_map resource_mark (bytes_marked us) ≡ []
-      no_bytes = mapped_nothing resource_mark (λ (x : WorldModule). ModuleIs x.found.bytes) (λ x. refl) us
+      no_numbers : flat_map resource_mark (users_marked w) ≡ []
+      no_numbers = mapped_nothing resource_mark InstanceOf (λ n. refl) (user_range w)
 
-      no_numbers : flat_map resource_mark instances ≡ []
-      no_numbers = mapped_nothing resource_mark (λ (n : ℕ). InstanceOf n) (λ n. refl) (range_with_len 0 (length us))
-
-      by : (o : Option GeneratedBytes) → flat_map resource_mark (users_marked w us o) ≡ map (λ id. 0) (own_resources w)
+      by : (o : Option GeneratedBytes) → flat_map resource_mark (modules_marked w o) ≡ map (λ id. 0) (provided_resources w)
       by None =
-          flat_map-append resource_mark (bytes_marked us) (resources_marked w ++ instances)
-          ∙ ap₂ (λ xs ys. xs ++ ys) no_bytes (each_resource (own_resources w) instances no_numbers)
+          flat_map-append resource_mark (bytes_marked w) (resources_marked w ++ users_marked w)
+          ∙ ap₂ (λ xs ys. xs ++ ys) no_bytes (each_resource (provided_resources w) (users_marked w) no_numbers)
       by (Some b) =
           let fixup : List Landmark = ModuleIs b.fixup ∷ InstanceOf (fixup_number w) ∷ [] in
-          let behind : flat_map resource_mark (instances ++ fixup) ≡ [] = flat_map-append resource_mark instances fixup ∙ ap (λ l. l ++ flat_map resource_mark fixup) no_numbers in
-          flat_map-append resource_mark (bytes_marked us) (ModuleIs b.shims ∷ InstanceOf (shims_number w) ∷ (resources_marked w ++ (instances ++ fixup)))
-          ∙ ap₂ (λ xs ys. xs ++ ys) no_bytes (each_resource (own_resources w) (instances ++ fixup) behind)
+          let behind : flat_map resource_mark (users_marked w ++ fixup) ≡ [] = flat_map-append resource_mark (users_marked w) fixup ∙ ap (λ l. l ++ flat_map resource_mark fixup) no_numbers in
+          flat_map-append resource_mark (bytes_marked w) (ModuleIs b.shims ∷ InstanceOf (shims_number w) ∷ (resources_marked w ++ (users_marked w ++ fixup)))
+          ∙ ap₂ (λ xs ys. xs ++ ys) no_bytes (each_resource (provided_resources w) (users_marked w ++ fixup) behind)
 
 -- ---- the names of nested components
 
@@ -342,44 +336,46 @@ module _ (n : Naming) (w : ComponentWorld) (ds : List Def) (built : IsBuilt n w 
 
   -- the modules and their instances have no import, no export, no custom section, and no type of instances
   none_of_modules : {A : Type 0} (g : Landmark → List A) → g ResourceDefined ≡ [] → ((bytes : List ℕ) → g (ModuleIs bytes) ≡ []) → ((number : ℕ) → g (InstanceOf number) ≡ []) → flat_map g (modules_marked w built.generated) ≡ []
-  none_of_modules g none m i = ap (flat_map g) (marked_main w built.generated) ∙ users_nothing w (main_module w ∷ []) g none m i built.generated
+  none_of_modules g none m i = users_nothing w g none m i built.generated
 
   pub root_imports : flat_map (at_root item_imports) ds ≡ stated_imports n w
   root_imports =
       read_marks (at_root item_imports) import_mark import_is (λ n c. refl)
       ∙ rw (imports_said, none_of_modules import_mark refl (λ b. refl) (λ k. refl), exports_nothing n w import_mark (λ i e. refl) (λ s. refl)) (append-nil (stated_imports n w))
 
-  -- the core modules, and their instances, where these are the user modules
-  module _ (us : List WorldModule) (marked : modules_marked w built.generated ≡ users_marked w us built.generated) where
-    pub root_modules : flat_map (at_root item_module) ds ≡ map (λ (m : WorldModule). m.found.bytes) us ++ bytes_listed built.generated
-    root_modules =
-        read_marks (at_root item_module) module_mark module_is (λ n c. refl)
-        ∙ rw (said_by module_mark (λ s. refl) (λ names. refl), exports_nothing n w module_mark (λ i e. refl) (λ s. refl))
-        (append-nil (flat_map module_mark (modules_marked w built.generated)) ∙ (ap (flat_map module_mark) marked ∙ users_modules w us built.generated))
+  -- the core modules, and their instances
+  pub root_modules : flat_map (at_root item_module) ds ≡ bytes_of_users w ++ bytes_listed built.generated
+  root_modules =
+      read_marks (at_root item_module) module_mark module_is (λ n c. refl)
+      ∙ rw (said_by module_mark (λ s. refl) (λ names. refl), exports_nothing n w module_mark (λ i e. refl) (λ s. refl))
+      (append-nil (flat_map module_mark (modules_marked w built.generated)) ∙ users_modules w built.generated)
 
-    pub root_instances : flat_map (at_root item_instantiates) ds ≡ numbers_listed w us built.generated
-    root_instances =
-        read_marks (at_root item_instantiates) instance_mark instance_is (λ n c. refl)
-        ∙ rw (said_by instance_mark (λ s. refl) (λ names. refl), exports_nothing n w instance_mark (λ i e. refl) (λ s. refl))
-        (append-nil (flat_map instance_mark (modules_marked w built.generated)) ∙ (ap (flat_map instance_mark) marked ∙ users_instances w us built.generated))
+  pub root_instances : flat_map (at_root item_instantiates) ds ≡ numbers_listed w built.generated
+  root_instances =
+      read_marks (at_root item_instantiates) instance_mark instance_is (λ n c. refl)
+      ∙ rw (said_by instance_mark (λ s. refl) (λ names. refl), exports_nothing n w instance_mark (λ i e. refl) (λ s. refl))
+      (append-nil (flat_map instance_mark (modules_marked w built.generated)) ∙ users_instances w built.generated)
 
-  root_resources : flat_map (at_root item_resource) ds ≡ map (λ id. 0) (own_resources w)
+  root_resources : flat_map (at_root item_resource) ds ≡ map (λ id. 0) (provided_resources w)
   root_resources =
       read_marks (at_root item_resource) resource_mark resource_is (λ n c. refl)
       ∙ rw (said_by resource_mark (λ s. refl) (λ names. refl), exports_nothing n w resource_mark (λ i e. refl) (λ s. refl))
-      (append-nil (flat_map resource_mark (modules_marked w built.generated)) ∙ (ap (flat_map resource_mark) (marked_main w built.generated) ∙ users_resources w (main_module w ∷ []) built.generated))
+      (append-nil (flat_map resource_mark (modules_marked w built.generated)) ∙ users_resources w built.generated)
 
   -- as many resources are defined as the world has
   pub all_resources : (inventory ds).resources ≡ length (own_resources w)
-  all_resources = resources_counted ds ∙ (ap length root_resources ∙ length-map (own_resources w) (λ (id : TypeId). 0))
+  all_resources =
+      resources_counted ds
+      ∙ (ap length root_resources
+      ∙ (length-map (provided_resources w) (λ (p : ProvidedType). 0)
+      ∙ sym (length-map (provided_resources w) (λ (p : ProvidedType). p.id))))
 
   pub root_exports : flat_map (at_root item_exports) ds ≡ stated_exports n w
   root_exports =
       read_marks (at_root item_exports) export_mark export_is (λ n c. refl)
-      ∙ rw (said_by export_mark (λ s. refl) (λ names. refl), none_of_modules export_mark refl (λ b. refl) (λ k. refl), exports_each n w export_mark (λ s. s) (λ i e. refl) (λ s. refl))
-      (mapped_twice (stated_export n w) (λ key. record { of = Main; key = key }) w.main_exports)
+      ∙ rw (said_by export_mark (λ s. refl) (λ names. refl), none_of_modules export_mark refl (λ b. refl) (λ k. refl), exports_each n w export_mark (λ s. s) (λ i e. refl) (λ s. refl)) refl
 
-  pub root_export_names : flat_map def_export ds ≡ map (λ key. (name_of n w.resolve key).name) w.main_exports
+  pub root_export_names : flat_map def_export ds ≡ map (λ (r : RequiredKey). (name_of n w.resolve r.key).name) (required_keys w)
   root_export_names =
       read_marks def_export name_mark name_is (λ n c. refl)
       ∙ rw (said_by name_mark (λ s. refl) (λ names. refl), none_of_modules name_mark refl (λ b. refl) (λ k. refl), exports_each n w name_mark (λ (s : Stated). s.name.name) (λ i e. refl) (λ s. refl)) refl
@@ -394,9 +390,9 @@ module _ (n : Naming) (w : ComponentWorld) (ds : List Def) (built : IsBuilt n w 
   root_nested_names =
       read_marks nested_lists_of nested_mark nested_is (λ n c. refl)
       ∙ rw (said_by nested_mark (λ s. refl) (λ names. refl), none_of_modules nested_mark refl (λ b. refl) (λ k. refl))
-      (of_keys n w nested_mark (λ key. nested_lists w (exported_item w key))
-      (λ key. of_key n w nested_mark (nested_lists w (exported_item w key)) [] key (nested_of w (exported_item w key)) refl ∙ append-nil (nested_lists w (exported_item w key)))
-      w.main_exports)
+      (of_keys n w nested_mark (λ r. nested_lists w (exported_item w r.key))
+      (λ r. of_key n w nested_mark (nested_lists w (exported_item w r.key)) [] r (nested_of w (exported_item w r.key)) refl ∙ append-nil (nested_lists w (exported_item w r.key)))
+      (required_keys w))
 
   pub no_customs : flat_map (at_root item_customs) built.front ≡ []
   no_customs =

@@ -20,18 +20,17 @@ use Rattle.comp_bytes.specs.declared.def.Item.TheVariants as items
 use Rattle.comp_bytes.specs.declared.def.Def.{Def}
 use Rattle.comp_bytes.specs.declared.def.Def.TheVariants as defs
 use Rattle.wit_data.specs.Live.{named_types}
-use Rattle.wit_data.specs.declared.worlds.WorldKey.{WorldKey}
 use Rattle.wit_data.specs.declared.ids.TypeId.{TypeId}
 use Rattle.wit_data.specs.declared.worlds.WorldItem.{WorldItem}
-use Rattle.comp_worlds.specs.WorldContents.{exported_item, core_name_of}
+use Rattle.comp_worlds.specs.WorldContents.{exported_item}
 use Rattle.comp_worlds.specs.declared.world.ComponentWorld.{ComponentWorld}
 use Rattle.comp_trees.specs.Trees.{FunctionTree}
 use Rattle.comp_trees.specs.DefinedTrees.{TypeTree}
 use Rattle.comp_inventories.specs.Inventories.{FunctionEntry, InstanceEntry, OtherInstance, no_function, argument_named, nested_exports, inventory}
 use Rattle.nested_terms.specs.Nested.{NestedImport, ImportedFunction, ImportedType, NestedExport, empty_scope, type_named, imports_after, exports_after, AreItemsRight}
 use Rattle.comp_links.specs.Targets.{ExportRef, TargetOption, Lifted}
-use Rattle.comp_links.specs.Lists.{RequiredFunction, functions_required, types_in, types_required, type_of_world}
-use Rattle.comp_links.specs.Links.{lift_options}
+use Rattle.comp_links.specs.Lists.{RequiredKey, required_keys, RequiredFunction, functions_required, types_in, types_required, type_of_world}
+use Rattle.comp_links.specs.Links.{core_name, lift_options}
 use Rattle.world_values.specs.Items.{functions_in}
 use Rattle.comp_terms.specs.Planned.{type_of_function, IsLiftFor}
 use Rattle.comp_terms.specs.Exports.{IsImportGiven, IsArgumentIn, IsArgumentRight, InstantiatesNested, exports_in, IsRequiredLift, ExportsFunction, PassesOn, ExportsTypes, ExportsInterface}
@@ -49,7 +48,7 @@ use Rattle.nested_laws.proofs.SameExports.{same_exports}
 use Rattle.link_laws.specs.Composition.{GeneratedModules}
 use Rattle.link_laws.specs.Linking.{module_meanings}
 use Rattle.link_laws.proofs.Zips.{all_some-self, AllZip-back, mapped_some}
-use Rattle.link_laws.proofs.Stores.{IsComponentHeld, IsArgumentHeld, IsNestedInstance, IsFunctionEntry, IsInstanceThing, IsLiftedFrom, main_key, main_function, type_at_key, IsRequiredAt, IsAmong, IsTypeAmong, IsItemExport, IsKeyExport, AreResources, Agrees}
+use Rattle.link_laws.proofs.Stores.{IsComponentHeld, IsArgumentHeld, IsNestedInstance, IsFunctionEntry, IsInstanceThing, IsLiftedFrom, function_at_key, type_at_key, IsRequiredAt, IsAmong, IsTypeAmong, IsItemExport, IsKeyExport, AreResources, Agrees}
 use Rattle.link_laws.proofs.Kept.{Keeps, shims_same, address_at-append, things_kept, keeps_store, keeps_component, IsPlannedUser-kept, AreKeyExports-push, AreResources-more}
 use Rattle.link_laws.proofs.GivenTypes.{exports_given}
 use Rattle.link_laws.proofs.Given.{thing_there, address_there, held_there, function_at, lift_there, found_name, by_parts}
@@ -186,10 +185,10 @@ module _ {w : ComponentWorld} {earlier : List Def} {c : Scope} {s : Store} (a : 
   counted = sym (length-map c.exports (λ (e : Export). e.name)) ∙ ap (λ (names : List (List ℕ)). length names) a.exports
 
   -- the step of an export: it is that of the next required key
-  export_step : (name : ExternName) (sort : Sort) (index address : ℕ) (key : WorldKey) → address_at (sort_space sort) index c.items ≡ Some address → slice_get w.main_exports (exports_in earlier) ≡ Some key →
-      IsKeyExport w s key (record { space = sort_space sort; name = name.name; address = address }) → Makes a g gen (defs.Item (items.Export name sort index None)) s (record { space = sort_space sort; address = address }) →
+  export_step : (name : ExternName) (sort : Sort) (index address : ℕ) (r : RequiredKey) → address_at (sort_space sort) index c.items ≡ Some address → slice_get (required_keys w) (exports_in earlier) ≡ Some r →
+      IsKeyExport w s r (record { space = sort_space sort; name = name.name; address = address }) → Makes a g gen (defs.Item (items.Export name sort index None)) s (record { space = sort_space sort; address = address }) →
       is_space spaces.CoreModule (Some (sort_space sort)) ≡ false → Steps w gen earlier c s g (defs.Item (items.Export name sort index None))
-  export_step name sort index address key at next is makes other =
+  export_step name sort index address r at next is makes other =
       let d : Def = defs.Item (items.Export name sort index None) in
       let t : Thing = record { space = sort_space sort; address = address } in
       let x : Export = record { space = sort_space sort; name = name.name; address = address } in
@@ -205,7 +204,7 @@ module _ {w : ComponentWorld} {earlier : List Def} {c : Scope} {s : Store} (a : 
             (AllByRecursion-weaker (IsPlannedUser-kept w k a.shims a.shims (shims_same a.shims)) s.module_instances a.served)
             (shims_beside a g gen k [] refl refl refl)
             (map-append (λ (e : Export). e.name) c.exports (x ∷ []))
-            (AreKeyExports-push w s w.main_exports c.exports key x a.lifted (ap (slice_get w.main_exports) counted ∙ next) is)
+            (AreKeyExports-push w s (required_keys w) c.exports r x a.lifted (ap (slice_get (required_keys w)) counted ∙ next) is)
             a.imports
             a.resources,
       )
@@ -214,8 +213,8 @@ module _ {w : ComponentWorld} {earlier : List Def} {c : Scope} {s : Store} (a : 
   required_there : (r : RequiredFunction) (index : ℕ) → IsRequiredLift w earlier r index → (x : ℕ) × (address_at spaces.Func index c.items ≡ Some x) × IsRequiredAt w s r x
   required_there r index h =
       let options : List TargetOption = lift_options w r in
-      let core : (core : List ℕ) × (core_name_of w r.key r.function ≡ Some core) × (Lifted (record { of = r.of; name = core }) options ≡ h.target) =
-      mapped_some (λ core. Lifted (record { of = r.of; name = core }) options) (core_name_of w r.key r.function) h.target h.said in
+      let core : (core : List ℕ) × (core_name w r ≡ Some core) × (Lifted (record { of = r.of; name = core }) options ≡ h.target) =
+      mapped_some (λ core. Lifted (record { of = r.of; name = core }) options) (core_name w r) h.target h.said in
       let type : FunctionTree = type_of_function w h.wit in
       let entry : ExportRef = record { of = r.of; name = core.0 } in
       let lifting : IsLiftFor w earlier index (Lifted entry options) type = subst (λ target. IsLiftFor w earlier index target type) (sym core.2) h.is in
@@ -224,10 +223,10 @@ module _ {w : ComponentWorld} {earlier : List Def} {c : Scope} {s : Store} (a : 
 
   pub step_export_function : (name : ExternName) (index : ℕ) → ExportsFunction w earlier index → Steps w gen earlier c s g (defs.Item (items.Export name sorts.Func index None))
   step_export_function name index h =
-      let f : (x : ℕ) × (address_at spaces.Func index c.items ≡ Some x) × IsRequiredAt w s (main_function h.key h.function.name) x = required_there (main_function h.key h.function.name) index h.lifted in
+      let f : (x : ℕ) × (address_at spaces.Func index c.items ≡ Some x) × IsRequiredAt w s (function_at_key h.required h.function.name) x = required_there (function_at_key h.required h.function.name) index h.lifted in
       let t : Thing = record { space = spaces.Func; address = f.0 } in
       let own : (e : FunctionEntry) × IsFunctionEntry s e t × (get_or (inventory earlier).functions index no_function ≡ e) = function_at a index f.0 f.1 in
-      export_step name sorts.Func index f.0 h.key f.1 h.next (subst (IsItemExport w s h.key (record { space = spaces.Func; name = name.name; address = f.0 })) (sym h.item) (record { space = refl; is = f.2 }))
+      export_step name sorts.Func index f.0 h.required f.1 h.next (subst (IsItemExport w s h.required (record { space = spaces.Func; name = name.name; address = f.0 })) (sym h.item) (record { space = refl; is = f.2 }))
       (tt, (record { function = own.1.function; present = own.1.present; same = own.1.same ∙ sym own.2 }, tt), tt) refl
 
   -- the entry of an instance of the scope
@@ -241,32 +240,32 @@ module _ {w : ComponentWorld} {earlier : List Def} {c : Scope} {s : Store} (a : 
         get_or_from_slice_get (inventory earlier).instances index e.0 OtherInstance e.1,
       )
 
-  module _ (component : ℕ) (written : List Argument) (address : ℕ) (n : IsNestedInstance earlier c.items s component written address) (key : WorldKey) where
+  module _ (component : ℕ) (written : List Argument) (address : ℕ) (n : IsNestedInstance earlier c.items s component written address) (r : RequiredKey) where
     -- what the nested component exports
     abbrev exported : List NestedExport
     exported = exports_after n.given empty_scope n.definitions
 
     -- the function that an instance exports is the argument that it was given, and so the lift
-    passed_on : (name : List ℕ) → PassesOn w earlier written exported (main_function key name) → IsAmong w s n.exports (main_function key name)
+    passed_on : (name : List ℕ) → PassesOn w earlier written exported (function_at_key r name) → IsAmong w s n.exports (function_at_key r name)
     passed_on name h =
         let argument_is : List ℕ = h.function.argument in
         let e : FindsArgument n.arguments n.exports name argument_is = finds_argument s.types n.arguments name exported n.exports h.function n.each h.found in
         let y : FindsHeld c.items sorts.Func argument_is n.arguments h.argument.index = finds_held c.items sorts.Func is_function argument_is written n.arguments h.argument n.held h.named in
-        let l : (x : ℕ) × (address_at spaces.Func h.argument.index c.items ≡ Some x) × IsRequiredAt w s (main_function key name) x = required_there (main_function key name) h.argument.index h.lifted in
+        let l : (x : ℕ) × (address_at spaces.Func h.argument.index c.items ≡ Some x) × IsRequiredAt w s (function_at_key r name) x = required_there (function_at_key r name) h.argument.index h.lifted in
         let same : e.export.address ≡ y.export.address = address_of_argument n.arguments argument_is e.export.address y.export e.is y.found in
         let lifted : l.0 ≡ e.export.address = same_Some l.0 y.export.address (sym l.1 ∙ y.at) ∙ sym same in
         record {
           address = e.export.address;
           found = e.found ∙ ap (λ (x : Export). Some x) (by_parts e.export spaces.Func name e.space (found_name name (filter (export_in spaces.Func) n.exports) e.export e.found));
-          is = subst (IsRequiredAt w s (main_function key name)) lifted l.2;
+          is = subst (IsRequiredAt w s (function_at_key r name)) lifted l.2;
         }
 
-    all_passed_on : (names : List (List ℕ)) → AllByRecursion (PassesOn w earlier written exported) (map (main_function key) names) → AllByRecursion (IsAmong w s n.exports) (map (main_function key) names)
+    all_passed_on : (names : List (List ℕ)) → AllByRecursion (PassesOn w earlier written exported) (map (function_at_key r) names) → AllByRecursion (IsAmong w s n.exports) (map (function_at_key r) names)
     all_passed_on [] h = tt
     all_passed_on (name ∷ names) h = (passed_on name h.0, all_passed_on names h.1)
 
     -- the types that it exports
-    types_there : (ts : List (List ℕ × TypeId)) → AllByRecursion (λ t. type_named t.0 exported ≡ Some (type_of_world w t.1)) ts → AllByRecursion (IsTypeAmong w s n.exports) (map (type_at_key key) ts)
+    types_there : (ts : List (List ℕ × TypeId)) → AllByRecursion (λ t. type_named t.0 exported ≡ Some (type_of_world w t.1)) ts → AllByRecursion (IsTypeAmong w s n.exports) (map (type_at_key r.key) ts)
     types_there [] h = tt
     types_there (t ∷ ts) h =
         let e : FindsType s.types n.exports t.0 (type_of_world w t.1) = finds_nested_type s.types n.arguments t.0 exported n.exports (type_of_world w t.1) n.each h.0 in (
@@ -288,15 +287,15 @@ module _ {w : ComponentWorld} {earlier : List Def} {c : Scope} {s : Store} (a : 
       AllByRecursion-weaker (import_given h.arguments n.arguments n.held) (imports_after h.nested.given empty_scope h.nested.definitions) h.nested.each in
       let same : exports_after h.nested.given empty_scope h.nested.definitions ≡ exports_after n.given empty_scope n.definitions =
       same_exported h.nested.given n (one_component h.nested.made n.made) given in
-      let each : AllByRecursion (IsAmong w s n.exports) (functions_required w (main_key h.key)) =
-      all_passed_on h.component h.arguments x.0 n h.key (functions_in w.resolve (exported_item w h.key))
-      (subst (λ xs. AllByRecursion (PassesOn w earlier h.arguments xs) (functions_required w (main_key h.key))) same h.each) in
-      let listed : AllByRecursion (IsTypeAmong w s n.exports) (map (type_at_key h.key) (named_types w.resolve h.id)) =
-      types_there h.component h.arguments x.0 n h.key (named_types w.resolve h.id) (subst (ExportsTypes w h.id) same h.types) in
-      let types : AllByRecursion (IsTypeAmong w s n.exports) (types_required w (main_key h.key)) =
-      subst (λ (o : Option WorldItem). AllByRecursion (IsTypeAmong w s n.exports) (map (type_at_key h.key) (types_in w o))) (sym h.item) listed in
-      export_step name sorts.Instance index x.0 h.key x.1 h.next
-      (subst (IsItemExport w s h.key (record { space = spaces.Instance; name = name.name; address = x.0 })) (sym h.item) (record { space = refl; exports = n.exports; present = n.present; each = each; types = types }))
+      let each : AllByRecursion (IsAmong w s n.exports) (functions_required w h.required) =
+      all_passed_on h.component h.arguments x.0 n h.required (functions_in w.resolve (exported_item w h.required.key))
+      (subst (λ xs. AllByRecursion (PassesOn w earlier h.arguments xs) (functions_required w h.required)) same h.each) in
+      let listed : AllByRecursion (IsTypeAmong w s n.exports) (map (type_at_key h.required.key) (named_types w.resolve h.id)) =
+      types_there h.component h.arguments x.0 n h.required (named_types w.resolve h.id) (subst (ExportsTypes w h.id) same h.types) in
+      let types : AllByRecursion (IsTypeAmong w s n.exports) (types_required w h.required) =
+      subst (λ (o : Option WorldItem). AllByRecursion (IsTypeAmong w s n.exports) (map (type_at_key h.required.key) (types_in w o))) (sym h.item) listed in
+      export_step name sorts.Instance index x.0 h.required x.1 h.next
+      (subst (IsItemExport w s h.required (record { space = spaces.Instance; name = name.name; address = x.0 })) (sym h.item) (record { space = refl; exports = n.exports; present = n.present; each = each; types = types }))
       (tt, tt, (subst (λ e. IsInstanceThing s e t) (sym own.2) own.1, tt)) refl
     where
       items_in : List Item → Def → List Item

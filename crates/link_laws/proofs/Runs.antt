@@ -48,7 +48,6 @@ use Rattle.link_laws.proofs.Stores.{ShimsAt, ExportsShims, MayHaveShims, IsTypeE
 use Rattle.link_laws.proofs.Given.{not_shims, scope_there}
 use Rattle.link_laws.proofs.Plain.{nothing_in, no_initialize}
 use Rattle.link_laws.proofs.ModuleMarks.{bytes_listed, numbers_listed}
-use Rattle.link_laws.proofs.OnlyMain.{marked_users}
 use Rattle.link_laws.proofs.Zips.{AllByRecursion-join}
 use Rattle.link_laws.proofs.InstanceSteps.{IsGenerated, generated_for, none_among, at_least, before_next, step_instantiate}
 use Rattle.link_laws.proofs.Outcomes.{machine, IsNow, IsGood, users_among, users_in, asks, events_of, seen_by, Steps}
@@ -180,7 +179,7 @@ bytes_encode w None h = tt
 bytes_encode w (Some b) h = (h.shims, (h.fixup, tt))
 
 -- the instances are in their order
-order_is : (w : ComponentWorld) (o : Option GeneratedBytes) (h : MayBeGenerated w o) → numbers_listed w (user_modules w) o ≡ instance_order (length (user_modules w)) (modules_of w o h)
+order_is : (w : ComponentWorld) (o : Option GeneratedBytes) (h : MayBeGenerated w o) → numbers_listed w o ≡ instance_order (length (user_modules w)) (modules_of w o h)
 order_is w None h = range_numbers 0 (user_count w) ∙ sym (append-nil (user_numbers w))
 order_is w (Some b) h = ap (λ ns. shims_number w ∷ (ns ++ fixup_number w ∷ [])) (range_numbers 0 (user_count w))
 
@@ -202,19 +201,19 @@ may_make w (Some b) h = each_number (λ n no. record { debug_names = h.debug_nam
 -- ---- as a list
 
 -- the modules are instantiated in their order
-instances_in_order : (n : Naming) (w : ComponentWorld) (ds : List Def) → IsWorld w → (built : IsBuilt n w ds) →
+instances_in_order : (n : Naming) (w : ComponentWorld) (ds : List Def) (built : IsBuilt n w ds) →
     flat_map (at_root item_instantiates) ds ≡ instance_order (length (user_modules w)) (modules_of w built.generated built.are_generated)
-instances_in_order n w ds ok built = root_instances n w ds built (user_modules w) (marked_users w ok built.generated) ∙ order_is w built.generated built.are_generated
+instances_in_order n w ds built = root_instances n w ds built ∙ order_is w built.generated built.are_generated
 
 -- what was built is composed as the world says
-pub composed : (n : Naming) (w : ComponentWorld) (ds : List Def) → IsWorld w → (built : IsBuilt n w ds) → IsComposed n w (modules_of w built.generated built.are_generated) ds
-composed n w ds ok built = record {
+pub composed : (n : Naming) (w : ComponentWorld) (ds : List Def) (built : IsBuilt n w ds) → IsComposed n w (modules_of w built.generated built.are_generated) ds
+composed n w ds built = record {
   generated = bytes_listed built.generated;
-  modules = root_modules n w ds built (user_modules w) (marked_users w ok built.generated);
+  modules = root_modules n w ds built;
   encoded = bytes_encode w built.generated built.are_generated;
   imports = root_imports n w ds built;
   exports = root_exports n w ds built;
-  instances = instances_in_order n w ds ok built;
+  instances = instances_in_order n w ds built;
   customs = record { front = built.front; names = built.names; whole = built.whole; none_before = no_customs n w ds built; named = built.named };
 }
 
@@ -244,11 +243,11 @@ filled_at_end w m (Some b) g (Some at) made same h ok =
 -- the end of a run is linked
 linked_at_end : (n : Naming) (w : ComponentWorld) (ds : List Def) (m : Machine) → IsWorld w → AreExportsApart n w → (built : IsBuilt n w ds) → Agrees w ds m.scope m.store → m.now.events ≡ events_of (numbers_from 0 (length (user_modules w))) → IsLinked n w (modules_of w built.generated built.are_generated) m
 linked_at_end n w ds m ok apart built a events =
-    let filled : FilledAtEnd w ok m a.shims = filled_at_end w m built.generated built.are_generated a.shims (flat_map (at_root item_instantiates) ds) (instances_in_order n w ds ok built) a.with_shims ok in
+    let filled : FilledAtEnd w ok m a.shims = filled_at_end w m built.generated built.are_generated a.shims (flat_map (at_root item_instantiates) ds) (instances_in_order n w ds built) a.with_shims ok in
     record {
       origins = resource_of w;
       start_events = [];
-      instances = a.instantiated ∙ instances_in_order n w ds ok built;
+      instances = a.instantiated ∙ instances_in_order n w ds built;
       imports = users_served w ok m a.shims filled a.served;
       exports = each_provided n w ok apart m (a.exports ∙ root_export_names n w ds built) a.lifted;
       types = each_type_provided n w ok apart m (a.exports ∙ root_export_names n w ds built) a.lifted;
@@ -352,7 +351,7 @@ links n w ds ok apart built = record {
     gen = modules_of w built.generated built.are_generated
 
     in_order : flat_map (at_root item_instantiates) ds ≡ instance_order (length (user_modules w)) gen
-    in_order = instances_in_order n w ds ok built
+    in_order = instances_in_order n w ds built
 
     may : AllByRecursion (MayMake w gen) (flat_map (at_root item_instantiates) ds)
     may = subst (AllByRecursion (MayMake w gen)) (sym in_order) (may_make w built.generated built.are_generated)

@@ -1,4 +1,4 @@
--- What was planned for the imports of user modules, and for the exports of main, meets the link table.
+-- What was planned for the imports and the exports of user modules meets the link table.
 use Rattle.std.proofs.Common.{◌≡◌, ◌∙◌, ◌++◌, inl, inr, ◌+◌, ◌<◌, ◌^◌, arith, length, IsTrue, ℕ, Bool, false, zero, suc, true, List, [], ◌∷◌, map, refl, sym, ap, subst, Option, Some, None, is_some, if◌then◌else◌}
 use Rattle.std.proofs.lemmas.Option.{none-some, same_Some, slice_get_within, slice_get-map}
 use Rattle.std.proofs.lemmas.Slice.Eq.{bytes_eq-Decides}
@@ -45,7 +45,7 @@ use Rattle.shim_runs.proofs.Acting.{filled_shims_forward}
 use Rattle.shim_runs.proofs.Placed.{shim_at}
 use Rattle.comp_links.specs.Modules.{WorldModule, user_modules}
 use Rattle.comp_links.specs.Naming.{Naming, plain_name, name_of}
-use Rattle.comp_links.specs.Lists.{component_types, own_resources, resource_of, RequiredFunction, functions_required, required_functions, types_in, types_required, required_types, type_of_world, AreExportsApart}
+use Rattle.comp_links.specs.Lists.{component_types, own_resources, resource_of, RequiredKey, required_keys, RequiredFunction, functions_required, required_functions, types_in, types_required, required_types, type_of_world, AreExportsApart}
 use Rattle.comp_runs.specs.Signatures.{core_signature}
 use Rattle.comp_runs.specs.Store.{Thing, Export, HeldOption, HeldEncoding, HeldMemory, HeldRealloc, HeldPostReturn, HeldAsync, HeldCallback, CoreItem, Lowering, IntrinsicOf, ExportedBy, Imported, TypeItem, OwnResource, item_tree, ModuleInstance, Store}
 use Rattle.comp_runs.specs.Machine.{Machine, export_in, export_of}
@@ -55,8 +55,9 @@ use Rattle.link_laws.specs.Meeting.{CoreMeets, CoreExportMeets, task_hook, hooks
 use Rattle.instance_laws.proofs.Held.{tree_of_held}
 use Rattle.link_laws.specs.Linking.{IsServed, AreServed, UsersServed, IsProvided, IsTypeProvided, DestructorMeets, IsDefined, IsNumberDefined, exports_at}
 use Rattle.link_laws.proofs.Zips.{AllByRecursion-join, each_at}
-use Rattle.link_laws.proofs.Stores.{IsOpaqueOf, ShimsAt, resource_core, IsLoweredFor, IsFunctionOf, IsFunctionExported, IsServedAs, IsShimGivenAt, Serves, IsFilledWith, AreFilled, main_module, IsPlanned, IsPlannedUser, IsFirstMemory, IsOptionHeld, main_key, main_function, IsRequiredAt, IsFunctionExport, IsAmong, IsInterfaceExport, IsItemExport, IsKeyExport, AreKeyExports, type_at_key, IsTypeAmong, IsDestroyedBy, IsOwnResource, IsOwnIfDefined, AreResources, HasNumber}
+use Rattle.link_laws.proofs.Stores.{IsOpaqueOf, ShimsAt, resource_core, IsLoweredFor, IsFunctionOf, IsFunctionExported, IsServedAs, IsShimGivenAt, Serves, IsFilledWith, AreFilled, main_module, IsPlanned, IsPlannedUser, IsFirstMemory, IsOptionHeld, function_at_key, IsRequiredAt, IsFunctionExport, IsAmong, IsInterfaceExport, IsItemExport, IsKeyExport, AreKeyExports, type_at_key, IsTypeAmong, IsDestroyedBy, IsOwnResource, IsOwnIfDefined, AreResources, HasNumber}
 use Rattle.link_laws.proofs.Given.{by_parts}
+use Rattle.link_laws.proofs.Alone.{one_provider}
 use Rattle.link_laws.proofs.GivenImports.{purpose_opaque, one_purpose}
 use Rattle.link_laws.proofs.Plain.{no_hook, no_memory_imported, function_key}
 use Rattle.comp_worlds.specs.WorldContents.{exported_item}
@@ -204,7 +205,7 @@ module _ (w : ComponentWorld) (ok : IsWorld w) (m : Machine) where
   FilledAtEnd None = Unit {0}
   FilledAtEnd (Some at) = AreShimsFrom m.store.code at.table 0 at.address (shims_of w) × AreFilled w m.store at.table × (length (shims_of w) < 2 ^ 32)
 
-  -- A shim forwards to what it stands for: for an import what that is to be given, for a destructor main's export.
+  -- A shim forwards to what it stands for: for an import what that is to be given, or an export.
   record ForwardsFor (address : ℕ) (target : Target) : Type 0 where
     function : ℕ
     serves : IsServedAs w m.store function target
@@ -227,7 +228,7 @@ module _ (w : ComponentWorld) (ok : IsWorld w) (m : Machine) where
       let within = slice_get_within shims place shim h.listed in
       let room = filled.2 in
       let small : place < 2 ^ 32 = omega (arith, within, room) in
-      let own : (item : CoreItem) × IsOpaqueOf m.store f.0 (type_of_shim shim) item = purpose_opaque w m.store f.0 shim p h.stands_for serves in
+      let own : (item : CoreItem) × IsOpaqueOf m.store f.0 (type_of_shim shim) item = purpose_opaque w ok m.store f.0 shim p h.stands_for serves in
       record {
         function = f.0;
         serves = subst (IsServedAs w m.store f.0) h.same serves;
@@ -244,20 +245,20 @@ module _ (w : ComponentWorld) (ok : IsWorld w) (m : Machine) where
 
   -- ---- the resources that the component defines
 
-  destructor_meets : (shims : Option ShimsAt) → FilledAtEnd shims → (destructor : Option ℕ) (name : Option (List ℕ)) → IsDestroyedBy w shims destructor name → DestructorMeets w m destructor name
+  destructor_meets : (shims : Option ShimsAt) → FilledAtEnd shims → (destructor : Option ℕ) (e : Option ExportRef) → IsDestroyedBy w shims destructor e → DestructorMeets w m destructor e
   destructor_meets shims filled None None h = tt
-  destructor_meets None filled (Some address) (Some name) h = absurd h
-  destructor_meets (Some at) filled (Some address) (Some name) h =
-      let x : ForwardsFor address (ExportOf (record { of = Main; name = name })) = shim_forwards address at (ExportOf (record { of = Main; name = name })) filled h in
-      export_meets (Some brackets.Destructor) address x.function (record { of = Main; name = name }) x.serves (x.same x.serves.type (ExportedBy x.serves.user name) x.serves.is)
-  destructor_meets shims filled None (Some name) h = absurd h
+  destructor_meets None filled (Some address) (Some e) h = absurd h
+  destructor_meets (Some at) filled (Some address) (Some e) h =
+      let x : ForwardsFor address (ExportOf e) = shim_forwards address at (ExportOf e) filled h in
+      export_meets (Some brackets.Destructor) address x.function e x.serves (x.same x.serves.type (ExportedBy x.serves.user e.name) x.serves.is)
+  destructor_meets shims filled None (Some e) h = absurd h
   destructor_meets shims filled (Some address) None h = absurd h
 
   -- each is one of the world's, with its destructor
   pub resource_defined : (shims : Option ShimsAt) → FilledAtEnd shims → (address number : ℕ) (destructor : Option ℕ) → slice_get m.store.types address ≡ Some (OwnResource number destructor) → {count : ℕ} → AreResources w shims m.store.types count → IsDefined w m number destructor
   resource_defined shims filled address number destructor present all =
       let own : IsOwnResource w shims number destructor = among m.store.types address all.each present in
-      record { id = own.id; is = own.is; destroyed = destructor_meets shims filled destructor (destructor_of w own.id) own.destroyed }
+      record { provided = own.provided; is = own.is; destroyed = destructor_meets shims filled destructor (destructor_of w own.provided) own.destroyed }
     where
       among : (types : List TypeItem) (n : ℕ) → AllByRecursion (IsOwnIfDefined w shims) types → slice_get types n ≡ Some (OwnResource number destructor) → IsOwnResource w shims number destructor
       among [] n h e = absurd (none-some (OwnResource number destructor) e)
@@ -305,9 +306,9 @@ own_name n w text = by n.canonical
     by false = refl
 
 -- an export of the component, with the name of its key
-pub record IsNamedExport (n : Naming) (w : ComponentWorld) (s : Store) (key : WorldKey) (e : Export) : Type 0 where
-  pub named : e.name ≡ (name_of n w.resolve key).name
-  pub is : IsKeyExport w s key e
+pub record IsNamedExport (n : Naming) (w : ComponentWorld) (s : Store) (r : RequiredKey) (e : Export) : Type 0 where
+  pub named : e.name ≡ (name_of n w.resolve r.key).name
+  pub is : IsKeyExport w s r e
 
 abbrev first_in : List (List ℕ) → List ℕ
 first_in [] = []
@@ -317,56 +318,64 @@ abbrev after_first : List (List ℕ) → List (List ℕ)
 after_first [] = []
 after_first (x ∷ xs) = xs
 
-named_exports : (n : Naming) (w : ComponentWorld) (s : Store) (keys : List WorldKey) (es : List Export) → map (λ (e : Export). e.name) es ≡ map (λ key. (name_of n w.resolve key).name) keys → AreKeyExports w s keys es →
-    AllZip (IsNamedExport n w s) keys es
+named_exports : (n : Naming) (w : ComponentWorld) (s : Store) (rs : List RequiredKey) (es : List Export) → map (λ (e : Export). e.name) es ≡ map (λ (r : RequiredKey). (name_of n w.resolve r.key).name) rs → AreKeyExports w s rs es →
+    AllZip (IsNamedExport n w s) rs es
 named_exports n w s [] [] names h = tt
-named_exports n w s (key ∷ keys) [] names h = cc
+named_exports n w s (r ∷ rs) [] names h = cc
 named_exports n w s [] (e ∷ es) names h = absurd h
-named_exports n w s (key ∷ keys) (e ∷ es) names h = (record { named = ap first_in names; is = h.0 }, named_exports n w s keys es (ap after_first names) h.1)
+named_exports n w s (r ∷ rs) (e ∷ es) names h = (record { named = ap first_in names; is = h.0 }, named_exports n w s rs es (ap after_first names) h.1)
 
 -- what is found under the name of a key, in a space
-pub record FindsNamed (n : Naming) (w : ComponentWorld) (s : Store) (space : Space) (name : List ℕ) (es : List Export) : Type 0 where
-  pub key : WorldKey
+pub record FindsNamed (n : Naming) (w : ComponentWorld) (s : Store) (space : Space) (name : List ℕ) (rs : List RequiredKey) (es : List Export) : Type 0 where
+  pub required : RequiredKey
+  pub place : ℕ
+  pub listed : slice_get rs place ≡ Some required
   pub export : Export
   pub found : export_of space name es ≡ Some export
   pub in_space : export.space ≡ space
   pub named : export.name ≡ name
-  pub is : IsNamedExport n w s key export
+  pub is : IsNamedExport n w s required export
 
 module _ (n : Naming) (w : ComponentWorld) (s : Store) (space : Space) (own : is_space space (Some space) ≡ true) (known : (other : Space) → is_space space (Some other) ≡ true → other ≡ space) (name : List ℕ) where
-  later : (e : Export) (es : List Export) → export_of space name (e ∷ es) ≡ export_of space name es → FindsNamed n w s space name es → FindsNamed n w s space name (e ∷ es)
-  later e es same h = record { key = h.key; export = h.export; found = same ∙ h.found; in_space = h.in_space; named = h.named; is = h.is }
+  later : (r : RequiredKey) (rs : List RequiredKey) (e : Export) (es : List Export) → export_of space name (e ∷ es) ≡ export_of space name es → FindsNamed n w s space name rs es → FindsNamed n w s space name (r ∷ rs) (e ∷ es)
+  later r rs e es same h = record { required = h.required; place = suc h.place; listed = h.listed; export = h.export; found = same ∙ h.found; in_space = h.in_space; named = h.named; is = h.is }
 
   -- where the export of a key is in this space and has this name, the first that is found is that of a key with this name
-  finds_named : (keys : List WorldKey) (es : List Export) → AllZip (IsNamedExport n w s) keys es → (i : ℕ) (key : WorldKey) → slice_get keys i ≡ Some key → (name_of n w.resolve key).name ≡ name →
-      ((e : Export) → IsKeyExport w s key e → e.space ≡ space) → FindsNamed n w s space name es
-  finds_named [] es h i key at named in_space = absurd (none-some key at)
-  finds_named (k ∷ keys) [] h i key at named in_space = absurd h
-  finds_named (k ∷ keys) (e ∷ es) h zero key at named in_space =
-      let own_key : k ≡ key = same_Some k key at in
-      let is : IsNamedExport n w s key e = subst (λ (x : WorldKey). IsNamedExport n w s x e) own_key h.0 in
+  finds_named : (rs : List RequiredKey) (es : List Export) → AllZip (IsNamedExport n w s) rs es → (i : ℕ) (r : RequiredKey) → slice_get rs i ≡ Some r → (name_of n w.resolve r.key).name ≡ name →
+      ((e : Export) → IsKeyExport w s r e → e.space ≡ space) → FindsNamed n w s space name rs es
+  finds_named [] es h i r at named in_space = absurd (none-some r at)
+  finds_named (x ∷ rs) [] h i r at named in_space = absurd h
+  finds_named (x ∷ rs) (e ∷ es) h zero r at named in_space =
+      let is : IsNamedExport n w s r e = subst (λ (y : RequiredKey). IsNamedExport n w s y e) (same_Some x r at) h.0 in
       let space_is : e.space ≡ space = in_space e is.is in
       let name_is : e.name ≡ name = is.named ∙ named in
       record {
-        key = key;
+        required = r;
+        place = zero;
+        listed = at;
         export = e;
         found = front space name e es true (ap (λ (x : Space). is_space space (Some x)) space_is ∙ own) (ap (bytes_eq name) name_is ∙ (bytes_eq-Decides name name).1 refl);
         in_space = space_is;
         named = name_is;
         is = is;
       }
-  finds_named (k ∷ keys) (e ∷ es) h (suc i) key at named in_space = by (export_in space e) refl (bytes_eq name e.name) refl (finds_named keys es h.1 i key at named in_space)
+  finds_named (x ∷ rs) (e ∷ es) h (suc i) r at named in_space = by (export_in space e) refl (bytes_eq name e.name) refl (finds_named rs es h.1 i r at named in_space)
     where
-      by : (inside : Bool) → export_in space e ≡ inside → (same : Bool) → bytes_eq name e.name ≡ same → FindsNamed n w s space name es → FindsNamed n w s space name (e ∷ es)
-      by true p true q rest = record { key = k; export = e; found = front space name e es true p q; in_space = known e.space p; named = sym ((bytes_eq-Decides name e.name).0 q); is = h.0 }
-      by true p false q rest = later e es (front space name e es false p q) rest
-      by false p same q rest = later e es (other_space space name e es p) rest
+      by : (inside : Bool) → export_in space e ≡ inside → (same : Bool) → bytes_eq name e.name ≡ same → FindsNamed n w s space name rs es → FindsNamed n w s space name (x ∷ rs) (e ∷ es)
+      by true p true q rest =
+          record { required = x; place = zero; listed = refl; export = e; found = front space name e es true p q; in_space = known e.space p; named = sym ((bytes_eq-Decides name e.name).0 q); is = h.0 }
+      by true p false q rest = later x rs e es (front space name e es false p q) rest
+      by false p same q rest = later x rs e es (other_space space name e es p) rest
 
 is_instance : (space : Space) → is_space spaces.Instance (Some space) ≡ true → space ≡ spaces.Instance
 is_instance spaces.Instance e = refl
 is_instance _ e = cc
 
-module _ (n : Naming) (w : ComponentWorld) (ok : IsWorld w) (apart : AreExportsApart n w) (m : Machine) (exported : AllZip (IsNamedExport n w m.store) w.main_exports m.scope.exports) where
+module _ (n : Naming) (w : ComponentWorld) (ok : IsWorld w) (apart : AreExportsApart n w) (m : Machine) (exported : AllZip (IsNamedExport n w m.store) (required_keys w) m.scope.exports) where
+  -- this is required, at this place
+  abbrev IsListed : RequiredKey → Type 0
+  IsListed r = (i : ℕ) × (slice_get (required_keys w) i ≡ Some r)
+
   -- the lift of a required function that is found meets the link table
   lift_met : (r : RequiredFunction) (address : ℕ) → IsRequiredAt w m.store r address →
       option_and_then (export_of spaces.Func r.function) (exports_at w m (name_of n w.resolve r.key).name (exported_item w r.key)) ≡ Some (record { space = spaces.Func; name = r.function; address = address }) → IsProvided n w m (resource_of w) r
@@ -391,50 +400,52 @@ module _ (n : Naming) (w : ComponentWorld) (ok : IsWorld w) (apart : AreExportsA
 
   -- ---- a function at the root
 
-  function_space : (key : WorldKey) (f : WitFunction) → exported_item w key ≡ Some (world_items.Function f) → (e : Export) → IsKeyExport w m.store key e → e.space ≡ spaces.Func
-  function_space key f item e is = let x : IsFunctionExport w m.store (main_function key f.name) e = subst (IsItemExport w m.store key e) item is in x.space
+  function_space : (r : RequiredKey) (f : WitFunction) → exported_item w r.key ≡ Some (world_items.Function f) → (e : Export) → IsKeyExport w m.store r e → e.space ≡ spaces.Func
+  function_space r f item e is = let x : IsFunctionExport w m.store (function_at_key r f.name) e = subst (IsItemExport w m.store r e) item is in x.space
 
   -- a function that is exported under the name of one is that one
-  own_function : (f : WitFunction) (key : WorldKey) (e : Export) → e.space ≡ spaces.Func → (name_of n w.resolve key).name ≡ f.name → IsKeyExport w m.store key e → IsRequiredAt w m.store (main_function (keys.Name f.name) f.name) e.address
-  own_function f key e space named is = by (exported_item w key) refl is
+  own_function : (r : RequiredKey) → IsListed r → (f : WitFunction) → exported_item w r.key ≡ Some (world_items.Function f) → (other : RequiredKey) → IsListed other → (e : Export) → e.space ≡ spaces.Func →
+      (name_of n w.resolve other.key).name ≡ f.name → IsKeyExport w m.store other e → IsRequiredAt w m.store (function_at_key r f.name) e.address
+  own_function r at f item other listed e space named is = by (exported_item w other.key) refl is
     where
-      by : (o : Option WorldItem) → exported_item w key ≡ o → IsItemExport w m.store key e o → IsRequiredAt w m.store (main_function (keys.Name f.name) f.name) e.address
-      by (Some (world_items.Function g)) item h =
-          let key_is : key ≡ keys.Name g.name = function_key w ok key g item in
+      by : (o : Option WorldItem) → exported_item w other.key ≡ o → IsItemExport w m.store other e o → IsRequiredAt w m.store (function_at_key r f.name) e.address
+      by (Some (world_items.Function g)) of h =
+          let key_is : other.key ≡ keys.Name g.name = function_key w ok other.key g of in
           let same : g.name ≡ f.name = sym (own_name n w g.name) ∙ (ap (λ (k : WorldKey). (name_of n w.resolve k).name) (sym key_is) ∙ named) in
-          subst (λ text. IsRequiredAt w m.store (main_function (keys.Name text) text) e.address) same (subst (λ (k : WorldKey). IsRequiredAt w m.store (main_function k g.name) e.address) key_is h.is)
-      by (Some (world_items.Interface id)) item h = let no : spaces.Func ≡ spaces.Instance = sym space ∙ h.space in cc
-      by o item h = absurd h
+          let one : other ≡ r = one_provider w ok listed.0 at.0 other r listed.1 at.1 (key_is ∙ (ap keys.Name same ∙ sym (function_key w ok r.key f item))) in
+          subst (λ (x : RequiredKey). IsRequiredAt w m.store (function_at_key x f.name) e.address) one (subst (λ text. IsRequiredAt w m.store (function_at_key other text) e.address) same h.is)
+      by (Some (world_items.Interface id)) of h = let no : spaces.Func ≡ spaces.Instance = sym space ∙ h.space in cc
+      by o of h = absurd h
 
-  function_provided : (key : WorldKey) (i : ℕ) → slice_get w.main_exports i ≡ Some key → (f : WitFunction) → exported_item w key ≡ Some (world_items.Function f) → IsProvided n w m (resource_of w) (main_function key f.name)
-  function_provided key i at f item =
-      let key_is : key ≡ keys.Name f.name = function_key w ok key f item in
-      let name_is : (name_of n w.resolve key).name ≡ f.name = ap (λ (k : WorldKey). (name_of n w.resolve k).name) key_is ∙ own_name n w f.name in
-      let x : FindsNamed n w m.store spaces.Func f.name m.scope.exports = finds_named n w m.store spaces.Func refl is_function f.name w.main_exports m.scope.exports exported i key at name_is (function_space key f item) in
-      let is : IsRequiredAt w m.store (main_function (keys.Name f.name) f.name) x.export.address = own_function f x.key x.export x.in_space (sym x.is.named ∙ x.named) x.is.is in
-      lift_met (main_function key f.name) x.export.address (subst (λ (k : WorldKey). IsRequiredAt w m.store (main_function k f.name) x.export.address) (sym key_is) is)
-      (ap (λ o. option_and_then (export_of spaces.Func f.name) (exports_at w m (name_of n w.resolve key).name o)) item
+  function_provided : (r : RequiredKey) → IsListed r → (f : WitFunction) → exported_item w r.key ≡ Some (world_items.Function f) → IsProvided n w m (resource_of w) (function_at_key r f.name)
+  function_provided r at f item =
+      let name_is : (name_of n w.resolve r.key).name ≡ f.name = ap (λ (k : WorldKey). (name_of n w.resolve k).name) (function_key w ok r.key f item) ∙ own_name n w f.name in
+      let x : FindsNamed n w m.store spaces.Func f.name (required_keys w) m.scope.exports =
+      finds_named n w m.store spaces.Func refl is_function f.name (required_keys w) m.scope.exports exported at.0 r at.1 name_is (function_space r f item) in
+      lift_met (function_at_key r f.name) x.export.address (own_function r at f item x.required (x.place, x.listed) x.export x.in_space (sym x.is.named ∙ x.named) x.is.is)
+      (ap (λ o. option_and_then (export_of spaces.Func f.name) (exports_at w m (name_of n w.resolve r.key).name o)) item
       ∙ (x.found ∙ ap (λ (e : Export). Some e) (by_parts x.export spaces.Func f.name x.in_space x.named)))
 
   -- ---- an instance in the place of an interface
 
-  interface_space : (key : WorldKey) (id : InterfaceId) → exported_item w key ≡ Some (world_items.Interface id) → (e : Export) → IsKeyExport w m.store key e → e.space ≡ spaces.Instance
-  interface_space key id item e is = let x : IsInterfaceExport w m.store key e = subst (IsItemExport w m.store key e) item is in x.space
+  interface_space : (r : RequiredKey) (id : InterfaceId) → exported_item w r.key ≡ Some (world_items.Interface id) → (e : Export) → IsKeyExport w m.store r e → e.space ≡ spaces.Instance
+  interface_space r id item e is = let x : IsInterfaceExport w m.store r e = subst (IsItemExport w m.store r e) item is in x.space
 
   -- an instance that is exported under the name of an interface is exported for it
-  own_interface : (key : WorldKey) (id : InterfaceId) → exported_item w key ≡ Some (world_items.Interface id) → (other : WorldKey) (e : Export) → e.space ≡ spaces.Instance → (name_of n w.resolve other).name ≡ (name_of n w.resolve key).name →
-      IsKeyExport w m.store other e → IsInterfaceExport w m.store key e
-  own_interface key id item other e space named is = by (exported_item w other) refl is
+  own_interface : (r : RequiredKey) → IsListed r → (id : InterfaceId) → exported_item w r.key ≡ Some (world_items.Interface id) → (other : RequiredKey) → IsListed other → (e : Export) → e.space ≡ spaces.Instance →
+      (name_of n w.resolve other.key).name ≡ (name_of n w.resolve r.key).name → IsKeyExport w m.store other e → IsInterfaceExport w m.store r e
+  own_interface r at id item other listed e space named is = by (exported_item w other.key) refl is
     where
-      by : (o : Option WorldItem) → exported_item w other ≡ o → IsItemExport w m.store other e o → IsInterfaceExport w m.store key e
+      by : (o : Option WorldItem) → exported_item w other.key ≡ o → IsItemExport w m.store other e o → IsInterfaceExport w m.store r e
       by (Some (world_items.Function g)) own h = let no : spaces.Instance ≡ spaces.Func = sym space ∙ h.space in cc
-      by (Some (world_items.Interface of)) own h = subst (λ (k : WorldKey). IsInterfaceExport w m.store k e) (apart other key (of, own) (id, item) named) h
+      by (Some (world_items.Interface of)) own h =
+          subst (λ (x : RequiredKey). IsInterfaceExport w m.store x e) (one_provider w ok listed.0 at.0 other r listed.1 at.1 (apart other.key r.key (of, own) (id, item) named)) h
       by o own h = absurd h
 
-  among_provided : (key : WorldKey) (exports : List Export) → exports_at w m (name_of n w.resolve key).name (exported_item w key) ≡ Some exports → (names : List (List ℕ)) →
-      AllByRecursion (IsAmong w m.store exports) (map (main_function key) names) → AllByRecursion (IsProvided n w m (resource_of w)) (map (main_function key) names)
-  among_provided key exports at [] h = tt
-  among_provided key exports at (name ∷ names) h = (lift_met (main_function key name) h.0.address h.0.is (ap (option_and_then (export_of spaces.Func name)) at ∙ h.0.found), among_provided key exports at names h.1)
+  among_provided : (r : RequiredKey) (exports : List Export) → exports_at w m (name_of n w.resolve r.key).name (exported_item w r.key) ≡ Some exports → (names : List (List ℕ)) →
+      AllByRecursion (IsAmong w m.store exports) (map (function_at_key r) names) → AllByRecursion (IsProvided n w m (resource_of w)) (map (function_at_key r) names)
+  among_provided r exports at [] h = tt
+  among_provided r exports at (name ∷ names) h = (lift_met (function_at_key r name) h.0.address h.0.is (ap (option_and_then (export_of spaces.Func name)) at ∙ h.0.found), among_provided r exports at names h.1)
 
   types_provided : (key : WorldKey) (exports : List Export) → exports_at w m (name_of n w.resolve key).name (exported_item w key) ≡ Some exports → (ts : List (List ℕ × TypeId)) →
       AllByRecursion (IsTypeAmong w m.store exports) (map (type_at_key key) ts) → AllByRecursion (IsTypeProvided n w m) (map (type_at_key key) ts)
@@ -445,17 +456,18 @@ module _ (n : Naming) (w : ComponentWorld) (ok : IsWorld w) (apart : AreExportsA
   )
 
   -- the exports of the instance that is found under the name of an interface
-  record FindsInterface (key : WorldKey) : Type 0 where
+  record FindsInterface (r : RequiredKey) : Type 0 where
     exports : List Export
-    at : exports_at w m (name_of n w.resolve key).name (exported_item w key) ≡ Some exports
-    each : AllByRecursion (IsAmong w m.store exports) (functions_required w (main_key key))
-    types : AllByRecursion (IsTypeAmong w m.store exports) (types_required w (main_key key))
+    at : exports_at w m (name_of n w.resolve r.key).name (exported_item w r.key) ≡ Some exports
+    each : AllByRecursion (IsAmong w m.store exports) (functions_required w r)
+    types : AllByRecursion (IsTypeAmong w m.store exports) (types_required w r)
 
-  interface_found : (key : WorldKey) (i : ℕ) → slice_get w.main_exports i ≡ Some key → (id : InterfaceId) → exported_item w key ≡ Some (world_items.Interface id) → FindsInterface key
-  interface_found key i at id item =
-      let name : List ℕ = (name_of n w.resolve key).name in
-      let x : FindsNamed n w m.store spaces.Instance name m.scope.exports = finds_named n w m.store spaces.Instance refl is_instance name w.main_exports m.scope.exports exported i key at refl (interface_space key id item) in
-      let e : IsInterfaceExport w m.store key x.export = own_interface key id item x.key x.export x.in_space (sym x.is.named ∙ x.named) x.is.is in
+  interface_found : (r : RequiredKey) → IsListed r → (id : InterfaceId) → exported_item w r.key ≡ Some (world_items.Interface id) → FindsInterface r
+  interface_found r at id item =
+      let name : List ℕ = (name_of n w.resolve r.key).name in
+      let x : FindsNamed n w m.store spaces.Instance name (required_keys w) m.scope.exports =
+      finds_named n w m.store spaces.Instance refl is_instance name (required_keys w) m.scope.exports exported at.0 r at.1 refl (interface_space r id item) in
+      let e : IsInterfaceExport w m.store r x.export = own_interface r at id item x.required (x.place, x.listed) x.export x.in_space (sym x.is.named ∙ x.named) x.is.is in
       record {
         exports = e.exports;
         at = ap (exports_at w m name) item ∙ (ap (option_and_then (λ (e : Export). slice_get m.store.instances e.address)) x.found ∙ e.present);
@@ -465,46 +477,43 @@ module _ (n : Naming) (w : ComponentWorld) (ok : IsWorld w) (apart : AreExportsA
 
   -- ---- all of them
 
-  key_provided : (key : WorldKey) (i : ℕ) → slice_get w.main_exports i ≡ Some key → AllByRecursion (IsProvided n w m (resource_of w)) (functions_required w (main_key key))
-  key_provided key i at = by (exported_item w key) refl
+  key_provided : (r : RequiredKey) → IsListed r → AllByRecursion (IsProvided n w m (resource_of w)) (functions_required w r)
+  key_provided r at = by (exported_item w r.key) refl
     where
       AllOf : Option WorldItem → Type 0
-      AllOf o = AllByRecursion (IsProvided n w m (resource_of w)) (map (main_function key) (functions_in w.resolve o))
+      AllOf o = AllByRecursion (IsProvided n w m (resource_of w)) (map (function_at_key r) (functions_in w.resolve o))
 
-      by : (o : Option WorldItem) → exported_item w key ≡ o → AllByRecursion (IsProvided n w m (resource_of w)) (functions_required w (main_key key))
-      by (Some (world_items.Function f)) item = subst AllOf (sym item) (function_provided key i at f item, tt)
+      by : (o : Option WorldItem) → exported_item w r.key ≡ o → AllByRecursion (IsProvided n w m (resource_of w)) (functions_required w r)
+      by (Some (world_items.Function f)) item = subst AllOf (sym item) (function_provided r at f item, tt)
       by (Some (world_items.Interface id)) item =
-          let f : FindsInterface key = interface_found key i at id item in
-          among_provided key f.exports f.at (functions_in w.resolve (exported_item w key)) f.each
+          let f : FindsInterface r = interface_found r at id item in
+          among_provided r f.exports f.at (functions_in w.resolve (exported_item w r.key)) f.each
       by o item = subst AllOf (sym item) tt
 
-  key_types_provided : (key : WorldKey) (i : ℕ) → slice_get w.main_exports i ≡ Some key → AllByRecursion (IsTypeProvided n w m) (types_required w (main_key key))
-  key_types_provided key i at = by (exported_item w key) refl
+  key_types_provided : (r : RequiredKey) → IsListed r → AllByRecursion (IsTypeProvided n w m) (types_required w r)
+  key_types_provided r at = by (exported_item w r.key) refl
     where
       AllOf : Option WorldItem → Type 0
-      AllOf o = AllByRecursion (IsTypeProvided n w m) (map (type_at_key key) (types_in w o))
+      AllOf o = AllByRecursion (IsTypeProvided n w m) (map (type_at_key r.key) (types_in w o))
 
-      by : (o : Option WorldItem) → exported_item w key ≡ o → AllByRecursion (IsTypeProvided n w m) (types_required w (main_key key))
-      by (Some (world_items.Interface id)) item = let f : FindsInterface key = interface_found key i at id item in types_provided key f.exports f.at (types_in w (exported_item w key)) f.types
+      by : (o : Option WorldItem) → exported_item w r.key ≡ o → AllByRecursion (IsTypeProvided n w m) (types_required w r)
+      by (Some (world_items.Interface id)) item = let f : FindsInterface r = interface_found r at id item in types_provided r.key f.exports f.at (types_in w (exported_item w r.key)) f.types
       by o item = subst AllOf (sym item) tt
 
-  abbrev IsListed : WorldKey → Type 0
-  IsListed key = (i : ℕ) × (slice_get w.main_exports i ≡ Some key)
-
-  keys_provided : (keys : List WorldKey) → AllByRecursion IsListed keys → AllByRecursion (IsProvided n w m (resource_of w)) (flat_map (functions_required w) (map main_key keys))
+  keys_provided : (rs : List RequiredKey) → AllByRecursion IsListed rs → AllByRecursion (IsProvided n w m (resource_of w)) (flat_map (functions_required w) rs)
   keys_provided [] h = tt
-  keys_provided (key ∷ keys) h =
-      AllByRecursion-join (IsProvided n w m (resource_of w)) (functions_required w (main_key key)) (flat_map (functions_required w) (map main_key keys)) (key_provided key h.0.0 h.0.1) (keys_provided keys h.1)
+  keys_provided (r ∷ rs) h =
+      AllByRecursion-join (IsProvided n w m (resource_of w)) (functions_required w r) (flat_map (functions_required w) rs) (key_provided r h.0) (keys_provided rs h.1)
 
-  all_types_provided : (keys : List WorldKey) → AllByRecursion IsListed keys → AllByRecursion (IsTypeProvided n w m) (flat_map (types_required w) (map main_key keys))
+  all_types_provided : (rs : List RequiredKey) → AllByRecursion IsListed rs → AllByRecursion (IsTypeProvided n w m) (flat_map (types_required w) rs)
   all_types_provided [] h = tt
-  all_types_provided (key ∷ keys) h =
-      AllByRecursion-join (IsTypeProvided n w m) (types_required w (main_key key)) (flat_map (types_required w) (map main_key keys)) (key_types_provided key h.0.0 h.0.1) (all_types_provided keys h.1)
+  all_types_provided (r ∷ rs) h =
+      AllByRecursion-join (IsTypeProvided n w m) (types_required w r) (flat_map (types_required w) rs) (key_types_provided r h.0) (all_types_provided rs h.1)
 
-pub each_provided : (n : Naming) (w : ComponentWorld) → IsWorld w → AreExportsApart n w → (m : Machine) → map (λ (e : Export). e.name) m.scope.exports ≡ map (λ key. (name_of n w.resolve key).name) w.main_exports →
-    AreKeyExports w m.store w.main_exports m.scope.exports → AllByRecursion (IsProvided n w m (resource_of w)) (required_functions w)
-each_provided n w ok apart m names exported = keys_provided n w ok apart m (named_exports n w m.store w.main_exports m.scope.exports names exported) w.main_exports (each_at w.main_exports)
+pub each_provided : (n : Naming) (w : ComponentWorld) → IsWorld w → AreExportsApart n w → (m : Machine) → map (λ (e : Export). e.name) m.scope.exports ≡ map (λ (r : RequiredKey). (name_of n w.resolve r.key).name) (required_keys w) →
+    AreKeyExports w m.store (required_keys w) m.scope.exports → AllByRecursion (IsProvided n w m (resource_of w)) (required_functions w)
+each_provided n w ok apart m names exported = keys_provided n w ok apart m (named_exports n w m.store (required_keys w) m.scope.exports names exported) (required_keys w) (each_at (required_keys w))
 
-pub each_type_provided : (n : Naming) (w : ComponentWorld) → IsWorld w → AreExportsApart n w → (m : Machine) → map (λ (e : Export). e.name) m.scope.exports ≡ map (λ key. (name_of n w.resolve key).name) w.main_exports →
-    AreKeyExports w m.store w.main_exports m.scope.exports → AllByRecursion (IsTypeProvided n w m) (required_types w)
-each_type_provided n w ok apart m names exported = all_types_provided n w ok apart m (named_exports n w m.store w.main_exports m.scope.exports names exported) w.main_exports (each_at w.main_exports)
+pub each_type_provided : (n : Naming) (w : ComponentWorld) → IsWorld w → AreExportsApart n w → (m : Machine) → map (λ (e : Export). e.name) m.scope.exports ≡ map (λ (r : RequiredKey). (name_of n w.resolve r.key).name) (required_keys w) →
+    AreKeyExports w m.store (required_keys w) m.scope.exports → AllByRecursion (IsTypeProvided n w m) (required_types w)
+each_type_provided n w ok apart m names exported = all_types_provided n w ok apart m (named_exports n w m.store (required_keys w) m.scope.exports names exported) (required_keys w) (each_at (required_keys w))

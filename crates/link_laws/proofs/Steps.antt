@@ -40,7 +40,7 @@ use Rattle.comp_trees.specs.DefinedScopes.{type_tree}
 use Rattle.nested_terms.specs.Nested.{type_named}
 use Rattle.comp_inventories.specs.Inventories.{Inventory, OfInstances, InstanceEntry, Denoting, ImportedInstance, NestedInstance, OtherInstance, entry_tree, no_type, type_if_named, type_of_instance, function_of_instance, instance_imported, types_made, functions_made, instances_made, imports_made, resources_made, surroundings_of, inventory, scope_of}
 use Rattle.comp_trees.specs.Members.{AreMembersRight}
-use Rattle.comp_terms.specs.Generated.{shims_number, OfDestructor, target_of}
+use Rattle.comp_terms.specs.Generated.{shims_number}
 use Rattle.comp_terms.specs.Terms.{IsInstanceOf, IsResource, intrinsic_of, imports_in}
 use Rattle.world_shims.specs.WorldShims.{shims_of}
 use Rattle.shim_runs.specs.ShimRuns.{instance_exports}
@@ -54,8 +54,8 @@ use Rattle.comp_worlds.specs.declared.world.ComponentWorld.{ComponentWorld}
 use Rattle.comp_worlds.specs.declared.world.ValidatedModule.{ValidatedModule}
 use Rattle.core_runs.specs.Store.{Opaque, Now}
 use Rattle.comp_runs.specs.Store.{Thing, Export, HeldOption, HeldEncoding, HeldMemory, HeldRealloc, HeldPostReturn, HeldAsync, HeldCallback, CoreItem, Lowering, IntrinsicOf, Function, Imported, Lifting, TypeItem, TreeOf, ImportedResource, OwnResource, item_tree, tree_held, own_resources as resources_among, InstanceTypeOf, ModuleInstance, Store}
-use Rattle.comp_links.specs.Targets.{ResourceFunction, New, Rep, Drop}
-use Rattle.comp_links.specs.Lists.{own_resources}
+use Rattle.comp_links.specs.Targets.{ExportRef, ExportOf, ResourceFunction, New, Rep, Drop}
+use Rattle.comp_links.specs.Lists.{required_keys, provided_resources}
 use Rattle.comp_links.specs.Links.{destructor_of}
 use Rattle.comp_roles.specs.declared.offered.ExternType.{ExternType}
 use Rattle.comp_roles.specs.declared.offered.ExternType.TheVariants as externs
@@ -211,10 +211,10 @@ denotes_alone name (NestedInstance exported) = by (type_named name exported)
 denotes_alone name OtherInstance = refl
 
 -- the type of a resource that is defined, with the address of its destructor
-record HoldsResource (w : ComponentWorld) (shims : Option ShimsAt) (c : Scope) (s : Store) (destructor : Option ℕ) (name : Option (List ℕ)) : Type 0 where
+record HoldsResource (w : ComponentWorld) (shims : Option ShimsAt) (c : Scope) (s : Store) (destructor : Option ℕ) (e : Option ExportRef) : Type 0 where
   pub held : Option ℕ
   pub made : (now : Now) → type_item (types.Resource destructor) (machine c s now) ≡ Some (OwnResource (resources_among s.types) held)
-  pub destroyed : IsDestroyedBy w shims held name
+  pub destroyed : IsDestroyedBy w shims held e
 
 module _ {w : ComponentWorld} {earlier : List Def} {c : Scope} {s : Store} (a : Agrees w earlier c s) (g : ℕ) (gen : GeneratedModules) where
   abbrev FindsAlias : ℕ → List ℕ → Type 0
@@ -231,7 +231,7 @@ module _ {w : ComponentWorld} {earlier : List Def} {c : Scope} {s : Store} (a : 
   pub agrees_with : (d : Def) (c' : Scope) (s' : Store) (t : Thing) (shims : Option ShimsAt) → ShimsKept a.shims shims → c'.items ≡ c.items ++ t ∷ [] → Keeps c.items c'.items s s' →
       Means w shims (earlier ++ d ∷ []) c'.items s' d t → Makes d s' t → NumberedFrom 0 (filter (is_of spaces.CoreModule) c'.items) (length s'.core_modules) →
       map (λ (u : ModuleInstance). u.module_number) s'.module_instances ≡ map (λ (u : ModuleInstance). u.module_number) s.module_instances ++ at_root item_instantiates d →
-      AllByRecursion (IsPlannedUser w shims s') s'.module_instances → MayHaveShims w s' (flat_map (at_root item_instantiates) earlier ++ at_root item_instantiates d) shims → map (λ (e : Export). e.name) c'.exports ≡ map (λ (e : Export). e.name) c.exports ++ def_export d → AreKeyExports w s' w.main_exports c'.exports →
+      AllByRecursion (IsPlannedUser w shims s') s'.module_instances → MayHaveShims w s' (flat_map (at_root item_instantiates) earlier ++ at_root item_instantiates d) shims → map (λ (e : Export). e.name) c'.exports ≡ map (λ (e : Export). e.name) c.exports ++ def_export d → AreKeyExports w s' (required_keys w) c'.exports →
       c'.imports ≡ imports_made (inventory earlier) d → AreResources w shims s'.types (resources_made (inventory earlier) d) → Agrees w (earlier ++ d ∷ []) c' s'
   agrees_with d c' s' t shims same grew keeps means made modules instantiated served with_shims exports lifted imports resources =
       let before : List Def = filter makes earlier in
@@ -294,7 +294,7 @@ module _ {w : ComponentWorld} {earlier : List Def} {c : Scope} {s : Store} (a : 
         (subst (AllByRecursion (IsPlannedUser w a.shims s')) (sym users) (AllByRecursion-weaker (IsPlannedUser-kept w keeps a.shims a.shims (shims_same a.shims)) s.module_instances a.served))
         (shims_beside keeps (at_root item_instantiates d) none users tables)
         (rw no_export (sym (append-nil (map (λ (e : Export). e.name) c.exports))))
-        (AreKeyExports-kept w keeps w.main_exports c.exports a.lifted)
+        (AreKeyExports-kept w keeps (required_keys w) c.exports a.lifted)
         imports
         resources,
   )
@@ -312,12 +312,12 @@ module _ {w : ComponentWorld} {earlier : List Def} {c : Scope} {s : Store} (a : 
       (subst (AreResources w a.shims (s.types ++ item ∷ [])) (sym none) (AreResources-more w a.shims s.types (item ∷ []) (inventory earlier).resources a.resources refl))
 
   -- a resource is held with the address of its destructor, where it has one
-  resource_held : (destructor : Option ℕ) (name : Option (List ℕ)) → IsDestructorRight w earlier destructor name → HoldsResource w a.shims c s destructor name
+  resource_held : (destructor : Option ℕ) (e : Option ExportRef) → IsDestructorRight w earlier destructor e → HoldsResource w a.shims c s destructor e
   resource_held None None h = record { held = None; made = λ now. refl; destroyed = tt }
-  resource_held (Some index) (Some name) h =
-      let x : (x : ℕ) × (address_at spaces.CoreFunc index c.items ≡ Some x) × IsShimGiven w a.shims x (target_of w (OfDestructor name)) = shim_there a h.place h.shim (OfDestructor name) h.listed h.stands_for h.is in
+  resource_held (Some index) (Some e) h =
+      let x : (x : ℕ) × (address_at spaces.CoreFunc index c.items ≡ Some x) × IsShimGiven w a.shims x (ExportOf e) = shim_there a h in
       record { held = Some x.0; made = λ now. ap (option_map (λ (n : ℕ). OwnResource (resources_among s.types) (Some n))) x.1; destroyed = x.2 }
-  resource_held None (Some name) h = absurd h
+  resource_held None (Some e) h = absurd h
   resource_held (Some index) None h = absurd h
 
   step_resource : (destructor : Option ℕ) → DefinesResource w earlier destructor → Steps w gen earlier c s g (defs.Item (items.Type (types.Resource destructor)))
@@ -325,10 +325,10 @@ module _ {w : ComponentWorld} {earlier : List Def} {c : Scope} {s : Store} (a : 
       let d : Def = defs.Item (items.Type (types.Resource destructor)) in
       let t : Thing = record { space = spaces.Type; address = length s.types } in
       let number : ℕ = resources_among s.types in
-      let x : HoldsResource w a.shims c s destructor (destructor_of w h.id) = resource_held destructor (destructor_of w h.id) h.destructed in
+      let x : HoldsResource w a.shims c s destructor (destructor_of w h.provided) = resource_held destructor (destructor_of w h.provided) h.destructed in
       let item : TypeItem = OwnResource number x.held in
       let s' : Store = record s { types = s.types ++ item ∷ [] } in
-      let own : IsOwnResource w a.shims number x.held = record { id = h.id; is = ap (slice_get (own_resources w)) a.resources.counted ∙ h.next; destroyed = x.destroyed } in
+      let own : IsOwnResource w a.shims number x.held = record { provided = h.provided; is = ap (slice_get (provided_resources w)) a.resources.counted ∙ h.next; destroyed = x.destroyed } in
       quiet_step d c.imports s' t (λ rest now. rw (x.made now) refl) (keeps_type c.items t s item)
       (record { space = refl; is = tt }) ((record { item = item; present = slice_get-end s.types item; denotes = ap (λ n. OfValues (ResourceAt (DefinedAt n))) a.resources.counted; is = tt }, tt), tt, tt) refl refl refl refl refl refl a.imports
       (AreResources-push w a.shims s.types number x.held (inventory earlier).resources a.resources.counted a.resources own)
@@ -692,7 +692,7 @@ module _ {w : ComponentWorld} {earlier : List Def} {c : Scope} {s : Store} (a : 
             (AllByRecursion-weaker (IsPlannedUser-kept w k a.shims a.shims (shims_same a.shims)) s.module_instances a.served)
             (shims_beside k [] refl refl refl)
             (sym (append-nil (map (λ (e : Export). e.name) c.exports)))
-            (AreKeyExports-kept w k w.main_exports c.exports a.lifted)
+            (AreKeyExports-kept w k (required_keys w) c.exports a.lifted)
             a.imports
             a.resources,
       )

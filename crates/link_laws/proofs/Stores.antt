@@ -29,19 +29,18 @@ use Rattle.comp_inventories.specs.Inventories.{TypeEntry, Denoting, OfInstances,
 use Rattle.comp_roles.specs.CoreTypes.{function_type}
 use Rattle.comp_roles.specs.declared.offered.ExternType.{ExternType}
 use Rattle.comp_roles.specs.declared.offered.ExternType.TheVariants as externs
-use Rattle.comp_roles.specs.declared.imports.Import.{Import}
 use Rattle.comp_roles.specs.declared.offered.ImportType.{ImportType}
-use Rattle.comp_worlds.specs.WorldContents.{core_name_of, exported_item, function_exported}
+use Rattle.comp_worlds.specs.WorldContents.{exported_item, function_exported}
 use Rattle.comp_worlds.specs.declared.world.ComponentWorld.{ComponentWorld}
-use Rattle.comp_links.specs.Targets.{UserModule, Main, ExportRef, WorldFunction, TargetOption, ResourceFunction, New, Rep, Drop, Target, Lowered, ExportOf, OfResource}
+use Rattle.comp_links.specs.Targets.{Main, ExportRef, WorldFunction, TargetOption, ResourceFunction, New, Rep, Drop, Target, Lowered, ExportOf, OfResource}
 use Rattle.comp_links.specs.Targets as targets
 use Rattle.comp_links.specs.Modules.{WorldModule, user_modules, IsModule}
-use Rattle.comp_links.specs.Lists.{IsOriginOf, resource_of, RequiredKey, RequiredFunction, functions_required, RequiredType, types_required, type_of_world, own_resources}
-use Rattle.comp_links.specs.Links.{lift_options, link_of, link_at, destructor_of}
+use Rattle.comp_links.specs.Lists.{IsOriginOf, resource_of, RequiredKey, required_keys, RequiredFunction, functions_required, RequiredType, types_required, type_of_world, ProvidedType, provided_resources}
+use Rattle.comp_links.specs.Links.{core_name, lift_options, link_at, destructor_of}
 use Rattle.shim_plan.specs.declared.shims.Shim.{Shim}
 use Rattle.world_shims.specs.WorldShims.{shims_of}
 use Rattle.shim_runs.specs.ShimRuns.{AreShimsFrom, instance_exports}
-use Rattle.comp_terms.specs.Generated.{shims_number, fixup_number, Purpose, OfImport, OfDestructor, target_of, HasPurpose}
+use Rattle.comp_terms.specs.Generated.{shims_number, fixup_number, Purpose, target_of, HasPurpose}
 use Rattle.comp_terms.specs.Terms.{CoreExport, IsInstanceOf, intrinsic_of, imports_in}
 use Rattle.comp_terms.specs.Planned.{IsTypeOf, type_of_function}
 use Rattle.comp_terms.specs.Rules.{IsOfKind}
@@ -368,10 +367,6 @@ abbrev pub IsShimGiven : ComponentWorld → Option ShimsAt → ℕ → Target �
 IsShimGiven w None address target = ⊥
 IsShimGiven w (Some at) address target = IsShimGivenAt w at address target
 
--- the shims may be given to this user module: of each role, they hand on to what its imports are to be given
-abbrev pub TakesShims : ComponentWorld → UserModule → Type 0
-TakesShims w of = (role : Import) → target_of w (OfImport role) ≡ link_of w of role
-
 -- it is what the target names, or a shim for it
 abbrev pub Serves : ComponentWorld → Option ShimsAt → Store → ℕ → Target → Type 0
 Serves w shims s address target = IsServedAs w s address target ⊎ IsShimGiven w shims address target
@@ -445,12 +440,9 @@ pub record IsCoreExportAt (from : WorldModule) (things : List Thing) (s : Store)
 
 -- ---- what the component exports
 
--- what is required: the item at a key, a function of it, which main has to provide, and a type of it
-abbrev pub main_key : WorldKey → RequiredKey
-main_key key = record { of = Main; key = key }
-
-abbrev pub main_function : WorldKey → List ℕ → RequiredFunction
-main_function key name = record { of = Main; key = key; function = name }
+-- what is required at a key: a function, which the user module of the key has to provide, and a type
+abbrev pub function_at_key : RequiredKey → List ℕ → RequiredFunction
+function_at_key r name = record { of = r.of; key = r.key; function = name }
 
 abbrev pub type_at_key : WorldKey → List ℕ × TypeId → RequiredType
 type_at_key key t = record { key = key; name = t.0; id = t.1 }
@@ -459,7 +451,7 @@ type_at_key key t = record { key = key; name = t.0; id = t.1 }
 pub record IsRequiredAt (w : ComponentWorld) (s : Store) (r : RequiredFunction) (address : ℕ) : Type 0 where
   pub name : List ℕ
   pub wit : WitFunction
-  pub role : core_name_of w r.key r.function ≡ Some name
+  pub role : core_name w r ≡ Some name
   pub exported : function_exported w r.key r.function ≡ Some wit
   pub is : IsLiftedFrom w s address (record { of = r.of; name = name }) (lift_options w r) (type_of_function w wit)
 
@@ -479,41 +471,41 @@ pub record IsTypeAmong (w : ComponentWorld) (s : Store) (exports : List Export) 
   pub found : export_of spaces.Type r.name exports ≡ Some (record { space = spaces.Type; name = r.name; address = address })
   pub is : IsHeldAs s.types (type_of_world w r.id) address
 
-pub record IsInterfaceExport (w : ComponentWorld) (s : Store) (key : WorldKey) (e : Export) : Type 0 where
+pub record IsInterfaceExport (w : ComponentWorld) (s : Store) (r : RequiredKey) (e : Export) : Type 0 where
   pub space : e.space ≡ spaces.Instance
   pub exports : List Export
   pub present : slice_get s.instances e.address ≡ Some exports
-  pub each : AllByRecursion (IsAmong w s exports) (functions_required w (main_key key))
-  pub types : AllByRecursion (IsTypeAmong w s exports) (types_required w (main_key key))
+  pub each : AllByRecursion (IsAmong w s exports) (functions_required w r)
+  pub types : AllByRecursion (IsTypeAmong w s exports) (types_required w r)
 
--- the export is what the world exports at a key
-abbrev pub IsItemExport : ComponentWorld → Store → WorldKey → Export → Option WorldItem → Type 0
-IsItemExport w s key e (Some (world_items.Function f)) = IsFunctionExport w s (main_function key f.name) e
-IsItemExport w s key e (Some (world_items.Interface id)) = IsInterfaceExport w s key e
-IsItemExport w s key e item = ⊥
+-- the export is what a user module has to provide at a key
+abbrev pub IsItemExport : ComponentWorld → Store → RequiredKey → Export → Option WorldItem → Type 0
+IsItemExport w s r e (Some (world_items.Function f)) = IsFunctionExport w s (function_at_key r f.name) e
+IsItemExport w s r e (Some (world_items.Interface id)) = IsInterfaceExport w s r e
+IsItemExport w s r e item = ⊥
 
-abbrev pub IsKeyExport : ComponentWorld → Store → WorldKey → Export → Type 0
-IsKeyExport w s key e = IsItemExport w s key e (exported_item w key)
+abbrev pub IsKeyExport : ComponentWorld → Store → RequiredKey → Export → Type 0
+IsKeyExport w s r e = IsItemExport w s r e (exported_item w r.key)
 
--- each is what the world exports at the key of the same place
-abbrev pub AreKeyExports : ComponentWorld → Store → List WorldKey → List Export → Type 0
-AreKeyExports w s keys [] = Unit {0}
+-- each is what is required at the key of the same place
+abbrev pub AreKeyExports : ComponentWorld → Store → List RequiredKey → List Export → Type 0
+AreKeyExports w s rs [] = Unit {0}
 AreKeyExports w s [] (e ∷ es) = ⊥
-AreKeyExports w s (key ∷ keys) (e ∷ es) = IsKeyExport w s key e × AreKeyExports w s keys es
+AreKeyExports w s (r ∷ rs) (e ∷ es) = IsKeyExport w s r e × AreKeyExports w s rs es
 
 -- ---- resources that the component defines
 
--- the core function is a shim for the destructor that main exports under this name, where there is one
-abbrev pub IsDestroyedBy : ComponentWorld → Option ShimsAt → Option ℕ → Option (List ℕ) → Type 0
+-- the core function is a shim for the destructor that a user module exports, where there is one
+abbrev pub IsDestroyedBy : ComponentWorld → Option ShimsAt → Option ℕ → Option ExportRef → Type 0
 IsDestroyedBy w shims None None = Unit {0}
-IsDestroyedBy w shims (Some address) (Some name) = IsShimGiven w shims address (target_of w (OfDestructor name))
-IsDestroyedBy w shims destructor name = ⊥
+IsDestroyedBy w shims (Some address) (Some e) = IsShimGiven w shims address (ExportOf e)
+IsDestroyedBy w shims destructor e = ⊥
 
 -- a resource of the component's own, by its number
 pub record IsOwnResource (w : ComponentWorld) (shims : Option ShimsAt) (number : ℕ) (destructor : Option ℕ) : Type 0 where
-  pub id : TypeId
-  pub is : slice_get (own_resources w) number ≡ Some id
-  pub destroyed : IsDestroyedBy w shims destructor (destructor_of w id)
+  pub provided : ProvidedType
+  pub is : slice_get (provided_resources w) number ≡ Some provided
+  pub destroyed : IsDestroyedBy w shims destructor (destructor_of w provided)
 
 abbrev pub IsOwnIfDefined : ComponentWorld → Option ShimsAt → TypeItem → Type 0
 IsOwnIfDefined w shims (OwnResource number destructor) = IsOwnResource w shims number destructor
@@ -551,5 +543,5 @@ pub record Agrees (w : ComponentWorld) (earlier : List Def) (c : Scope) (s : Sto
   pub served : AllByRecursion (IsPlannedUser w shims s) s.module_instances
   pub with_shims : MayHaveShims w s (flat_map (at_root item_instantiates) earlier) shims
   pub exports : map (λ (e : Export). e.name) c.exports ≡ flat_map def_export earlier
-  pub lifted : AreKeyExports w s w.main_exports c.exports
+  pub lifted : AreKeyExports w s (required_keys w) c.exports
   pub imports : c.imports ≡ imports_in earlier

@@ -1,4 +1,5 @@
--- A worked example: the list with an adapter is composed and linked, and with two of the adapter's imports crossed it isn't linked.
+-- A worked example: the list with an adapter is composed and linked. With two of the adapter's imports crossed it isn't linked, nor with
+-- main's function in the place of one that the adapter has to provide.
 use Rattle.comp_links.specs.Naming.{own_names}
 use Rattle.std.proofs.Common.{◌≡◌, ◌<◌, ◌∙◌, ◌≤◌, ℕ, zero, suc, true≢false, List, [], ◌∷◌, refl, sym, ap, subst, Option, Some, None, arith}
 use Rattle.std.proofs.lemmas.Option.{none-some, same_Some}
@@ -17,24 +18,24 @@ use Rattle.comp_trees.specs.Trees.{Resource, DefinedAt}
 use Rattle.wit_data.specs.declared.worlds.WorldKey.TheVariants as keys
 use Rattle.comp_roles.specs.declared.offered.ExternType.TheVariants as externs
 use Rattle.comp_roles.specs.declared.offered.ImportType.{ImportType}
-use Rattle.comp_links.specs.Targets.{Main, ExportRef, ExportOf, MainMemory, Lifted}
+use Rattle.comp_links.specs.Targets.{Main, Adapter, ExportRef, ExportOf, MainMemory, Lifted}
 use Rattle.comp_links.specs.Modules.{WorldModule, adapter_module, user_modules, IsModule}
 use Rattle.comp_bytes.specs.ItemIndices.{in_space}
 use Rattle.comp_runs.specs.Instances.{type_scope}
 use Rattle.link_laws.proofs.Kept.{none_at}
 use Rattle.link_laws.proofs.ImportedTypes.{none_imported}
 use Rattle.comp_bytes.specs.declared.space.Space.TheVariants as spaces
-use Rattle.comp_runs.specs.Store.{ExportedBy, ModuleInstance}
+use Rattle.comp_runs.specs.Store.{Export, ExportedBy, Function, Lifting, ModuleInstance}
 use Rattle.comp_runs.specs.Machine.{Machine, Outcome, Done, Trapped, Open, Stuck}
 use Rattle.link_laws.specs.Composition.{IsComposed}
 use Rattle.link_laws.specs.Meeting.{ItemIsExport, CoreExportMeets, hooks_round, IsMainMemory, Meets, entry_kind}
-use Rattle.link_laws.specs.Linking.{outcome, questions, LetsRun, EndsAt, AreServed, IsServed, IsProvided, IsLinked, Links}
+use Rattle.link_laws.specs.Linking.{outcome, questions, LetsRun, EndsAt, AreServed, IsServed, LiftMeets, IsProvided, IsLinked, Links}
 use Rattle.link_laws.proofs.Worked.{plain_core}
 use Rattle.link_laws.proofs.Steps.{no_modules}
-use Rattle.link_laws.proofs.Worked.{machine_of, core_function, k, a}
+use Rattle.link_laws.proofs.Worked.{machine_of, core_function, h, k, a}
 use Rattle.link_laws.proofs.Stores.{main_module}
 use Rattle.link_laws.proofs.NamedItem.{own_item}
-use Rattle.link_laws.proofs.WorkedAdapter.{adapter, functions, world, wit_of_g, definitions, crossed_definitions, memory_at, main_instance, adapter_instance, straight, crossed}
+use Rattle.link_laws.proofs.WorkedAdapter.{adapter, functions, world, wit_of, definitions, crossed_definitions, memory_at, main_instance, adapter_instance, straight, crossed, taken_from_main}
 
 -- ---- the lists
 
@@ -94,8 +95,14 @@ made_adapter = adapter_instance (memory_at 0 ∷ core_function 1 ∷ core_functi
 abbrev of_main : List ℕ → ExportRef
 of_main name = record { of = Main; name = name }
 
+abbrev of_adapter : List ℕ → ExportRef
+of_adapter name = record { of = Adapter a; name = name }
+
 is_main : IsModule world 0 Main
 is_main = record { world_module = main_module world; listed = refl; same = refl }
+
+is_adapter : IsModule world 1 (Adapter a)
+is_adapter = record { world_module = the_adapter; listed = refl; same = refl }
 
 abbrev no_origins : TypeId → Resource
 no_origins id = DefinedAt 0
@@ -134,6 +141,19 @@ module _ (number number' : ℕ) (rest : List Answer) where
     acts = record { same = λ arguments now fits kept. acts_alone m.store.code 1 1 refl arguments now };
   }
 
+  meets_h : (kind : Option Bracketed) → CoreExportMeets world m kind 3 (of_adapter h)
+  meets_h kind = record {
+    target = opaque_at 3;
+    what = 3;
+    item = ExportedBy 1 h;
+    hook = 0;
+    is = refl;
+    known = refl;
+    named = record { number = 1; is = record { made = made_adapter; present = refl; of = refl }; of = is_adapter; same_name = refl };
+    hooked = λ name e. absurd (none-some name e);
+    acts = record { same = λ arguments now fits kept. acts_alone m.store.code 3 3 refl arguments now ∙ ap (λ b. expected b 0 (opaque_at 3) arguments now) (sym (no_hooks kind)) };
+  }
+
   memory_meets : IsMainMemory world m 0
   memory_meets = record { number = 0; of = is_main; is = record { made = main_instance; instance = 0; present = refl; of = refl; exported = refl } }
 
@@ -162,11 +182,22 @@ module _ (number number' : ℕ) (rest : List Answer) where
   g_provided = record {
     address = 0;
     target = Lifted (of_main g) [];
-    wit = wit_of_g;
+    wit = wit_of g;
     provided = refl;
     said = refl;
     type_of = refl;
     meets = record { core = 0; held = []; is = refl; enters = meets_g (Some (entry_kind [])); same = tt };
+  }
+
+  h_provided : IsProvided own_names world m no_origins (record { of = Adapter a; key = keys.Name h; function = h })
+  h_provided = record {
+    address = 1;
+    target = Lifted (of_adapter h) [];
+    wit = wit_of h;
+    provided = refl;
+    said = refl;
+    type_of = refl;
+    meets = record { core = 3; held = []; is = refl; enters = meets_h (Some (entry_kind [])); same = tt };
   }
 
   pub straight_is_linked : IsLinked own_names world no_modules m
@@ -175,7 +206,7 @@ module _ (number number' : ℕ) (rest : List Answer) where
     start_events = [];
     instances = refl;
     imports = record { resources = tt; each = served };
-    exports = (g_provided, tt);
+    exports = (g_provided, (h_provided, tt));
     types = tt;
     resources = λ address number destructor present. absurd (none_at m.store.types refl address number destructor present);
     defined = λ number less. let none : number < 0 = less in absurd (omega (arith, none));
@@ -263,3 +294,36 @@ k_meets origins s = subst (Meets world c origins (core_function 0)) (same_Some s
 
 pub crossed_is_not_linked : IsLinked own_names world no_modules (machine_of crossed) → ⊥
 crossed_is_not_linked l = not_k (k_meets l.origins (l.imports.each 1 _ _ refl refl).1.0)
+
+-- ---- the list in which h is lifted from main's h
+
+abbrev of_main_h : Machine
+of_main_h = machine_of taken_from_main
+
+-- main's h is not the adapter's
+not_of_adapter : ItemIsExport world of_main_h (of_adapter h) (ExportedBy 0 h) → ⊥
+not_of_adapter x =
+    let number : 0 ≡ x.number = ap (λ (i : ModuleInstance). i.module_number) (same_Some main_instance x.is.made x.is.present) ∙ x.is.of in
+    let main : main_module world ≡ x.of.world_module = same_Some (main_module world) x.of.world_module (ap (slice_get (user_modules world)) number ∙ x.of.listed) in
+    let no : Main ≡ Adapter a = ap (λ (m : WorldModule). m.of) main ∙ x.of.same in
+    cc
+
+-- function 2 is main's h
+not_entered : CoreExportMeets world of_main_h (Some (entry_kind [])) 2 (of_adapter h) → ⊥
+not_entered x =
+    let plain : CoreExportMeets world of_main_h None 2 (of_adapter h) = record { target = x.target; what = x.what; item = x.item; hook = x.hook; is = x.is; known = x.known; named = x.named; hooked = x.hooked; acts = x.acts } in
+    not_of_adapter (own_item world of_main_h 2 (ItemIsExport world of_main_h (of_adapter h)) plain 2 plain_core (ExportedBy 0 h) refl refl)
+
+abbrev entered : Option Function → ℕ
+entered (Some (Lifting core options type)) = core
+entered function = 0
+
+not_provided : (origins : TypeId → Resource) → IsProvided own_names world of_main_h origins (record { of = Adapter a; key = keys.Name h; function = h }) → ⊥
+not_provided origins x =
+    let address : 1 ≡ x.address = ap (λ (e : Export). e.address) (same_Some (record { space = spaces.Func; name = h; address = 1 }) (record { space = spaces.Func; name = h; address = x.address }) x.provided) in
+    let meets : LiftMeets world of_main_h origins x.address x.wit (Lifted (of_adapter h) []) = subst (LiftMeets world of_main_h origins x.address x.wit) (sym (same_Some (Lifted (of_adapter h) []) x.target x.said)) x.meets in
+    let core : 2 ≡ meets.core = ap entered (ap (slice_get of_main_h.store.functions) address ∙ meets.is) in
+    not_entered (subst (λ n. CoreExportMeets world of_main_h (Some (entry_kind [])) n (of_adapter h)) (sym core) meets.enters)
+
+pub taken_from_main_is_not_linked : IsLinked own_names world no_modules (machine_of taken_from_main) → ⊥
+taken_from_main_is_not_linked l = not_provided l.origins l.exports.1.0

@@ -2,7 +2,7 @@
 -- `resource.rep` and `resource.drop` of r. Its list defines both resources, gives main these functions of r, and links. Where main is
 -- given the `resource.rep` of s the run ends too, but the list isn't linked. Of an imported resource neither `resource.new` nor
 -- `resource.rep` can be made.
-use Rattle.std.proofs.Common.{inl, inr, ◌≡◌, ◌∙◌, ◌++◌, ℕ, Bool, true, false, List, [], ◌∷◌, refl, sym, ap, subst, Some, None, cond, map, take, arith, IsTrue}
+use Rattle.std.proofs.Common.{inl, ◌≡◌, ◌∙◌, ◌++◌, ℕ, Bool, true, false, List, [], ◌∷◌, refl, sym, ap, subst, Some, None, cond, map, take, arith}
 use Rattle.std.proofs.lemmas.Option.{none-some, same_Some}
 use Rattle.std.specs.Prelude.{codes}
 use Rattle.std.specs.List.{AllByRecursion, IsDistinct}
@@ -61,7 +61,7 @@ use Rattle.link_laws.proofs.NamedItem.{own_item}
 use Rattle.link_laws.proofs.WorkedApart.{no_keys_apart, one_key_apart}
 use Rattle.link_laws.proofs.WorkedDrops.{none_apart, not_true}
 use Rattle.link_laws.proofs.WorkedOwnResource.{r, key, name}
-use Rattle.link_laws.proofs.CrossedDestructors.{s, resource_type, import_r, import_s, passing_on, given_as, resources_given, nested_right, imports_apart}
+use Rattle.link_laws.proofs.CrossedDestructors.{s, resource_type, passing_on, given_as, resources_given, nested_right, imports_apart}
 
 -- ---- the world
 
@@ -203,11 +203,11 @@ ds n = take n (list_of 0)
 
 r_defined : DefinesResource world (ds 1) None
 unfolding values_from inventory
-r_defined = record { id = type_id 0; next = refl; destructed = tt }
+r_defined = record { provided = record { of = Main; id = type_id 0 }; next = refl; destructed = tt }
 
 s_defined : DefinesResource world (ds 2) None
 unfolding values_from inventory
-s_defined = record { id = type_id 1; next = refl; destructed = tt }
+s_defined = record { provided = record { of = Main; id = type_id 1 }; next = refl; destructed = tt }
 
 r_at_3 : IsResourceAt (ds 3) 0 (DefinedAt 0)
 unfolding inventory
@@ -290,7 +290,7 @@ instantiated_10 = record {
 
 exported : ExportsInterface world (ds 10) 0
 unfolding values_from instantiated_10
-exported = record { key = key; id = interface_id 0; next = refl; item = refl; component = 0; arguments = given_as 0 1; instance = record { made = refl }; nested = instantiated_10; types = (refl, (refl, tt)); each = tt }
+exported = record { required = record { of = Main; key = key }; id = interface_id 0; next = refl; item = refl; component = 0; arguments = given_as 0 1; instance = record { made = refl }; nested = instantiated_10; types = (refl, (refl, tt)); each = tt }
 
 keeps_the_rules : IsBuilt own_names world (list_of 0)
 unfolding values_from

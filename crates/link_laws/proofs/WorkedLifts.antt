@@ -243,7 +243,7 @@ g_lifted = record {
 g_required : ExportsFunction world (ds 8) 0
 unfolding values_from
 g_required = record {
-  key = keys.Name g;
+  required = record { of = Main; key = keys.Name g };
   function = wit_g;
   next = refl;
   item = refl;

@@ -43,7 +43,7 @@ use Rattle.comp_inventories.specs.Inventories.{inventory, scope_of}
 use Rattle.comp_trees.specs.Members.{IsOfFunctions}
 use Rattle.nested_terms.specs.Nested.{empty_scope, AreItemsRight}
 use Rattle.comp_links.proofs.WorkedImports.{interface_of, interface_id, import_of_interface}
-use Rattle.comp_links.specs.Lists.{AreExportsApart}
+use Rattle.comp_links.specs.Lists.{RequiredKey, AreExportsApart}
 use Rattle.comp_links.specs.Naming.{own_names}
 use Rattle.comp_links.specs.Targets.{Main, Lifted as LiftedFrom}
 use Rattle.comp_terms.specs.Terms.{IsInstanceOf, IsFunctionType}
@@ -54,7 +54,7 @@ use Rattle.comp_runs.specs.Store.{ExportedBy, Lifting, Export}
 use Rattle.comp_runs.specs.Machine.{Outcome, Done}
 use Rattle.core_runs.specs.Store.{Opaque, Instantiated}
 use Rattle.link_laws.specs.Linking.{outcome, IsLinked, Links}
-use Rattle.link_laws.proofs.Stores.{main_module, main_function}
+use Rattle.link_laws.proofs.Stores.{main_module, function_at_key}
 use Rattle.link_laws.proofs.Steps.{no_modules}
 use Rattle.link_laws.proofs.Plain.{key_same}
 use Rattle.link_laws.proofs.Runs.{links}
@@ -264,11 +264,15 @@ h_lifted = record {
   asked = (record { of = record { world_module = main_module world; listed = refl; same = refl }; named = refl }, tt);
 }
 
-f_required : IsRequiredLift world (ds 9) (main_function key f) 0
+-- what main has to provide
+abbrev pub required : RequiredKey
+required = record { of = Main; key = key }
+
+f_required : IsRequiredLift world (ds 9) (function_at_key required f) 0
 unfolding values_from
 f_required = record { target = LiftedFrom (record { of = Main; name = g }) []; wit = plain_function f; said = refl; exported = refl; is = f_lifted }
 
-h_required : IsRequiredLift world (ds 9) (main_function key h) 1
+h_required : IsRequiredLift world (ds 9) (function_at_key required h) 1
 unfolding values_from
 h_required = record { target = LiftedFrom (record { of = Main; name = k }) []; wit = plain_function h; said = refl; exported = refl; is = h_lifted }
 
@@ -320,7 +324,7 @@ instantiated_9 = record {
 exported : ExportsInterface world (ds 9) 0
 unfolding instantiated_9
 exported = record {
-  key = key;
+  required = required;
   id = interface_id 0;
   next = refl;
   item = refl;

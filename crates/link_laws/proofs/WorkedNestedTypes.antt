@@ -35,6 +35,7 @@ use Rattle.comp_trees.specs.DefinedTrees.{TypeTree, OfValues, OfOthers}
 use Rattle.nested_terms.specs.Nested.{empty_scope, AreItemsRight}
 use Rattle.comp_links.proofs.WorkedImports.{interface_of, interface_id, type_id, import_of_interface}
 use Rattle.comp_links.specs.Lists.{AreExportsApart, type_of_world}
+use Rattle.comp_links.specs.Targets.{Main}
 use Rattle.comp_links.specs.Naming.{own_names}
 use Rattle.comp_terms.specs.Exports.{IsNestedFor, InstantiatesNested, ExportsInterface}
 use Rattle.comp_terms.specs.Rules.{IsBuilt}
@@ -179,7 +180,7 @@ instantiated_4 = record { definitions = exporting 0 1; given = no_types; made = 
 
 exported : ExportsInterface world (ds 4) 0
 unfolding values_from
-exported = record { key = key; id = interface_id 0; next = refl; item = refl; component = 0; arguments = []; instance = record { made = refl }; nested = instantiated_4; types = (refl, (refl, tt)); each = tt }
+exported = record { required = record { of = Main; key = key }; id = interface_id 0; next = refl; item = refl; component = 0; arguments = []; instance = record { made = refl }; nested = instantiated_4; types = (refl, (refl, tt)); each = tt }
 
 keeps_the_rules : IsBuilt own_names world straight
 keeps_the_rules = record {

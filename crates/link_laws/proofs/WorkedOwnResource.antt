@@ -38,7 +38,6 @@ use Rattle.core_runs.specs.declared.bracket.Bracketed.TheVariants as brackets
 use Rattle.core_runs.specs.Store.{Answer, Gives, Traps, Frame, Store as CodeStore, Generated, Opaque, Event, Instantiated}
 use Rattle.wit_data.specs.Keys.{is_same_key}
 use Rattle.wit_data.specs.Values.{values_from}
-use Rattle.wit_data.specs.declared.ids.TypeId.{TypeId}
 use Rattle.wit_data.specs.declared.signatures.WasmType.TheVariants as wasm
 use Rattle.wit_data.specs.declared.types.TypeDefKind.TheVariants as wit_kinds
 use Rattle.wit_data.specs.declared.types.TypeOwner.TheVariants as owners
@@ -60,13 +59,13 @@ use Rattle.comp_inventories.specs.Inventories.{inventory}
 use Rattle.nested_terms.specs.Nested.{empty_scope, AreItemsRight}
 use Rattle.comp_links.proofs.WorkedImports.{interface_of, interface_id, type_id, import_of_interface}
 use Rattle.comp_links.specs.Links.{destructor_of}
-use Rattle.comp_links.specs.Lists.{AreExportsApart, own_resources, required_types, type_of_world}
+use Rattle.comp_links.specs.Lists.{AreExportsApart, ProvidedType, provided_resources, own_resources, required_types, type_of_world}
 use Rattle.comp_links.specs.Naming.{own_names}
-use Rattle.comp_links.specs.Targets.{Main, ExportRef}
-use Rattle.comp_terms.specs.Generated.{GeneratedBytes, AreGenerated, IsShimOfDestructor, OfDestructor}
+use Rattle.comp_links.specs.Targets.{Main, ExportRef, ExportOf}
+use Rattle.comp_terms.specs.Generated.{GeneratedBytes, AreGenerated, IsShimOfExport, OfExport}
 use Rattle.comp_terms.specs.Terms.{CoreExport, IsInstanceOf, IsExported}
 use Rattle.comp_terms.specs.Terms as terms
-use Rattle.comp_terms.specs.Planned.{AreFillsFor, IsDestructorFor}
+use Rattle.comp_terms.specs.Planned.{AreFillsFor, IsShimFor}
 use Rattle.comp_terms.specs.Exports.{IsNestedFor, InstantiatesNested, ExportsInterface}
 use Rattle.comp_terms.specs.Rules.{AliasesUser, AliasesShim, DefinesResource, IsDestructorRight, InstantiatesFixup, IsBuilt}
 use Rattle.shim_plan.specs.declared.kinds.ShimKind.TheVariants as shim_kinds
@@ -178,7 +177,18 @@ pub of_the_component : type_of_world world (type_id 0) ≡ OfValues (ResourceAt 
 unfolding values_from
 of_the_component = refl
 
-pub destroyed_by_d : destructor_of world (type_id 0) ≡ Some d
+-- main has to provide it
+abbrev own_r : ProvidedType
+own_r = record { of = Main; id = type_id 0 }
+
+pub r_of_main : provided_resources world ≡ own_r ∷ []
+unfolding values_from
+r_of_main = refl
+
+abbrev main_d : ExportRef
+main_d = record { of = Main; name = d }
+
+pub destroyed_by_d : destructor_of world own_r ≡ Some main_d
 destroyed_by_d = refl
 
 pub r_is_required : required_types world ≡ record { key = key; name = r; id = type_id 0 } ∷ []
@@ -290,38 +300,38 @@ shims_are n at = record { arguments = []; made = record { made = at } }
 main_is : (n : ℕ) → slice_get (in_space spaces.CoreInstance (ds n)) 1 ≡ Some (defs.Item (items.CoreInstantiate 0 [])) → IsInstanceOf (ds n) 1 0
 main_is n at = record { arguments = []; made = record { made = at } }
 
-stands_for_d : IsShimOfDestructor world only_shim d
-stands_for_d = record { of_kind = refl; resource = type_id 0; exported = (0, omega arith, refl); typed = refl }
+stands_for_d : IsShimOfExport world only_shim main_d
+stands_for_d = record { of_kind = refl; exporting = main_module world; listed = (0, omega arith, refl); same = refl; typed = refl }
 
 -- core function 0 is the shim
-shim_for_d : IsDestructorFor world (ds 4) 0 d
+shim_for_d : IsShimFor world (ds 4) spaces.CoreFunc 0 (ExportOf main_d)
 unfolding values_from digits
-shim_for_d = record { place = 0; shim = only_shim; listed = refl; stands_for = stands_for_d; is = record { instance = 0; made = record { made = refl }; of = shims_are 4 refl } }
+shim_for_d = record { place = 0; shim = only_shim; purpose = OfExport main_d; listed = refl; stands_for = stands_for_d; same = refl; in_space = refl; is = record { instance = 0; made = record { made = refl }; of = shims_are 4 refl } }
 
 pub defined_right : DefinesResource world (ds 4) (Some 0)
 unfolding values_from inventory
-defined_right = record { id = type_id 0; next = refl; destructed = shim_for_d }
+defined_right = record { provided = own_r; next = refl; destructed = shim_for_d }
 
 -- without a destructor it isn't right
-same_resource : (id : TypeId) → slice_get (own_resources world) 0 ≡ Some id → type_id 0 ≡ id
+same_resource : (p : ProvidedType) → slice_get (provided_resources world) 0 ≡ Some p → own_r ≡ p
 unfolding values_from
-same_resource id e = same_Some (type_id 0) id e
+same_resource p e = same_Some own_r p e
 
-first_resource : (destructor : Option ℕ) (h : DefinesResource world (ds 4) destructor) → type_id 0 ≡ h.id
+first_resource : (destructor : Option ℕ) (h : DefinesResource world (ds 4) destructor) → own_r ≡ h.provided
 unfolding inventory
-first_resource destructor h = same_resource h.id h.next
+first_resource destructor h = same_resource h.provided h.next
 
 pub without_destructor_not_right : DefinesResource world (ds 4) None → ⊥
-without_destructor_not_right h = subst (λ id. IsDestructorRight world (ds 4) None (destructor_of world id)) (sym (first_resource None h)) h.destructed
+without_destructor_not_right h = subst (λ p. IsDestructorRight world (ds 4) None (destructor_of world p)) (sym (first_resource None h)) h.destructed
 
 -- nor is a second resource, with whatever destructor
-second_resource : (id : TypeId) → slice_get (own_resources world) 1 ≡ Some id → ⊥
+second_resource : (p : ProvidedType) → slice_get (provided_resources world) 1 ≡ Some p → ⊥
 unfolding values_from
-second_resource id e = none-some id e
+second_resource p e = none-some p e
 
 pub second_not_right : (destructor : Option ℕ) → DefinesResource world (ds 5) destructor → ⊥
 unfolding inventory
-second_not_right destructor h = second_resource h.id h.next
+second_not_right destructor h = second_resource h.provided h.next
 
 -- ---- the list keeps the rules
 
@@ -348,7 +358,7 @@ d_filled = record {
     record {
       named = refl;
       function = refl;
-      purpose = OfDestructor d;
+      purpose = OfExport main_d;
       stands_for = stands_for_d;
       serves = record {
         term = terms.Exported d_export;
@@ -409,7 +419,7 @@ instantiated_12 = record {
 
 exported : ExportsInterface world (ds 12) 0
 unfolding values_from instantiated_12
-exported = record { key = key; id = interface_id 0; next = refl; item = refl; component = 0; arguments = given_r; instance = record { made = refl }; nested = instantiated_12; types = (refl, tt); each = tt }
+exported = record { required = record { of = Main; key = key }; id = interface_id 0; next = refl; item = refl; component = 0; arguments = given_r; instance = record { made = refl }; nested = instantiated_12; types = (refl, tt); each = tt }
 
 keeps_the_rules : IsBuilt own_names world straight
 keeps_the_rules = record {
@@ -453,7 +463,7 @@ keeps_the_rules = record {
 -- so it is composed as the world says, and links
 pub straight_is_composed : IsComposed own_names world generated straight
 unfolding keeps_the_rules are_generated values_from digits
-straight_is_composed = composed own_names world straight is_world keeps_the_rules
+straight_is_composed = composed own_names world straight keeps_the_rules
 
 pub straight_links : Links own_names world generated straight
 unfolding keeps_the_rules are_generated values_from digits
@@ -526,13 +536,10 @@ pub r_is_defined : (answers : List Answer) (m : Machine) → outcome world gener
 r_is_defined answers m e = (straight_links.linked answers m e).resources 0 0 (Some 0) (made_with_shim answers m e)
 
 -- and a call of the shim is one of main's d
-abbrev main_d : ExportRef
-main_d = record { of = Main; name = d }
-
 pub shim_calls_d : (answers : List Answer) (m : Machine) → outcome world generated straight answers ≡ Done m → CoreMeets world m (Some brackets.Destructor) 0 (ItemIsExport world m main_d)
 shim_calls_d answers m e =
     let h : IsDefined world m 0 (Some 0) = r_is_defined answers m e in
-    subst (λ id. DestructorMeets world m (Some 0) (destructor_of world id)) (sym (same_resource h.id h.is)) h.destroyed
+    subst (λ p. DestructorMeets world m (Some 0) (destructor_of world p)) (sym (same_resource h.provided h.is)) h.destroyed
 
 -- ---- without a destructor
 
@@ -540,7 +547,7 @@ abbrev without : Machine
 without = machine_of (end_with None)
 
 not_defined : IsDefined world without 0 None → ⊥
-not_defined h = subst (λ id. DestructorMeets world without None (destructor_of world id)) (sym (same_resource h.id h.is)) h.destroyed
+not_defined h = subst (λ p. DestructorMeets world without None (destructor_of world p)) (sym (same_resource h.provided h.is)) h.destroyed
 
 pub without_destructor_is_not_linked : IsLinked own_names world generated without → ⊥
 without_destructor_is_not_linked l = not_defined (l.resources 0 0 None refl)

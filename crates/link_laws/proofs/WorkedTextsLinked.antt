@@ -78,7 +78,7 @@ shim_aliased : AliasesShim world (ds 5) kinds.Func 0 zero_text
 unfolding values_from digits
 shim_aliased = record { place = 0; is = shims_made 5 refl; listed = omega arith; named = refl; function = refl }
 
-stands_for_f : IsShimOf world only_shim role_f
+stands_for_f : IsShimOf world only_shim Main role_f
 unfolding values_from
 stands_for_f = record { of_kind = refl; right = ((0, omega arith, refl), refl, refl); typed = refl }
 
@@ -93,7 +93,7 @@ f_given = record {
     each = (
       record {
         named = refl;
-        serves = inr (record { place = 0; shim = only_shim; listed = refl; stands_for = stands_for_f; in_space = refl; is = record { instance = 0; made = record { made = refl }; of = shims_made 7 refl } });
+        serves = inr (record { place = 0; shim = only_shim; purpose = OfImport Main role_f; listed = refl; stands_for = stands_for_f; same = refl; in_space = refl; is = record { instance = 0; made = record { made = refl }; of = shims_made 7 refl } });
         encoded = λ e. refl;
       },
       tt,
@@ -127,7 +127,7 @@ f_filled = record {
     record {
       named = refl;
       function = refl;
-      purpose = OfImport role_f;
+      purpose = OfImport Main role_f;
       stands_for = stands_for_f;
       serves = record {
         term = terms.Lowering (root_import 0) f_tree term_options;
@@ -193,7 +193,7 @@ keeps_the_rules = record {
 -- so it is composed as the world says, and linked at its end
 pub texts_are_composed : IsComposed own_names world generated (lowering right_options)
 unfolding keeps_the_rules are_generated values_from digits
-texts_are_composed = composed own_names world (lowering right_options) is_world keeps_the_rules
+texts_are_composed = composed own_names world (lowering right_options) keeps_the_rules
 
 pub texts_link : Links own_names world generated (lowering right_options)
 unfolding keeps_the_rules are_generated values_from digits
@@ -271,7 +271,7 @@ fill_entry = record { name = zero_text; kind = kinds.Func; index = 1 }
 
 filled_with : (options : List CanonicalOption) → IsFillFor world (before_fixup options) fill_entry only_shim → options ≡ right_options
 filled_with options fill =
-    let of_f : OfImport role_f ≡ fill.purpose = one_purpose world only_shim (OfImport role_f) fill.purpose stands_for_f fill.stands_for in
+    let of_f : OfImport Main role_f ≡ fill.purpose = one_purpose world only_shim (OfImport Main role_f) fill.purpose stands_for_f fill.stands_for in
     let serves : IsItemFor world (before_fixup options) spaces.CoreFunc 1 (targets.Lowered (OfRoot f) named_options) =
     subst (IsItemFor world (before_fixup options) spaces.CoreFunc 1) table_names_them (subst (λ p. IsItemFor world (before_fixup options) spaces.CoreFunc 1 (target_of world p)) (sym of_f) fill.serves) in
     lowered_with options serves.term serves.is serves.asked

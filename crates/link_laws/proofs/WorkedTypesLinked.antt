@@ -126,7 +126,7 @@ g_lifted = record {
 g_required : ExportsFunction world (ds 12) 1
 unfolding values_from
 g_required = record {
-  key = keys.Name g;
+  required = record { of = Main; key = keys.Name g };
   function = wit_g;
   next = refl;
   item = refl;
@@ -154,7 +154,7 @@ keeps_the_rules = record {
 -- so it is composed as the world says, and linked at its end
 pub typed_list_is_composed : IsComposed own_names world no_modules (typed_list 4)
 unfolding keeps_the_rules
-typed_list_is_composed = composed own_names world (typed_list 4) is_world keeps_the_rules
+typed_list_is_composed = composed own_names world (typed_list 4) keeps_the_rules
 
 pub typed_list_links : Links own_names world no_modules (typed_list 4)
 unfolding keeps_the_rules

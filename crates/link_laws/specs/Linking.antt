@@ -33,7 +33,7 @@ use Rattle.comp_trees.specs.WitTrees.{wit_function_tree}
 use Rattle.comp_links.specs.Targets.{Main, ExportRef, Target, Lifted}
 use Rattle.comp_links.specs.Naming.{Naming, name_of}
 use Rattle.comp_links.specs.Modules.{WorldModule, user_modules}
-use Rattle.comp_links.specs.Lists.{RequiredFunction, required_functions, RequiredType, required_types, component_types, own_resources, resource_of, type_of_world, stated_types}
+use Rattle.comp_links.specs.Lists.{RequiredFunction, required_functions, RequiredType, required_types, component_types, own_resources, ProvidedType, provided_resources, resource_of, type_of_world, stated_types}
 use Rattle.comp_links.specs.Links.{link_at, lift_of, destructor_of}
 use Rattle.comp_runs.specs.Store.{Thing, Export, CoreItem, OwnResource, tree_held, ModuleInstance}
 use Rattle.comp_runs.specs.Machine.{Machine, Outcome, Done, Trapped, Open, Stuck, export_of}
@@ -139,17 +139,17 @@ pub record IsTypeProvided (n : Naming) (w : ComponentWorld) (m : Machine) (r : R
 
 -- ---- resources
 
--- a call of the destructor of a resource is one of main's export of this name, where there is one
-abbrev pub DestructorMeets : ComponentWorld → Machine → Option ℕ → Option (List ℕ) → Type 0
+-- a call of the destructor of a resource is one of this export of a user module, where there is one
+abbrev pub DestructorMeets : ComponentWorld → Machine → Option ℕ → Option ExportRef → Type 0
 DestructorMeets w m None None = Unit {0}
-DestructorMeets w m (Some core) (Some name) = CoreExportMeets w m (Some brackets.Destructor) core (record { of = Main; name = name })
-DestructorMeets w m destructor name = ⊥
+DestructorMeets w m (Some core) (Some e) = CoreExportMeets w m (Some brackets.Destructor) core e
+DestructorMeets w m destructor e = ⊥
 
 -- the resource that is defined with this number is that of the world, with its destructor
 pub record IsDefined (w : ComponentWorld) (m : Machine) (number : ℕ) (destructor : Option ℕ) : Type 0 where
-  pub id : TypeId
-  pub is : slice_get (own_resources w) number ≡ Some id
-  pub destroyed : DestructorMeets w m destructor (destructor_of w id)
+  pub provided : ProvidedType
+  pub is : slice_get (provided_resources w) number ≡ Some provided
+  pub destroyed : DestructorMeets w m destructor (destructor_of w provided)
 
 -- a resource is defined with this number
 pub record IsNumberDefined (m : Machine) (number : ℕ) : Type 0 where

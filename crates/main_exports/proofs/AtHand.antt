@@ -1,9 +1,9 @@
 -- The types of exported interfaces that are at hand while one interface is exported after the other.
-use Rattle.std.proofs.Common.{◌≡◌, ◌≢◌, ◌∙◌, ◌<◌, ◌≤◌, ◌+◌, ◌||◌, ◌⊎◌, inl, inr, arith, ℕ, zero, suc, Bool, true, false, true≢false, List, [], ◌∷◌, ◌++◌, length, length-append, take, Option, Some, None, Contains, refl, sym, ap, subst, if◌then◌else◌, is_some}
+use Rattle.std.proofs.Common.{◌≡◌, ◌∙◌, ◌<◌, ◌≤◌, ◌||◌, inl, inr, arith, ℕ, zero, suc, Bool, true, false, true≢false, List, [], ◌∷◌, ◌++◌, length, length-append, take, Option, Some, None, Contains, refl, sym, ap, subst, if◌then◌else◌, is_some}
 use Rattle.std.specs.Prelude.{nat_lt}
 use Rattle.std.specs.List.{AllByRecursion, IsDistinct, flat_map, list_any, slice_get}
 use Rattle.std.proofs.lemmas.Bool.{ltb-true, ltb-false}
-use Rattle.std.proofs.lemmas.Option.{none-some, same_Some, slice_get_within}
+use Rattle.std.proofs.lemmas.Option.{none-some, same_Some}
 use Rattle.comp_lists.specs.Tables.{with_first}
 use Rattle.comp_lists.proofs.Lists.{AllByRecursion-contains, AllByRecursion-weaker}
 use Rattle.comp_bytes.specs.ScopeNames.{def_export}
@@ -20,14 +20,13 @@ use Rattle.comp_builder.specs.Built.{Built}
 use Rattle.comp_items.specs.Items.{Extends}
 use Rattle.comp_worlds.specs.Encodable.{IsEncodable}
 use Rattle.comp_worlds.specs.ExportOrder.{AreExportsInOrder, IsExportedAt, exported_before, interface_among, required_interfaces, used_exports}
-use Rattle.comp_worlds.specs.WorldContents.{exported_item, interface_at, name_at}
+use Rattle.comp_worlds.specs.WorldContents.{exported_item, name_at}
 use Rattle.comp_worlds.specs.declared.world.ComponentWorld.{ComponentWorld}
 use Rattle.comp_terms.specs.Exports.{exports_in}
-use Rattle.interface_needs.proofs.Lending.{among, passes_among, same_self}
+use Rattle.interface_needs.proofs.Lending.{among, same_self}
 use Rattle.interface_needs.proofs.Lists.{IsInOne, all_of_each, contains_cons, contains_flat, contains_none, contains_one, flat_contains}
-use Rattle.root_imports.specs.Met.{has_instance, has_types, is_at_hand, is_met, AreExportsMet, IsSupplied, Leaves}
+use Rattle.root_imports.specs.Met.{has_instance, has_types, is_at_hand, AreExportsMet, IsSupplied, Leaves}
 use Rattle.root_imports.specs.declared.met_types.MetTypes.{MetTypes}
-use Rattle.root_imports.proofs.ExportedTypes.{named_within}
 use Rattle.root_imports.proofs.Meeting.{all_types_met, either_of, found_more, named_whole, or_left, or_right, some_is}
 use Rattle.main_exports.specs.Exports.{AreExportsAtHand}
 

@@ -1,7 +1,7 @@
 -- What each export adds, and what is known of a required export.
 use Rattle.std.proofs.Common.{◌≡◌, ◌∙◌, ◌+◌, ◌<◌, arith, ℕ, suc, Bool, true, false, true≢false, List, [], ◌∷◌, ◌++◌, refl, ap, ap₂, sym, subst, Contains, Some, None, Option, IsSome, append-nil, cond, take, rules, ◌⊎◌, inl, inr, Bor}
 use Rattle.std.specs.Prelude.{length, map, get_or}
-use Rattle.std.specs.Option.{option_copied}
+use Rattle.std.specs.Option.{option_copied, option_map}
 use Rattle.std.specs.Cmp.{IsEquivalence}
 use Rattle.std.specs.Cmp.Rules.{comparing}
 use Rattle.std.specs.List.{AllByRecursion, IsDistinct, filter_map, flat_map, slice_get}
@@ -11,7 +11,7 @@ use Rattle.std.proofs.lemmas.Grind.{flat_map-append}
 use Rattle.std.proofs.lemmas.List.{length-append, length-take-le, take_more, take_all}
 use Rattle.std.proofs.lemmas.Map.Views.{lookup-from_Contains}
 use Rattle.std.proofs.lemmas.List.Elements.{filter_map-append}
-use Rattle.std.proofs.lemmas.Option.{none-some, same_Some, slice_get-get_or}
+use Rattle.std.proofs.lemmas.Option.{none-some, same_Some, slice_get-get_or, slice_get-map}
 use Rattle.comp_lists.proofs.Lists.{AllByRecursion-at, AllByRecursion-contains, AllByRecursion-weaker, Contains-map}
 use Rattle.comp_bytes.specs.ScopeNames.{def_export}
 use Rattle.comp_bytes.specs.declared.def.Def.{Def}
@@ -32,10 +32,12 @@ use Rattle.wit_data.specs.declared.worlds.WorldKey.{WorldKey}
 use Rattle.wit_data.specs.declared.worlds.WorldKey.TheVariants as keys
 use Rattle.world_values.specs.Items.{no_items, functions_of, functions_in, function_of_item}
 use Rattle.comp_worlds.specs.Encodable.{IsEncodable}
-use Rattle.comp_worlds.specs.WorldContents.{items_of, exported_item, function_exported, core_name_of, core_imports}
+use Rattle.comp_worlds.specs.WorldContents.{items_of, exported_item, function_exported, core_name_of}
 use Rattle.comp_worlds.specs.Worlds.{IsExportItem, IsNamedFunction, IsRequired}
 use Rattle.comp_worlds.specs.declared.world.ComponentWorld.{ComponentWorld}
-use Rattle.comp_links.specs.Lists.{functions_required, required_functions, sort_of}
+use Rattle.comp_links.specs.Lists.{functions_required, required_functions, required_keys, sort_of}
+use Rattle.comp_links.specs.Modules.{user_imports}
+use Rattle.comp_links.proofs.OnlyMain.{main_key, keys_of_main}
 use Rattle.comp_links.specs.Naming.{Naming, name_of}
 use Rattle.comp_links.specs.Targets.{Main}
 use Rattle.comp_terms.specs.Exports.{exports_in}
@@ -45,7 +47,7 @@ use Rattle.wit_data.specs.Live.{named_types}
 use Rattle.nested_components.specs.Types.{IsAtHome}
 use Rattle.interface_needs.specs.RootNeeds.{interface_of_item, IsExportedInterface, is_lent_type}
 use Rattle.interface_needs.proofs.Orders.{home_later}
-use Rattle.comp_worlds.specs.ExportOrder.{AreExportsInOrder, IsExportedAt}
+use Rattle.comp_worlds.specs.ExportOrder.{AreExportsInOrder}
 use Rattle.interface_needs.proofs.RootItems.{exported_there, exported_sound}
 use Rattle.interface_needs.proofs.ExportedInterfaces.{exported_titled, exported_ascend, exported_types_home, exported_functions_home, exported_every}
 use Rattle.root_imports.specs.Growing.{Grows-none, Grows-by, Grows-then}
@@ -54,7 +56,7 @@ use Rattle.core_options.specs.MainOptions.{HasLiftOptions}
 use Rattle.core_options.specs.declared.fault.StateFault.{StateFault}
 use Rattle.core_options.proofs.Refusals.{among_more}
 use Rattle.root_imports.specs.Keeping.{Root, RootMoved}
-use Rattle.main_exports.specs.Exports.{main_function, at_key, functions_at, functions_of_key, IsMainFunction, AreMainFunctions}
+use Rattle.main_exports.specs.Exports.{main_function, at_key, functions_at, functions_of_key, key_marked, IsMainFunction, AreMainFunctions}
 use Rattle.root_imports.proofs.Keeping.{moved_then}
 
 -- ---- how many exports there are
@@ -99,7 +101,7 @@ exports_same {w} {old} g = exports_grow g ∙ omega arith
 pub exports_nested : {w : ComponentWorld} {old new : List Def} {imports exports : List (List ℕ)} → Grows w old new (NestedOf imports exports ∷ []) → exports_in new ≡ exports_in old
 exports_nested {w} {old} g = exports_grow g ∙ omega arith
 
-pub one_marked : (n : Naming) (w : ComponentWorld) (key : WorldKey) → exported_marks (export_marked n w key) ≡ 1
+pub one_marked : (n : Naming) (w : ComponentWorld) (key : WorldKey) → exported_marks (key_marked n w key) ≡ 1
 one_marked n w key = by (exported_item w key)
   where
     by : (o : Option WorldItem) → exported_marks (nested_marked w o ++ Exported (record { name = name_of n w.resolve key; sort = sort_of o }) ∷ []) ≡ 1
@@ -108,9 +110,9 @@ one_marked n w key = by (exported_item w key)
     by (Some (world_items.NamedType id)) = refl
     by None = refl
 
-all_marked : (n : Naming) (w : ComponentWorld) (ks : List WorldKey) → exported_marks (flat_map (export_marked n w) ks) ≡ length ks
+all_marked : (n : Naming) (w : ComponentWorld) (ks : List WorldKey) → exported_marks (flat_map (key_marked n w) ks) ≡ length ks
 all_marked n w [] = refl
-all_marked n w (k ∷ ks) = marks_append (export_marked n w k) (flat_map (export_marked n w) ks) ∙ (ap₂ (λ a b. a + b) (one_marked n w k) (all_marked n w ks) ∙ omega arith)
+all_marked n w (k ∷ ks) = marks_append (key_marked n w k) (flat_map (key_marked n w) ks) ∙ (ap₂ (λ a b. a + b) (one_marked n w k) (all_marked n w ks) ∙ omega arith)
 
 -- ---- one export
 
@@ -120,7 +122,7 @@ adds_export w old new name sort index right appended = Grows-by (defs.Item (item
 
 -- its landmarks are those of the key
 pub marked_as : (n : Naming) (w : ComponentWorld) (key : WorldKey) (item : WorldItem) → exported_item w key ≡ Some item →
-    nested_marked w (Some item) ++ Exported (record { name = name_of n w.resolve key; sort = sort_of (Some item) }) ∷ [] ≡ export_marked n w key
+    nested_marked w (Some item) ++ Exported (record { name = name_of n w.resolve key; sort = sort_of (Some item) }) ∷ [] ≡ key_marked n w key
 marked_as n w key item is = ap (λ o. nested_marked w o ++ Exported (record { name = name_of n w.resolve key; sort = sort_of o }) ∷ []) (sym is)
 
 -- ---- what is known of a required export
@@ -253,7 +255,7 @@ module _ (w : ComponentWorld) (ok : IsEncodable w) (key : WorldKey) (id : Interf
 -- the keys that were exported so far
 pub record ExportsSoFar (n : Naming) (w : ComponentWorld) (old new : Root) (done : List WorldKey) : Type 0 where
   pub moved : RootMoved w old new
-  pub grows : Grows w old.items.defs new.items.defs (flat_map (export_marked n w) done)
+  pub grows : Grows w old.items.defs new.items.defs (flat_map (key_marked n w) done)
   pub encoded : AllByRecursion (IsEncodedExport w) (flat_map (functions_of_key w) done)
   pub has : AllByRecursion (HasLiftOptions w) (flat_map (functions_of_key w) done)
 
@@ -265,10 +267,10 @@ flat_more f xs i x l is =
     ap (flat_map f) (take_more xs i x l ∙ ap (λ k. take i xs ++ k ∷ []) (sym is)) ∙ (flat_map-append f (take i xs) (x ∷ []) ∙ ap (λ l. flat_map f (take i xs) ++ l) (append-nil (f x)))
 
 pub exports_step : (n : Naming) (w : ComponentWorld) (old mid new : Root) (ks : List WorldKey) (i : ℕ) (key : WorldKey) → ExportsSoFar n w old mid (take i ks) → i < length ks → key ≡ get_or ks i key → RootMoved w mid new →
-    Grows w mid.items.defs new.items.defs (export_marked n w key) → AllByRecursion (IsEncodedExport w) (functions_of_key w key) → AllByRecursion (HasLiftOptions w) (functions_of_key w key) → ExportsSoFar n w old new (take (i + 1) ks)
+    Grows w mid.items.defs new.items.defs (key_marked n w key) → AllByRecursion (IsEncodedExport w) (functions_of_key w key) → AllByRecursion (HasLiftOptions w) (functions_of_key w key) → ExportsSoFar n w old new (take (i + 1) ks)
 exports_step n w old mid new ks i key h l is moved grows encoded has = record {
   moved = moved_then w old mid new h.moved moved;
-  grows = subst (λ m. Grows w old.items.defs new.items.defs m) (sym (flat_more (export_marked n w) ks i key l is)) (Grows-then h.grows grows);
+  grows = subst (λ m. Grows w old.items.defs new.items.defs m) (sym (flat_more (key_marked n w) ks i key l is)) (Grows-then h.grows grows);
   encoded = subst (AllByRecursion (IsEncodedExport w)) (sym (flat_more (functions_of_key w) ks i key l is)) (all_both (IsEncodedExport w) (flat_map (functions_of_key w) (take i ks)) (functions_of_key w key) h.encoded encoded);
   has = subst (AllByRecursion (HasLiftOptions w)) (sym (flat_more (functions_of_key w) ks i key l is)) (all_both (HasLiftOptions w) (flat_map (functions_of_key w) (take i ks)) (functions_of_key w key) h.has has);
 }
@@ -276,7 +278,7 @@ exports_step n w old mid new ks i key h l is moved grows encoded has = record {
 -- so many were exported
 pub exports_counted : (n : Naming) (w : ComponentWorld) (old new : Root) (ks : List WorldKey) (i : ℕ) → exports_in old.items.defs ≡ 0 → i < length ks → ExportsSoFar n w old new (take i ks) → exports_in new.items.defs ≡ i
 exports_counted n w old new ks i none l h =
-    let many : exported_marks (flat_map (export_marked n w) (take i ks)) ≡ i = all_marked n w (take i ks) ∙ length-take-le i ks (omega (arith, l)) in
+    let many : exported_marks (flat_map (key_marked n w) (take i ks)) ≡ i = all_marked n w (take i ks) ∙ length-take-le i ks (omega (arith, l)) in
     let grown = exports_grow h.grows in
     omega (arith, grown, none, many)
 
@@ -286,9 +288,23 @@ pub next_exported : (n : Naming) (w : ComponentWorld) (old new : Root) (ks : Lis
 next_exported n w old new ks i key same none l is h = ap₂ slice_get (sym same) (exports_counted n w old new ks i none l h) ∙ (slice_get-get_or ks i key l ∙ ap Some (sym is))
 
 -- all keys were exported
-required_are : (w : ComponentWorld) (ks : List WorldKey) → flat_map (functions_required w) (map (λ key. record { of = Main; key = key }) ks) ≡ flat_map (functions_of_key w) ks
+required_are : (w : ComponentWorld) (ks : List WorldKey) → flat_map (functions_required w) (map main_key ks) ≡ flat_map (functions_of_key w) ks
 required_are w [] = refl
 required_are w (k ∷ ks) = ap (λ l. functions_of_key w k ++ l) (required_are w ks)
+
+required_of_main : (w : ComponentWorld) → IsEncodable w → required_functions w ≡ flat_map (functions_of_key w) w.main_exports
+required_of_main w ok = ap (flat_map (functions_required w)) (keys_of_main w ok.valid) ∙ required_are w w.main_exports
+
+marked_are : (n : Naming) (w : ComponentWorld) (ks : List WorldKey) → flat_map (export_marked n w) (map main_key ks) ≡ flat_map (key_marked n w) ks
+marked_are n w [] = refl
+marked_are n w (k ∷ ks) = ap (λ l. key_marked n w k ++ l) (marked_are n w ks)
+
+marked_of_main : (n : Naming) (w : ComponentWorld) → IsEncodable w → exports_marked n w ≡ flat_map (key_marked n w) w.main_exports
+marked_of_main n w ok = ap (flat_map (export_marked n w)) (keys_of_main w ok.valid) ∙ marked_are n w w.main_exports
+
+-- the key of a number among all
+pub next_required : (w : ComponentWorld) → IsEncodable w → (number : ℕ) (key : WorldKey) → slice_get w.main_exports number ≡ Some key → slice_get (required_keys w) number ≡ Some (main_key key)
+next_required w ok number key at = ap (λ ks. slice_get ks number) (keys_of_main w ok.valid) ∙ (slice_get-map main_key w.main_exports number ∙ ap (option_map main_key) at)
 
 pub record ExportsDone (n : Naming) (w : ComponentWorld) (old new : Root) : Type 0 where
   pub moved : RootMoved w old new
@@ -296,13 +312,13 @@ pub record ExportsDone (n : Naming) (w : ComponentWorld) (old new : Root) : Type
   pub encoded : AllByRecursion (IsEncodedExport w) (required_functions w)
   pub has : AllByRecursion (HasLiftOptions w) (required_functions w)
 
-pub exports_done : (n : Naming) (w : ComponentWorld) (old new : Root) (i : ℕ) → length w.main_exports ≡ i → ExportsSoFar n w old new (take i w.main_exports) → ExportsDone n w old new
-exports_done n w old new i e h =
+pub exports_done : (n : Naming) (w : ComponentWorld) → IsEncodable w → (old new : Root) (i : ℕ) → length w.main_exports ≡ i → ExportsSoFar n w old new (take i w.main_exports) → ExportsDone n w old new
+exports_done n w ok old new i e h =
     let all : take i w.main_exports ≡ w.main_exports = take_all i w.main_exports (omega (arith, e)) in
-    let functions : flat_map (functions_of_key w) (take i w.main_exports) ≡ required_functions w = ap (flat_map (functions_of_key w)) all ∙ sym (required_are w w.main_exports) in
+    let functions : flat_map (functions_of_key w) (take i w.main_exports) ≡ required_functions w = ap (flat_map (functions_of_key w)) all ∙ sym (required_of_main w ok) in
     record {
       moved = h.moved;
-      grows = subst (λ ks. Grows w old.items.defs new.items.defs (flat_map (export_marked n w) ks)) all h.grows;
+      grows = subst (λ marks. Grows w old.items.defs new.items.defs marks) (ap (flat_map (key_marked n w)) all ∙ sym (marked_of_main n w ok)) h.grows;
       encoded = subst (AllByRecursion (IsEncodedExport w)) functions h.encoded;
       has = subst (AllByRecursion (HasLiftOptions w)) functions h.has;
     }
@@ -312,10 +328,10 @@ pub key_required : (w : ComponentWorld) → IsEncodable w → (i : ℕ) (key : W
 key_required w ok i key l is = AllByRecursion-at (IsRequired w w.main) w.main_exports i key ok.valid.main.required l (sym is)
 
 -- a refusal of a required export is one of the world's
-pub export_refused : (w : ComponentWorld) (i : ℕ) (key : WorldKey) → i < length w.main_exports → key ≡ get_or w.main_exports i key → (e : StateFault) → IsCauseAmong w [] (functions_of_key w key) e → IsCause w e
-export_refused w i key l is e h =
-    among_more w [] (core_imports w) (functions_of_key w key) (required_functions w) (λ x c. contains_none x c)
-    (λ r c. subst (λ fs. Contains fs r) (sym (required_are w w.main_exports)) (contains_flat (functions_of_key w) w.main_exports key r (i, l, sym is) c)) e h
+pub export_refused : (w : ComponentWorld) → IsEncodable w → (i : ℕ) (key : WorldKey) → i < length w.main_exports → key ≡ get_or w.main_exports i key → (e : StateFault) → IsCauseAmong w [] (functions_of_key w key) e → IsCause w e
+export_refused w ok i key l is e h =
+    among_more w [] (user_imports w) (functions_of_key w key) (required_functions w) (λ x c. contains_none x c)
+    (λ r c. subst (λ fs. Contains fs r) (sym (required_of_main w ok)) (contains_flat (functions_of_key w) w.main_exports key r (i, l, sym is) c)) e h
 
 -- a look-up that finds something, as its caller sees it
 pub copied_there : {X : Type 0} (o : Option (Bor X)) → IsSome (option_copied o) → IsSome o

@@ -1,5 +1,5 @@
 -- What was made stays what it is while definitions are added, and the root after several steps.
-use Rattle.std.proofs.Common.{◌≡◌, ◌∙◌, ◌<◌, ℕ, Option, List, [], ◌∷◌, refl, sym, ap, subst, None}
+use Rattle.std.proofs.Common.{◌∙◌, ◌<◌, ℕ, Option, List, [], ◌∷◌, sym, ap, subst, None}
 use Rattle.std.specs.List.{slice_get, AllByRecursion, AllZip}
 use Rattle.comp_lists.proofs.Lists.{AllZip-weaker}
 use Rattle.comp_bytes.specs.declared.def.Argument.{Argument}
@@ -18,12 +18,11 @@ use Rattle.comp_links.specs.Targets.{Target}
 use Rattle.comp_terms.specs.Exports.{IsRequiredLift}
 use Rattle.comp_terms.specs.Planned.{type_of_function, IsLiftFor}
 use Rattle.comp_terms.specs.Terms as terms
-use Rattle.comp_items.specs.Items.{Extends}
 use Rattle.comp_items.proofs.Extending.{extends_none, extends_same, extends_then}
-use Rattle.comp_items.proofs.Kept.{Longer, denotes-kept, instance-kept, term-kept}
+use Rattle.comp_items.proofs.Kept.{Longer, denotes-kept, term-kept}
+use Rattle.core_options.proofs.OptionTerms.{option_sources_kept}
 use Rattle.comp_items.proofs.Remembering.{longer}
-use Rattle.root_imports.specs.RootScopes.{AreTablesRight, ArePassed, RootGrows}
-use Rattle.root_imports.proofs.Growth.{tables_kept}
+use Rattle.root_imports.specs.RootScopes.{AreTablesRight, ArePassed}
 use Rattle.nested_components.specs.declared.component.NestedComponent.{NestedComponent}
 use Rattle.nested_components.specs.declared.type_import.TypeImport.{TypeImport}
 use Rattle.root_imports.specs.Keeping.{Root, RootKept, RootMoved}
@@ -87,7 +86,7 @@ module _ (w : ComponentWorld) where
   exports-kept e old new g h = record {
     valid = h.valid;
     tabled = h.tabled;
-    sources = record { made = instance-kept (longer g.extends) h.sources.made; memory = h.sources.memory; offered = h.sources.offered };
+    sources = option_sources_kept (longer g.extends) h.sources;
     realloc = h.realloc;
     tables = subst (λ l. AreTablesRight w l new.instances new.items.defs new.maps) (sym g.met) g.tables;
     passed = subst (ArePassed w) (sym g.met) h.passed;
@@ -98,7 +97,7 @@ module _ (w : ComponentWorld) where
   exports-moved e old new g h = record {
     valid = h.valid;
     tabled = h.tabled;
-    sources = record { made = instance-kept (longer g.extends) h.sources.made; memory = h.sources.memory; offered = h.sources.offered };
+    sources = option_sources_kept (longer g.extends) h.sources;
     realloc = h.realloc;
     tables = g.tables;
     passed = subst (λ (last : Option TypeId). AllByRecursion (λ (t : List ℕ × TypeId). t.1.index < next_of last) (imported_types w)) (sym g.last) h.passed;

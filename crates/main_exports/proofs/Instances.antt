@@ -7,7 +7,7 @@ use Rattle.std.specs.List.{AllByRecursion, AllZip, IsDistinct, flat_map, slice_g
 use Rattle.std.proofs.lemmas.List.{map-append}
 use Rattle.std.specs.Map.{keys_of}
 use Rattle.std.specs.Str.{bytes_eq}
-use Rattle.comp_lists.proofs.Lists.{AllByRecursion-weaker, AllByRecursion-front, AllByRecursion-back, Contains-map}
+use Rattle.comp_lists.proofs.Lists.{AllByRecursion-weaker, AllByRecursion-front, AllByRecursion-back}
 use Rattle.comp_bytes.specs.ItemIndices.{IsAt}
 use Rattle.comp_bytes.specs.ScopeNames.{item_export}
 use Rattle.comp_bytes.specs.Spaces.{is_space, items_in, sort_space, space_of}
@@ -58,7 +58,8 @@ use Rattle.root_imports.specs.Interfaces.{ExportsListed}
 use Rattle.main_exports.proofs.GivenTypes.{exported_entry, same_given}
 use Rattle.main_exports.proofs.TypeArguments.{usable_import}
 use Rattle.main_exports.specs.Exports.{IsExportAdded, IsNestedOf, nested_mark, functions_at, functions_of_key, AreLiftArguments, IsTypeArgument, AreArgumentsOf, AreArgumentsFor, IsInstantiated}
-use Rattle.main_exports.proofs.Exporting.{own_names, interface_functions}
+use Rattle.comp_links.proofs.OnlyMain.{main_key}
+use Rattle.main_exports.proofs.Exporting.{own_names, interface_functions, next_required}
 use Rattle.main_exports.proofs.Growth.{all_arguments-kept}
 use Rattle.main_exports.proofs.Nested.{AreFound, Finds, IsOfSort, all_found, all_given, types_given, imports_given, all_passed, arguments_named, types_named, lifts_sorted, types_sorted, exports_found, past_types, IsTypeFound, types_found, functions_named, import_types_named, functions_then_types, exports_named, imported_names, given_names, listed_names, exported_names, export_name}
 
@@ -252,9 +253,9 @@ pub exports_interface : (w : ComponentWorld) → IsEncodable w → (key : WorldK
     (arguments : List Argument) (ds : List Def) (index : ℕ) → slice_get w.main_exports (exports_in ds) ≡ Some key → AreArgumentsOf w ds key (functions_of w.resolve id) c arguments → IsDistinct bytes_eq (keys_of (functions_of w.resolve id)) →
     IsDistinct bytes_eq (keys_of (named_types w.resolve id)) → IsInstantiated ds c.items arguments index → ExportsInterface w ds index
 exports_interface w ok key id is c n arguments ds index next h apart types_apart made = record {
-  key = key;
+  required = main_key key;
   id = id;
-  next = next;
+  next = next_required w ok (exports_in ds) key next;
   item = is;
   component = made.component;
   arguments = arguments;

@@ -1,4 +1,5 @@
 pub mod Growth
+pub mod OwnExports
 pub mod NeededOptions
 pub mod Tabled
 pub mod Lifting

@@ -1,8 +1,10 @@
 -- What a lift adds, and the causes of its refusal among all functions.
-use Rattle.std.proofs.Common.{◌≡◌, ◌∙◌, ℕ, List, [], ◌∷◌, ◌++◌, refl, ap, sym, subst, Contains, Some, None, Option, Bor, inr}
+use Rattle.std.proofs.Common.{◌≡◌, ◌∙◌, ◌<◌, ℕ, List, [], ◌∷◌, ◌++◌, ap, sym, subst, Contains, Some, None, Option, Bor, inr}
 use Rattle.std.specs.List.{AllZip, slice_get}
 use Rattle.std.specs.Option.{option_copied, option_map}
+use Rattle.standard_kinds.specs.declared.kinds.ExportKind.{ExportKind}
 use Rattle.standard_kinds.specs.declared.kinds.ExportKind.TheVariants as kinds
+use Rattle.comp_bytes.specs.Spaces.{items_in, kind_space}
 use Rattle.comp_bytes.specs.declared.canon.CanonicalOption.{CanonicalOption}
 use Rattle.comp_bytes.specs.declared.def.Def.{Def}
 use Rattle.comp_bytes.specs.declared.def.Def.TheVariants as defs
@@ -24,9 +26,8 @@ use Rattle.comp_terms.specs.Rules.{Grows}
 use Rattle.comp_terms.specs.Terms.{CoreExport, TermOption, IsExported, IsFunctionType, IsLifting, IsOption}
 use Rattle.root_imports.specs.Growing.{Grows-by}
 use Rattle.core_options.specs.Causes.{IsCauseAmong}
-use Rattle.core_options.specs.MainOptions.{of_main, NameOptions}
+use Rattle.core_options.specs.MainOptions.{NameOptions}
 use Rattle.core_options.specs.declared.fault.StateFault.{StateFault}
-use Rattle.core_options.proofs.Offered.{main_module}
 use Rattle.core_options.proofs.OptionTerms.{options_right}
 use Rattle.core_options.proofs.Refusals.{among_more}
 use Rattle.interface_needs.proofs.Lists.{contains_none, contains_one}
@@ -45,7 +46,7 @@ pub adds_lift : (w : ComponentWorld) (old new : List Def) (core kind index : ℕ
     ((type : FunctionTree) → IsFunctionType old kind type → slice_get (inventory new).functions index ≡ Some (record { origin = None; type = OfFunctions type })) →
     AddsLift w old new f function index
 adds_lift w old new core kind index options f function fit entry typed exported appended lifts made = record {
-  grows = Grows-by (defs.Item (items.Lift core options kind)) appended (in_range entry.alias.made, options_right w old options fit.terms fit.are, record { type = type_of_function w function; is = typed });
+  grows = Grows-by (defs.Item (items.Lift core options kind)) appended (subst (λ (k : ExportKind). core < items_in (kind_space k) old) entry.alias.function (in_range entry.alias.is.made), options_right w old options fit.terms fit.are, record { type = type_of_function w function; is = typed });
   lifted = record {
     lifted = record {
       target = Lifted (record { of = Main; name = entry.name }) (lift_options w (main_function f));
@@ -53,10 +54,10 @@ adds_lift w old new core kind index options f function fit entry typed exported 
       said = ap (option_map (λ n. Lifted (record { of = Main; name = n }) (lift_options w (main_function f)))) entry.said;
       exported = exported;
       is = record {
-        entry = of_main kinds.Func entry.name;
+        entry = entry.alias.exported;
         options = fit.terms;
-        is = lifts (of_main kinds.Func entry.name) fit.terms (type_of_function w function) refl entry.alias fit.are typed;
-        asked = (record { of = record { world_module = main_module w; listed = refl; same = refl }; named = refl }, fit.asked);
+        is = lifts entry.alias.exported fit.terms (type_of_function w function) entry.alias.function entry.alias.is fit.are typed;
+        asked = (entry.alias.named, fit.asked);
       };
     };
     entry = made (type_of_function w function) typed;

@@ -1,5 +1,5 @@
--- The options that main is asked for are those that the link table names for a lift, and what main lacks for them is a cause.
-use Rattle.std.proofs.Common.{◌≡◌, ◌∙◌, ℕ, List, [], ◌∷◌, sym, ap, subst, Some, Option, IsTrue, IsSome}
+-- The options that are asked for are those that the link table names for a lift, and what is missing for them is a cause.
+use Rattle.std.proofs.Common.{◌≡◌, ◌∙◌, ℕ, List, [], ◌∷◌, refl, sym, ap, subst, Some, None, Option, IsTrue, IsSome}
 use Rattle.std.specs.Option.{option_map, option_map_or}
 use Rattle.comp_bytes.specs.declared.canon.CanonicalOption.{CanonicalOption}
 use Rattle.comp_bytes.specs.declared.def.Def.{Def}
@@ -10,33 +10,39 @@ use Rattle.comp_options.specs.Options.{needs, export_set}
 use Rattle.comp_roles.specs.declared.metadata.FunctionKey.{FunctionKey}
 use Rattle.comp_worlds.specs.WorldContents.{function_exported}
 use Rattle.comp_worlds.specs.declared.world.ComponentWorld.{ComponentWorld}
-use Rattle.comp_links.specs.Links.{options_in, lift_needs, lift_realloc, export_of, needed_options}
+use Rattle.comp_links.specs.Links.{options_in, lift_needs, lift_realloc, needed_options}
 use Rattle.comp_links.specs.Roles.{export_encoding}
-use Rattle.comp_links.specs.Targets.{Main}
+use Rattle.comp_links.specs.Targets.{Main, ExportRef}
 use Rattle.core_options.specs.Causes.{IsOptionRefusal, IsCauseAmong}
-use Rattle.core_options.specs.MainOptions.{memory_name, NameOptions, HasLiftOptions}
+use Rattle.core_options.specs.MainOptions.{export_ref_of, memory_name, NameOptions, HasLiftOptions}
+use Rattle.core_options.specs.declared.modules.InstanceExport.{InstanceExport}
 use Rattle.core_options.specs.declared.fault.StateFault.{StateFault}
 use Rattle.core_options.proofs.Refusals.{one_export_refused}
 use Rattle.main_exports.specs.Exports.{main_function}
 
--- the set of a function, and the realloc, that main is asked for
-pub record AsksForLift (w : ComponentWorld) (f : FunctionKey) (set : ℕ) (realloc : Option (List ℕ)) : Type 0 where
-  pub needed : set ≡ lift_needs w f.key f.function
-  pub found : realloc ≡ lift_realloc w
+-- an export that is there has its name
+pub mapped_there : (o : Option InstanceExport) → IsSome o → IsSome (option_map export_ref_of o)
+mapped_there None h = h
+mapped_there (Some e) h = refl
 
-pub asks_for_lift : (w : ComponentWorld) (f : FunctionKey) (function : Function) (set : ℕ) (realloc : Option (List ℕ)) → function_exported w f.key f.function ≡ Some function → set ≡ export_set GuestExport w.resolve.types function → realloc ≡ lift_realloc w →
+-- the set of a function, and the realloc, that is asked for
+pub record AsksForLift (w : ComponentWorld) (f : FunctionKey) (set : ℕ) (realloc : Option ExportRef) : Type 0 where
+  pub needed : set ≡ lift_needs w f.key f.function
+  pub found : realloc ≡ lift_realloc w Main
+
+pub asks_for_lift : (w : ComponentWorld) (f : FunctionKey) (function : Function) (set : ℕ) (realloc : Option ExportRef) → function_exported w f.key f.function ≡ Some function → set ≡ export_set GuestExport w.resolve.types function → realloc ≡ lift_realloc w Main →
     AsksForLift w f set realloc
 asks_for_lift w f function set realloc there computed found = record { needed = computed ∙ sym (ap (λ o. option_map_or (export_set GuestExport w.resolve.types) o 0) there); found = found }
 
-module _ (w : ComponentWorld) (f : FunctionKey) (set : ℕ) (realloc : Option (List ℕ)) (a : AsksForLift w f set realloc) where
-  pub needed_named : (ds : List Def) (written : List CanonicalOption) (e : StringEncoding) → export_encoding w f.key f.function ≡ Some e → NameOptions w ds written (options_in set (option_map (export_of Main) realloc) (Some e)) →
+module _ (w : ComponentWorld) (f : FunctionKey) (set : ℕ) (realloc : Option ExportRef) (a : AsksForLift w f set realloc) where
+  pub needed_named : (ds : List Def) (written : List CanonicalOption) (e : StringEncoding) → export_encoding w Main f.key f.function ≡ Some e → NameOptions w ds written (options_in set realloc (Some e)) →
       NameOptions w ds written (needed_options w (main_function f))
   needed_named ds written e encoded h =
-      let of_function : NameOptions w ds written (options_in (lift_needs w f.key f.function) (option_map (export_of Main) realloc) (Some e)) =
-      subst (λ n. NameOptions w ds written (options_in n (option_map (export_of Main) realloc) (Some e))) a.needed h in
-      let of_main : NameOptions w ds written (options_in (lift_needs w f.key f.function) (option_map (export_of Main) (lift_realloc w)) (Some e)) =
-      subst (λ o. NameOptions w ds written (options_in (lift_needs w f.key f.function) (option_map (export_of Main) o) (Some e))) a.found of_function in
-      subst (λ o. NameOptions w ds written (options_in (lift_needs w f.key f.function) (option_map (export_of Main) (lift_realloc w)) o)) (sym encoded) of_main
+      let of_function : NameOptions w ds written (options_in (lift_needs w f.key f.function) realloc (Some e)) =
+      subst (λ n. NameOptions w ds written (options_in n realloc (Some e))) a.needed h in
+      let of_main : NameOptions w ds written (options_in (lift_needs w f.key f.function) (lift_realloc w Main) (Some e)) =
+      subst (λ o. NameOptions w ds written (options_in (lift_needs w f.key f.function) o (Some e))) a.found of_function in
+      subst (λ o. NameOptions w ds written (options_in (lift_needs w f.key f.function) (lift_realloc w Main) o)) (sym encoded) of_main
 
   pub needed_there : (IsTrue (needs set 1) → IsSome (memory_name w)) → (IsTrue (needs set 2) → IsSome realloc) → HasLiftOptions w (main_function f)
   needed_there memory own = record {

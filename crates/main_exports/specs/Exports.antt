@@ -1,7 +1,7 @@
 -- What is taken as given where the required exports are lifted, and what is lifted for each. (The rules are this project's own.)
-use Rattle.std.specs.Prelude.{◌≡◌, ◌<◌, ◌≤◌, ℕ, true, List, [], ◌∷◌, ◌++◌, map, Some, IsSome, slice_get, None}
+use Rattle.std.specs.Prelude.{◌≡◌, ◌<◌, ◌≤◌, ℕ, true, List, [], ◌∷◌, ◌++◌, map, Option, Some, IsSome, slice_get, None}
 use Rattle.std.specs.List.{AllByRecursion, AllZip, IsDistinct, flat_map}
-use Rattle.std.specs.Option.{option_copied}
+use Rattle.std.specs.Option.{option_map}
 use Rattle.std.specs.Str.{bytes_eq}
 use Rattle.comp_bytes.specs.ItemIndices.{IsAt}
 use Rattle.comp_bytes.specs.ScopeNames.{item_export}
@@ -15,7 +15,6 @@ use Rattle.comp_bytes.specs.Spaces.{items_in, sort_space}
 use Rattle.comp_bytes.specs.declared.space.Sort.{Sort}
 use Rattle.comp_bytes.specs.declared.types.ExternName.{ExternName}
 use Rattle.comp_bytes.specs.declared.space.Sort.TheVariants as sorts
-use Rattle.standard_kinds.specs.declared.kinds.ExportKind.TheVariants as kinds
 use Rattle.wit_data.specs.Sound.{HasFunction}
 use Rattle.wit_data.specs.Live.{named_types}
 use Rattle.wit_data.specs.declared.ids.InterfaceId.{InterfaceId}
@@ -31,22 +30,24 @@ use Rattle.comp_trees.specs.DefinedScopes.{Denotes}
 use Rattle.comp_inventories.specs.Inventories.{inventory, scope_of}
 use Rattle.comp_roles.specs.declared.metadata.FunctionKey.{FunctionKey}
 use Rattle.comp_worlds.specs.Encodable.{IsEncodable}
+use Rattle.comp_worlds.specs.Lookups.{module_name}
 use Rattle.comp_worlds.specs.WorldContents.{core_name_of, function_exported}
 use Rattle.comp_worlds.specs.declared.world.ComponentWorld.{ComponentWorld}
-use Rattle.comp_links.specs.Links.{lift_realloc}
+use Rattle.comp_links.specs.Links.{export_of, lift_realloc}
 use Rattle.comp_links.specs.Lists.{RequiredFunction, functions_required, resource_of, type_of_world}
 use Rattle.comp_links.specs.Targets.{Main}
 use Rattle.comp_terms.specs.Exports.{IsArgumentRight, IsImportGiven, IsRequiredLift}
-use Rattle.comp_terms.specs.Rules.{Landmark, NestedOf}
+use Rattle.comp_links.specs.Naming.{Naming}
+use Rattle.comp_terms.specs.Rules.{Landmark, NestedOf, export_marked}
 use Rattle.comp_terms.specs.Planned.{type_of_function}
-use Rattle.comp_terms.specs.Terms.{IsExported}
 use Rattle.comp_worlds.specs.ExportOrder.{AreExportsInOrder, IsExportedAt}
 use Rattle.root_imports.specs.Met.{has_types, is_at_hand}
 use Rattle.root_imports.specs.declared.met_types.MetTypes.{MetTypes}
 use Rattle.root_imports.specs.RootScopes.{AreTablesRight, ArePassed, AreForgotten}
 use Rattle.interface_needs.specs.RootNeeds.{IsUsableType}
 use Rattle.root_imports.specs.Keeping.{Root}
-use Rattle.core_options.specs.MainOptions.{of_main, AreOptionSources}
+use Rattle.core_options.specs.declared.modules.InstanceExport.{InstanceExport}
+use Rattle.core_options.specs.MainOptions.{export_ref_of, IsAliasOf, AreOptionSources}
 use Rattle.main_exports.specs.Tables.{AreTablesOf}
 use Rattle.main_exports.specs.declared.sources.MainExports.{MainExports}
 
@@ -55,10 +56,22 @@ pub record AreExports (w : ComponentWorld) (e : MainExports) (root : Root) : Typ
   pub valid : IsEncodable w
   pub tabled : AreTablesOf w.main.exports.exports e.tables
   pub sources : AreOptionSources w root.items.defs e.sources
-  pub realloc : option_copied e.sources.realloc ≡ lift_realloc w
+  pub realloc : option_map export_ref_of e.sources.realloc ≡ lift_realloc w Main
   pub tables : AreTablesRight w root.met root.instances root.items.defs root.maps
   pub passed : ArePassed w root.met
   pub ordered : AreExportsInOrder w
+
+-- the export is that of main's instance under this name
+pub record IsOwnExport (e : MainExports) (name : List ℕ) (x : InstanceExport) : Type 0 where
+  pub instance : x.instance ≡ e.sources.instance
+  pub of : module_name x.of ≡ None
+  pub named : x.name.now ≡ name
+
+-- the same, if there is a name
+abbrev pub IsOwnExportIf : MainExports → Option (List ℕ) → Option InstanceExport → Type 0
+IsOwnExportIf e None None = Unit {0}
+IsOwnExportIf e (Some name) (Some x) = IsOwnExport e name x
+IsOwnExportIf e name x = ⊥
 
 -- The types of each interface that main has to export are at hand: of those that come from this number on, they are in the tables.
 pub record AreExportsAtHand (w : ComponentWorld) (met : MetTypes) (number : ℕ) : Type 0 where
@@ -79,7 +92,7 @@ pub record IsMainFunction (w : ComponentWorld) (f : FunctionKey) (function : Wit
 pub record IsEntryOf (w : ComponentWorld) (ds : List Def) (f : FunctionKey) (index : ℕ) : Type 0 where
   pub name : List ℕ
   pub said : core_name_of w f.key f.function ≡ Some name
-  pub alias : IsExported ds index (of_main kinds.Func name)
+  pub alias : IsAliasOf w ds index (export_of Main name)
 
 -- the function of this index is the lift that the link table names, and it has the type of the function
 pub record IsTypedLift (w : ComponentWorld) (ds : List Def) (f : FunctionKey) (function : WitFunction) (index : ℕ) : Type 0 where
@@ -114,6 +127,10 @@ AreLiftArguments w ds key entries names arguments = ⊥
 -- the functions that main has to export at a key
 abbrev pub functions_of_key : ComponentWorld → WorldKey → List RequiredFunction
 functions_of_key w key = functions_required w (record { of = Main; key = key })
+
+-- the landmarks of such a key
+abbrev pub key_marked : Naming → ComponentWorld → WorldKey → List Landmark
+key_marked n w key = export_marked n w (record { of = Main; key = key })
 
 -- ---- instances of nested components
 

@@ -8,14 +8,12 @@ ghost use Rattle.std.specs.Prelude.{◌≡◌, [], ◌∷◌, length, IfOk, IfEr
 ghost use Rattle.std.specs.List.{AllByRecursion, IsDistinct};
 ghost use Rattle.std.specs.Map.{keys_of};
 ghost use Rattle.std.specs.Str.{bytes_eq};
-ghost use Rattle.std.specs.Option.{option_copied};
 ghost use Rattle.comp_imports.specs.Names.{naming_of};
 ghost use Rattle.comp_items.specs.Items.{Extends};
-ghost use Rattle.comp_links.specs.Links.{lift_realloc};
 ghost use Rattle.comp_links.specs.Lists.{required_functions, resource_of};
 ghost use Rattle.comp_links.specs.Naming.{name_of};
 ghost use Rattle.comp_terms.specs.Exports.{IsNestedRight, IsNestedFor, exports_in};
-ghost use Rattle.comp_terms.specs.Rules.{Exported, Grows, IsExportRight, export_marked, exports_marked};
+ghost use Rattle.comp_terms.specs.Rules.{Exported, Grows, IsExportRight, exports_marked};
 ghost use Rattle.comp_terms.specs.Terms.{IsInstanceOf};
 ghost use Rattle.comp_worlds.specs.Encodable.{IsEncodable};
 ghost use Rattle.comp_worlds.specs.WorldContents.{exported_item};
@@ -24,7 +22,7 @@ ghost use Rattle.core_options.specs.Causes.{IsCause, IsCauseAmong, IsEncodedExpo
 ghost use Rattle.core_options.specs.MainOptions.{HasLiftOptions};
 ghost use Rattle.comp_trees.specs.Trees.{Resource};
 ghost use Rattle.root_imports.specs.Keeping.{RootKept, RootMoved};
-ghost use Rattle.main_exports.specs.Exports.{AreExports, AreExportsAtHand, IsExportAdded, ForgetsTypes, functions_of_key, nested_mark, AreArgumentsFor, IsInstantiated, IsNestedOf};
+ghost use Rattle.main_exports.specs.Exports.{AreExports, AreExportsAtHand, IsExportAdded, ForgetsTypes, functions_of_key, key_marked, nested_mark, AreArgumentsFor, IsInstantiated, IsNestedOf};
 ghost use Rattle.nested_components.specs.Types.{IsAtHome};
 ghost use Rattle.comp_inventories.specs.Inventories.{NestedInstance, given_by, inventory, scope_of};
 ghost use Rattle.comp_worlds.specs.ExportOrder.{AreExportsInOrder};
@@ -43,20 +41,12 @@ use crate::tables::{ExportTables, function_key};
 use comp_bytes::{Argument, Item, Sort};
 use comp_imports::ImportNames;
 use comp_lists::{Keyed, Seq, Text};
-use comp_worlds::ComponentWorld;
-use core_options::{OptionSources, StateFault, memory_name};
+use comp_worlds::{ComponentWorld, CustomModule};
+use core_options::{OptionSources, StateFault, export_realloc_of, memory_name};
 use nested_components::{NestedComponent, nested_component};
 use root_imports::{RootScope, types_of};
 use std::alloc::{AllocError, Global};
 use wit_data::{Function, InterfaceId, TypeId, WorldItem, WorldKey};
-
-/// The realloc of calls of exports, if main exports one: one for all of them, whatever their keys.
-fn lift_realloc(world: &ComponentWorld) -> Option<&str>
-    ensures { option_copied result ≡ lift_realloc world.now }
-{
-    let any = WorldKey::Interface(InterfaceId { index: 0 });
-    world.main.exports.export_realloc_for(&any, "")
-}
 
 /// The debug name of what is generated for an interface.
 fn debug_name(alloc: Global, interface: &Text, what: &str) -> Result<Text, AllocError> {
@@ -144,7 +134,7 @@ impl MainExports<'_> {
         requires item { exported_item root.old.world.now key.now ≡ Some (items.Function function.now) }
         requires required { IsRequired root.old.world.now root.old.world.now.main key.now }
         ensures kept { RootKept root.old.world.now root.old root.new }
-        ensures grows { OnOk result (Grows root.old.world.now root.old.items.defs root.new.items.defs (export_marked (naming_of self.now.names) root.old.world.now key.now)) }
+        ensures grows { OnOk result (Grows root.old.world.now root.old.items.defs root.new.items.defs (key_marked (naming_of self.now.names) root.old.world.now key.now)) }
         ensures has { OnOk result (AllByRecursion (HasLiftOptions root.old.world.now) (functions_of_key root.old.world.now key.now)) }
         ensures encoded { OnOk result (AllByRecursion (IsEncodedExport root.old.world.now) (functions_of_key root.old.world.now key.now)) }
         ensures cause { IfErr result (IsCauseAmong root.old.world.now [] (functions_of_key root.old.world.now key.now)) }
@@ -202,7 +192,7 @@ impl MainExports<'_> {
         requires required { IsRequired root.old.world.now root.old.world.now.main key.now }
         requires supplied { IsSupplied root.old.world.now root.old.met id (length root.old.world.now.resolve.types) }
         ensures kept { RootKept root.old.world.now root.old root.new }
-        ensures grows { OnOk result (Grows root.old.world.now root.old.items.defs root.new.items.defs (export_marked (naming_of self.now.names) root.old.world.now key.now)) }
+        ensures grows { OnOk result (Grows root.old.world.now root.old.items.defs root.new.items.defs (key_marked (naming_of self.now.names) root.old.world.now key.now)) }
         ensures exports { IfOk result (ExportsListed root.old.world.now root.new.items.defs id) }
         ensures has { OnOk result (AllByRecursion (HasLiftOptions root.old.world.now) (functions_of_key root.old.world.now key.now)) }
         ensures encoded { OnOk result (AllByRecursion (IsEncodedExport root.old.world.now) (functions_of_key root.old.world.now key.now)) }
@@ -233,7 +223,7 @@ impl MainExports<'_> {
         ensures moved { RootMoved root.old.world.now root.old root.new }
         ensures at_hand { AreExportsAtHand root.old.world.now root.new.met (exports_in root.new.items.defs) }
         ensures forgotten { OnOk result (ForgetsTypes root.old.world.now id root.new) }
-        ensures grows { OnOk result (Grows root.old.world.now root.old.items.defs root.new.items.defs (export_marked (naming_of self.now.names) root.old.world.now key.now)) }
+        ensures grows { OnOk result (Grows root.old.world.now root.old.items.defs root.new.items.defs (key_marked (naming_of self.now.names) root.old.world.now key.now)) }
         ensures has { OnOk result (AllByRecursion (HasLiftOptions root.old.world.now) (functions_of_key root.old.world.now key.now)) }
         ensures encoded { OnOk result (AllByRecursion (IsEncodedExport root.old.world.now) (functions_of_key root.old.world.now key.now)) }
         ensures cause { IfErr result (IsCauseAmong root.old.world.now [] (functions_of_key root.old.world.now key.now)) }
@@ -256,7 +246,7 @@ impl MainExports<'_> {
         requires required { IsRequired root.old.world.now root.old.world.now.main key.now }
         ensures moved { RootMoved root.old.world.now root.old root.new }
         ensures at_hand { AreExportsAtHand root.old.world.now root.new.met (exports_in root.new.items.defs) }
-        ensures grows { OnOk result (Grows root.old.world.now root.old.items.defs root.new.items.defs (export_marked (naming_of self.now.names) root.old.world.now key.now)) }
+        ensures grows { OnOk result (Grows root.old.world.now root.old.items.defs root.new.items.defs (key_marked (naming_of self.now.names) root.old.world.now key.now)) }
         ensures has { OnOk result (AllByRecursion (HasLiftOptions root.old.world.now) (functions_of_key root.old.world.now key.now)) }
         ensures encoded { OnOk result (AllByRecursion (IsEncodedExport root.old.world.now) (functions_of_key root.old.world.now key.now)) }
         ensures cause { IfErr result (IsCauseAmong root.old.world.now [] (functions_of_key root.old.world.now key.now)) }
@@ -316,7 +306,7 @@ pub fn export_all(
         sources: OptionSources {
             instance,
             memory: memory_name(world),
-            realloc: lift_realloc(world),
+            realloc: export_realloc_of(world, CustomModule::Main, &world.main, instance, instance),
         },
         names: *names,
     };

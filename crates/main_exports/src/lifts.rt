@@ -23,7 +23,7 @@ use byte_encoding::BuildFault;
 use comp_bytes::{Argument, Sort};
 use comp_lists::{Keyed, Seq, Text};
 use comp_worlds::{ComponentWorld, FunctionKey};
-use core_options::StateFault;
+use core_options::{StateFault, alias_of};
 use root_imports::RootScope;
 use wit_data::{Function, InterfaceId, WorldKey};
 
@@ -42,8 +42,8 @@ impl MainExports<'_> {
         ensures entry { IfOk result (λ core. IsEntryOf root.old.world.now root.new.items.defs required.now core) }
         ensures cause { IfErr result IsRefusal }
     {
-        let name = self.tables.implementation(required).unwrap().as_str();
-        let core = root.items.core_function(self.sources.instance, name)?;
+        let name = self.tables.implementation(required).unwrap();
+        let core = alias_of(root, self.own_export(name))?;
         Ok(core)
     }
 

@@ -4,10 +4,10 @@
 #![tactic(auto, using(crate::proofs::Growth::growing))]
 
 ghost use Rattle.std.specs.Prelude.{◌≡◌, [], ◌∷◌, ◌++◌, IfOk, IfErr, OnOk, Some};
-ghost use Rattle.std.specs.Option.{option_copied};
 ghost use Rattle.comp_items.specs.Items.{Extends};
 ghost use Rattle.comp_links.specs.Links.{needed_options, lift_options};
 ghost use Rattle.comp_links.specs.Roles.{export_encoding};
+ghost use Rattle.comp_links.specs.Targets.{Main};
 ghost use Rattle.comp_options.specs.OptionLists.{one_if};
 ghost use Rattle.core_options.specs.Causes.{IsCauseAmong, IsEncodedExport};
 ghost use Rattle.core_options.specs.MainOptions.{NameOptions, HasLiftOptions};
@@ -16,10 +16,10 @@ ghost use Rattle.comp_terms.specs.Rules.{Grows};
 
 use crate::sources::MainExports;
 use comp_bytes::CanonicalOption;
-use comp_lists::{Seq, Text};
+use comp_lists::Seq;
 use comp_options::RequiredOptions;
 use comp_worlds::{ComponentWorld, FunctionKey};
-use core_options::{StateFault, function_of_main, options_of_main};
+use core_options::{StateFault, alias_if, options_for};
 use root_imports::RootScope;
 use standard_kinds::StringEncoding;
 use std::alloc::{AllocError, Global};
@@ -31,7 +31,7 @@ fn lift_encoding(
     world: &ComponentWorld,
     required: &FunctionKey,
 ) -> Result<StringEncoding, StateFault>
-    ensures ok { IfOk result (λ encoding. export_encoding world.now required.now.key required.now.function ≡ Some encoding) }
+    ensures ok { IfOk result (λ encoding. export_encoding world.now Main required.now.key required.now.function ≡ Some encoding) }
     ensures cause { IfErr result (IsCauseAmong world.now [] (main_function required.now ∷ [])) }
 {
     match world.main.metadata.export_encodings.get(required) {
@@ -56,16 +56,6 @@ fn push_post_return(
     Ok(())
 }
 
-/// The text of a name, if there is one.
-fn text_of(name: Option<&Text>) -> Option<&str>
-    ensures { option_copied result ≡ option_copied name.entry }
-{
-    match name {
-        Some(name) => Some(name.as_str()),
-        None => None,
-    }
-}
-
 impl MainExports<'_> {
     /// The options that the type of a function needs for its lift, in order.
     fn needed_options(
@@ -88,7 +78,7 @@ impl MainExports<'_> {
         let encoding = lift_encoding(root.items.allocator(), world, required)?;
         let needed = RequiredOptions::for_export(&world.resolve, function, AbiVariant::GuestExport);
         let place = &required.function;
-        let options = options_of_main(root, &self.sources, place, needed, encoding)?;
+        let options = options_for(root, &self.sources, place, needed, encoding)?;
         Ok(options)
     }
 
@@ -113,8 +103,8 @@ impl MainExports<'_> {
         ensures cause { IfErr result (IsCauseAmong root.old.world.now [] (main_function required.now ∷ [])) }
     {
         let mut options = self.needed_options(root, required, function)?;
-        let name = text_of(self.tables.post_return(required));
-        let post_return = function_of_main(root, self.sources.instance, name)?;
+        let export = self.own_export_if(self.tables.post_return(required));
+        let post_return = alias_if(root, export)?;
         push_post_return(&mut options, post_return)?;
         Ok(options)
     }

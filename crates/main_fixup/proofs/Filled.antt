@@ -1,5 +1,5 @@
 -- The entries of the inline instance that the fixup is given.
-use Rattle.std.proofs.Common.{◌≡◌, ◌∙◌, ℕ, List, [], ◌∷◌, ◌++◌, refl, sym, ap, subst, append_assoc, append-nil, Option, Contains, arith, suc, map, length, Bool, true, false, ◌+◌, ◌<◌, ◌≤◌, ◌^◌}
+use Rattle.std.proofs.Common.{◌≡◌, ◌∙◌, ℕ, List, [], ◌∷◌, ◌++◌, refl, sym, ap, subst, append_assoc, append-nil, Contains, arith, suc, map, length, Bool, true, false, ◌+◌, ◌<◌, ◌≤◌, ◌^◌}
 use Rattle.std.specs.Fmt.{decimal}
 use Rattle.std.specs.List.{AllByRecursion, AllZip, IsDistinct}
 use Rattle.std.specs.Str.{bytes_eq}
@@ -23,7 +23,7 @@ use Rattle.comp_terms.specs.Planned.{IsItemFor, IsFillFor, AreFillsFor}
 use Rattle.comp_terms.specs.Rules.{Grows, IsEntry, AreEntries}
 use Rattle.comp_items.specs.Items.{Extends}
 use Rattle.comp_items.proofs.Extending.{extends_none, extends_then}
-use Rattle.comp_items.proofs.Kept.{Longer, instance-kept, term-kept, term_in_range}
+use Rattle.comp_items.proofs.Kept.{Longer, term-kept, term_in_range}
 use Rattle.comp_items.proofs.Remembering.{longer}
 use Rattle.root_imports.specs.Growing.{Grows-none, Grows-by, Grows-then, longer_by}
 use Rattle.root_imports.proofs.Growth.{tables_kept}
@@ -37,6 +37,7 @@ use Rattle.world_shims.specs.WorldShims.{shims_of}
 use Rattle.world_shims.proofs.Numbered.{shims_numbered}
 use Rattle.shim_targets.specs.ShimTargets.{StandsForOne}
 use Rattle.shim_targets.proofs.EachShim.{each_stands}
+use Rattle.core_options.proofs.OptionTerms.{instances_kept}
 use Rattle.main_fixup.specs.Filling.{AreFillSources, HasShimOptions}
 use Rattle.main_fixup.specs.declared.sources.FillSources.{FillSources}
 
@@ -48,8 +49,8 @@ sources-kept {w} {s} {met} {old} {new} {maps} {instances} g h = record {
   valid = h.valid;
   imports = FindsImports-kept (longer g) h.imports;
   used = h.used;
-  options = record { made = instance-kept (longer g) h.options.made; memory = h.options.memory; offered = h.options.offered };
-  realloc = h.realloc;
+  memory = h.memory;
+  users = instances_kept (longer g) h.users;
   tables = tables_kept w met instances old new maps g h.tables;
   passed = h.passed;
 }
@@ -87,7 +88,7 @@ fills_step w old mid new before after entry rest s h extends grows fills offered
   offered = AllByRecursion-push (HasShimOptions w) h.done s h.offered offered;
 }
 
--- the next shim stands for an import of main, or for a destructor
+-- the next shim stands for an import of a user module, or for an export of one
 pub next_stands : (w : ComponentWorld) → IsEncodable w → (old mid : Built) (entries : List CoreInlineExport) (s : Shim) (rest : List Shim) → FillsSoFar w old mid entries (s ∷ rest) → StandsForOne w s
 next_stands w ok old mid entries s rest h =
     let present : Contains (shims_of w) s = subst (λ ss. Contains ss s) h.split (Contains-append_right h.done (s ∷ rest) s (0, omega arith, refl)) in

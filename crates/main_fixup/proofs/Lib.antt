@@ -1,4 +1,5 @@
 pub mod Interfaces
+pub mod Named
 pub mod Uses
 pub mod Lowering
 pub mod Behind

@@ -1,20 +1,19 @@
 -- The lowering behind a shim: its options are those of the link table, it keeps its rule, and what is missing is a cause.
-use Rattle.std.proofs.Common.{◌≡◌, ◌∙◌, ℕ, List, [], ◌∷◌, ◌++◌, refl, sym, ap, subst, Some, None, Option, Bool, true, false, IsTrue, IsSome, Contains, codes, append_assoc}
+use Rattle.std.proofs.Common.{◌≡◌, ◌∙◌, ℕ, List, [], ◌∷◌, ◌++◌, sym, ap, subst, Some, None, Option, Bool, true, false, IsTrue, IsSome, Contains, codes, append_assoc}
 use Rattle.std.specs.List.{AllByRecursion, AllZip}
 use Rattle.std.specs.Option.{option_map}
+use Rattle.std.proofs.lemmas.Option.{same_Some}
 use Rattle.comp_bytes.specs.declared.canon.CanonicalOption.{CanonicalOption}
 use Rattle.comp_bytes.specs.declared.canon.CanonicalOption.TheVariants as canonical
 use Rattle.comp_bytes.specs.declared.def.Def.{Def}
 use Rattle.standard_kinds.specs.declared.kinds.StringEncoding.{StringEncoding}
 use Rattle.comp_options.specs.Options.{needs}
-use Rattle.comp_roles.specs.CoreImports.{CoreImport}
-use Rattle.comp_roles.specs.Reallocs.{is_import_realloc, realloc_for}
-use Rattle.comp_worlds.specs.Lookups.{resolved_realloc}
-use Rattle.comp_worlds.specs.WorldContents.{core_imports}
+use Rattle.comp_roles.specs.declared.imports.Import.{Import}
 use Rattle.comp_worlds.specs.declared.world.ComponentWorld.{ComponentWorld}
-use Rattle.comp_links.specs.Links.{if_needed, options_in, export_at, export_of, link_of, lower_needs, lower_options, lower_realloc}
+use Rattle.comp_links.specs.Links.{if_needed, options_in, link_of, lower_needs, lower_options, lower_realloc}
+use Rattle.comp_links.specs.Modules.{UserImport, user_imports}
 use Rattle.comp_links.specs.Roles.{import_encoding}
-use Rattle.comp_links.specs.Targets.{Main, Target, TargetOption, Lowered}
+use Rattle.comp_links.specs.Targets.{UserModule as User, ExportRef, TargetOption, Lowered}
 use Rattle.comp_links.specs.Targets as targets
 use Rattle.comp_terms.specs.Generated.{OfImport}
 use Rattle.comp_terms.specs.Planned.{IsOptionFor, IsTermFor}
@@ -33,43 +32,37 @@ use Rattle.core_options.specs.MainOptions.{NameOptions, memory_name}
 use Rattle.core_options.specs.declared.fault.StateFault.{StateFault}
 use Rattle.main_fixup.specs.Filling.{HasShimOptions, IsBehind, ServesShim}
 
--- ---- the realloc of lowerings
+-- ---- what is there
 
--- the name of the realloc of main's imports
-abbrev pub realloc_name : ComponentWorld → Option (List ℕ)
-realloc_name w = realloc_for is_import_realloc w.main.exports.exports
+-- a module, and the role of one of its imports
+abbrev Caller : Type 0
+Caller = User × Import
 
-own_realloc : (w : ComponentWorld) (o : Option (List ℕ)) → option_map export_at (resolved_realloc w None o) ≡ option_map (export_of Main) o
-own_realloc w None = refl
-own_realloc w (Some name) = refl
+abbrev caller : User → Import → Caller
+caller of role = (of, role)
 
--- it is the one of the link table
-pub realloc_linked : (w : ComponentWorld) → lower_realloc w Main ≡ option_map (export_of Main) (realloc_name w)
-realloc_linked w = own_realloc w (realloc_name w)
+-- imports for which a shim stands are of one module
+same_module : (w : ComponentWorld) (s : Shim) (i j : UserImport) → StandsFor w s i → StandsFor w s j → i.of ≡ j.of
+same_module w s i j h k = ap (λ (p : Caller). p.0) (same_Some (caller i.of i.core.role) (caller j.of j.core.role) (sym h.is.of_kind ∙ k.is.of_kind))
 
-no_realloc : (w : ComponentWorld) → realloc_name w ≡ None → lower_realloc w Main ≡ None
-no_realloc w e = realloc_linked w ∙ ap (option_map (export_of Main)) e
-
-some_mapped : {A B : Type 0} (f : A → B) (o : Option A) → IsSome o → IsSome (option_map f o)
-some_mapped f (Some x) h = refl
-some_mapped f None h = h
-
--- what main has for the options that are listed
-pub options_there : (w : ComponentWorld) (s : Shim) (name : Option (List ℕ)) → name ≡ realloc_name w → (IsTrue (needs s.options.0 1) → IsSome (memory_name w)) → (IsTrue (needs s.options.0 2) → IsSome name) → HasShimOptions w s
-options_there w s name is memory realloc = record {
-  memory = memory;
-  realloc = λ h. subst (λ o. IsSome o) (sym (realloc_linked w)) (some_mapped (export_of Main) (realloc_name w) (subst (λ o. IsSome o) is (realloc h)));
+-- what there is for the options that are listed
+pub options_there : (w : ComponentWorld) (s : Shim) (i : UserImport) → StandsFor w s i → (own : Option ExportRef) → own ≡ lower_realloc w i.of → (IsTrue (needs s.options.0 1) → IsSome (memory_name w)) → (IsTrue (needs s.options.0 2) → IsSome own) →
+    HasShimOptions w s
+options_there w s i h own is memory realloc j k = record {
+  memory = λ n. memory (subst (λ (set : ℕ). IsTrue (needs set 1)) (sym k.options) n);
+  realloc = λ n.
+      let there : IsSome (lower_realloc w i.of) = subst (λ o. IsSome o) is (realloc (subst (λ (set : ℕ). IsTrue (needs set 2)) (sym k.options) n)) in
+      subst (λ (of : User). IsSome (lower_realloc w of)) (same_module w s i j h k) there;
 }
 
 -- ---- the options
 
 -- the options of a shim are those of the link table
-options_linked : (w : ComponentWorld) (s : Shim) (i : CoreImport) (encoding : StringEncoding) (name : Option (List ℕ)) → StandsFor w s i → import_encoding w i.role ≡ Some encoding → name ≡ realloc_name w →
-    options_in s.options.0 (option_map (export_of Main) name) (Some encoding) ≡ lower_options w Main i.role
-options_linked w s i encoding name h encoded is =
-    ap (λ (set : ℕ). options_in set (option_map (export_of Main) name) (Some encoding)) h.options
-    ∙ (ap (λ o. options_in (lower_needs w i.role) o (Some encoding)) (ap (option_map (export_of Main)) is ∙ sym (realloc_linked w))
-    ∙ ap (λ o. options_in (lower_needs w i.role) (lower_realloc w Main) o) (sym encoded))
+options_linked : (w : ComponentWorld) (s : Shim) (i : UserImport) (encoding : StringEncoding) (own : Option ExportRef) → StandsFor w s i → import_encoding w i.of i.core.role ≡ Some encoding → own ≡ lower_realloc w i.of →
+    options_in s.options.0 own (Some encoding) ≡ lower_options w i.of i.core.role
+options_linked w s i encoding own h encoded is =
+    ap (λ (set : ℕ). options_in set own (Some encoding)) h.options
+    ∙ (ap (λ o. options_in (lower_needs w i.core.role) o (Some encoding)) is ∙ ap (λ o. options_in (lower_needs w i.core.role) (lower_realloc w i.of) o) (sym encoded))
 
 -- ---- no option is that of an asynchronous call
 
@@ -113,42 +106,43 @@ each_right w ds (o ∷ os) (t ∷ ts) [] h k n r = absurd k
 
 -- ---- the lowering
 
-module _ (w : ComponentWorld) (s : Shim) (encoding : StringEncoding) (name : Option (List ℕ)) (is : name ≡ realloc_name w) where
+module _ (w : ComponentWorld) (s : Shim) (encoding : StringEncoding) (own : Option ExportRef) where
   abbrev wanted : List TargetOption
-  wanted = options_in s.options.0 (option_map (export_of Main) name) (Some encoding)
+  wanted = options_in s.options.0 own (Some encoding)
 
   -- the options keep the rule of a lowering
-  pub lower_options_right : (ds : List Def) (i : CoreImport) → StandsFor w s i → (written : List CanonicalOption) → NameOptions w ds written wanted → AllByRecursion (IsLowerOptionRight ds) written
+  pub lower_options_right : (ds : List Def) (i : UserImport) → StandsFor w s i → (written : List CanonicalOption) → NameOptions w ds written wanted → AllByRecursion (IsLowerOptionRight ds) written
   lower_options_right ds i h written named =
-      let waits : needs s.options.0 8 ≡ false = ap (λ (set : ℕ). needs set 8) h.options ∙ role_waits w i.role h.is.right in
-      each_right w ds written named.terms wanted named.are named.asked (set_waits s.options.0 (option_map (export_of Main) name) (Some encoding) waits) (options_right w ds written named.terms named.are)
+      let waits : needs s.options.0 8 ≡ false = ap (λ (set : ℕ). needs set 8) h.options ∙ role_waits w i.core.role h.is.right in
+      each_right w ds written named.terms wanted named.are named.asked (set_waits s.options.0 own (Some encoding) waits) (options_right w ds written named.terms named.are)
 
   -- a lowering with these options is what the shim stands for
-  pub lowering_for : (mid new : List Def) (function index : ℕ) (written : List CanonicalOption) → (b : IsBehind w mid s encoding function) → (named : NameOptions w mid written wanted) → IsLowering new index b.is.origin b.is.type named.terms →
+  pub lowering_for : (mid new : List Def) (function index : ℕ) (written : List CanonicalOption) → (b : IsBehind w mid s encoding own function) → (named : NameOptions w mid written wanted) → IsLowering new index b.is.origin b.is.type named.terms →
       ServesShim w new s index
   lowering_for mid new function index written b named made =
-      let linked : Lowered b.function wanted ≡ link_of w Main b.import.role = ap (Lowered b.function) (options_linked w s b.import encoding name b.stands b.encoded is) ∙ sym b.linked in
+      let linked : Lowered b.function wanted ≡ link_of w b.given.of b.given.core.role = ap (Lowered b.function) (options_linked w s b.given encoding own b.stands b.encoded b.reallocated) ∙ sym b.linked in
       let asked : IsTermFor w (Lowered b.function wanted) (terms.Lowering b.is.origin b.is.type named.terms) = (b.is.of, b.is.typed, named.asked) in
       record {
-        purpose = OfImport b.import.role;
+        purpose = OfImport b.given.of b.given.core.role;
         stands_for = b.stands.is;
         serves = record { term = terms.Lowering b.is.origin b.is.type named.terms; is = made; asked = subst (λ t. IsTermFor w t (terms.Lowering b.is.origin b.is.type named.terms)) linked asked };
       }
 
 -- what is behind a shim stays there
-pub behind-kept : (w : ComponentWorld) (old new : List Def) → Longer old new → (s : Shim) (encoding : StringEncoding) (index : ℕ) → IsBehind w old s encoding index → IsBehind w new s encoding index
-behind-kept w old new g s encoding index b = record {
-  import = b.import;
+pub behind-kept : (w : ComponentWorld) (old new : List Def) → Longer old new → (s : Shim) (encoding : StringEncoding) (own : Option ExportRef) (index : ℕ) → IsBehind w old s encoding own index → IsBehind w new s encoding own index
+behind-kept w old new g s encoding own index b = record {
+  given = b.given;
   stands = b.stands;
   encoded = b.encoded;
+  reallocated = b.reallocated;
   function = b.function;
   linked = b.linked;
   is = record { origin = b.is.origin; type = b.is.type; of = b.is.of; typed = b.is.typed; is = imported_function-kept g b.is.is };
 }
 
 -- what is missing is a cause
-pub shim_refused : (w : ComponentWorld) (s : Shim) (i : CoreImport) → StandsFor w s i → (name : Option (List ℕ)) → name ≡ realloc_name w → (e : StateFault) → IsOptionRefusal w s.options.0 name s.debug_name e → IsCauseAmong w (core_imports w) [] e
-shim_refused w s i h name is e refused =
-    let named : s.debug_name ≡ indirect_name i = h.named ∙ (append_assoc (codes "indirect-" ++ i.module_name) (codes "-") i.field ∙ append_assoc (codes "indirect-") i.module_name (codes "-" ++ i.field)) in
-    among_more w (i ∷ []) (core_imports w) [] [] (λ x c. subst (λ (y : CoreImport). Contains (core_imports w) y) (contains_one i x c) h.present) (λ k c. c) e
-    (one_import_refused w i name s.options.0 s.debug_name h.options named (λ none. no_realloc w (sym is ∙ none)) e refused)
+pub shim_refused : (w : ComponentWorld) (s : Shim) (i : UserImport) → StandsFor w s i → (own : Option ExportRef) → own ≡ lower_realloc w i.of → (e : StateFault) → IsOptionRefusal w s.options.0 own s.debug_name e → IsCauseAmong w (user_imports w) [] e
+shim_refused w s i h own is e refused =
+    let named : s.debug_name ≡ indirect_name i.core = h.named ∙ (append_assoc (codes "indirect-" ++ i.core.module_name) (codes "-") i.core.field ∙ append_assoc (codes "indirect-") i.core.module_name (codes "-" ++ i.core.field)) in
+    among_more w (i ∷ []) (user_imports w) [] [] (λ x c. subst (λ (y : UserImport). Contains (user_imports w) y) (contains_one i x c) h.present) (λ k c. c) e
+    (one_import_refused w i own s.options.0 s.debug_name h.options named (λ none. sym is ∙ none) e refused)

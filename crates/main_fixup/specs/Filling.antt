@@ -1,6 +1,6 @@
 -- What is behind shims, and what that needs (Canonical ABI: `canon lower`; component model, explainer: core instances, the
 -- destructor of a resource type).
-use Rattle.std.specs.Prelude.{◌≡◌, ℕ, List, Option, Some, None, true, map, Contains, IsTrue, IsSome}
+use Rattle.std.specs.Prelude.{◌≡◌, ℕ, List, Option, Some, None, true, map, Contains, IsTrue}
 use Rattle.std.specs.Option.{option_copied, option_map}
 use Rattle.standard_kinds.specs.declared.kinds.StringEncoding.{StringEncoding}
 use Rattle.comp_bytes.specs.declared.def.Def.{Def}
@@ -11,41 +11,56 @@ use Rattle.wit_data.specs.declared.worlds.WorldItem.TheVariants as items
 use Rattle.wit_data.specs.declared.worlds.WorldKey.{WorldKey}
 use Rattle.comp_trees.specs.Trees.{Origin, FunctionTree}
 use Rattle.world_values.specs.Items.{functions_of}
-use Rattle.comp_options.specs.Options.{needs}
-use Rattle.comp_roles.specs.CoreImports.{CoreImport}
-use Rattle.comp_roles.specs.Reallocs.{is_import_realloc, realloc_for}
 use Rattle.comp_worlds.specs.Encodable.{IsEncodable}
 use Rattle.comp_worlds.specs.WorldContents.{items_of}
 use Rattle.comp_worlds.specs.declared.world.ComponentWorld.{ComponentWorld}
 use Rattle.comp_links.specs.Links.{link_of, lower_options, lower_realloc}
 use Rattle.comp_links.specs.Lists.{IsOriginOf}
 use Rattle.comp_links.specs.Roles.{is_used, is_used_of, import_encoding}
-use Rattle.comp_links.specs.Targets.{Main, WorldFunction, OfRoot, OfInterface, Lowered}
+use Rattle.comp_links.specs.Modules.{IsModule, UserImport}
+use Rattle.comp_links.specs.Targets.{UserModule as User, ExportRef, WorldFunction, OfRoot, OfInterface, Lowered}
 use Rattle.shim_plan.specs.declared.shims.Shim.{Shim}
 use Rattle.comp_terms.specs.Generated.{interface_imported, Purpose, target_of, HasPurpose}
 use Rattle.comp_terms.specs.Planned.{IsTypeOf, IsItemFor}
-use Rattle.comp_terms.specs.Terms.{IsImportedFunction}
+use Rattle.comp_terms.specs.Terms.{IsImportedFunction, IsInstanceOf}
 use Rattle.wit_types.specs.declared.maps.TypeEncodingMaps.{TypeEncodingMaps}
 use Rattle.root_imports.specs.RootScopes.{AreTablesRight, ArePassed}
 use Rattle.root_imports.specs.Imports.{FindsImports, FindsUsed}
-use Rattle.core_options.specs.MainOptions.{memory_name, AreOptionSources}
+use Rattle.core_options.specs.MainOptions.{memory_name, AreUserInstances, OffersFunction, HasLowerOptions}
 use Rattle.shim_targets.specs.ShimTargets.{StandsFor}
 use Rattle.main_fixup.specs.declared.sources.FillSources.{FillSources}
 
--- what the lowerings need is there, and the tables of types are right, with the instances of the interfaces
+-- what the lowerings need is there, and the tables of types are right, with the instances of the interfaces and of the user modules
 pub record AreFillSources (w : ComponentWorld) (s : FillSources) (met : MetTypes) (ds : List Def) (maps : TypeEncodingMaps) (instances : List (InterfaceId × ℕ)) : Type 0 where
   pub valid : IsEncodable w
   pub imports : FindsImports w ds s.functions.now
   pub used : FindsUsed w s.functions.now
-  pub options : AreOptionSources w ds s.options
-  pub realloc : option_copied s.options.realloc ≡ realloc_for is_import_realloc w.main.exports.exports
+  pub memory : option_copied s.memory ≡ memory_name w
+  pub users : AreUserInstances w ds s.instances.now
   pub tables : AreTablesRight w met instances ds maps
   pub passed : ArePassed w met
 
--- main has the memory and the realloc that the options of a shim name
-pub record HasShimOptions (w : ComponentWorld) (s : Shim) : Type 0 where
-  pub memory : IsTrue (needs s.options.0 1) → IsSome (memory_name w)
-  pub realloc : IsTrue (needs s.options.0 2) → IsSome (lower_realloc w Main)
+-- for each import that a shim stands for, main has the memory, and there is the realloc, that its call needs
+abbrev pub HasShimOptions : ComponentWorld → Shim → Type 0
+HasShimOptions w s = (i : UserImport) → StandsFor w s i → HasLowerOptions w i
+
+-- ---- user modules
+
+-- this is a user module of the world
+pub record IsUserNamed (w : ComponentWorld) (of : User) : Type 0 where
+  pub number : ℕ
+  pub is : IsModule w number of
+
+-- it has this function, as validation found it
+pub record OffersExport (w : ComponentWorld) (e : ExportRef) : Type 0 where
+  pub number : ℕ
+  pub is : IsModule w number e.of
+  pub offered : OffersFunction is.world_module.found e.name
+
+-- so has the module whose instance this is
+pub record IsExportAt (w : ComponentWorld) (ds : List Def) (instance : ℕ) (e : ExportRef) : Type 0 where
+  pub export : OffersExport w e
+  pub made : IsInstanceOf ds instance export.number
 
 -- ---- functions of the world
 
@@ -86,13 +101,14 @@ IsFunctionAt w ds interface name index = (function : WorldFunction) → function
 
 -- ---- shims
 
--- the function of this index is the one that the shim stands for, which is called with this string encoding
-pub record IsBehind (w : ComponentWorld) (ds : List Def) (s : Shim) (encoding : StringEncoding) (index : ℕ) : Type 0 where
-  pub import : CoreImport
-  pub stands : StandsFor w s import
-  pub encoded : import_encoding w import.role ≡ Some encoding
+-- the function of this index is the one that the shim stands for, which is called with this string encoding and this realloc
+pub record IsBehind (w : ComponentWorld) (ds : List Def) (s : Shim) (encoding : StringEncoding) (realloc : Option ExportRef) (index : ℕ) : Type 0 where
+  pub given : UserImport
+  pub stands : StandsFor w s given
+  pub encoded : import_encoding w given.of given.core.role ≡ Some encoding
+  pub reallocated : realloc ≡ lower_realloc w given.of
   pub function : WorldFunction
-  pub linked : link_of w Main import.role ≡ Lowered function (lower_options w Main import.role)
+  pub linked : link_of w given.of given.core.role ≡ Lowered function (lower_options w given.of given.core.role)
   pub is : IsFunctionOf w ds index function
 
 -- the core function of this index is what the shim stands for

@@ -4,9 +4,9 @@
 ghost use Rattle.std.specs.Prelude.{◌≡◌, ◌<◌, ◌^◌, [], length, IfOk, IfErr, OnOk};
 ghost use Rattle.std.specs.List.{AllByRecursion, AllZip};
 ghost use Rattle.comp_items.specs.Items.{Extends};
+ghost use Rattle.comp_links.specs.Modules.{user_imports};
 ghost use Rattle.comp_terms.specs.Planned.{IsFillFor, AreFillsFor};
 ghost use Rattle.comp_terms.specs.Rules.{Grows};
-ghost use Rattle.comp_worlds.specs.WorldContents.{core_imports};
 ghost use Rattle.core_options.specs.Causes.{IsCauseAmong};
 ghost use Rattle.main_fixup.specs.Filling.{AreFillSources, HasShimOptions};
 ghost use Rattle.shim_targets.specs.ShimTargets.{StandsForOne};
@@ -35,7 +35,7 @@ fn fill(
     ensures grows { OnOk result (Grows root.old.world.now root.old.items.defs root.new.items.defs []) }
     ensures fills { IfOk result (λ entry. IsFillFor root.old.world.now root.new.items.defs entry shim.now) }
     ensures offered { OnOk result (HasShimOptions root.old.world.now shim.now) }
-    ensures cause { IfErr result (IsCauseAmong root.old.world.now (core_imports root.old.world.now) []) }
+    ensures cause { IfErr result (IsCauseAmong root.old.world.now (user_imports root.old.world.now) []) }
 {
     let name = shim.name.clone(root.items.allocator())?;
     let index = function_behind(root, sources, shim)?;
@@ -60,7 +60,7 @@ fn fills(
     ensures fills { IfOk result (λ entries. AllZip (IsFillFor root.old.world.now root.new.items.defs) entries (shims_of root.old.world.now)) }
     ensures offered { OnOk result (AllByRecursion (HasShimOptions root.old.world.now) (shims_of root.old.world.now)) }
     ensures few { OnOk result (length (shims_of root.old.world.now) < 2 ^ 64) }
-    ensures cause { IfErr result (IsCauseAmong root.old.world.now (core_imports root.old.world.now) []) }
+    ensures cause { IfErr result (IsCauseAmong root.old.world.now (user_imports root.old.world.now) []) }
 {
     let mut entries = Seq::from_vec(Vec::with_capacity(root.items.allocator(), shims.len())?);
     for shim in shims.iter() {
@@ -83,7 +83,7 @@ pub(crate) fn actual_instance(
     ensures grows { OnOk result (Grows root.old.world.now root.old.items.defs root.new.items.defs []) }
     ensures fills { IfOk result (AreFillsFor root.old.world.now root.new.items.defs) }
     ensures offered { OnOk result (AllByRecursion (HasShimOptions root.old.world.now) (shims_of root.old.world.now)) }
-    ensures cause { IfErr result (IsCauseAmong root.old.world.now (core_imports root.old.world.now) []) }
+    ensures cause { IfErr result (IsCauseAmong root.old.world.now (user_imports root.old.world.now) []) }
 {
     let entries = fills(root, sources, shims)?;
     let instance = root.items.inline_instance(Some("actual"), entries)?;

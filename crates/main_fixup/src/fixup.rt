@@ -6,12 +6,11 @@ ghost use Rattle.std.specs.List.{AllByRecursion, range_with_len};
 ghost use Rattle.comp_bytes.specs.Spaces.{items_in};
 ghost use Rattle.comp_bytes.specs.declared.space.Space.TheVariants as spaces;
 ghost use Rattle.comp_items.specs.Items.{Extends};
-ghost use Rattle.comp_links.specs.Modules.{user_modules};
+ghost use Rattle.comp_links.specs.Modules.{user_imports, user_modules};
 ghost use Rattle.comp_terms.specs.Generated.{shims_number, fixup_number};
 ghost use Rattle.comp_terms.specs.Planned.{AreFillsFor};
 ghost use Rattle.comp_terms.specs.Rules.{Grows, ModuleIs, InstanceOf, instances_in};
 ghost use Rattle.comp_terms.specs.Terms.{IsInstanceOf};
-ghost use Rattle.comp_worlds.specs.WorldContents.{core_imports};
 ghost use Rattle.core_options.specs.Causes.{IsCauseAmong};
 ghost use Rattle.core_types.specs.Core.{IsCoreModule};
 ghost use Rattle.main_fixup.specs.Filling.{AreFillSources, HasShimOptions};
@@ -73,7 +72,7 @@ fn instantiate_fixup(
 /// of the module of shims (`shim`), whose index is `shim_instance`. It is the last core instance of a component.
 ///
 /// `E7` where what a shim stands for is lowered with a memory and main exports none, `E8` where it is lowered with a realloc and
-/// main exports none for imports. After a refusal the definitions that were made until then stay.
+/// there is none for the imports of the module. After a refusal the definitions that were made until then stay.
 pub fn encode_fixup(
     root: &mut RootScope<'_, ComponentWorld>,
     sources: &FillSources<'_>,
@@ -91,7 +90,7 @@ pub fn encode_fixup(
     ensures extends { Extends root.old.items root.new.items }
     ensures grows { OnOk result (Grows root.old.world.now root.old.items.defs root.new.items.defs (ModuleIs «module».now ∷ InstanceOf (fixup_number root.old.world.now) ∷ [])) }
     ensures offered { OnOk result (AllByRecursion (HasShimOptions root.old.world.now) (shims_of root.old.world.now)) }
-    ensures cause { IfErr result (IsCauseAmong root.old.world.now (core_imports root.old.world.now) []) }
+    ensures cause { IfErr result (IsCauseAmong root.old.world.now (user_imports root.old.world.now) []) }
 {
     let index = root.items.core_module(Some("wit-component-fixup"), module)?;
     let actual = actual_instance(root, sources, shims)?;

@@ -2,29 +2,29 @@
 #![tactic(auto, using(comp_items::proofs::Extending::extends_none, comp_items::proofs::Extending::extends_same, comp_items::proofs::Extending::extends_then))]
 
 ghost use Rattle.std.specs.Prelude.{◌≡◌, [], IfOk, IfErr, OnOk};
-ghost use Rattle.std.specs.Option.{option_copied};
+ghost use Rattle.std.specs.Option.{option_map};
 ghost use Rattle.comp_items.specs.Items.{Extends};
+ghost use Rattle.comp_links.specs.Modules.{user_imports};
 ghost use Rattle.comp_terms.specs.Rules.{Grows};
 ghost use Rattle.comp_worlds.specs.Encodable.{IsEncodable};
-ghost use Rattle.comp_worlds.specs.WorldContents.{core_imports};
-ghost use Rattle.comp_roles.specs.Reallocs.{is_import_realloc, realloc_for};
 ghost use Rattle.core_options.specs.Causes.{IsCauseAmong};
-ghost use Rattle.core_options.specs.MainOptions.{AreOptionSources};
+ghost use Rattle.core_options.specs.MainOptions.{AreOptionSources, export_ref_of};
 ghost use Rattle.main_fixup.specs.Filling.{AreFillSources, HasShimOptions, IsBehind, ServesShim};
 ghost use Rattle.shim_targets.specs.ShimTargets.{StandsForOne};
 
-use crate::destructors::destructor;
+use crate::exports::{export_of_adapter, export_of_module};
 use crate::functions::imported_function;
+use crate::modules::options_of_calls;
 use crate::sources::FillSources;
 use comp_worlds::ComponentWorld;
-use core_options::{OptionSources, StateFault, options_of_main};
+use core_options::{OptionSources, StateFault, options_for};
 use root_imports::RootScope;
 use shim_plan::{Shim, ShimKind};
 use standard_kinds::StringEncoding;
 
 /// Lowers the function that a shim stands for, with the shim's options and a string encoding.
 ///
-/// `E7` where the options need a memory and main exports none, `E8` where they need a realloc and main exports none for imports.
+/// `E7` where the options need a memory and main exports none, `E8` where they need a realloc and there is none for these calls.
 fn lower_function(
     root: &mut RootScope<'_, ComponentWorld>,
     sources: &OptionSources<'_>,
@@ -34,25 +34,25 @@ fn lower_function(
 ) -> Result<u32, StateFault>
     requires valid { IsEncodable root.old.world.now }
     requires sources { AreOptionSources root.old.world.now root.old.items.defs sources.now }
-    requires realloc { option_copied sources.now.realloc ≡ realloc_for is_import_realloc root.old.world.now.main.exports.exports }
-    requires behind { IsBehind root.old.world.now root.old.items.defs shim.now encoding function }
+    requires behind { IsBehind root.old.world.now root.old.items.defs shim.now encoding (option_map export_ref_of sources.now.realloc) function }
     ensures same { root.new ≡ record root.old { items = root.new.items } }
     ensures extends { Extends root.old.items root.new.items }
     ensures grows { OnOk result (Grows root.old.world.now root.old.items.defs root.new.items.defs []) }
     ensures serves { IfOk result (ServesShim root.old.world.now root.new.items.defs shim.now) }
     ensures offered { OnOk result (HasShimOptions root.old.world.now shim.now) }
-    ensures cause { IfErr result (IsCauseAmong root.old.world.now (core_imports root.old.world.now) []) }
+    ensures cause { IfErr result (IsCauseAmong root.old.world.now (user_imports root.old.world.now) []) }
 {
     let name = shim.debug_name.as_str();
-    let options = options_of_main(root, sources, &shim.debug_name, shim.options, encoding)?;
+    let options = options_for(root, sources, &shim.debug_name, shim.options, encoding)?;
     let index = root.items.lower_function(Some(name), function, options)?;
     Ok(index)
 }
 
 /// The core function that a shim stands for: the lowering of the function at the root, or of an alias of that of an imported
-/// interface; or an alias of the destructor that main exports.
+/// interface; or an alias of what a user module exports.
 ///
-/// `E7` where a lowering needs a memory and main exports none, `E8` where it needs a realloc and main exports none for imports.
+/// `E7` where a lowering needs a memory and main exports none, `E8` where it needs a realloc and there is none for the imports of
+/// the module.
 pub(crate) fn function_behind(
     root: &mut RootScope<'_, ComponentWorld>,
     sources: &FillSources<'_>,
@@ -65,21 +65,26 @@ pub(crate) fn function_behind(
     ensures grows { OnOk result (Grows root.old.world.now root.old.items.defs root.new.items.defs []) }
     ensures serves { IfOk result (ServesShim root.old.world.now root.new.items.defs shim.now) }
     ensures offered { OnOk result (HasShimOptions root.old.world.now shim.now) }
-    ensures cause { IfErr result (IsCauseAmong root.old.world.now (core_imports root.old.world.now) []) }
+    ensures cause { IfErr result (IsCauseAmong root.old.world.now (user_imports root.old.world.now) []) }
 {
     match &shim.kind {
         ShimKind::IndirectLowering {
             interface,
             function,
-            realloc: _,
+            realloc,
             encoding,
         } => {
             let index = imported_function(root, sources, interface, &function.name)?;
-            let lowered = lower_function(root, &sources.options, shim, *encoding, index)?;
+            let options = options_of_calls(root, sources, realloc);
+            let lowered = lower_function(root, &options, shim, *encoding, index)?;
             Ok(lowered)
         }
-        ShimKind::ResourceDtor { module: _, export } => {
-            let aliased = destructor(root, sources.options.instance, export)?;
+        ShimKind::ResourceDtor { module, export } => {
+            let aliased = export_of_module(root, sources, module, export)?;
+            Ok(aliased)
+        }
+        ShimKind::Adapter { adapter, func } => {
+            let aliased = export_of_adapter(root, sources, adapter, func)?;
             Ok(aliased)
         }
         _ => unreachable!(),

@@ -16,7 +16,7 @@ use Rattle.comp_roles.specs.declared.imports.Import.{Import}
 use Rattle.comp_roles.specs.declared.imports.ImportInstance.{ImportInstance}
 use Rattle.comp_worlds.specs.Worlds.{IsImportRole}
 use Rattle.comp_worlds.specs.declared.world.ComponentWorld.{ComponentWorld}
-use Rattle.comp_links.specs.Targets.{Main, UserModule, WorldFunction, TargetOption, Target, OfRoot, OfInterface, ResourceFunction, New, Rep, Drop, Lowered, OfResource}
+use Rattle.comp_links.specs.Targets.{UserModule, WorldFunction, TargetOption, Target, OfRoot, OfInterface, ResourceFunction, New, Rep, Drop, Lowered, OfResource}
 use Rattle.wit_data.specs.declared.ids.InterfaceId.{InterfaceId}
 use Rattle.wit_data.specs.declared.ids.TypeId.{TypeId}
 use Rattle.root_imports.specs.declared.met_types.MetTypes.{MetTypes}
@@ -39,21 +39,22 @@ use Rattle.main_instance.specs.Sources.{AreSources, IsShimInstance}
 
 pub ruleset growing = (extends_none, extends_same, extends_then)
 
--- ---- what main is given stays what it is, whatever is added
+-- ---- what a module is given stays what it is, whatever is added
 
 module _ {w : ComponentWorld} {old new : List Def} (g : Longer old new) where
   pub IsItemFor-kept : {space : Space} {i : ℕ} {target : Target} → IsItemFor w old space i target → IsItemFor w new space i target
   IsItemFor-kept {space} {i} {target} h = record { term = h.term; is = term-kept old new g space i h.term h.is; asked = h.asked }
 
-  IsShimFor-kept : {space : Space} {i : ℕ} {role : Import} → IsShimFor w old space i role → IsShimFor w new space i role
-  IsShimFor-kept {space} {i} {role} h = record { place = h.place; shim = h.shim; listed = h.listed; stands_for = h.stands_for; in_space = h.in_space; is = exported-kept g h.is }
+  IsShimFor-kept : {space : Space} {i : ℕ} {target : Target} → IsShimFor w old space i target → IsShimFor w new space i target
+  IsShimFor-kept {space} {i} {target} h =
+      record { place = h.place; shim = h.shim; purpose = h.purpose; listed = h.listed; stands_for = h.stands_for; same = h.same; in_space = h.in_space; is = exported-kept g h.is }
 
-  pub IsGivenFor-kept : (of : UserModule) {space : Space} {i : ℕ} {role : Import} → IsGivenFor w of old space i role → IsGivenFor w of new space i role
-  IsGivenFor-kept of (inl h) = inl (IsItemFor-kept h)
-  IsGivenFor-kept of (inr h) = inr (IsShimFor-kept h)
+  pub IsGivenFor-kept : {space : Space} {i : ℕ} {target : Target} → IsGivenFor w old space i target → IsGivenFor w new space i target
+  IsGivenFor-kept (inl h) = inl (IsItemFor-kept h)
+  IsGivenFor-kept (inr h) = inr (IsShimFor-kept h)
 
   pub IsEntryFor-kept : {of : UserModule} {e : CoreInlineExport} {f : List ℕ × Import} → IsEntryFor w of old e f → IsEntryFor w of new e f
-  IsEntryFor-kept {of} {e} {f} h = record { named = h.named; serves = IsGivenFor-kept of h.serves; encoded = h.encoded }
+  IsEntryFor-kept {of} {e} {f} h = record { named = h.named; serves = IsGivenFor-kept h.serves; encoded = h.encoded }
 
   pub IsInlineInstanceFor-kept : {of : UserModule} {b : ℕ} {fields : List (List ℕ × Import)} → IsInlineInstanceFor w of old b fields → IsInlineInstanceFor w of new b fields
   IsInlineInstanceFor-kept {of} {b} {fields} h = record { entries = h.entries; made = at-kept g h.made; each = AllZip-weaker (λ x y. IsEntryFor-kept) h.entries fields h.each }
@@ -68,13 +69,13 @@ shim_instance-kept w None g h = h
 shim_instance-kept w (Some instance) g h = instance-kept g h
 
 pub sources-kept : {w : ComponentWorld} {s : ImportSources} {met : MetTypes} {old new : Built} {maps : TypeEncodingMaps} {instances : List (InterfaceId × ℕ)} → Extends old new → AreSources w s met old.defs maps instances → AreSources w s met new.defs maps instances
-sources-kept {w} {s} {met} {old} {new} {maps} {instances} g h = record { valid = h.valid; imports = FindsImports-kept (longer g) h.imports; used = h.used; shims = h.shims; shim_instance = shim_instance-kept w s.shim_instance (longer g) h.shim_instance; tables = tables_kept w met instances old new maps g h.tables; passed = h.passed; exports = h.exports }
+sources-kept {w} {s} {met} {old} {new} {maps} {instances} g h = record { valid = h.valid; user = h.user; imports = FindsImports-kept (longer g) h.imports; used = h.used; shims = h.shims; shim_instance = shim_instance-kept w s.shim_instance (longer g) h.shim_instance; tables = tables_kept w met instances old new maps g h.tables; passed = h.passed; exports = h.exports }
 
 -- ---- the entries of an inline instance are core functions
 
-pub entries_in_range : (w : ComponentWorld) (ds : List Def) (es : List CoreInlineExport) (fs : List (List ℕ × Import)) → AllByRecursion (λ f. IsImportRole w f.1) fs → AllZip (IsEntryFor w Main ds) es fs → AllByRecursion (IsEntry ds) es
-entries_in_range w ds [] [] r h = tt
-entries_in_range w ds (e ∷ es) (f ∷ fs) r h = (one e f.1 r.0 h.0.serves, entries_in_range w ds es fs r.1 h.1)
+pub entries_in_range : (w : ComponentWorld) (of : UserModule) (ds : List Def) (es : List CoreInlineExport) (fs : List (List ℕ × Import)) → AllByRecursion (λ f. IsImportRole w f.1) fs → AllZip (IsEntryFor w of ds) es fs → AllByRecursion (IsEntry ds) es
+entries_in_range w of ds [] [] r h = tt
+entries_in_range w of ds (e ∷ es) (f ∷ fs) r h = (one e f.1 r.0 h.0.serves, entries_in_range w of ds es fs r.1 h.1)
   where
     by_kind : (kind : ExportKind) (index : ℕ) (function : WorldFunction) (os : List TargetOption) (t : Term) → Is ds (kind_space kind) index t → IsTermFor w (Lowered function os) t → (kind ≡ kinds.Func) × (index < items_in spaces.CoreFunc ds)
     by_kind kinds.Func index function os (terms.Lowering origin type written) is asked = (refl, in_range is.made)
@@ -90,9 +91,9 @@ entries_in_range w ds (e ∷ es) (f ∷ fs) r h = (one e f.1 r.0 h.0.serves, ent
     of_resource kinds.Global index function id (terms.OfResource same resource) is asked = absurd is
     of_resource kind index function id t is asked = absurd asked
 
-    own : (e : CoreInlineExport) (role : Import) → IsImportRole w role → IsItemFor w ds (kind_space e.kind) e.index (link_of w Main role) → IsEntry ds e
-    own e (imports.WorldFunc (keys.Name text) function abi) r h = let b = by_kind e.kind e.index (OfRoot text) (lower_options w Main (imports.WorldFunc (keys.Name text) function abi)) h.term h.is h.asked in record { kind = b.0; scoped = b.1 }
-    own e (imports.InterfaceFunc key id function abi) r h = let b = by_kind e.kind e.index (OfInterface id function) (lower_options w Main (imports.InterfaceFunc key id function abi)) h.term h.is h.asked in record { kind = b.0; scoped = b.1 }
+    own : (e : CoreInlineExport) (role : Import) → IsImportRole w role → IsItemFor w ds (kind_space e.kind) e.index (link_of w of role) → IsEntry ds e
+    own e (imports.WorldFunc (keys.Name text) function abi) r h = let b = by_kind e.kind e.index (OfRoot text) (lower_options w of (imports.WorldFunc (keys.Name text) function abi)) h.term h.is h.asked in record { kind = b.0; scoped = b.1 }
+    own e (imports.InterfaceFunc key id function abi) r h = let b = by_kind e.kind e.index (OfInterface id function) (lower_options w of (imports.InterfaceFunc key id function abi)) h.term h.is h.asked in record { kind = b.0; scoped = b.1 }
     own e (imports.ImportedResourceDrop key interface id) r h = let b = of_resource e.kind e.index Drop id h.term h.is h.asked in record { kind = b.0; scoped = b.1 }
     own e (imports.ExportedResourceDrop key id) r h = let b = of_resource e.kind e.index Drop id h.term h.is h.asked in record { kind = b.0; scoped = b.1 }
     own e (imports.ExportedResourceRep key id) r h = let b = of_resource e.kind e.index Rep id h.term h.is h.asked in record { kind = b.0; scoped = b.1 }
@@ -105,8 +106,8 @@ entries_in_range w ds (e ∷ es) (f ∷ fs) r h = (one e f.1 r.0 h.0.serves, ent
     func_kind kinds.Memory e = cc
     func_kind kinds.Global e = cc
 
-    one : (e : CoreInlineExport) (role : Import) → IsImportRole w role → IsGivenFor w Main ds (kind_space e.kind) e.index role → IsEntry ds e
+    one : (e : CoreInlineExport) (role : Import) → IsImportRole w role → IsGivenFor w ds (kind_space e.kind) e.index (link_of w of role) → IsEntry ds e
     one e role r (inl h) = own e role r h
     one e role r (inr h) = record { kind = func_kind e.kind h.in_space; scoped = in_range h.is.made }
-entries_in_range w ds [] (f ∷ fs) r h = absurd h
-entries_in_range w ds (e ∷ es) [] r h = absurd h
+entries_in_range w of ds [] (f ∷ fs) r h = absurd h
+entries_in_range w of ds (e ∷ es) [] r h = absurd h

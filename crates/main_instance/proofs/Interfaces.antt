@@ -9,17 +9,19 @@ use Rattle.comp_bytes.specs.declared.def.Def.{Def}
 use Rattle.comp_bytes.specs.declared.space.Space.TheVariants as spaces
 use Rattle.comp_trees.specs.Trees.{FunctionTree}
 use Rattle.comp_inventories.specs.Inventories.{surroundings_of}
-use Rattle.comp_roles.specs.declared.imports.Import.{Import}
+use Rattle.comp_roles.specs.CoreImports.{CoreImport}
 use Rattle.comp_roles.specs.declared.imports.Import.TheVariants as imports
 use Rattle.comp_links.specs.Lists.{IsOriginOf}
 use Rattle.comp_links.specs.Roles.{interface_function}
-use Rattle.comp_links.specs.Targets.{OfInterface}
+use Rattle.comp_links.specs.Modules.{module_found}
+use Rattle.comp_links.specs.Targets.{UserModule as User, OfInterface}
 use Rattle.comp_terms.specs.Planned.{IsTypeOf, type_of_function}
 use Rattle.comp_terms.specs.Rules.{AliasesImported}
 use Rattle.comp_worlds.specs.Encodable.{IsEncodable}
-use Rattle.comp_worlds.specs.WorldContents.{core_imports}
+use Rattle.comp_worlds.specs.Uses.{imports_of}
 use Rattle.comp_worlds.specs.Worlds.{IsImportRole}
 use Rattle.comp_worlds.specs.declared.world.ComponentWorld.{ComponentWorld}
+use Rattle.comp_worlds.specs.declared.world.ValidatedModule.{ValidatedModule}
 use Rattle.wit_data.specs.contracts.ids.InterfaceIdPartialEq.TheImpl as same_id
 use Rattle.wit_data.specs.declared.functions.AbiVariant.{AbiVariant}
 use Rattle.wit_data.specs.declared.functions.Function.{Function}
@@ -95,9 +97,9 @@ module _ {w : ComponentWorld} {ds : List Def} {instance : ℕ} {id : InterfaceId
 pub own_function : (id : InterfaceId) (key : WorldKey) (text : List ℕ) (abi : AbiVariant) → interface_function id (imports.InterfaceFunc key id text abi) ≡ Some text
 own_function id key text abi = ap (λ b. if b then Some text else None) ((Decides-eqb id.index id.index).1 refl)
 
--- the role of a core import names a function that the world imports and that is used
-pub used_by_role : (w : ComponentWorld) → IsEncodable w → (name field text : List ℕ) (key : WorldKey) (id : InterfaceId) (abi : AbiVariant) (role : Import) → role ≡ imports.InterfaceFunc key id text abi →
-    Contains (core_imports w) (record { module_name = name; field = field; role = role }) → IsUsedOfInterface w id text
-used_by_role w valid name field text key id abi role is present =
-    let r : IsImportRole w (imports.InterfaceFunc key id text abi) = subst (IsImportRole w) is (import_role w valid name field role present) in
-    record { key = key; listed = r.0; named = r.1; used = used_of_interface w name field text id role (ap (interface_function id) is ∙ own_function id key text abi) present }
+-- an import names a function that the world imports and that is used
+pub used_by_role : (w : ComponentWorld) → IsEncodable w → (of : User) (m : ValidatedModule) → module_found w of ≡ Some m → (i : CoreImport) (key : WorldKey) (id : InterfaceId) (text : List ℕ) (abi : AbiVariant) → i.role ≡ imports.InterfaceFunc key id text abi →
+    Contains (imports_of m) i → IsUsedOfInterface w id text
+used_by_role w valid of m there i key id text abi is present =
+    let r : IsImportRole w (imports.InterfaceFunc key id text abi) = subst (IsImportRole w) is (import_role w of m there valid i present) in
+    record { key = key; listed = r.0; named = r.1; used = used_of_interface w of m there i id text (ap (interface_function id) is ∙ own_function id key text abi) present }

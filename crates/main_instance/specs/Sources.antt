@@ -1,4 +1,4 @@
--- What is taken as given where main's imports are given what they need. (The rules are this project's own.)
+-- What is taken as given where the imports of a user module are given what they need. (The rules are this project's own.)
 use Rattle.std.specs.Prelude.{◌≡◌, ℕ, List, [], Option, Some, None, true, map, Contains}
 use Rattle.std.specs.List.{AllByRecursion}
 use Rattle.standard_kinds.specs.declared.kinds.ExportKind.TheVariants as kinds
@@ -10,12 +10,15 @@ use Rattle.wit_data.specs.declared.worlds.WorldItem.TheVariants as items
 use Rattle.wit_data.specs.declared.worlds.WorldKey.{WorldKey}
 use Rattle.wit_types.specs.declared.maps.TypeEncodingMaps.{TypeEncodingMaps}
 use Rattle.world_values.specs.Items.{functions_of}
+use Rattle.comp_roles.specs.CoreImports.{CoreImport}
 use Rattle.comp_worlds.specs.Encodable.{IsEncodable}
 use Rattle.comp_worlds.specs.ExportOrder.{required_interfaces}
 use Rattle.comp_worlds.specs.WorldContents.{items_of}
 use Rattle.comp_worlds.specs.Worlds.{IsOwnResource}
 use Rattle.comp_worlds.specs.declared.world.ComponentWorld.{ComponentWorld}
+use Rattle.comp_links.specs.Modules.{UserImport}
 use Rattle.comp_links.specs.Roles.{is_used_of}
+use Rattle.comp_links.specs.Targets.{UserModule as User}
 use Rattle.comp_terms.specs.Generated.{shims_number}
 use Rattle.comp_terms.specs.Terms.{IsInstanceOf, IsExported}
 use Rattle.shim_plan.specs.Plans.{shim_of}
@@ -25,7 +28,12 @@ use Rattle.world_shims.specs.WorldShims.{shims_of}
 use Rattle.root_imports.specs.RootScopes.{AreTablesRight, ArePassed}
 use Rattle.root_imports.specs.Imports.{FindsImports, FindsUsed}
 use Rattle.root_imports.specs.Met.{has_types}
+use Rattle.core_options.specs.MainOptions.{IsUser}
 use Rattle.main_instance.specs.declared.instances.ImportSources.{ImportSources}
+
+-- imports, as those of a user module
+abbrev pub imports_by : User → List CoreImport → List UserImport
+imports_by of imports = map (λ (i : CoreImport). record { of = of; core = i }) imports
 
 -- the world imports this function of an interface, and a core import uses it
 pub record IsUsedOfInterface (w : ComponentWorld) (id : InterfaceId) (name : List ℕ) : Type 0 where
@@ -48,9 +56,10 @@ abbrev pub IsShimInstance : ComponentWorld → List Def → Option ℕ → Type 
 IsShimInstance w ds None = shims_of w ≡ []
 IsShimInstance w ds (Some instance) = IsInstanceOf ds instance (shims_number w)
 
--- what the imports of main are given is there, and the tables of types are right, with the instances of the interfaces
+-- what the imports of a user module are given is there, and the tables of types are right, with the instances of the interfaces
 pub record AreSources (w : ComponentWorld) (s : ImportSources) (met : MetTypes) (ds : List Def) (maps : TypeEncodingMaps) (instances : List (InterfaceId × ℕ)) : Type 0 where
   pub valid : IsEncodable w
+  pub user : IsUser w s.user
   pub imports : FindsImports w ds s.functions.now
   pub used : FindsUsed w s.functions.now
   pub shims : s.shims.now ≡ shims_of w

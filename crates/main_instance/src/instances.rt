@@ -1,4 +1,4 @@
-//! The instance of main: each of its imports is given what its role needs.
+//! The instance of a user module: each of its imports is given what its role needs.
 #![tactic(auto, using(crate::proofs::Growth::growing))]
 
 ghost use Rattle.std.specs.Prelude.{◌≡◌, [], ◌∷◌, List, ℕ, None, IfOk, IfErr, OnOk, IsSome, map, Contains};
@@ -9,18 +9,21 @@ ghost use Rattle.comp_bytes.specs.Spaces.{kind_space};
 ghost use Rattle.comp_bytes.specs.declared.space.Space.TheVariants.{CoreFunc};
 ghost use Rattle.comp_items.specs.Items.{Extends};
 ghost use Rattle.comp_links.specs.Roles.{IsEncodedImport};
-ghost use Rattle.comp_links.specs.Targets.{Main, OfRoot, OfInterface, Drop, Lowered, OfResource};
+ghost use Rattle.comp_links.specs.Links.{link_of};
+ghost use Rattle.comp_links.specs.Targets.{OfRoot, OfInterface, Drop, Lowered, OfResource};
 ghost use Rattle.comp_lists.specs.Found.{found};
 ghost use Rattle.comp_roles.specs.CoreImports.{imports_from};
 ghost use Rattle.comp_roles.specs.declared.imports.Import.TheVariants as imports;
 ghost use Rattle.comp_roles.specs.declared.imports.ImportInstance.TheVariants.{Names};
 ghost use Rattle.core_options.specs.Causes.{IsCause, IsCauseAmong};
 ghost use Rattle.main_instance.specs.Calls.{import_at, lowering_kind};
-ghost use Rattle.main_instance.specs.Sources.{AreSources, IsShimAlias, IsUsedOfInterface};
+ghost use Rattle.core_options.specs.MainOptions.{user_of};
+ghost use Rattle.shim_targets.specs.ShimTargets.{which_of};
+ghost use Rattle.main_instance.specs.Sources.{imports_by, AreSources, IsShimAlias, IsUsedOfInterface};
 ghost use Rattle.root_imports.specs.RootScopes.{IsRefusal};
 ghost use Rattle.comp_terms.specs.Planned.{IsItemFor, IsGivenFor, IsEntryFor, IsArgumentFor};
 ghost use Rattle.comp_terms.specs.Rules.{Grows};
-ghost use Rattle.comp_worlds.specs.WorldContents.{core_imports};
+ghost use Rattle.comp_worlds.specs.Uses.{imports_of};
 ghost use Rattle.interface_needs.specs.RootNeeds.{IsDropKnown};
 ghost use Rattle.wit_data.specs.declared.worlds.WorldKey.TheVariants as keys;
 
@@ -30,16 +33,18 @@ use byte_encoding::BuildFault;
 use comp_bytes::{CoreArgument, CoreInlineExport};
 use comp_lists::{Keyed, Seq, Text};
 use comp_worlds::{ComponentWorld, Import, ImportInstance};
-use core_options::StateFault;
+use core_options::{StateFault, UserModule};
 use root_imports::RootScope;
 use shim_plan::{ShimKind, Shims};
 use standard_kinds::{ExportKind, StringEncoding};
 use wit_data::{AbiVariant, InterfaceId, TypeId, WorldKey};
 
-/// What the imports of main are given, beside what the root has: the root functions that were imported, by their names, and the
-/// shims, with their instance.
+/// What the imports of a user module are given, beside what the root has: the root functions that were imported, by their names,
+/// and the shims, with their instance.
 #[derive(Clone, Copy)]
 pub struct ImportSources<'a> {
+    /// The module whose imports these are.
+    pub user: UserModule<'a>,
     pub functions: &'a Keyed<Text, u32>,
     pub shims: &'a Shims,
     /// The instance of the module of shims, where there are shims.
@@ -143,10 +148,17 @@ impl ImportSources<'_> {
         ensures same { root.new ≡ record root.old { items = root.new.items } }
         ensures extends { Extends root.old.items root.new.items }
         ensures grows { OnOk result (Grows root.old.world.now root.old.items.defs root.new.items.defs []) }
-        ensures shim { IfOk result (IsShimAlias root.old.world.now root.new.items.defs (lowering_kind (option_copied interface.entry) name.now abi encoding)) }
+        ensures shim { IfOk result (IsShimAlias root.old.world.now root.new.items.defs (lowering_kind (which_of (user_of self.now.user.which)) (option_copied interface.entry) name.now abi encoding)) }
         ensures cause { IfErr result IsRefusal }
     {
-        let kind = kind_of_call(root.items.allocator(), interface, name, abi, encoding)?;
+        let kind = kind_of_call(
+            root.items.allocator(),
+            self.user.which,
+            interface,
+            name,
+            abi,
+            encoding,
+        )?;
         self.shim(root, &kind)
     }
 
@@ -162,17 +174,17 @@ impl ImportSources<'_> {
         abi: AbiVariant,
     ) -> Result<u32, StateFault>
         requires sources { AreSources root.old.world.now self.now root.old.met root.old.items.defs root.old.maps root.old.instances }
-        requires present { Contains (core_imports root.old.world.now) (import_at place (imports.WorldFunc (keys.Name name.now) function.now abi)) }
+        requires present { Contains (imports_of self.now.user.found.now) (import_at place (imports.WorldFunc (keys.Name name.now) function.now abi)) }
         ensures same { root.new ≡ record root.old { items = root.new.items } }
         ensures extends { Extends root.old.items root.new.items }
         ensures grows { OnOk result (Grows root.old.world.now root.old.items.defs root.new.items.defs []) }
-        ensures given { IfOk result (λ index. IsGivenFor root.old.world.now Main root.new.items.defs CoreFunc index (imports.WorldFunc (keys.Name name.now) function.now abi)) }
-        ensures encoded { OnOk result (IsEncodedImport root.old.world.now (imports.WorldFunc (keys.Name name.now) function.now abi)) }
-        ensures cause { IfErr result (IsCauseAmong root.old.world.now (import_at place.entry (imports.WorldFunc (keys.Name name.now) function.now abi) ∷ []) []) }
+        ensures given { IfOk result (λ index. IsGivenFor root.old.world.now root.new.items.defs CoreFunc index (link_of root.old.world.now (user_of self.now.user.which) (imports.WorldFunc (keys.Name name.now) function.now abi))) }
+        ensures encoded { OnOk result (IsEncodedImport root.old.world.now (user_of self.now.user.which) (imports.WorldFunc (keys.Name name.now) function.now abi)) }
+        ensures cause { IfErr result (IsCauseAmong root.old.world.now (record { of = user_of self.now.user.which; core = import_at place.entry (imports.WorldFunc (keys.Name name.now) function.now abi) } ∷ []) []) }
     {
         let alloc = root.items.allocator();
         let key = WorldKey::Name(name.clone(alloc)?);
-        let encoding = import_encoding(alloc, root.world, place, &key, function)?;
+        let encoding = import_encoding(alloc, self.user.found, place, &key, function)?;
         match self.shim_of_call(root, None, function, abi, encoding)? {
             Some(index) => Ok(index),
             None => Ok(self.lower_function(root, name)?),
@@ -193,23 +205,23 @@ impl ImportSources<'_> {
         abi: AbiVariant,
     ) -> Result<u32, StateFault>
         requires sources { AreSources root.old.world.now self.now root.old.met root.old.items.defs root.old.maps root.old.instances }
-        requires present { Contains (core_imports root.old.world.now) (import_at place (imports.InterfaceFunc key.now interface function.now abi)) }
+        requires present { Contains (imports_of self.now.user.found.now) (import_at place (imports.InterfaceFunc key.now interface function.now abi)) }
         ensures same { root.new ≡ record root.old { items = root.new.items } }
         ensures extends { Extends root.old.items root.new.items }
         ensures grows { OnOk result (Grows root.old.world.now root.old.items.defs root.new.items.defs []) }
-        ensures given { IfOk result (λ index. IsGivenFor root.old.world.now Main root.new.items.defs CoreFunc index (imports.InterfaceFunc key.now interface function.now abi)) }
-        ensures encoded { OnOk result (IsEncodedImport root.old.world.now (imports.InterfaceFunc key.now interface function.now abi)) }
-        ensures cause { IfErr result (IsCauseAmong root.old.world.now (import_at place.entry (imports.InterfaceFunc key.now interface function.now abi) ∷ []) []) }
+        ensures given { IfOk result (λ index. IsGivenFor root.old.world.now root.new.items.defs CoreFunc index (link_of root.old.world.now (user_of self.now.user.which) (imports.InterfaceFunc key.now interface function.now abi))) }
+        ensures encoded { OnOk result (IsEncodedImport root.old.world.now (user_of self.now.user.which) (imports.InterfaceFunc key.now interface function.now abi)) }
+        ensures cause { IfErr result (IsCauseAmong root.old.world.now (record { of = user_of self.now.user.which; core = import_at place.entry (imports.InterfaceFunc key.now interface function.now abi) } ∷ []) []) }
     {
         let alloc = root.items.allocator();
-        let encoding = import_encoding(alloc, root.world, place, key, function)?;
+        let encoding = import_encoding(alloc, self.user.found, place, key, function)?;
         match self.shim_of_call(root, Some(key), function, abi, encoding)? {
             Some(index) => Ok(index),
             None => Ok(self.lower_interface_function(root, interface, function)?),
         }
     }
 
-    /// What an import of main is given: the kind and the index of a core item.
+    /// What an import of the module is given: the kind and the index of a core item.
     ///
     /// `E9` where the function of the import has no string encoding.
     pub fn materialize_import(
@@ -220,13 +232,13 @@ impl ImportSources<'_> {
         import: &Import,
     ) -> Result<(ExportKind, u32), StateFault>
         requires sources { AreSources root.old.world.now self.now root.old.met root.old.items.defs root.old.maps root.old.instances }
-        requires present { Contains (core_imports root.old.world.now) (record { module_name = «module».now; field = field.now; role = import.now }) }
+        requires present { Contains (imports_of self.now.user.found.now) (record { module_name = «module».now; field = field.now; role = import.now }) }
         ensures same { root.new ≡ record root.old { items = root.new.items } }
         ensures extends { Extends root.old.items root.new.items }
         ensures grows { OnOk result (Grows root.old.world.now root.old.items.defs root.new.items.defs []) }
-        ensures made { IfOk result (λ item. IsGivenFor root.old.world.now Main root.new.items.defs (kind_space item.0) item.1 import.now) }
-        ensures encoded { OnOk result (IsEncodedImport root.old.world.now import.now) }
-        ensures cause { IfErr result (IsCauseAmong root.old.world.now (record { module_name = «module».now; field = field.now; role = import.now } ∷ []) []) }
+        ensures made { IfOk result (λ item. IsGivenFor root.old.world.now root.new.items.defs (kind_space item.0) item.1 (link_of root.old.world.now (user_of self.now.user.which) import.now)) }
+        ensures encoded { OnOk result (IsEncodedImport root.old.world.now (user_of self.now.user.which) import.now) }
+        ensures cause { IfErr result (IsCauseAmong root.old.world.now (record { of = user_of self.now.user.which; core = record { module_name = «module».now; field = field.now; role = import.now } } ∷ []) []) }
     {
         let place = CorePlace { module, field };
         match import {
@@ -269,12 +281,12 @@ impl ImportSources<'_> {
         import: &Import,
     ) -> Result<CoreInlineExport, StateFault>
         requires sources { AreSources root.old.world.now self.now root.old.met root.old.items.defs root.old.maps root.old.instances }
-        requires present { Contains (core_imports root.old.world.now) (record { module_name = «module».now; field = field.now; role = import.now }) }
+        requires present { Contains (imports_of self.now.user.found.now) (record { module_name = «module».now; field = field.now; role = import.now }) }
         ensures same { root.new ≡ record root.old { items = root.new.items } }
         ensures extends { Extends root.old.items root.new.items }
         ensures grows { OnOk result (Grows root.old.world.now root.old.items.defs root.new.items.defs []) }
-        ensures serves { IfOk result (λ entry. IsEntryFor root.old.world.now Main root.new.items.defs entry (field.now, import.now)) }
-        ensures cause { IfErr result (IsCauseAmong root.old.world.now (record { module_name = «module».now; field = field.now; role = import.now } ∷ []) []) }
+        ensures serves { IfOk result (λ entry. IsEntryFor root.old.world.now (user_of self.now.user.which) root.new.items.defs entry (field.now, import.now)) }
+        ensures cause { IfErr result (IsCauseAmong root.old.world.now (record { of = user_of self.now.user.which; core = record { module_name = «module».now; field = field.now; role = import.now } } ∷ []) []) }
     {
         let name = field.clone(root.items.allocator())?;
         let (kind, index) = self.materialize_import(root, module, field, import)?;
@@ -289,13 +301,13 @@ impl ImportSources<'_> {
         fields: &Keyed<Text, Import>,
     ) -> Result<Seq<CoreInlineExport>, StateFault>
         requires sources { AreSources root.old.world.now self.now root.old.met root.old.items.defs root.old.maps root.old.instances }
-        requires present { Contains root.old.world.now.main.imports.modules («module».now, Names fields.now) }
+        requires present { Contains self.now.user.found.now.imports.modules («module».now, Names fields.now) }
         ensures same { root.new ≡ record root.old { items = root.new.items } }
         ensures extends { Extends root.old.items root.new.items }
         ensures grows { OnOk result (Grows root.old.world.now root.old.items.defs root.new.items.defs []) }
-        ensures serves { IfOk result (λ entries. AllZip (IsEntryFor root.old.world.now Main root.new.items.defs) entries fields.now) }
+        ensures serves { IfOk result (λ entries. AllZip (IsEntryFor root.old.world.now (user_of self.now.user.which) root.new.items.defs) entries fields.now) }
         ensures apart { IfOk result (λ entries. IsDistinct bytes_eq (map (λ e. e.name) entries)) }
-        ensures cause { IfErr result (IsCauseAmong root.old.world.now (imports_from («module».now, Names fields.now)) []) }
+        ensures cause { IfErr result (IsCauseAmong root.old.world.now (imports_by (user_of self.now.user.which) (imports_from («module».now, Names fields.now))) []) }
     {
         let mut entries = Seq::new(root.items.allocator());
         for (field, import) in fields.iter() {
@@ -313,12 +325,12 @@ impl ImportSources<'_> {
         fields: &Keyed<Text, Import>,
     ) -> Result<CoreArgument, StateFault>
         requires sources { AreSources root.old.world.now self.now root.old.met root.old.items.defs root.old.maps root.old.instances }
-        requires present { Contains root.old.world.now.main.imports.modules («module».now, Names fields.now) }
+        requires present { Contains self.now.user.found.now.imports.modules («module».now, Names fields.now) }
         ensures same { root.new ≡ record root.old { items = root.new.items } }
         ensures extends { Extends root.old.items root.new.items }
         ensures grows { OnOk result (Grows root.old.world.now root.old.items.defs root.new.items.defs []) }
-        ensures serves { IfOk result (λ argument. IsArgumentFor root.old.world.now Main root.new.items.defs argument («module».now, Names fields.now)) }
-        ensures cause { IfErr result (IsCauseAmong root.old.world.now (imports_from («module».now, Names fields.now)) []) }
+        ensures serves { IfOk result (λ argument. IsArgumentFor root.old.world.now (user_of self.now.user.which) root.new.items.defs argument («module».now, Names fields.now)) }
+        ensures cause { IfErr result (IsCauseAmong root.old.world.now (imports_by (user_of self.now.user.which) (imports_from («module».now, Names fields.now))) []) }
     {
         let name = module.clone(root.items.allocator())?;
         let entries = self.entries(root, module, fields)?;
@@ -334,12 +346,12 @@ impl ImportSources<'_> {
         instance: &ImportInstance,
     ) -> Result<CoreArgument, StateFault>
         requires sources { AreSources root.old.world.now self.now root.old.met root.old.items.defs root.old.maps root.old.instances }
-        requires present { Contains root.old.world.now.main.imports.modules («module».now, instance.now) }
+        requires present { Contains self.now.user.found.now.imports.modules («module».now, instance.now) }
         ensures same { root.new ≡ record root.old { items = root.new.items } }
         ensures extends { Extends root.old.items root.new.items }
         ensures grows { OnOk result (Grows root.old.world.now root.old.items.defs root.new.items.defs []) }
-        ensures serves { IfOk result (λ argument. IsArgumentFor root.old.world.now Main root.new.items.defs argument («module».now, instance.now)) }
-        ensures cause { IfErr result (IsCauseAmong root.old.world.now (imports_from («module».now, instance.now)) []) }
+        ensures serves { IfOk result (λ argument. IsArgumentFor root.old.world.now (user_of self.now.user.which) root.new.items.defs argument («module».now, instance.now)) }
+        ensures cause { IfErr result (IsCauseAmong root.old.world.now (imports_by (user_of self.now.user.which) (imports_from («module».now, instance.now))) []) }
     {
         match instance {
             ImportInstance::Names(fields) => self.inline_instance(root, module, fields),
@@ -347,7 +359,7 @@ impl ImportSources<'_> {
         }
     }
 
-    /// Makes an inline instance for each module that main imports from, in order.
+    /// Makes an inline instance for each module that the user module imports from, in order.
     pub fn arguments(
         &self,
         root: &mut RootScope<'_, ComponentWorld>,
@@ -356,12 +368,11 @@ impl ImportSources<'_> {
         ensures same { root.new ≡ record root.old { items = root.new.items } }
         ensures extends { Extends root.old.items root.new.items }
         ensures grows { OnOk result (Grows root.old.world.now root.old.items.defs root.new.items.defs []) }
-        ensures serves { IfOk result (λ arguments. AllZip (IsArgumentFor root.old.world.now Main root.new.items.defs) arguments root.old.world.now.main.imports.modules) }
+        ensures serves { IfOk result (λ arguments. AllZip (IsArgumentFor root.old.world.now (user_of self.now.user.which) root.new.items.defs) arguments self.now.user.found.now.imports.modules) }
         ensures cause { IfErr result (IsCause root.old.world.now) }
     {
-        let world = root.world;
         let mut arguments = Seq::new(root.items.allocator());
-        for (module, instance) in world.main.imports.modules.iter() {
+        for (module, instance) in self.user.found.imports.modules.iter() {
             let argument = self.argument(root, module, instance)?;
             arguments.push(argument)?;
         }

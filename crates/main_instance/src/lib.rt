@@ -1,8 +1,8 @@
-//! What main's imports are given, when it is instantiated.
+//! What the imports of a user module are given, when it is instantiated.
 //!
 //! A function of the world is given as a lowering without options, or, where its calls need a memory, as a shim: an export of the
-//! instance of shims, which stands for a lowering that is made after main. The functions of a resource's handles are given as themselves. There is an
-//! inline instance for each module that main imports from, with an entry for each field.
+//! instance of shims, which stands for a lowering that is made after the user modules. The functions of a resource's handles are
+//! given as themselves. There is an inline instance for each module that the user module imports from, with an entry for each field.
 //!
 //! In reading order: `calls` (string encodings, and the kinds of shims), `shims` (their module and its instance), `own_handles`
 //! (functions of the handles of own resources), `instances` (what each import is given). In `specs/`: `Calls`, `Shims`, and `Sources` (what is taken as given).

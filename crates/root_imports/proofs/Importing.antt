@@ -37,6 +37,8 @@ use Rattle.comp_worlds.specs.declared.world.ComponentWorld.{ComponentWorld}
 use Rattle.wit_data.specs.declared.ids.InterfaceId.{InterfaceId}
 use Rattle.comp_links.specs.Lists.{ImportEntry, ImportedInterface, WorldType, RootFunction, import_entries, interface_entries, interface_entry, unless_empty, names_of_interface, number_of_type, root_type}
 use Rattle.root_imports.specs.Imports.{first_imports}
+use Rattle.comp_links.specs.Modules.{import_groups}
+use Rattle.comp_links.proofs.Groups.{groups_right}
 use Rattle.comp_links.specs.Roles.{is_named, is_any_import, uses_from, is_used, used_functions}
 use Rattle.comp_terms.specs.Terms.{imports_in}
 use Rattle.comp_terms.specs.Rules.{Grows, Landmark, Imported, landmarks, named_import, names_marked}
@@ -85,9 +87,9 @@ groups_are_imported w text (g ∷ gs) h e = by (uses_from text g) refl e (groups
     by true here u rest = instance_is_imported w text g h.0 here
     by false apart u rest = rest u
 
--- a root function that an import of main uses is one that the world imports
+-- a root function that an import of a user module uses is one that the world imports
 pub used_is_imported : (w : ComponentWorld) → IsEncodable w → (text : List ℕ) → IsTrue (is_used w text) → IsWorldImport w text
-used_is_imported w valid text u = groups_are_imported w text w.main.imports.modules valid.valid.main.import_roles u
+used_is_imported w valid text u = groups_are_imported w text (import_groups w) (groups_right w valid.valid) u
 
 -- ---- how many imports there are
 

@@ -2,7 +2,8 @@
 
 ghost use Rattle.std.specs.Prelude.{◌≡◌, ◌||◌, ℕ, List, IfOk, OnOk, is_some};
 ghost use Rattle.comp_lists.specs.Found.{found};
-ghost use Rattle.comp_links.specs.Roles.{is_used, is_any_import};
+ghost use Rattle.std.specs.List.{list_any};
+ghost use Rattle.comp_links.specs.Roles.{is_used, is_any_import, uses_from};
 
 use comp_lists::{Keyed, Text};
 use comp_worlds::{ComponentWorld, Import, ImportInstance};
@@ -29,7 +30,25 @@ fn add_used(
     Ok(())
 }
 
-/// The root functions that imports of main use.
+/// Adds the root functions that the imports of a module use.
+#[tactic(auto, using(comp_links::proofs::Groups::or_assoc))]
+fn add_used_by(
+    alloc: Global,
+    used: &mut Keyed<Text, ()>,
+    modules: &Keyed<Text, ImportInstance>,
+) -> Result<(), AllocError>
+    ensures { OnOk result ((text : List ℕ) → is_some (found text used.new) ≡ (is_some (found text used.old) || list_any (uses_from text) modules.now)) }
+{
+    for (_, instance) in modules.iter() {
+        if let ImportInstance::Names(fields) = instance {
+            add_used(alloc, used, fields)?;
+        }
+    }
+    Ok(())
+}
+
+/// The root functions that imports of user modules use.
+#[tactic(auto, using(comp_links::proofs::Groups::after_main, comp_links::proofs::Groups::after_adapter))]
 pub(crate) fn used_functions(
     alloc: Global,
     world: &ComponentWorld,
@@ -37,10 +56,9 @@ pub(crate) fn used_functions(
     ensures { IfOk result (λ used. (text : List ℕ) → is_some (found text used) ≡ is_used world.now text) }
 {
     let mut used = Keyed::new(alloc);
-    for (_, instance) in world.main.imports.modules.iter() {
-        if let ImportInstance::Names(fields) = instance {
-            add_used(alloc, &mut used, fields)?;
-        }
+    add_used_by(alloc, &mut used, &world.main.imports.modules)?;
+    for (_, adapter) in world.adapters.iter() {
+        add_used_by(alloc, &mut used, &adapter.info.imports.modules)?;
     }
     Ok(used)
 }

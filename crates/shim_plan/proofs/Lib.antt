@@ -1,4 +1,5 @@
 pub mod EqualKinds
+pub mod Adapting
 pub mod Appending
 pub mod Entries
 pub mod Worked

@@ -1,16 +1,20 @@
--- Worked examples: a world whose main module imports functions of an interface, and exports a destructor and a realloc.
+-- Worked examples: worlds whose main module imports functions of an interface, and exports a destructor and a realloc; and one whose
+-- main module imports what an adapter exports.
 use Rattle.std.proofs.Common.{◌≡◌, false, List, [], ◌∷◌, map, Some, None, ℕ, refl}
 use Rattle.std.specs.Prelude.{codes}
 use Rattle.std.specs.Fmt.{digits}
 use Rattle.standard_kinds.specs.declared.kinds.StringEncoding.TheVariants as encodings
 use Rattle.wit_data.specs.declared.functions.AbiVariant.TheVariants.{GuestImport}
 use Rattle.wit_data.specs.declared.signatures.WasmSignature.{WasmSignature}
-use Rattle.wit_data.specs.declared.signatures.WasmType.TheVariants.{I32}
+use Rattle.wit_data.specs.declared.signatures.WasmType.TheVariants.{I32, I64, F64}
 use Rattle.wit_data.specs.declared.types.TypeDef.{TypeDef}
 use Rattle.wit_data.specs.declared.types.TypeDefKind.TheVariants as shapes
 use Rattle.wit_data.specs.declared.types.TypeOwner.TheVariants as owners
 use Rattle.wit_data.specs.declared.worlds.WorldKey.{WorldKey}
 use Rattle.wit_data.specs.declared.worlds.WorldKey.TheVariants as keys
+use Rattle.core_types.specs.declared.types.FuncType.{FuncType}
+use Rattle.core_types.specs.declared.types.RefType.{RefType}
+use Rattle.core_types.specs.declared.types.ValType.TheVariants as core
 use Rattle.comp_roles.specs.declared.exports.Export.{Export}
 use Rattle.comp_roles.specs.declared.exports.Export.TheVariants as exports
 use Rattle.comp_roles.specs.declared.imports.Import.{Import}
@@ -187,6 +191,30 @@ own_realloc = refl
 
 realloc_of_main : needed (world_with (module_with [] [] (realloc ∷ [])) (adapter [] ∷ [])) (users.Adapter (codes "ad")) ≡ realloc_of (codes "realloc-main-r") users.Main ∷ []
 realloc_of_main = refl
+
+-- ---- functions that an adapter exports
+
+-- main imports this one, of its type
+abbrev adapted : FuncType → ComponentWorld
+adapted type = world_with (module_with ((codes "put", imports.AdapterExport (codes "ad") (codes "write") type) ∷ []) [] []) []
+
+-- one of numbers needs a shim
+of_numbers : needed (adapted (record { params = core.I32 ∷ core.F64 ∷ []; results = core.I64 ∷ [] })) users.Main
+    ≡ record {
+      options = record { 0 = 1 };
+      debug_name = codes "adapt-a:b/i-put";
+      kind = kinds.Adapter (codes "ad") (codes "write");
+      sig = record { params = I32 ∷ F64 ∷ []; results = I64 ∷ []; indirect_params = false; retptr = false };
+    } ∷ []
+of_numbers = refl
+
+-- and no encoding
+needs_no_encoding : unencoded (adapted (record { params = []; results = [] })) users.Main ≡ []
+needs_no_encoding = refl
+
+-- one that takes a reference needs none
+of_reference : (ref : RefType) → needed (adapted (record { params = core.I32 ∷ core.Ref ref ∷ []; results = [] })) users.Main ≡ []
+of_reference ref = refl
 
 -- ---- encodings
 

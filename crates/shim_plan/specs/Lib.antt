@@ -1,4 +1,5 @@
 pub mod Kinds
+pub mod Adapted
 pub mod Needed
 pub mod Encodings
 pub mod Plans

@@ -1,7 +1,7 @@
 -- The shims that a module of a world needs, in order: one for each import that is called through a table, followed by one for
--- the realloc of that call; and one for each destructor that the module exports (Canonical ABI: `canon lower`, `realloc`;
--- component model, explainer: the destructor of a resource type). Adapters, streams and futures, asynchronous functions and
--- error contexts have no rows here.
+-- the realloc of that call, or that an adapter exports; and one for each destructor that the module exports (Canonical ABI:
+-- `canon lower`, `realloc`; component model, explainer: the destructor of a resource type). Streams and futures, asynchronous
+-- functions and error contexts have no rows here.
 use Rattle.std.specs.Prelude.{ℕ, Bool, true, false, ◌&&◌, List, [], ◌∷◌, ◌++◌, Option, Some, None, option_map, unwrap_or, is_some, if◌then◌else◌, codes}
 use Rattle.std.specs.List.{flat_map}
 use Rattle.std.specs.Map.{lookup}
@@ -34,6 +34,7 @@ use Rattle.comp_worlds.specs.declared.lowerings.Lowering.TheVariants as lowering
 use Rattle.comp_worlds.specs.declared.world.ComponentWorld.{ComponentWorld}
 use Rattle.comp_worlds.specs.declared.world.ValidatedModule.{ValidatedModule}
 use Rattle.comp_worlds.specs.declared.world.WorldAdapter.{WorldAdapter}
+use Rattle.shim_plan.specs.Adapted.{Adapted, adapted_of, adapted_needs}
 use Rattle.shim_plan.specs.declared.calls.FunctionCall.{FunctionCall}
 use Rattle.shim_plan.specs.declared.kinds.ShimKind.TheVariants as kinds
 use Rattle.shim_plan.specs.declared.needs.NeededShim.{NeededShim}
@@ -142,8 +143,13 @@ abbrev pub call_needs : ComponentWorld → MainOrAdapter → ValidatedModule →
 call_needs w which m i None = []
 call_needs w which m i (Some call) = lowering_needs w which m i call (lowering_of_call w call)
 
+-- what another module is to give is there later; a call needs what its lowering does
+abbrev pub role_needs : ComponentWorld → MainOrAdapter → ValidatedModule → CoreImport → Option Adapted → List NeededShim
+role_needs w which m i None = call_needs w which m i (call_of i.role)
+role_needs w which m i (Some a) = adapted_needs i a
+
 abbrev pub import_needs : ComponentWorld → MainOrAdapter → ValidatedModule → CoreImport → List NeededShim
-import_needs w which m i = call_needs w which m i (call_of i.role)
+import_needs w which m i = role_needs w which m i (adapted_of i.role)
 
 -- ---- destructors
 

@@ -7,6 +7,7 @@ ghost use Rattle.comp_worlds.specs.Uses.{imports_of};
 ghost use Rattle.shim_plan.specs.Encodings.{Explains, place_of, unencoded_call, unencoded_if, unencoded_import};
 ghost use Rattle.shim_plan.specs.Needed as specs;
 
+use crate::adapted::{adapted_of, add_adapted};
 use crate::calls::{FunctionCall, call_of, encoding_of, lowering_of};
 use crate::copies::copy_lowering;
 use crate::fault::ShimFault;
@@ -157,7 +158,25 @@ impl UserModule<'_> {
         }
     }
 
+    /// Adds the shims of a call, if the import is one.
+    fn add_role(
+        &self,
+        needs: &mut Vec<NeededShim>,
+        alloc: Global,
+        import: &NamedImport<'_>,
+    ) -> Result<(), ShimFault>
+        ensures ok { OnOk result (needs.new.items ≡ needs.old.items ++ specs.role_needs self.now.world.now self.now.which.now self.now.found.now (core_import import.now) None) }
+        ensures encoded { OnOk result (unencoded_import self.now.world.now self.now.found.now (core_import import.now) ≡ []) }
+        ensures cause { IfErr result (Explains (unencoded_import self.now.world.now self.now.found.now (core_import import.now))) }
+    {
+        match call_of(alloc, import.role)? {
+            Some(call) => self.add_call(needs, alloc, import, &call),
+            None => Ok(()),
+        }
+    }
+
     /// Adds the shims of an import.
+    #[tactic(auto, using(crate::proofs::Adapting::none_unencoded))]
     fn add_import(
         &self,
         needs: &mut Vec<NeededShim>,
@@ -168,9 +187,12 @@ impl UserModule<'_> {
         ensures encoded { OnOk result (unencoded_import self.now.world.now self.now.found.now (core_import import.now) ≡ []) }
         ensures cause { IfErr result (Explains (unencoded_import self.now.world.now self.now.found.now (core_import import.now))) }
     {
-        match call_of(alloc, import.role)? {
-            Some(call) => self.add_call(needs, alloc, import, &call),
-            None => Ok(()),
+        match adapted_of(import.role) {
+            Some(function) => {
+                add_adapted(needs, alloc, import, &function)?;
+                Ok(())
+            }
+            None => self.add_role(needs, alloc, import),
         }
     }
 

@@ -1,9 +1,10 @@
--- What main needs of a call: where its options need a memory and it has an encoding, a shim that stands for its import, and
+-- What a user module needs of a call: where its options need a memory and it has an encoding, a shim that stands for its import, and
 -- nothing else.
 use Rattle.std.proofs.Common.{◌≡◌, ◌∙◌, ℕ, Bool, true, false, ◌&&◌, List, [], Contains, if◌then◌else◌, Option, Some, None, inl, refl, sym, ap, subst}
 use Rattle.std.proofs.Math.Bool.{and-false}
 use Rattle.std.proofs.lemmas.Option.{same_Some}
 use Rattle.std.specs.List.{AllByRecursion}
+use Rattle.std.specs.Option.{option_and_then}
 use Rattle.std.specs.Prelude.{IsTrue}
 use Rattle.standard_kinds.specs.declared.kinds.StringEncoding.{StringEncoding}
 use Rattle.wit_data.specs.Signatures.{signature}
@@ -11,46 +12,48 @@ use Rattle.wit_data.specs.declared.functions.AbiVariant.{AbiVariant}
 use Rattle.wit_data.specs.declared.worlds.WorldKey.{WorldKey}
 use Rattle.comp_roles.specs.CoreImports.{CoreImport}
 use Rattle.comp_roles.specs.Functions.{of_function}
-use Rattle.comp_roles.specs.declared.libraries.MainOrAdapter.TheVariants as users
+use Rattle.comp_roles.specs.declared.libraries.MainOrAdapter.{MainOrAdapter}
 use Rattle.comp_options.specs.Options.{needs, import_set}
 use Rattle.comp_options.specs.declared.required.RequiredOptions.{RequiredOptions}
 use Rattle.comp_worlds.specs.Encodable.{IsEncodable}
-use Rattle.comp_worlds.specs.WorldContents.{core_imports}
 use Rattle.comp_worlds.specs.declared.lowerings.Lowering.{Lowering}
 use Rattle.comp_worlds.specs.declared.lowerings.Lowering.TheVariants as lowerings
 use Rattle.comp_worlds.specs.declared.world.ComponentWorld.{ComponentWorld}
+use Rattle.comp_worlds.specs.declared.world.ValidatedModule.{ValidatedModule}
 use Rattle.shim_plan.specs.Needed.{realloc_shims, import_realloc, realloc_needs, indirect_shim, indirect_needs, lowering_needs, lowering_of_call}
 use Rattle.shim_plan.specs.Plans.{shim_at}
 use Rattle.shim_plan.specs.declared.kinds.ShimKind.{ShimKind}
 use Rattle.shim_plan.specs.declared.needs.NeededShim.{NeededShim}
 use Rattle.shim_plan.specs.declared.reallocs.ReallocSite.TheVariants as sites
 use Rattle.comp_links.specs.Links.{lower_needs}
-use Rattle.comp_links.specs.Roles.{import_encoding}
-use Rattle.shim_targets.specs.ShimTargets.{kind_of_import, StandsForOne}
+use Rattle.comp_links.specs.Modules.{module_found, user_imports}
+use Rattle.comp_links.specs.Roles.{encoding_in}
+use Rattle.comp_links.specs.Targets.{UserModule}
+use Rattle.shim_targets.specs.ShimTargets.{which_of, kind_of_import, StandsForOne}
 use Rattle.shim_targets.proofs.Calls.{IsLowered, role_back}
 use Rattle.shim_targets.proofs.Lists.{contains_first}
 use Rattle.shim_targets.proofs.OptionSets.{none_needed}
 use Rattle.shim_targets.proofs.Roles.{import_role, no_hook}
 
--- a shim that is needed stands for an import or a destructor, at whatever place
+-- a shim that is needed stands for an import or an export, at whatever place
 abbrev pub Stands : ComponentWorld → NeededShim → Type 0
 Stands w n = (place : ℕ) → StandsForOne w (shim_at place n)
 
 -- ---- reallocs
 
 -- none after instantiation, as main has no task hook
-no_realloc_after : (w : ComponentWorld) → IsEncodable w → (options : RequiredOptions) → realloc_needs w users.Main w.main sites.AfterInstantiation options ≡ []
-no_realloc_after w ok options =
-    ap (λ b. if needs options.0 2 && b then realloc_shims (import_realloc w users.Main w.main) else []) (no_hook w ok)
-    ∙ ap (λ b. if b then realloc_shims (import_realloc w users.Main w.main) else []) (and-false (needs options.0 2))
+no_realloc_after : (w : ComponentWorld) → IsEncodable w → (which : MainOrAdapter) (m : ValidatedModule) (options : RequiredOptions) → realloc_needs w which m sites.AfterInstantiation options ≡ []
+no_realloc_after w ok which m options =
+    ap (λ b. if needs options.0 2 && b then realloc_shims (import_realloc w which m) else []) (no_hook w ok)
+    ∙ ap (λ b. if b then realloc_shims (import_realloc w which m) else []) (and-false (needs options.0 2))
 
 -- and none before, where there is no option
-no_realloc_before : (w : ComponentWorld) (options : RequiredOptions) → options.0 ≡ 0 → realloc_needs w users.Main w.main sites.BeforeInstantiation options ≡ []
-no_realloc_before w options e = ap (λ (set : ℕ). if needs set 2 && true then realloc_shims (import_realloc w users.Main w.main) else []) e
+no_realloc_before : (w : ComponentWorld) (which : MainOrAdapter) (m : ValidatedModule) (options : RequiredOptions) → options.0 ≡ 0 → realloc_needs w which m sites.BeforeInstantiation options ≡ []
+no_realloc_before w which m options e = ap (λ (set : ℕ). if needs set 2 && true then realloc_shims (import_realloc w which m) else []) e
 
 -- ---- a call
 
-module _ (w : ComponentWorld) (i : CoreImport) (interface : Option WorldKey) (key : WorldKey) (name : List ℕ) (abi : AbiVariant) (h : IsLowered w i.role interface key name abi) where
+module _ (w : ComponentWorld) (of : UserModule) (m : ValidatedModule) (i : CoreImport) (interface : Option WorldKey) (key : WorldKey) (name : List ℕ) (abi : AbiVariant) (h : IsLowered w i.role interface key name abi) where
   -- its options
   abbrev options : RequiredOptions
   options = record { 0 = import_set abi w.resolve.types h.function }
@@ -61,55 +64,55 @@ module _ (w : ComponentWorld) (i : CoreImport) (interface : Option WorldKey) (ke
 
   -- what is needed where it is lowered so
   abbrev needs_as : Option Lowering → List NeededShim
-  needs_as o = lowering_needs w users.Main w.main i (record { interface = interface; key = key; function = record { name = name; abi = abi } }) o
+  needs_as o = lowering_needs w (which_of of) m i (record { interface = interface; key = key; function = record { name = name; abi = abi } }) o
 
   -- what is needed where it is lowered through a table with this encoding
   abbrev needs_with : Option StringEncoding → List NeededShim
-  needs_with o = indirect_needs w users.Main w.main i (record { interface = interface; key = key; function = record { name = name; abi = abi } }) (signature abi w.resolve.types h.function) options o
+  needs_with o = indirect_needs w (which_of of) m i (record { interface = interface; key = key; function = record { name = name; abi = abi } }) (signature abi w.resolve.types h.function) options o
 
   -- its shim
   abbrev pub shim_with : StringEncoding → NeededShim
-  shim_with encoding = indirect_shim users.Main i (record { interface = interface; key = key; function = record { name = name; abi = abi } }) (signature abi w.resolve.types h.function) options encoding
+  shim_with encoding = indirect_shim (which_of of) i (record { interface = interface; key = key; function = record { name = name; abi = abi } }) (signature abi w.resolve.types h.function) options encoding
 
   -- what is needed of it
   abbrev pub needs_of : List NeededShim
   needs_of = needs_as (lowering_of_call w (record { interface = interface; key = key; function = record { name = name; abi = abi } }))
 
   -- a call that needs a memory and has an encoding has its shim
-  pub call_needed : IsTrue (needs (lower_needs w i.role) 1) → (encoding : StringEncoding) → import_encoding w i.role ≡ Some encoding → Contains needs_of (shim_with encoding)
+  pub call_needed : IsTrue (needs (lower_needs w i.role) 1) → (encoding : StringEncoding) → encoding_in i.role m ≡ Some encoding → Contains needs_of (shim_with encoding)
   call_needed memory encoding encoded =
-      let with_encoding : Contains (needs_with (of_function key name w.main.metadata.import_encodings)) (shim_with encoding) =
-      subst (λ o. Contains (needs_with o) (shim_with encoding)) (sym (sym h.encoding ∙ encoded)) (contains_first (shim_with encoding) (realloc_needs w users.Main w.main sites.AfterInstantiation options)) in
+      let with_encoding : Contains (needs_with (of_function key name m.metadata.import_encodings)) (shim_with encoding) =
+      subst (λ o. Contains (needs_with o) (shim_with encoding)) (sym (sym (h.encoding m) ∙ encoded)) (contains_first (shim_with encoding) (realloc_needs w (which_of of) m sites.AfterInstantiation options)) in
       let through_table : Contains (needs_as (Some (lowered_by (needs options.0 1)))) (shim_with encoding) =
       subst (λ b. Contains (needs_as (Some (lowered_by b))) (shim_with encoding)) (sym (ap (λ (n : ℕ). needs n 1) (sym h.needs) ∙ memory)) with_encoding in
       subst (λ o. Contains (needs_as o) (shim_with encoding)) (sym h.lowered) through_table
 
-  pub kind_of_shim : (encoding : StringEncoding) (kind : ShimKind) → kind_of_import i.role encoding ≡ Some kind → (shim_with encoding).kind ≡ kind
-  kind_of_shim encoding kind is = same_Some (shim_with encoding).kind kind (sym (h.kind encoding) ∙ is)
+  pub kind_of_shim : (encoding : StringEncoding) (kind : ShimKind) → kind_of_import of i.role encoding ≡ Some kind → (shim_with encoding).kind ≡ kind
+  kind_of_shim encoding kind is = same_Some (shim_with encoding).kind kind (sym (h.kind of encoding) ∙ is)
 
-  module _ (ok : IsEncodable w) (there : Contains (core_imports w) i) where
-    shim_stands : needs options.0 1 ≡ true → (encoding : StringEncoding) → of_function key name w.main.metadata.import_encodings ≡ Some encoding → Stands w (shim_with encoding)
+  module _ (ok : IsEncodable w) (found : module_found w of ≡ Some m) (there : Contains (user_imports w) (record { of = of; core = i })) where
+    shim_stands : needs options.0 1 ≡ true → (encoding : StringEncoding) → of_function key name m.metadata.import_encodings ≡ Some encoding → Stands w (shim_with encoding)
     shim_stands memory encoding encoded place = inl (
-      i,
+      record { of = of; core = i },
       record {
         present = there;
         is = record {
-          of_kind = role_back w ok i.role (import_role w ok i there) encoding (shim_with encoding).kind (h.kind encoding);
-          right = import_role w ok i there;
+          of_kind = role_back w ok of i.role (import_role w ok (record { of = of; core = i }) there) encoding (shim_with encoding).kind (h.kind of encoding);
+          right = import_role w ok (record { of = of; core = i }) there;
           typed = h.typed;
         };
         options = sym h.needs;
         memory = ap (λ (n : ℕ). needs n 1) h.needs ∙ memory;
         encoding = encoding;
-        encoded = h.encoding ∙ encoded;
-        kind = h.kind encoding;
+        encoded = ap (option_and_then (encoding_in i.role)) found ∙ h.encoding m ∙ encoded;
+        kind = h.kind of encoding;
         named = refl;
       },
     )
 
-    with_memory : needs options.0 1 ≡ true → (o : Option StringEncoding) → of_function key name w.main.metadata.import_encodings ≡ o → AllByRecursion (Stands w) (needs_with o)
+    with_memory : needs options.0 1 ≡ true → (o : Option StringEncoding) → of_function key name m.metadata.import_encodings ≡ o → AllByRecursion (Stands w) (needs_with o)
     with_memory memory None encoded = tt
-    with_memory memory (Some encoding) encoded = (shim_stands memory encoding encoded, subst (AllByRecursion (Stands w)) (sym (no_realloc_after w ok options)) tt)
+    with_memory memory (Some encoding) encoded = (shim_stands memory encoding encoded, subst (AllByRecursion (Stands w)) (sym (no_realloc_after w ok (which_of of) m options)) tt)
 
     without_memory : needs options.0 1 ≡ false → options.0 ≡ 0
     without_memory e =
@@ -121,5 +124,5 @@ module _ (w : ComponentWorld) (i : CoreImport) (interface : Option WorldKey) (ke
     call_needs_stand = subst (λ o. AllByRecursion (Stands w) (needs_as o)) (sym h.lowered) (by (needs options.0 1) refl)
       where
         by : (b : Bool) → needs options.0 1 ≡ b → AllByRecursion (Stands w) (needs_as (Some (lowered_by b)))
-        by true e = with_memory e (of_function key name w.main.metadata.import_encodings) refl
-        by false e = subst (AllByRecursion (Stands w)) (sym (no_realloc_before w options (without_memory e))) tt
+        by true e = with_memory e (of_function key name m.metadata.import_encodings) refl
+        by false e = subst (AllByRecursion (Stands w)) (sym (no_realloc_before w (which_of of) m options (without_memory e))) tt

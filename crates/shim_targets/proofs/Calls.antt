@@ -1,4 +1,4 @@
--- The functions that core imports of main call: how they are lowered, and the kinds of shims for them.
+-- The functions that core imports call: how they are lowered, and the kinds of shims for them.
 use Rattle.std.proofs.Common.{◌≡◌, ◌∙◌, ℕ, true, false, List, [], ◌∷◌, map, Contains, inl, inr, is_some, Option, Some, None, refl, sym, ap, subst, rules}
 use Rattle.std.specs.Cmp.{IsEquivalence}
 use Rattle.std.specs.Cmp.Rules.{comparing}
@@ -6,7 +6,6 @@ use Rattle.std.specs.List.{AllByRecursion, flat_map}
 use Rattle.std.specs.Map.{lookup}
 use Rattle.std.specs.Option.{option_map, option_map_or, option_and_then}
 use Rattle.std.specs.Str.{bytes_eq}
-use Rattle.std.proofs.lemmas.List.Elements.{Contains-append_left}
 use Rattle.std.proofs.lemmas.Map.Views.{lookup-from_Contains, IsSome-lookup_from_Contains}
 use Rattle.std.proofs.lemmas.Option.{none-some, same_Some}
 use Rattle.standard_kinds.specs.declared.kinds.StringEncoding.{StringEncoding}
@@ -29,31 +28,34 @@ use Rattle.comp_roles.specs.Functions.{of_function}
 use Rattle.comp_roles.specs.Lookups.{imported_memory}
 use Rattle.comp_roles.specs.declared.imports.Import.{Import}
 use Rattle.comp_roles.specs.declared.imports.Import.TheVariants as imports
-use Rattle.comp_roles.specs.declared.libraries.MainOrAdapter.TheVariants as users
 use Rattle.comp_options.specs.Options.{import_set}
 use Rattle.world_values.specs.Items.{function_in, functions_of, root_function_at}
 use Rattle.comp_worlds.specs.Encodable.{IsEncodable}
 use Rattle.comp_worlds.specs.Imported.{Lowerings, lowering_of, root_lowerings, interface_lowerings, is_same_import_key, root_entry, interface_entry}
 use Rattle.comp_worlds.specs.Lowerings.{is_same_lowering}
 use Rattle.comp_worlds.specs.Typed.{type_of_import}
-use Rattle.comp_worlds.specs.Uses.{Used, used_by, all_imports, imports_of, call_at, calls_in, is_called}
-use Rattle.comp_worlds.specs.WorldContents.{items_of, core_imports, imported_functions, root_function}
+use Rattle.comp_worlds.specs.Uses.{Used, used_by, all_imports, call_at, calls_in, is_called}
+use Rattle.comp_worlds.specs.WorldContents.{items_of, imported_functions, root_function}
 use Rattle.comp_worlds.specs.Worlds.{IsNamedFunction, IsImportItem, IsImportRole}
 use Rattle.comp_worlds.specs.declared.calls.Call.{Call}
 use Rattle.comp_worlds.specs.declared.lowerings.ImportedInterface.{ImportedInterface}
 use Rattle.comp_worlds.specs.declared.world.ComponentWorld.{ComponentWorld}
+use Rattle.comp_worlds.specs.declared.world.ValidatedModule.{ValidatedModule}
 use Rattle.shim_plan.specs.Needed.{lowering_of_call}
 use Rattle.shim_plan.specs.declared.kinds.ShimKind.{ShimKind}
 use Rattle.shim_plan.specs.declared.kinds.ShimKind.TheVariants as kinds
-use Rattle.comp_links.specs.Links.{lower_needs}
-use Rattle.comp_links.specs.Roles.{import_encoding}
+use Rattle.comp_links.specs.Links.{lower_needs, module_of}
+use Rattle.comp_links.specs.Modules.{UserImport, user_imports}
+use Rattle.comp_links.specs.Roles.{encoding_in}
+use Rattle.comp_links.specs.Targets.{UserModule}
 use Rattle.comp_terms.specs.Generated.{interface_in, role_of_kind}
-use Rattle.shim_targets.specs.ShimTargets.{kind_of_import}
+use Rattle.shim_targets.specs.ShimTargets.{which_of, kind_of_import}
 use Rattle.shim_targets.proofs.Keys.{key_laws, call_laws, one_import_key, one_lowering}
 use Rattle.shim_targets.proofs.Lists.{contains_none, contains_cons, contains_first, contains_flat, IsInOne, flat_contains}
 use Rattle.shim_targets.proofs.Lowered.{is_call_of, root_found, interface_found, entry_found}
 use Rattle.shim_targets.proofs.Roles.{no_memory}
 use Rattle.shim_targets.proofs.Tables.{made_finds}
+use Rattle.shim_targets.proofs.Users.{back, among_all}
 
 -- A role that calls a function of the world: the function, how it is lowered, and the kind of a shim for it. The interface is
 -- the key of the function's, or none at the root.
@@ -63,20 +65,19 @@ pub record IsLowered (w : ComponentWorld) (role : Import) (interface : Option Wo
   pub lowered : lowering_of_call w (record { interface = interface; key = key; function = record { name = name; abi = abi } }) ≡ Some (lowering_of false abi w.resolve.types function)
   pub needs : lower_needs w role ≡ import_set abi w.resolve.types function
   pub typed : type_of_import w.resolve (items_of w) role ≡ Some (called_type w.resolve abi function)
-  pub encoding : import_encoding w role ≡ of_function key name w.main.metadata.import_encodings
-  pub kind : (encoding : StringEncoding) → kind_of_import role encoding ≡ Some (kinds.IndirectLowering interface (record { name = name; abi = abi }) users.Main encoding)
+  pub encoding : (m : ValidatedModule) → encoding_in role m ≡ of_function key name m.metadata.import_encodings
+  pub kind : (of : UserModule) (encoding : StringEncoding) → kind_of_import of role encoding ≡ Some (kinds.IndirectLowering interface (record { name = name; abi = abi }) (which_of of) encoding)
 
 -- what core imports use
 abbrev used_of : ComponentWorld → Used
 used_of w = used_by (all_imports w.main w.adapters) (is_some (imported_memory w.main.imports.modules))
 
 -- a call that is the role of a core import is used
-is_used : (w : ComponentWorld) (i : CoreImport) (c : Call) → Contains (core_imports w) i → calls_in i.role ≡ (c, tt) ∷ [] → is_called (all_imports w.main w.adapters) c ≡ true
+is_used : (w : ComponentWorld) (i : UserImport) (c : Call) → Contains (user_imports w) i → calls_in i.core.role ≡ (c, tt) ∷ [] → is_called (all_imports w.main w.adapters) c ≡ true
 is_used w i c there is =
     let all : List CoreImport = all_imports w.main w.adapters in
     let calls : List (Call × Unit {0}) = flat_map (λ i. calls_in i.role) all in
-    let among : Contains all i = Contains-append_left (imports_of w.main) (flat_map (λ a. imports_of a.1.info) w.adapters) i there in
-    let called : Contains calls (c, tt) = contains_flat (λ (i : CoreImport). calls_in i.role) all i (c, tt) among (subst (λ cs. Contains cs (c, tt)) (sym is) (contains_first (c, tt) [])) in
+    let called : Contains calls (c, tt) = contains_flat (λ (i : CoreImport). calls_in i.role) all i.core (c, tt) (among_all w i there) (subst (λ cs. Contains cs (c, tt)) (sym is) (contains_first (c, tt) [])) in
     IsSome-lookup_from_Contains call_laws c calls (Contains-map (λ (e : Call × Unit {0}). e.0) calls (c, tt) called)
 
 -- main shares no memory
@@ -107,7 +108,7 @@ root_there w ok text c =
       there = lookup-from_Contains key_laws (keys.Name text) (items.Function is.0) es ok.valid.import_keys_apart (subst (λ e. Contains es e) (sym is.1) entry.one);
     }
 
-root_lowered : (w : ComponentWorld) → IsEncodable w → (i : CoreImport) (text : List ℕ) → Contains (core_imports w) i → i.role ≡ imports.WorldFunc (keys.Name text) text GuestImport → Contains (imported_functions w) text →
+root_lowered : (w : ComponentWorld) → IsEncodable w → (i : UserImport) (text : List ℕ) → Contains (user_imports w) i → i.core.role ≡ imports.WorldFunc (keys.Name text) text GuestImport → Contains (imported_functions w) text →
     IsLowered w (imports.WorldFunc (keys.Name text) text GuestImport) None (keys.Name text) text GuestImport
 root_lowered w ok i text there is c =
     let es : List (WorldKey × WorldItem) = (items_of w).imports in
@@ -129,8 +130,8 @@ root_lowered w ok i text there is c =
           ∙ not_shared w ok GuestImport f;
       needs = ap (λ o. option_map_or (import_set GuestImport w.resolve.types) o 0) at;
       typed = ap (option_map (called_type w.resolve GuestImport)) at;
-      encoding = refl;
-      kind = λ encoding. refl;
+      encoding = λ m. refl;
+      kind = λ of encoding. refl;
     }
 
 -- ---- in an interface
@@ -146,7 +147,7 @@ functions_named r (keys.Interface other) id h = h
 interface_there : (w : ComponentWorld) → IsEncodable w → (key : WorldKey) (id : InterfaceId) → Contains (items_of w).imports (key, items.Interface id) → lookup (is_same_key key) (items_of w).imports ≡ Some (items.Interface id)
 interface_there w ok key id c = lookup-from_Contains key_laws key (items.Interface id) (items_of w).imports ok.valid.import_keys_apart c
 
-interface_lowered : (w : ComponentWorld) → IsEncodable w → (i : CoreImport) (key : WorldKey) (id : InterfaceId) (text : List ℕ) → Contains (core_imports w) i → i.role ≡ imports.InterfaceFunc key id text GuestImport →
+interface_lowered : (w : ComponentWorld) → IsEncodable w → (i : UserImport) (key : WorldKey) (id : InterfaceId) (text : List ℕ) → Contains (user_imports w) i → i.core.role ≡ imports.InterfaceFunc key id text GuestImport →
     Contains (items_of w).imports (key, items.Interface id) → Contains (map (λ e. e.0) (functions_of w.resolve id)) text →
     IsLowered w (imports.InterfaceFunc key id text GuestImport) (Some key) key text GuestImport
 interface_lowered w ok i key id text there is c d =
@@ -169,14 +170,14 @@ interface_lowered w ok i key id text there is c d =
           ∙ not_shared w ok GuestImport f;
       needs = ap (λ o. option_map_or (import_set GuestImport w.resolve.types) o 0) function.1;
       typed = ap (option_map (called_type w.resolve GuestImport)) function.1;
-      encoding = refl;
-      kind = λ encoding. refl;
+      encoding = λ m. refl;
+      kind = λ of encoding. refl;
     }
 
 -- ---- by the role
 
 -- a role of a function at the root, and of one in an interface
-pub world_call : (w : ComponentWorld) → IsEncodable w → (i : CoreImport) → Contains (core_imports w) i → (text function : List ℕ) (abi : AbiVariant) → i.role ≡ imports.WorldFunc (keys.Name text) function abi →
+pub world_call : (w : ComponentWorld) → IsEncodable w → (i : UserImport) → Contains (user_imports w) i → (text function : List ℕ) (abi : AbiVariant) → i.core.role ≡ imports.WorldFunc (keys.Name text) function abi →
     IsImportRole w (imports.WorldFunc (keys.Name text) function abi) → IsLowered w (imports.WorldFunc (keys.Name text) function abi) None (keys.Name text) function abi
 world_call w ok i there text function abi is h =
     let same : imports.WorldFunc (keys.Name text) function abi ≡ imports.WorldFunc (keys.Name text) text GuestImport =
@@ -185,22 +186,23 @@ world_call w ok i there text function abi is h =
     subst (λ f. IsLowered w (imports.WorldFunc (keys.Name text) f abi) None (keys.Name text) f abi) (sym h.1)
     (subst (λ a. IsLowered w (imports.WorldFunc (keys.Name text) text a) None (keys.Name text) text a) (sym h.2) plain)
 
-pub interface_call : (w : ComponentWorld) → IsEncodable w → (i : CoreImport) → Contains (core_imports w) i → (key : WorldKey) (id : InterfaceId) (function : List ℕ) (abi : AbiVariant) → i.role ≡ imports.InterfaceFunc key id function abi →
+pub interface_call : (w : ComponentWorld) → IsEncodable w → (i : UserImport) → Contains (user_imports w) i → (key : WorldKey) (id : InterfaceId) (function : List ℕ) (abi : AbiVariant) → i.core.role ≡ imports.InterfaceFunc key id function abi →
     IsImportRole w (imports.InterfaceFunc key id function abi) → IsLowered w (imports.InterfaceFunc key id function abi) (Some key) key function abi
 interface_call w ok i there key id function abi is h =
     subst (λ a. IsLowered w (imports.InterfaceFunc key id function a) (Some key) key function a) (sym h.2)
     (interface_lowered w ok i key id function there (is ∙ ap (λ a. imports.InterfaceFunc key id function a) h.2) h.0 h.1)
 
--- the role is found back from its kind
-pub role_back : (w : ComponentWorld) → IsEncodable w → (role : Import) → IsImportRole w role → (encoding : StringEncoding) (kind : ShimKind) → kind_of_import role encoding ≡ Some kind → role_of_kind w kind ≡ Some role
-role_back w ok (imports.WorldFunc (keys.Name text) function abi) h encoding kind e =
-    subst (λ k. role_of_kind w k ≡ Some (imports.WorldFunc (keys.Name text) function abi)) (same_Some (kinds.IndirectLowering None (record { name = function; abi = abi }) users.Main encoding) kind e)
-    (ap (λ t. Some (imports.WorldFunc (keys.Name t) function abi)) h.1)
-role_back w ok (imports.InterfaceFunc key id function abi) h encoding kind e =
-    subst (λ k. role_of_kind w k ≡ Some (imports.InterfaceFunc key id function abi)) (same_Some (kinds.IndirectLowering (Some key) (record { name = function; abi = abi }) users.Main encoding) kind e)
-    (ap (λ o. option_map (λ other. imports.InterfaceFunc key other function abi) (option_and_then interface_in o)) (interface_there w ok key id h.0))
-role_back w ok (imports.ImportedResourceDrop key interface id) h encoding kind e = absurd (none-some kind e)
-role_back w ok (imports.ExportedResourceDrop key id) h encoding kind e = absurd (none-some kind e)
-role_back w ok (imports.ExportedResourceRep key id) h encoding kind e = absurd (none-some kind e)
-role_back w ok (imports.ExportedResourceNew key id) h encoding kind e = absurd (none-some kind e)
-role_back w ok role h encoding kind e = absurd h
+-- the module and the role are found back from the kind
+pub role_back : (w : ComponentWorld) → IsEncodable w → (of : UserModule) (role : Import) → IsImportRole w role → (encoding : StringEncoding) (kind : ShimKind) → kind_of_import of role encoding ≡ Some kind → role_of_kind w kind ≡ Some (of, role)
+role_back w ok of (imports.WorldFunc (keys.Name text) function abi) h encoding kind e =
+    subst (λ k. role_of_kind w k ≡ Some (of, imports.WorldFunc (keys.Name text) function abi)) (same_Some (kinds.IndirectLowering None (record { name = function; abi = abi }) (which_of of) encoding) kind e)
+    (ap (λ (u : UserModule). Some (u, imports.WorldFunc (keys.Name function) function abi)) (back of) ∙ ap (λ (t : List ℕ). Some (of, imports.WorldFunc (keys.Name t) function abi)) h.1)
+role_back w ok of (imports.InterfaceFunc key id function abi) h encoding kind e =
+    subst (λ k. role_of_kind w k ≡ Some (of, imports.InterfaceFunc key id function abi)) (same_Some (kinds.IndirectLowering (Some key) (record { name = function; abi = abi }) (which_of of) encoding) kind e)
+    (ap (λ o. option_map (λ other. (module_of (which_of of), imports.InterfaceFunc key other function abi)) (option_and_then interface_in o)) (interface_there w ok key id h.0)
+    ∙ ap (λ (u : UserModule). Some (u, imports.InterfaceFunc key id function abi)) (back of))
+role_back w ok of (imports.ImportedResourceDrop key interface id) h encoding kind e = absurd (none-some kind e)
+role_back w ok of (imports.ExportedResourceDrop key id) h encoding kind e = absurd (none-some kind e)
+role_back w ok of (imports.ExportedResourceRep key id) h encoding kind e = absurd (none-some kind e)
+role_back w ok of (imports.ExportedResourceNew key id) h encoding kind e = absurd (none-some kind e)
+role_back w ok of role h encoding kind e = absurd h

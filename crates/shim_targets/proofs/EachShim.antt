@@ -1,5 +1,5 @@
--- Every shim of a world stands for a core import of main, or for a destructor that main exports.
-use Rattle.std.proofs.Common.{◌∙◌, ℕ, suc, Bool, true, false, List, [], ◌∷◌, ◌++◌, Contains, if◌then◌else◌, inr, Some, None, refl, sym}
+-- Every shim of a world stands for a core import of a user module, or for a destructor that one exports.
+use Rattle.std.proofs.Common.{◌∙◌, ℕ, suc, Bool, true, false, List, [], ◌∷◌, ◌++◌, Contains, if◌then◌else◌, inr, Option, Some, None, ◌≡◌, refl, sym, ap, subst}
 use Rattle.std.specs.List.{AllByRecursion, flat_map, list_any}
 use Rattle.comp_lists.proofs.Lists.{AllByRecursion-contains}
 use Rattle.wit_data.specs.declared.worlds.WorldKey.TheVariants as keys
@@ -8,23 +8,28 @@ use Rattle.comp_roles.specs.declared.exports.Export.{Export}
 use Rattle.comp_roles.specs.declared.exports.Export.TheVariants as exports
 use Rattle.comp_roles.specs.declared.imports.Import.{Import}
 use Rattle.comp_roles.specs.declared.imports.Import.TheVariants as imports
-use Rattle.comp_roles.specs.declared.libraries.MainOrAdapter.TheVariants as users
+use Rattle.comp_roles.specs.declared.libraries.MainOrAdapter.{MainOrAdapter}
 use Rattle.comp_worlds.specs.Encodable.{IsEncodable}
 use Rattle.comp_worlds.specs.Typed.{FitsExport}
 use Rattle.comp_worlds.specs.Uses.{imports_of}
-use Rattle.comp_worlds.specs.WorldContents.{items_of, core_imports}
+use Rattle.comp_worlds.specs.WorldContents.{items_of}
 use Rattle.comp_worlds.specs.Worlds.{IsImportRole}
 use Rattle.comp_worlds.specs.declared.world.ComponentWorld.{ComponentWorld}
-use Rattle.shim_plan.specs.Needed.{import_needs, export_needs, needed}
+use Rattle.comp_worlds.specs.declared.world.ValidatedModule.{ValidatedModule}
+use Rattle.shim_plan.specs.Needed.{import_needs, export_needs, needs_of, needed}
 use Rattle.shim_plan.specs.Plans.{same_kind, numbered, lacking}
 use Rattle.shim_plan.specs.declared.kinds.ShimKind.{ShimKind}
 use Rattle.shim_plan.specs.declared.needs.NeededShim.{NeededShim}
-use Rattle.world_shims.specs.WorldShims.{shims_of}
-use Rattle.shim_targets.specs.ShimTargets.{StandsForOne}
+use Rattle.world_shims.specs.WorldShims.{modules_in, shims_of}
+use Rattle.comp_links.specs.Links.{module_of}
+use Rattle.comp_links.specs.Modules.{WorldModule, module_found, user_modules, user_imports}
+use Rattle.comp_links.specs.Targets.{UserModule}
+use Rattle.shim_targets.specs.ShimTargets.{which_of, StandsForOne}
 use Rattle.shim_targets.proofs.CallNeeds.{Stands, call_needs_stand}
 use Rattle.shim_targets.proofs.Calls.{world_call, interface_call}
 use Rattle.shim_targets.proofs.Lists.{all_both, all_flat}
 use Rattle.shim_targets.proofs.Roles.{import_role}
+use Rattle.shim_targets.proofs.Users.{back, forth, found_as, found_listed, user_module, of_module}
 
 -- ---- from what is needed to the shims
 
@@ -42,38 +47,69 @@ lacking_stand w known (n ∷ ns) h = by (list_any (same_kind n.kind) known) (lac
 
 -- ---- the imports
 
-import_stands : (w : ComponentWorld) → IsEncodable w → (name field : List ℕ) (role : Import) → Contains (core_imports w) (record { module_name = name; field = field; role = role }) → IsImportRole w role →
-    AllByRecursion (Stands w) (import_needs w users.Main w.main (record { module_name = name; field = field; role = role }))
-import_stands w ok name field (imports.WorldFunc (keys.Name text) function abi) there h =
-    let i : CoreImport = record { module_name = name; field = field; role = imports.WorldFunc (keys.Name text) function abi } in
-    call_needs_stand w i None (keys.Name text) function abi (world_call w ok i there text function abi refl h) ok there
-import_stands w ok name field (imports.InterfaceFunc key id function abi) there h =
-    let i : CoreImport = record { module_name = name; field = field; role = imports.InterfaceFunc key id function abi } in
-    call_needs_stand w i (Some key) key function abi (interface_call w ok i there key id function abi refl h) ok there
-import_stands w ok name field (imports.ImportedResourceDrop key interface id) there h = tt
-import_stands w ok name field (imports.ExportedResourceDrop key id) there h = tt
-import_stands w ok name field (imports.ExportedResourceRep key id) there h = tt
-import_stands w ok name field (imports.ExportedResourceNew key id) there h = tt
-import_stands w ok name field role there h = absurd h
+module _ (w : ComponentWorld) (ok : IsEncodable w) (of : UserModule) (m : ValidatedModule) (found : module_found w of ≡ Some m) where
+  import_stands : (name field : List ℕ) (role : Import) → Contains (user_imports w) (record { of = of; core = record { module_name = name; field = field; role = role } }) → IsImportRole w role →
+      AllByRecursion (Stands w) (import_needs w (which_of of) m (record { module_name = name; field = field; role = role }))
+  import_stands name field (imports.WorldFunc (keys.Name text) function abi) there h =
+      let i : CoreImport = record { module_name = name; field = field; role = imports.WorldFunc (keys.Name text) function abi } in
+      call_needs_stand w of m i None (keys.Name text) function abi (world_call w ok (record { of = of; core = i }) there text function abi refl h) ok found there
+  import_stands name field (imports.InterfaceFunc key id function abi) there h =
+      let i : CoreImport = record { module_name = name; field = field; role = imports.InterfaceFunc key id function abi } in
+      call_needs_stand w of m i (Some key) key function abi (interface_call w ok (record { of = of; core = i }) there key id function abi refl h) ok found there
+  import_stands name field (imports.ImportedResourceDrop key interface id) there h = tt
+  import_stands name field (imports.ExportedResourceDrop key id) there h = tt
+  import_stands name field (imports.ExportedResourceRep key id) there h = tt
+  import_stands name field (imports.ExportedResourceNew key id) there h = tt
+  import_stands name field role there h = absurd h
 
--- ---- the destructors
+  -- ---- the destructors
 
-destructor_stands : (w : ComponentWorld) → IsEncodable w → (name : List ℕ) (role : Export) → Contains w.main.exports.exports (name, role) → AllByRecursion (Stands w) (export_needs w users.Main (name, role))
-destructor_stands w ok name (exports.ResourceDtor id) there =
-    let fits = AllByRecursion-contains (FitsExport w.resolve (items_of w) w.main) w.main.exports.exports (name, exports.ResourceDtor id) ok.valid.main.exported there in (
-      λ place. inr (name, record { is = record { of_kind = refl; resource = id; exported = there; typed = fits.offered ∙ sym fits.fits }; options = refl }),
-      tt,
-    )
-destructor_stands w ok name role there = tt
+  destructor_stands : (name : List ℕ) (role : Export) → Contains m.exports.exports (name, role) → AllByRecursion (Stands w) (export_needs w (which_of of) (name, role))
+  destructor_stands name (exports.ResourceDtor id) there =
+      let exporting : WorldModule = record { of = of; found = m } in
+      let listed : Contains (user_modules w) exporting = found_listed w of m found in
+      let right = user_module w ok.valid exporting listed in
+      let fits = AllByRecursion-contains (FitsExport w.resolve (items_of w) m) m.exports.exports (name, exports.ResourceDtor id) right.1.exported there in (
+        λ place. inr (
+          record { of = of; name = name },
+          record {
+            is = record {
+              of_kind = ap (λ (u : UserModule). Some (record { of = u; name = name })) (back of);
+              exporting = exporting;
+              listed = listed;
+              same = refl;
+              typed = fits.offered ∙ sym fits.fits;
+            };
+            options = refl;
+          },
+        ),
+        tt,
+      )
+  destructor_stands name role there = tt
+
+  -- ---- a module
+
+  module_stands : AllByRecursion (Stands w) (needs_of w (which_of of) (Some m))
+  module_stands =
+      all_both (Stands w) (flat_map (import_needs w (which_of of) m) (imports_of m)) (flat_map (export_needs w (which_of of)) m.exports.exports)
+      (all_flat (Stands w) (import_needs w (which_of of) m) (imports_of m) (λ i c.
+      let there : Contains (user_imports w) (record { of = of; core = i }) = of_module w of m i found c in
+      import_stands i.module_name i.field i.role there (import_role w ok (record { of = of; core = i }) there)))
+      (all_flat (Stands w) (export_needs w (which_of of)) m.exports.exports (λ e c. destructor_stands e.0 e.1 c))
 
 -- ---- the whole
 
+all_stand : (w : ComponentWorld) → IsEncodable w → (of : UserModule) (o : Option ValidatedModule) → module_found w of ≡ o → AllByRecursion (Stands w) (needs_of w (which_of of) o)
+all_stand w ok of None at = tt
+all_stand w ok of (Some m) at = module_stands w ok of m at
+
+which_stands : (w : ComponentWorld) → IsEncodable w → (which : MainOrAdapter) → AllByRecursion (Stands w) (needed w which)
+which_stands w ok which =
+    subst (λ (other : MainOrAdapter). AllByRecursion (Stands w) (needed w other)) (forth which)
+    (subst (λ o. AllByRecursion (Stands w) (needs_of w (which_of (module_of which)) o)) (sym (found_as w (module_of which)))
+    (all_stand w ok (module_of which) (module_found w (module_of which)) refl))
+
 pub each_stands : (w : ComponentWorld) → IsEncodable w → AllByRecursion (StandsForOne w) (shims_of w)
 each_stands w ok =
-    let of_imports : List NeededShim = flat_map (import_needs w users.Main w.main) (imports_of w.main) in
-    let of_exports : List NeededShim = flat_map (export_needs w users.Main) w.main.exports.exports in
-    let all : AllByRecursion (Stands w) (of_imports ++ of_exports) =
-    all_both (Stands w) of_imports of_exports
-    (all_flat (Stands w) (import_needs w users.Main w.main) (imports_of w.main) (λ i there. import_stands w ok i.module_name i.field i.role there (import_role w ok i there)))
-    (all_flat (Stands w) (export_needs w users.Main) w.main.exports.exports (λ e there. destructor_stands w ok e.0 e.1 there)) in
-    numbered_stand w 0 (lacking [] (needed w users.Main)) (lacking_stand w [] (needed w users.Main) all)
+    let all : List NeededShim = flat_map (needed w) (modules_in w) in
+    numbered_stand w 0 (lacking [] all) (lacking_stand w [] all (all_flat (Stands w) (needed w) (modules_in w) (λ which c. which_stands w ok which)))

@@ -2,15 +2,16 @@
 use Rattle.std.proofs.Common.{◌≡◌, ◌∙◌, Contains, Some, sym, ap, subst}
 use Rattle.std.proofs.lemmas.Option.{same_Some}
 use Rattle.standard_kinds.specs.declared.kinds.StringEncoding.{StringEncoding}
-use Rattle.comp_roles.specs.CoreImports.{CoreImport}
+use Rattle.comp_roles.specs.declared.imports.Import.{Import}
 use Rattle.comp_worlds.specs.Encodable.{IsEncodable}
-use Rattle.comp_worlds.specs.WorldContents.{core_imports}
 use Rattle.comp_worlds.specs.declared.world.ComponentWorld.{ComponentWorld}
 use Rattle.shim_plan.specs.Plans.{shim_of}
 use Rattle.shim_plan.specs.declared.kinds.ShimKind.{ShimKind}
 use Rattle.shim_plan.specs.declared.shims.Shim.{Shim}
 use Rattle.world_shims.specs.WorldShims.{shims_of}
+use Rattle.comp_links.specs.Modules.{UserImport, user_imports}
 use Rattle.comp_links.specs.Roles.{import_encoding}
+use Rattle.comp_links.specs.Targets.{UserModule}
 use Rattle.comp_terms.specs.Generated.{role_of_kind, IsShimOf}
 use Rattle.shim_targets.specs.ShimTargets.{kind_of_import, StandsFor, StandsForOne}
 use Rattle.shim_targets.proofs.ByKind.{for_role}
@@ -20,11 +21,12 @@ use Rattle.shim_targets.proofs.FoundShims.{found_shim}
 use Rattle.shim_targets.proofs.Lists.{all_at}
 use Rattle.shim_targets.proofs.Roles.{import_role}
 
-pub given_shim : (w : ComponentWorld) → IsEncodable w → (i : CoreImport) → Contains (core_imports w) i → (encoding : StringEncoding) → import_encoding w i.role ≡ Some encoding → (kind : ShimKind) → kind_of_import i.role encoding ≡ Some kind → (s : Shim) →
-    shim_of kind (shims_of w) ≡ Some s → IsShimOf w s i.role
+pub given_shim : (w : ComponentWorld) → IsEncodable w → (i : UserImport) → Contains (user_imports w) i → (encoding : StringEncoding) → import_encoding w i.of i.core.role ≡ Some encoding → (kind : ShimKind) → kind_of_import i.of i.core.role encoding ≡ Some kind → (s : Shim) →
+    shim_of kind (shims_of w) ≡ Some s → IsShimOf w s i.of i.core.role
 given_shim w ok i there encoding encoded kind is s e =
     let at = found_shim w ok kind s e in
-    let own : kind_of_import i.role encoding ≡ Some s.kind = is ∙ ap Some (sym at.2) in
-    let other : (j : CoreImport) × StandsFor w s j = for_role w s i.role encoding own (all_at (StandsForOne w) (shims_of w) at.0 s (each_stands w ok) at.1) in
-    let role : role_of_kind w s.kind ≡ Some i.role = ap (role_of_kind w) at.2 ∙ role_back w ok i.role (import_role w ok i there) encoding kind is in
-    subst (IsShimOf w s) (same_Some other.0.role i.role (sym other.1.is.of_kind ∙ role)) other.1.is
+    let own : kind_of_import i.of i.core.role encoding ≡ Some s.kind = is ∙ ap Some (sym at.2) in
+    let other : (j : UserImport) × StandsFor w s j = for_role w s i.of i.core.role encoding own (all_at (StandsForOne w) (shims_of w) at.0 s (each_stands w ok) at.1) in
+    let role : role_of_kind w s.kind ≡ Some (i.of, i.core.role) = ap (role_of_kind w) at.2 ∙ role_back w ok i.of i.core.role (import_role w ok i there) encoding kind is in
+    let same : (other.0.of, other.0.core.role) ≡ (i.of, i.core.role) = same_Some (other.0.of, other.0.core.role) (i.of, i.core.role) (sym other.1.is.of_kind ∙ role) in
+    subst (λ (p : UserModule × Import). IsShimOf w s p.0 p.1) same other.1.is

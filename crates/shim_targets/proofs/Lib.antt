@@ -2,6 +2,7 @@ mod Lists
 mod Tables
 mod Keys
 mod OptionSets
+pub mod Users
 pub mod Roles
 mod Lowered
 mod Calls

@@ -1,4 +1,4 @@
--- How a function is lowered that a core import of main calls: as the table of the world's imports says.
+-- How a function is lowered that a core import calls: as the table of the world's imports says.
 use Rattle.std.proofs.Common.{◌≡◌, ◌∙◌, ℕ, Bool, true, false, ◌&&◌, List, [], ◌∷◌, ◌++◌, cond, if◌then◌else◌, Some, None, refl, sym, ap, subst, codes}
 use Rattle.std.proofs.Math.Bool.{and-false}
 use Rattle.std.specs.List.{AllByRecursion, flat_map}

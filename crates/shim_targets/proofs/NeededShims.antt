@@ -2,6 +2,7 @@
 use Rattle.std.proofs.Common.{◌≡◌, ◌∙◌, ◌⊎◌, inl, inr, ℕ, suc, Bool, true, false, true≢false, List, [], ◌∷◌, ◌++◌, map, Contains, if◌then◌else◌, is_some, Some, None, refl, sym, ap, subst}
 use Rattle.std.specs.Prelude.{IsTrue, IsSome}
 use Rattle.std.specs.List.{flat_map, list_any}
+use Rattle.std.specs.Option.{option_and_then}
 use Rattle.std.proofs.lemmas.List.Elements.{Contains-append_left}
 use Rattle.std.proofs.lemmas.Option.{none-some}
 use Rattle.standard_kinds.specs.declared.kinds.StringEncoding.{StringEncoding}
@@ -9,29 +10,31 @@ use Rattle.wit_data.specs.declared.worlds.WorldKey.TheVariants as keys
 use Rattle.comp_roles.specs.CoreImports.{CoreImport}
 use Rattle.comp_roles.specs.declared.imports.Import.{Import}
 use Rattle.comp_roles.specs.declared.imports.Import.TheVariants as imports
-use Rattle.comp_roles.specs.declared.libraries.MainOrAdapter.TheVariants as users
+use Rattle.comp_roles.specs.declared.libraries.MainOrAdapter.{MainOrAdapter}
 use Rattle.comp_options.specs.Options.{needs}
 use Rattle.comp_worlds.specs.Encodable.{IsEncodable}
 use Rattle.comp_worlds.specs.Uses.{imports_of}
-use Rattle.comp_worlds.specs.WorldContents.{core_imports}
 use Rattle.comp_worlds.specs.Worlds.{IsImportRole}
 use Rattle.comp_worlds.specs.declared.world.ComponentWorld.{ComponentWorld}
+use Rattle.comp_worlds.specs.declared.world.ValidatedModule.{ValidatedModule}
 use Rattle.shim_plan.proofs.Appending.{known as known_by_kinds}
 use Rattle.shim_plan.proofs.EqualKinds.{are_one}
-use Rattle.shim_plan.specs.Needed.{import_needs, export_needs, needed}
+use Rattle.shim_plan.specs.Needed.{import_needs, export_needs, needs_of, needed}
 use Rattle.shim_plan.specs.Plans.{same_kind, kinds_of, shim_of, numbered, lacking}
 use Rattle.shim_plan.specs.declared.kinds.ShimKind.{ShimKind}
 use Rattle.shim_plan.specs.declared.needs.NeededShim.{NeededShim}
-use Rattle.world_shims.specs.WorldShims.{shims_of}
+use Rattle.world_shims.specs.WorldShims.{modules_in, shims_of}
 use Rattle.comp_links.specs.Links.{lower_needs, lower_options}
-use Rattle.comp_links.specs.Roles.{import_encoding}
-use Rattle.comp_links.specs.Targets.{Main}
-use Rattle.shim_targets.specs.ShimTargets.{kind_of_import}
+use Rattle.comp_links.specs.Modules.{UserImport, module_found, user_imports}
+use Rattle.comp_links.specs.Roles.{encoding_in, import_encoding}
+use Rattle.comp_links.specs.Targets.{UserModule}
+use Rattle.shim_targets.specs.ShimTargets.{which_of, kind_of_import}
 use Rattle.shim_targets.proofs.CallNeeds.{shim_with, call_needed, kind_of_shim}
 use Rattle.shim_targets.proofs.Calls.{world_call, interface_call}
 use Rattle.shim_targets.proofs.Lists.{contains_none, contains_cons, contains_first, contains_later, contains_flat, passes_any, any_push}
 use Rattle.shim_targets.proofs.NoOptions.{no_options}
 use Rattle.shim_targets.proofs.Roles.{import_role}
+use Rattle.shim_targets.proofs.Users.{IsImportOf, import_of, of_module, listed_found, needed_in}
 
 -- ---- each kind that is needed has a shim
 
@@ -69,10 +72,11 @@ kept known (m ∷ ns) n c = by (list_any (same_kind m.kind) known) refl (contain
     by false e (inl same) here there = inr (subst (λ (x : NeededShim). Contains (m.kind ∷ kinds_needed next) x.kind) same (contains_first m.kind (kinds_needed next)))
     by false e (inr later) here there = after (there later)
 
-pub has_shim : (w : ComponentWorld) (n : NeededShim) → Contains (needed w users.Main) n → IsSome (shim_of n.kind (shims_of w))
+pub has_shim : (w : ComponentWorld) (n : NeededShim) → Contains (flat_map (needed w) (modules_in w)) n → IsSome (shim_of n.kind (shims_of w))
 has_shim w n c =
-    let lacks : List NeededShim = lacking [] (needed w users.Main) in
-    let among : Contains (kinds_needed lacks) n.kind = elim (kept [] (needed w users.Main) n c) [
+    let all : List NeededShim = flat_map (needed w) (modules_in w) in
+    let lacks : List NeededShim = lacking [] all in
+    let among : Contains (kinds_needed lacks) n.kind = elim (kept [] all n c) [
       | inl none ↦ absurd (true≢false (sym none))
       | inr there ↦ there
     ] in
@@ -82,41 +86,52 @@ has_shim w n c =
 -- ---- imports that need a memory
 
 -- what is needed of an import has one of this kind
-record IsKindNeeded (w : ComponentWorld) (i : CoreImport) (kind : ShimKind) : Type 0 where
+record IsKindNeeded (w : ComponentWorld) (of : UserModule) (m : ValidatedModule) (i : CoreImport) (kind : ShimKind) : Type 0 where
   shim : NeededShim
-  there : Contains (import_needs w users.Main w.main i) shim
+  there : Contains (import_needs w (which_of of) m i) shim
   same : shim.kind ≡ kind
 
-import_needed : (w : ComponentWorld) → IsEncodable w → (name field : List ℕ) (role : Import) → Contains (core_imports w) (record { module_name = name; field = field; role = role }) → IsImportRole w role → (encoding : StringEncoding) →
-    import_encoding w role ≡ Some encoding → IsTrue (needs (lower_needs w role) 1) → (kind : ShimKind) → kind_of_import role encoding ≡ Some kind → IsKindNeeded w (record { module_name = name; field = field; role = role }) kind
-import_needed w ok name field (imports.WorldFunc (keys.Name text) function abi) there h encoding encoded memory kind is =
+import_needed : (w : ComponentWorld) → IsEncodable w → (of : UserModule) (m : ValidatedModule) (name field : List ℕ) (role : Import) → Contains (user_imports w) (record { of = of; core = record { module_name = name; field = field; role = role } }) → IsImportRole w role →
+    (encoding : StringEncoding) → encoding_in role m ≡ Some encoding → IsTrue (needs (lower_needs w role) 1) → (kind : ShimKind) → kind_of_import of role encoding ≡ Some kind → IsKindNeeded w of m (record { module_name = name; field = field; role = role }) kind
+import_needed w ok of m name field (imports.WorldFunc (keys.Name text) function abi) there h encoding encoded memory kind is =
     let i : CoreImport = record { module_name = name; field = field; role = imports.WorldFunc (keys.Name text) function abi } in
-    let lowered = world_call w ok i there text function abi refl h in
-    record { shim = shim_with w i None (keys.Name text) function abi lowered encoding; there = call_needed w i None (keys.Name text) function abi lowered memory encoding encoded; same = kind_of_shim w i None (keys.Name text) function abi lowered encoding kind is }
-import_needed w ok name field (imports.InterfaceFunc key id function abi) there h encoding encoded memory kind is =
+    let lowered = world_call w ok (record { of = of; core = i }) there text function abi refl h in
+    record { shim = shim_with w of m i None (keys.Name text) function abi lowered encoding; there = call_needed w of m i None (keys.Name text) function abi lowered memory encoding encoded; same = kind_of_shim w of m i None (keys.Name text) function abi lowered encoding kind is }
+import_needed w ok of m name field (imports.InterfaceFunc key id function abi) there h encoding encoded memory kind is =
     let i : CoreImport = record { module_name = name; field = field; role = imports.InterfaceFunc key id function abi } in
-    let lowered = interface_call w ok i there key id function abi refl h in
-    record { shim = shim_with w i (Some key) key function abi lowered encoding; there = call_needed w i (Some key) key function abi lowered memory encoding encoded; same = kind_of_shim w i (Some key) key function abi lowered encoding kind is }
-import_needed w ok name field (imports.ImportedResourceDrop key interface id) there h encoding encoded memory kind is = absurd (none-some kind is)
-import_needed w ok name field (imports.ExportedResourceDrop key id) there h encoding encoded memory kind is = absurd (none-some kind is)
-import_needed w ok name field (imports.ExportedResourceRep key id) there h encoding encoded memory kind is = absurd (none-some kind is)
-import_needed w ok name field (imports.ExportedResourceNew key id) there h encoding encoded memory kind is = absurd (none-some kind is)
-import_needed w ok name field role there h encoding encoded memory kind is = absurd h
+    let lowered = interface_call w ok (record { of = of; core = i }) there key id function abi refl h in
+    record { shim = shim_with w of m i (Some key) key function abi lowered encoding; there = call_needed w of m i (Some key) key function abi lowered memory encoding encoded; same = kind_of_shim w of m i (Some key) key function abi lowered encoding kind is }
+import_needed w ok of m name field (imports.ImportedResourceDrop key interface id) there h encoding encoded memory kind is = absurd (none-some kind is)
+import_needed w ok of m name field (imports.ExportedResourceDrop key id) there h encoding encoded memory kind is = absurd (none-some kind is)
+import_needed w ok of m name field (imports.ExportedResourceRep key id) there h encoding encoded memory kind is = absurd (none-some kind is)
+import_needed w ok of m name field (imports.ExportedResourceNew key id) there h encoding encoded memory kind is = absurd (none-some kind is)
+import_needed w ok of m name field role there h encoding encoded memory kind is = absurd h
 
-pub shim_there : (w : ComponentWorld) → IsEncodable w → (i : CoreImport) → Contains (core_imports w) i → (encoding : StringEncoding) → import_encoding w i.role ≡ Some encoding → IsTrue (needs (lower_needs w i.role) 1) → (kind : ShimKind) →
-    kind_of_import i.role encoding ≡ Some kind → IsSome (shim_of kind (shims_of w))
+-- an import of a module that is found
+found_there : (w : ComponentWorld) → IsEncodable w → (of : UserModule) (m : ValidatedModule) → module_found w of ≡ Some m → (i : CoreImport) → Contains (imports_of m) i → (encoding : StringEncoding) → encoding_in i.role m ≡ Some encoding →
+    IsTrue (needs (lower_needs w i.role) 1) → (kind : ShimKind) → kind_of_import of i.role encoding ≡ Some kind → IsSome (shim_of kind (shims_of w))
+found_there w ok of m found i c encoding encoded memory kind is =
+    let which : MainOrAdapter = which_of of in
+    let there : Contains (user_imports w) (record { of = of; core = i }) = of_module w of m i found c in
+    let n : IsKindNeeded w of m i kind = import_needed w ok of m i.module_name i.field i.role there (import_role w ok (record { of = of; core = i }) there) encoding encoded memory kind is in
+    let of_import : Contains (flat_map (import_needs w which m) (imports_of m)) n.shim = contains_flat (import_needs w which m) (imports_of m) i n.shim c n.there in
+    let among : Contains (needs_of w which (Some m)) n.shim = Contains-append_left (flat_map (import_needs w which m) (imports_of m)) (flat_map (export_needs w which) m.exports.exports) n.shim of_import in
+    subst (λ k. IsSome (shim_of k (shims_of w))) n.same (has_shim w n.shim (needed_in w of m found n.shim among))
+
+pub shim_there : (w : ComponentWorld) → IsEncodable w → (i : UserImport) → Contains (user_imports w) i → (encoding : StringEncoding) → import_encoding w i.of i.core.role ≡ Some encoding → IsTrue (needs (lower_needs w i.core.role) 1) → (kind : ShimKind) →
+    kind_of_import i.of i.core.role encoding ≡ Some kind → IsSome (shim_of kind (shims_of w))
 shim_there w ok i there encoding encoded memory kind is =
-    let n : IsKindNeeded w i kind = import_needed w ok i.module_name i.field i.role there (import_role w ok i there) encoding encoded memory kind is in
-    let of_import : Contains (flat_map (import_needs w users.Main w.main) (imports_of w.main)) n.shim = contains_flat (import_needs w users.Main w.main) (imports_of w.main) i n.shim there n.there in
-    let among : Contains (needed w users.Main) n.shim = Contains-append_left (flat_map (import_needs w users.Main w.main) (imports_of w.main)) (flat_map (export_needs w users.Main) w.main.exports.exports) n.shim of_import in
-    subst (λ k. IsSome (shim_of k (shims_of w))) n.same (has_shim w n.shim among)
+    let o : IsImportOf w i = import_of w i there in
+    let m : ValidatedModule = o.world_module.found in
+    let found : module_found w i.of ≡ Some m = ap (module_found w) (sym o.same) ∙ listed_found w ok.valid o.world_module o.listed in
+    found_there w ok i.of m found i.core o.there encoding (sym (ap (option_and_then (encoding_in i.core.role)) found) ∙ encoded) memory kind is
 
 -- ---- imports that have no shim
 
-pub direct : (w : ComponentWorld) → IsEncodable w → (i : CoreImport) → Contains (core_imports w) i → (encoding : StringEncoding) → import_encoding w i.role ≡ Some encoding → (kind : ShimKind) → kind_of_import i.role encoding ≡ Some kind →
-    shim_of kind (shims_of w) ≡ None → lower_options w Main i.role ≡ []
-direct w ok i there encoding encoded kind is none = by (needs (lower_needs w i.role) 1) refl
+pub direct : (w : ComponentWorld) → IsEncodable w → (i : UserImport) → Contains (user_imports w) i → (encoding : StringEncoding) → import_encoding w i.of i.core.role ≡ Some encoding → (kind : ShimKind) → kind_of_import i.of i.core.role encoding ≡ Some kind →
+    shim_of kind (shims_of w) ≡ None → lower_options w i.of i.core.role ≡ []
+direct w ok i there encoding encoded kind is none = by (needs (lower_needs w i.core.role) 1) refl
   where
-    by : (b : Bool) → needs (lower_needs w i.role) 1 ≡ b → lower_options w Main i.role ≡ []
+    by : (b : Bool) → needs (lower_needs w i.core.role) 1 ≡ b → lower_options w i.of i.core.role ≡ []
     by true e = absurd (true≢false (sym (shim_there w ok i there encoding encoded e kind is) ∙ ap is_some none))
     by false e = no_options w ok i there e

@@ -7,18 +7,17 @@ use Rattle.wit_data.specs.declared.functions.Function.{Function}
 use Rattle.wit_data.specs.declared.types.TypeDef.{TypeDef}
 use Rattle.wit_data.specs.declared.worlds.WorldKey.TheVariants as keys
 use Rattle.comp_lists.specs.Found.{found}
-use Rattle.comp_roles.specs.CoreImports.{CoreImport}
 use Rattle.comp_roles.specs.declared.imports.Import.{Import}
 use Rattle.comp_roles.specs.declared.imports.Import.TheVariants as imports
 use Rattle.comp_options.specs.Options.{needs, import_set}
 use Rattle.world_values.specs.Items.{functions_of, root_function_at}
 use Rattle.comp_worlds.specs.Encodable.{IsEncodable}
-use Rattle.comp_worlds.specs.WorldContents.{items_of, core_imports}
+use Rattle.comp_worlds.specs.WorldContents.{items_of}
 use Rattle.comp_worlds.specs.Worlds.{IsImportRole}
 use Rattle.comp_worlds.specs.declared.world.ComponentWorld.{ComponentWorld}
 use Rattle.comp_links.specs.Links.{options_in, lower_needs, lower_realloc, lower_options}
 use Rattle.comp_links.specs.Roles.{import_encoding}
-use Rattle.comp_links.specs.Targets.{Main}
+use Rattle.comp_links.specs.Modules.{UserImport, user_imports}
 use Rattle.shim_targets.proofs.OptionSets.{none_needed}
 use Rattle.shim_targets.proofs.Roles.{import_role}
 
@@ -41,5 +40,5 @@ role_without w (imports.ExportedResourceRep key id) h e = refl
 role_without w (imports.ExportedResourceNew key id) h e = refl
 role_without w role h e = absurd h
 
-pub no_options : (w : ComponentWorld) → IsEncodable w → (i : CoreImport) → Contains (core_imports w) i → needs (lower_needs w i.role) 1 ≡ false → lower_options w Main i.role ≡ []
-no_options w ok i c e = ap (λ (set : ℕ). options_in set (lower_realloc w Main) (import_encoding w i.role)) (role_without w i.role (import_role w ok i c) e)
+pub no_options : (w : ComponentWorld) → IsEncodable w → (i : UserImport) → Contains (user_imports w) i → needs (lower_needs w i.core.role) 1 ≡ false → lower_options w i.of i.core.role ≡ []
+no_options w ok i c e = ap (λ (set : ℕ). options_in set (lower_realloc w i.of) (import_encoding w i.of i.core.role)) (role_without w i.core.role (import_role w ok i c) e)

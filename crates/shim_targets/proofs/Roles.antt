@@ -1,4 +1,4 @@
--- What the roles of a world exclude: main imports no memory, and exports no task hook.
+-- What the roles of a world exclude: main imports no memory, and exports no task hook. What they say of the imports of all modules.
 use Rattle.std.proofs.Common.{◌≡◌, ℕ, false, List, [], ◌∷◌, map, Contains, None, is_some, refl, ap}
 use Rattle.std.specs.List.{AllByRecursion, flat_map}
 use Rattle.comp_lists.proofs.Lists.{AllByRecursion-contains}
@@ -11,16 +11,21 @@ use Rattle.comp_roles.specs.declared.imports.Import.TheVariants as imports
 use Rattle.comp_roles.specs.declared.imports.ImportInstance.{ImportInstance}
 use Rattle.comp_roles.specs.declared.imports.ImportInstance.TheVariants as instances
 use Rattle.comp_worlds.specs.Encodable.{IsEncodable}
-use Rattle.comp_worlds.specs.WorldContents.{core_imports}
+use Rattle.comp_worlds.specs.Uses.{imports_of}
 use Rattle.comp_worlds.specs.Worlds.{IsImportRole, IsImportGroup, IsExportRole}
 use Rattle.comp_worlds.specs.declared.world.ComponentWorld.{ComponentWorld}
+use Rattle.comp_links.specs.Modules.{UserImport, user_imports}
 use Rattle.shim_targets.proofs.Lists.{all_both}
+use Rattle.shim_targets.proofs.Users.{IsImportOf, import_of, user_module}
 
 -- ---- imports
 
--- a core import of main has a role of the world
-pub import_role : (w : ComponentWorld) → IsEncodable w → (i : CoreImport) → Contains (core_imports w) i → IsImportRole w i.role
-import_role w ok i c = AllByRecursion-contains (λ (i : CoreImport). IsImportRole w i.role) (core_imports w) i (groups w.main.imports.modules ok.valid.main.import_roles) c
+-- a core import of a user module has a role of the world
+pub import_role : (w : ComponentWorld) → IsEncodable w → (i : UserImport) → Contains (user_imports w) i → IsImportRole w i.core.role
+import_role w ok i c =
+    let m : IsImportOf w i = import_of w i c in
+    let right = user_module w ok.valid m.world_module m.listed in
+    AllByRecursion-contains (λ (i : CoreImport). IsImportRole w i.role) (imports_of m.world_module.found) i.core (groups m.world_module.found.imports.modules right.1.import_roles) m.there
   where
     fields : (name : List ℕ) (fs : List (List ℕ × Import)) → AllByRecursion (λ f. IsImportRole w f.1) fs →
         AllByRecursion (λ (i : CoreImport). IsImportRole w i.role) (map (λ f. record { module_name = name; field = f.0; role = f.1 }) fs)

@@ -1,4 +1,4 @@
--- Functions that main imports are called synchronously.
+-- Functions that user modules import are called synchronously.
 use Rattle.std.proofs.Common.{◌≡◌, ◌∙◌, false, List, Option, Some, None, refl, ap}
 use Rattle.std.specs.Option.{option_map_or}
 use Rattle.wit_data.specs.declared.functions.AbiVariant.{AbiVariant}

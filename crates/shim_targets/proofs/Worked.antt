@@ -1,8 +1,8 @@
 -- Worked examples: a world that imports a function of a text and one of a number at its root, and one of texts in an interface;
--- and one whose main module exports the destructor of a resource.
+-- one whose main module exports the destructor of a resource, and one with an adapter.
 use Rattle.std.proofs.Common.{◌≡◌, ◌<◌, ℕ, arith, false, true, List, [], ◌∷◌, refl, Some, None}
 use Rattle.std.specs.Fmt.{digits}
-use Rattle.std.specs.List.{IsDistinct}
+use Rattle.std.specs.List.{IsDistinct, flat_map}
 use Rattle.std.specs.Prelude.{codes}
 use Rattle.standard_kinds.specs.declared.kinds.Primitive.TheVariants as primitives
 use Rattle.standard_kinds.specs.declared.kinds.StringEncoding.{StringEncoding}
@@ -22,7 +22,6 @@ use Rattle.wit_data.specs.declared.worlds.WorldKey.TheVariants as keys
 use Rattle.core_types.specs.Core.{core_preamble}
 use Rattle.core_types.specs.declared.types.MemoryType.{MemoryType}
 use Rattle.wit_data.specs.Sound.{IsSound}
-use Rattle.comp_roles.specs.CoreImports.{CoreImport}
 use Rattle.comp_roles.specs.declared.offered.ExternType.TheVariants as externs
 use Rattle.comp_worlds.specs.Encodable.{IsEncodable}
 use Rattle.comp_worlds.specs.Typed.{destructor_type, realloc_type}
@@ -35,17 +34,19 @@ use Rattle.comp_roles.specs.declared.libraries.MainOrAdapter.TheVariants as user
 use Rattle.comp_roles.specs.declared.metadata.FunctionKey.{FunctionKey}
 use Rattle.comp_worlds.specs.WorldTables.{whole_of}
 use Rattle.comp_worlds.specs.declared.world.ComponentWorld.{ComponentWorld}
+use Rattle.comp_worlds.specs.declared.world.WorldAdapter.{WorldAdapter}
 use Rattle.shim_plan.specs.Encodings.{unencoded}
 use Rattle.shim_plan.specs.Plans.{shim_of}
 use Rattle.shim_plan.specs.declared.kinds.ShimKind.{ShimKind}
 use Rattle.shim_plan.specs.declared.kinds.ShimKind.TheVariants as kinds
 use Rattle.shim_plan.specs.declared.shims.Shim.{Shim}
-use Rattle.world_shims.specs.WorldShims.{shims_of}
+use Rattle.world_shims.specs.WorldShims.{modules_in, shims_of}
 use Rattle.comp_links.specs.Links.{lower_needs, lower_options}
+use Rattle.comp_links.specs.Modules.{UserImport}
 use Rattle.comp_links.specs.Roles.{import_encoding, field_path}
-use Rattle.comp_links.specs.Targets.{Main, Memory, Realloc, Encoding, ExportOf}
-use Rattle.comp_terms.specs.Generated.{role_of_kind, OfDestructor, target_of}
-use Rattle.shim_targets.specs.ShimTargets.{kind_of_import, StandsFor, StandsForDestructor}
+use Rattle.comp_links.specs.Targets.{Main, Adapter, Memory, Realloc, Encoding, ExportOf}
+use Rattle.comp_terms.specs.Generated.{role_of_kind, OfExport, target_of}
+use Rattle.shim_targets.specs.ShimTargets.{kind_of_import, StandsFor, StandsForExport}
 use Rattle.shim_targets.proofs.ByKind.{for_role}
 use Rattle.shim_targets.proofs.EachShim.{each_stands}
 
@@ -139,14 +140,14 @@ unfolding values_from digits
 one_shim = refl
 
 -- it is found by the kind of the import, and that kind gives the role
-is_kind : kind_of_import role_f encodings.UTF8 ≡ Some kind_f
+is_kind : kind_of_import Main role_f encodings.UTF8 ≡ Some kind_f
 is_kind = refl
 
 is_found : shim_of kind_f (shims_of text_world) ≡ Some shim_f
 unfolding values_from digits
 is_found = refl
 
-is_role : role_of_kind text_world kind_f ≡ Some role_f
+is_role : role_of_kind text_world kind_f ≡ Some (Main, role_f)
 is_role = refl
 
 -- the options by the link table are those of the set
@@ -198,7 +199,7 @@ two_shims : shims_of mixed_world ≡ shim_g ∷ record shim_f { name = codes "1"
 unfolding values_from digits
 two_shims = refl
 
-role_in_interface : role_of_kind mixed_world kind_g ≡ Some role_g
+role_in_interface : role_of_kind mixed_world kind_g ≡ Some (Main, role_g)
 role_in_interface = refl
 
 linked_in_interface : lower_options mixed_world Main role_g ≡ Memory ∷ Realloc (record { of = Main; name = codes "r" }) ∷ Encoding encodings.UTF16 ∷ []
@@ -275,9 +276,9 @@ is_encodable = record {
 }
 
 -- so the second shim stands for an import
-second_stands : (i : CoreImport) × StandsFor mixed_world (record shim_f { name = codes "1"; debug_name = codes "indirect-m-z" }) i
+second_stands : (i : UserImport) × StandsFor mixed_world (record shim_f { name = codes "1"; debug_name = codes "indirect-m-z" }) i
 unfolding values_from digits
-second_stands = for_role mixed_world (record shim_f { name = codes "1"; debug_name = codes "indirect-m-z" }) role_f encodings.UTF8 refl (each_stands mixed_world is_encodable).1.0
+second_stands = for_role mixed_world (record shim_f { name = codes "1"; debug_name = codes "indirect-m-z" }) Main role_f encodings.UTF8 refl (each_stands mixed_world is_encodable).1.0
 
 -- ---- a destructor
 
@@ -321,11 +322,45 @@ unfolding values_from digits
 after_imports = refl
 
 -- and stands for the export, of the type that validation found
-stands_for_d : StandsForDestructor destructor_world shim_d (codes "d")
-stands_for_d = record { is = record { of_kind = refl; resource = resource; exported = (0, omega arith, refl); typed = refl }; options = refl }
+stands_for_d : StandsForExport destructor_world shim_d (record { of = Main; name = codes "d" })
+stands_for_d = record { is = record { of_kind = refl; exporting = record { of = Main; found = destructor_world.main }; listed = (0, omega arith, refl); same = refl; typed = refl }; options = refl }
 
-target_of_d : target_of destructor_world (OfDestructor (codes "d")) ≡ ExportOf (record { of = Main; name = codes "d" })
+target_of_d : target_of destructor_world (OfExport (record { of = Main; name = codes "d" })) ≡ ExportOf (record { of = Main; name = codes "d" })
 target_of_d = refl
+
+-- ---- an adapter
+
+-- the adapter `a` imports f as main does, with another encoding
+abbrev adapter : WorldAdapter
+adapter = record {
+  info = record {
+    bytes = core_preamble;
+    imports = record { modules = (codes "k", instances.Names ((codes "v", role_f) ∷ [])) ∷ [] };
+    exports = record { exports = [] };
+    imported = [];
+    offered = [];
+    metadata = record { import_encodings = (record { key = keys.Name f; function = f }, encodings.UTF16) ∷ []; export_encodings = [] };
+  };
+  required_exports = [];
+  library_info = None;
+}
+
+abbrev adapted_world : ComponentWorld
+adapted_world = record text_world { adapters = (codes "a", adapter) ∷ [] }
+
+abbrev kind_a : ShimKind
+kind_a = kinds.IndirectLowering None (record { name = f; abi = GuestImport }) (users.Adapter (codes "a")) encodings.UTF16
+
+-- its shim comes after main's, and stands for the role in the adapter
+shim_each : shims_of adapted_world ≡ shim_f ∷ record shim_f { name = codes "1"; debug_name = codes "indirect-k-v"; kind = kind_a } ∷ []
+unfolding values_from digits
+shim_each = refl
+
+is_kind_in_adapter : kind_of_import (Adapter (codes "a")) role_f encodings.UTF16 ≡ Some kind_a
+is_kind_in_adapter = refl
+
+role_in_adapter : role_of_kind adapted_world kind_a ≡ Some (Adapter (codes "a"), role_f)
+role_in_adapter = refl
 
 -- ---- without encodings
 
@@ -337,9 +372,9 @@ unencoded_shims : shims_of plain_world ≡ []
 unfolding values_from
 unencoded_shims = refl
 
-unencoded_place : unencoded plain_world users.Main ≡ field_path (codes "m") (codes "y") ∷ []
+unencoded_place : flat_map (unencoded plain_world) (modules_in plain_world) ≡ field_path (codes "m") (codes "y") ∷ []
 unfolding values_from
 unencoded_place = refl
 
-no_encoding : import_encoding plain_world role_f ≡ None
+no_encoding : import_encoding plain_world Main role_f ≡ None
 no_encoding = refl

@@ -1,45 +1,56 @@
 -- What the shims of a world stand for, by its link table (Canonical ABI: `canon lower`; component model, explainer: core
 -- instances).
-use Rattle.std.specs.Prelude.{◌≡◌, ◌++◌, ◌⊎◌, ℕ, List, Option, Some, None, IsTrue, Contains, codes}
+use Rattle.std.specs.Prelude.{◌≡◌, ◌++◌, ◌⊎◌, ℕ, Option, Some, None, IsTrue, Contains, codes}
 use Rattle.standard_kinds.specs.declared.kinds.StringEncoding.{StringEncoding}
-use Rattle.comp_roles.specs.CoreImports.{CoreImport}
 use Rattle.comp_roles.specs.declared.imports.Import.{Import}
 use Rattle.comp_roles.specs.declared.imports.Import.TheVariants as imports
+use Rattle.comp_roles.specs.declared.libraries.MainOrAdapter.{MainOrAdapter}
 use Rattle.comp_roles.specs.declared.libraries.MainOrAdapter.TheVariants as users
 use Rattle.comp_options.specs.Options.{needs}
-use Rattle.comp_worlds.specs.WorldContents.{core_imports}
 use Rattle.comp_worlds.specs.declared.world.ComponentWorld.{ComponentWorld}
 use Rattle.shim_plan.specs.declared.kinds.ShimKind.{ShimKind}
 use Rattle.shim_plan.specs.declared.kinds.ShimKind.TheVariants as kinds
 use Rattle.shim_plan.specs.declared.shims.Shim.{Shim}
 use Rattle.comp_links.specs.Links.{lower_needs}
 use Rattle.comp_links.specs.Roles.{import_encoding}
-use Rattle.comp_terms.specs.Generated.{IsShimOf, IsShimOfDestructor}
+use Rattle.comp_links.specs.Modules.{UserImport, user_imports}
+use Rattle.comp_links.specs.Targets.{UserModule, Main, Adapter, ExportRef}
+use Rattle.comp_terms.specs.Generated.{IsShimOf, IsShimOfExport}
 
--- the kind of the shim for an import of main that is called with this string encoding: that of a lowering, where its role is
+-- a user module as shims name it
+abbrev pub which_of : UserModule → MainOrAdapter
+which_of Main = users.Main
+which_of (Adapter name) = users.Adapter name
+
+-- the kind of the shim for an import of a module that is called with this string encoding: that of a lowering, where its role is
 -- a function of the world
-abbrev pub kind_of_import : Import → StringEncoding → Option ShimKind
-kind_of_import (imports.WorldFunc key name abi) encoding = Some (kinds.IndirectLowering None (record { name = name; abi = abi }) users.Main encoding)
-kind_of_import (imports.InterfaceFunc key id name abi) encoding = Some (kinds.IndirectLowering (Some key) (record { name = name; abi = abi }) users.Main encoding)
-kind_of_import role encoding = None
+abbrev pub kind_of_import : UserModule → Import → StringEncoding → Option ShimKind
+kind_of_import of (imports.WorldFunc key name abi) encoding = Some (kinds.IndirectLowering None (record { name = name; abi = abi }) (which_of of) encoding)
+kind_of_import of (imports.InterfaceFunc key id name abi) encoding = Some (kinds.IndirectLowering (Some key) (record { name = name; abi = abi }) (which_of of) encoding)
+kind_of_import of role encoding = None
 
--- The shim is the lowering of this core import of main: it has the options, the kind and the name that follow from the role,
+-- The shim is the lowering of this core import of a user module: it has the options, the kind and the name that follow from the role,
 -- and its call needs a memory.
-pub record StandsFor (w : ComponentWorld) (s : Shim) (i : CoreImport) : Type 0 where
-  pub present : Contains (core_imports w) i
-  pub is : IsShimOf w s i.role
-  pub options : s.options.0 ≡ lower_needs w i.role
-  pub memory : IsTrue (needs (lower_needs w i.role) 1)
+pub record StandsFor (w : ComponentWorld) (s : Shim) (i : UserImport) : Type 0 where
+  pub present : Contains (user_imports w) i
+  pub is : IsShimOf w s i.of i.core.role
+  pub options : s.options.0 ≡ lower_needs w i.core.role
+  pub memory : IsTrue (needs (lower_needs w i.core.role) 1)
   pub encoding : StringEncoding
-  pub encoded : import_encoding w i.role ≡ Some encoding
-  pub kind : kind_of_import i.role encoding ≡ Some s.kind
-  pub named : s.debug_name ≡ codes "indirect-" ++ i.module_name ++ codes "-" ++ i.field
+  pub encoded : import_encoding w i.of i.core.role ≡ Some encoding
+  pub kind : kind_of_import i.of i.core.role encoding ≡ Some s.kind
+  pub named : s.debug_name ≡ codes "indirect-" ++ i.core.module_name ++ codes "-" ++ i.core.field
 
--- The shim is that of the destructor that main exports under this name: it has no options.
-pub record StandsForDestructor (w : ComponentWorld) (s : Shim) (name : List ℕ) : Type 0 where
-  pub is : IsShimOfDestructor w s name
-  pub options : s.options.0 ≡ 0
+-- the options of a shim for an export: none for a destructor, and the memory for what an adapter exports
+abbrev pub export_options : ShimKind → ℕ
+export_options (kinds.Adapter adapter name) = 1
+export_options kind = 0
 
--- the shim stands for a core import of main, or for a destructor that main exports
+-- The shim is this export of a user module, and has the options of its kind.
+pub record StandsForExport (w : ComponentWorld) (s : Shim) (e : ExportRef) : Type 0 where
+  pub is : IsShimOfExport w s e
+  pub options : s.options.0 ≡ export_options s.kind
+
+-- the shim stands for a core import of a user module, or for an export of one
 abbrev pub StandsForOne : ComponentWorld → Shim → Type 0
-StandsForOne w s = ((i : CoreImport) × StandsFor w s i) ⊎ ((name : List ℕ) × StandsForDestructor w s name)
+StandsForOne w s = ((i : UserImport) × StandsFor w s i) ⊎ ((e : ExportRef) × StandsForExport w s e)

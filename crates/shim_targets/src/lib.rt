@@ -1,10 +1,11 @@
-//! The shims of a world by its link table: which core import or which destructor of main each of them stands for, and which
+//! The shims of a world by its link table: which core import or which export of a user module each of them stands for, and which
 //! imports have one.
 //!
 //! This crate holds lemmas alone, for the crates above to cite. In reading order: `specs/ShimTargets.antt` (what a shim stands
 //! for), `proofs/Lists.antt`, `proofs/Tables.antt` and `proofs/Keys.antt` (elements, look-ups and equal keys),
-//! `proofs/OptionSets.antt` (sets of options without a memory), `proofs/Roles.antt` (what the roles of a world exclude),
-//! `proofs/Lowered.antt` and `proofs/Calls.antt` (how a function that main calls is lowered). The laws are in
+//! `proofs/OptionSets.antt` (sets of options without a memory), `proofs/Users.antt` (user modules and their imports),
+//! `proofs/Roles.antt` (what the roles of a world exclude), `proofs/Lowered.antt` and `proofs/Calls.antt` (how a function that a
+//! module calls is lowered). The laws are in
 //! `proofs/NoOptions.antt`, `proofs/Unencoded.antt`, `proofs/FoundShims.antt`, `proofs/EachShim.antt`, `proofs/ByKind.antt`,
 //! `proofs/GivenShims.antt` and `proofs/NeededShims.antt` (imports) and `proofs/DestructorShims.antt`; `proofs/Worked.antt` has
 //! examples.

@@ -5,6 +5,7 @@
 //! - `direct:F`, `plain:F`: it imports `F`, which is lowered directly, with all options, or with none;
 //! - `again:F`: it imports `F` of `i` once more, from the module `n`;
 //! - `root:F`: it imports the function `F` of the root, which is lowered through a table;
+//! - `adapted:F`, `referring:F`: it imports the function `F` that the adapter `ad` exports, which takes a number, or a reference;
 //! - `dtor:E`, `realloc:E`, `imports:E`, `hook:E`: its export `E` is the destructor of the resource `res`, the general realloc,
 //!   that of imports, or the task hook.
 
@@ -15,6 +16,7 @@ use comp_roles::{
     Export, ExportMap, FunctionKey, Import, ImportInstance, ImportMap, ModuleMetadata,
 };
 use comp_worlds::{Lowering, LoweringKey, ValidatedModule};
+use core_types::{FuncType, RefType, ValType};
 use standard_kinds::StringEncoding;
 use std::alloc::{AllocError, Global};
 use wit_data::{AbiVariant, InterfaceId, TypeId, WasmSignature, WasmType, WorldKey};
@@ -128,6 +130,32 @@ fn add_root_function(alloc: Global, fields: &mut Fields, name: &str) -> Result<(
     fields.insert_if_absent(field, root_role(key, function))
 }
 
+/// The type of a function of one parameter.
+fn taking(alloc: Global, param: ValType) -> Result<FuncType, AllocError> {
+    let params = Vec::from_array(alloc, [param])?;
+    Ok(FuncType {
+        params: Seq::from_vec(params),
+        results: Seq::new(alloc),
+    })
+}
+
+fn adapted_role(adapter: Text, func: Text, ty: FuncType) -> Import {
+    Import::AdapterExport { adapter, func, ty }
+}
+
+fn add_adapted(
+    alloc: Global,
+    fields: &mut Fields,
+    name: &str,
+    param: ValType,
+) -> Result<(), AllocError> {
+    let field = Text::from_str(alloc, name)?;
+    let func = Text::from_str(alloc, name)?;
+    let adapter = Text::from_str(alloc, "ad")?;
+    let ty = taking(alloc, param)?;
+    fields.insert_if_absent(field, adapted_role(adapter, func, ty))
+}
+
 fn add_encoding(
     alloc: Global,
     encodings: &mut Encodings,
@@ -189,6 +217,15 @@ impl ModuleDraft {
             "bare" | "direct" | "plain" => add_function(alloc, &mut self.fields, name),
             "again" => add_function(alloc, &mut self.others, name),
             "root" => self.add_root(alloc, name),
+            "adapted" => add_adapted(alloc, &mut self.fields, name, ValType::I64),
+            "referring" => {
+                add_adapted(
+                    alloc,
+                    &mut self.fields,
+                    name,
+                    ValType::Ref(RefType::FuncRef),
+                )
+            }
             _ => match role_of(kind) {
                 Some(role) => add_export(alloc, &mut self.exports, name, role),
                 None => Ok(()),

@@ -1,4 +1,5 @@
 pub mod Numbered
+pub mod Planned
 pub mod Beyond
 pub mod Listing
 pub mod Refused

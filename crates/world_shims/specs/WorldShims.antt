@@ -1,11 +1,14 @@
 -- The shims of a world, and the two modules that are generated for them, as values. (The rules are this project's own, over
 -- the core standard's modules.)
-use Rattle.std.specs.Prelude.{Bool, List, [], ◌∷◌, length}
+use Rattle.std.specs.Prelude.{ℕ, Bool, List, [], ◌∷◌, length, map}
+use Rattle.std.specs.List.{flat_map}
 use Rattle.core_types.specs.declared.types.FuncType.{FuncType}
 use Rattle.core_bytes.specs.declared.section.Section.{Section}
 use Rattle.comp_roles.specs.CoreTypes.{core_type}
+use Rattle.comp_roles.specs.declared.libraries.MainOrAdapter.{MainOrAdapter}
 use Rattle.comp_roles.specs.declared.libraries.MainOrAdapter.TheVariants as users
 use Rattle.comp_worlds.specs.declared.world.ComponentWorld.{ComponentWorld}
+use Rattle.comp_worlds.specs.declared.world.WorldAdapter.{WorldAdapter}
 use Rattle.interned_types.specs.Interning.{interned, type_index}
 use Rattle.shim_plan.specs.Needed.{needed}
 use Rattle.shim_plan.specs.Plans.{with_needed}
@@ -15,9 +18,16 @@ use Rattle.shim_modules.specs.declared.shims.ShimFunction.{ShimFunction}
 use Rattle.fixup_modules.specs.Fixups.{Fixup, nothing_fixed, with_shim}
 use Rattle.fixup_modules.specs.Sections.{fixup_sections}
 
--- the shims that main needs, in order
+-- the user modules of a world: main, then the adapters in order
+abbrev pub adapter_at : List ℕ × WorldAdapter → MainOrAdapter
+adapter_at a = users.Adapter a.0
+
+abbrev pub modules_in : ComponentWorld → List MainOrAdapter
+modules_in w = users.Main ∷ map adapter_at w.adapters
+
+-- the shims that the user modules need, in order
 abbrev pub shims_of : ComponentWorld → List Shim
-shims_of w = with_needed [] (needed w users.Main)
+shims_of w = with_needed [] (flat_map (needed w) (modules_in w))
 
 -- ---- the module of shims
 

@@ -59,7 +59,7 @@ define_types_at-requires c =
       shims = subst (λ x. AreShimSources x.now mid.items.defs c.args.shims) (sym h.moved.world) (shim_sources-kept w (longer h.moved.extends) c.args.shims c.requires.shims);
       tables = subst (λ x. AreTablesRight x.now mid.met mid.instances mid.items.defs mid.maps) (sym h.moved.world) h.moved.tables;
       required = subst (λ x. IsRequired x.now x.now.main key) (sym h.moved.world) required;
-      resources = subst (λ x. AreNextResources x.now mid.items.defs (entries_at x.now key)) (sym h.moved.world) (next_resources w c.args.root.now mid c.loop-key.key-index key h at c.requires.none);
+      resources = subst (λ x. AreNextResources x.now mid.items.defs (entries_at x.now key)) (sym h.moved.world) (next_resources w c.args.root.now mid c.loop-key.key-index key h at c.requires.valid c.requires.none);
     }
 
 pub returns-in_err-define_types_at-clause-moved : goal.returns-in_err-define_types_at-clause-moved
@@ -105,7 +105,7 @@ pub returns-clause-grows : goal.returns-clause-grows
 returns-clause-grows c =
     let same : c.as_slice-key-items.result.now ≡ c.args.root.now.world.now.main_exports = c.as_slice-key-items.ensures ∙ ap (λ (r : Root). r.world.now.main_exports) c.begin_exports.ensures.same in
     let e : length c.as_slice-key-items.result.now ≡ c.loop-key.key-index = omega arith in
-    keys_grow c.args.root.now.world.now c.args.root.now c.loop-key.root c.loop-key.key-index (whole_of c.as_slice-key-items.result.now c.args.root.now.world.now.main_exports c.loop-key.key-index same e) c.loop-key.invariant
+    keys_grow c.args.root.now.world.now c.args.root.now c.loop-key.root c.loop-key.key-index (whole_of c.as_slice-key-items.result.now c.args.root.now.world.now.main_exports c.loop-key.key-index same e) c.loop-key.invariant c.requires.valid
 
 pub returns-clause-defined : goal.returns-clause-defined
 returns-clause-defined c =

@@ -1,15 +1,14 @@
-use Rattle.std.proofs.Common.{◌≡◌, ◌∙◌, [], ◌∷◌, ◌++◌, Option, ℕ, ap, sym, subst}
+use Rattle.std.proofs.Common.{◌≡◌, ◌∙◌, [], ◌++◌, Option, ℕ, ap, sym, subst}
 use Rattle.std.specs.Option.{option_copied}
-use Rattle.comp_roles.specs.Reallocs.{is_import_realloc, realloc_for}
-use Rattle.core_options.specs.MainOptions.{memory_name}
+use Rattle.core_options.specs.MainOptions.{memory_name, AreUserInstances}
 use Rattle.std.specs.List.{AllByRecursion}
 use Rattle.comp_items.specs.Items.{Extends}
 use Rattle.comp_items.proofs.Extending.{extends_none}
 use Rattle.comp_items.proofs.Kept.{instance-kept}
 use Rattle.comp_items.proofs.Remembering.{longer}
 use Rattle.comp_links.specs.Roles.{IsEncodedImport}
-use Rattle.comp_terms.specs.Rules.{Grows, InstanceOf, resources_marked}
-use Rattle.comp_worlds.specs.WorldContents.{core_imports}
+use Rattle.comp_terms.specs.Rules.{Grows, resources_marked, users_marked}
+use Rattle.comp_links.specs.Modules.{UserImport, user_imports}
 use Rattle.comp_worlds.specs.Encodable.{IsEncodable}
 use Rattle.main_fixup.specs.Filling.{AreFillSources, HasShimOptions}
 use Rattle.main_fixup.specs.declared.sources.FillSources.{FillSources}
@@ -29,10 +28,11 @@ use Rattle.root_imports.specs.Met.{AreExportsMet}
 use Rattle.root_imports.specs.RootScopes.{AreTablesRight}
 use Rattle.root_imports.proofs.Keeping.{kept_none, kept_items, moved_items, moved_kept, moved_then}
 use Rattle.world_shims.specs.WorldShims.{shims_of}
-use Rattle.core_instances.specs.Instances.{IsFirstModule, IsFixupNextIf, MayAddFixup}
-use Rattle.core_instances.proofs.Made.{sources_after, fills_after, made_after, shim_instance-kept, first-kept}
+use Rattle.core_instances.specs.Instances.{HasUserModules, IsMainUser, AreImportsMade, IsFixupNextIf, MayAddFixup}
+use Rattle.core_instances.proofs.Made.{sources_after, fills_after, made_after, shim_instance-kept}
 use Rattle.core_instances.proofs.Needs.{all_lowered}
-use Rattle.core_instances.proofs.Ordering.{first_after, none_after, shims_after, fixup_next, all_added}
+use Rattle.core_instances.proofs.Ordering.{modules_kept, modules_after, none_after, shims_after, fixup_next, all_added}
+use Rattle.core_instances.proofs.UserInstances.{main_is_user, main_same, same_is_user}
 use Rattle.core_instances.proofs.instances.encode_core_instantiation.Goals as goal
 
 -- ---- the root after the first steps
@@ -50,10 +50,10 @@ typed old a b tables same extends h = moved_types old a b (moved_shims old a tab
 typed_grows : (old a b : Root) → a ≡ record old { items = a.items } → Grows a.world.now a.items.defs b.items.defs (resources_marked a.world.now) → Grows old.world.now a.items.defs b.items.defs (resources_marked old.world.now)
 typed_grows old a b same h = subst (λ (r : Root). Grows r.world.now a.items.defs b.items.defs (resources_marked r.world.now)) same h
 
--- and those up to main's instance
-main_grows : (old a b d : Root) → a ≡ record old { items = a.items } → RootMoved old.world.now old b → Grows a.world.now a.items.defs b.items.defs (resources_marked a.world.now) → Grows b.world.now b.items.defs d.items.defs (InstanceOf 0 ∷ []) →
-    Grows old.world.now a.items.defs d.items.defs (resources_marked old.world.now ++ InstanceOf 0 ∷ [])
-main_grows old a b d same k types instance = Grows-then (typed_grows old a b same types) (subst (λ x. Grows x.now b.items.defs d.items.defs (InstanceOf 0 ∷ [])) k.world instance)
+-- and those up to the instances of the user modules
+users_grow : (old a b d : Root) → a ≡ record old { items = a.items } → RootMoved old.world.now old b → Grows a.world.now a.items.defs b.items.defs (resources_marked a.world.now) → Grows b.world.now b.items.defs d.items.defs (users_marked b.world.now) →
+    Grows old.world.now a.items.defs d.items.defs (resources_marked old.world.now ++ users_marked old.world.now)
+users_grow old a b d same k types instance = Grows-then (typed_grows old a b same types) (subst (λ x. Grows x.now b.items.defs d.items.defs (users_marked x.now)) k.world instance)
 
 pub returns-in_err-shim_instance-clause-moved : goal.returns-in_err-shim_instance-clause-moved
 returns-in_err-shim_instance-clause-moved c =
@@ -72,7 +72,7 @@ define_exported_types-requires c =
       shims = subst (λ x. AreShimSources x.now a.items.defs (record { shims = record { ref_ptr = (c.shims-3-1.given, 0); now = c.in_ok-shims.shims }; instance = o })) (sym k.world)
           (record { shims = c.in_ok-shims.ensures.ok; instance = shims_after w c.args.debug_names old a.items.defs o e.added });
       tables = subst (λ x. AreTablesRight x.now a.met a.instances a.items.defs a.maps) (sym k.world) k.tables;
-      none = none_after w c.args.debug_names old a.items.defs o e.added c.requires.alone.none;
+      none = none_after w c.args.debug_names old a.items.defs o e.added c.requires.users.none;
     }
 
 pub returns-in_err-define_exported_types-clause-moved : goal.returns-in_err-define_exported_types-clause-moved
@@ -87,10 +87,10 @@ returns-in_err-define_exported_types-clause-cause c =
     let k : RootMoved w c.args.root.now a = moved_shims c.args.root.now a c.requires.made.tables c.in_ok-shim_instance.ensures.same c.in_ok-shim_instance.ensures.extends in
     let e = c.in_err-define_exported_types.field-0.0 in
     refused_with c.from_residual-in_err-define_exported_types.result e (IsCause w) c.from_residual-in_err-define_exported_types.ensures.1
-    (among_more w [] (core_imports w) [] (required_functions w) (λ i k. contains_none i k) (λ r k. contains_none r k) e (subst (λ x. IsCauseAmong x.now [] [] e) k.world c.in_err-define_exported_types.ensures.cause))
+    (among_more w [] (user_imports w) [] (required_functions w) (λ i k. contains_none i k) (λ r k. contains_none r k) e (subst (λ x. IsCauseAmong x.now [] [] e) k.world c.in_err-define_exported_types.ensures.cause))
 
-pub instantiate_main_module-requires-clause-sources : goal.instantiate_main_module-requires-clause-sources
-instantiate_main_module-requires-clause-sources c =
+pub instantiate_users-requires-clause-sources : goal.instantiate_users-requires-clause-sources
+instantiate_users-requires-clause-sources c =
     let w = c.args.root.now.world.now in
     let old = c.args.root.now.items in
     let mid = c.encode_shim_instantiation.new.root.items in
@@ -100,62 +100,70 @@ instantiate_main_module-requires-clause-sources c =
     let o : Option ℕ = c.in_ok-shim_instance.shim_instance in
     let a_world : c.encode_shim_instantiation.new.root.world ≡ c.args.root.now.world = ap (λ (r : Root). r.world) e.same in
     let there : IsShimInstance w b.items.defs o = shim_instance-kept w (longer_by (typed_grows c.args.root.now c.encode_shim_instantiation.new.root c.define_exported_types.new.root c.in_ok-shim_instance.ensures.same c.in_ok-define_exported_types.ensures.grows)) o (shims_after w c.args.debug_names old.defs mid.defs o e.added) in
-    let s : ImportSources = record { functions = c.args.functions; shims = record { ref_ptr = (c.shims-4-1.given, 0); now = c.in_ok-shims.shims }; shim_instance = o } in
-    subst (λ x. AreSources x.now s b.met b.items.defs b.maps b.instances) (sym k.world) (sources_after (extends_none b.items) s (made_after c.args.root.now b k c.requires.made) (subst (λ x. AreExportsMet x.now b.met) a_world c.in_ok-define_exported_types.ensures.met) c.in_ok-shims.ensures.ok there)
+    let s : ImportSources = c.sources_of-sources.result in
+    let f = c.sources_of-sources.ensures in
+    let main : IsMainUser w c.main_user.result = subst (λ x. IsMainUser x.now c.main_user.result) k.world c.main_user.ensures in
+    let made : AreImportsMade w s.functions.now b.met b.items.defs b.maps b.instances = subst (λ l. AreImportsMade w l b.met b.items.defs b.maps b.instances) (sym f.functions) (made_after c.args.root.now b k c.requires.made) in
+    subst (λ x. AreSources x.now s b.met b.items.defs b.maps b.instances) (sym k.world)
+    (sources_after (extends_none b.items) s (same_is_user w c.main_user.result s.user f.user (main_is_user w c.main_user.result main)) made (subst (λ x. AreExportsMet x.now b.met) a_world c.in_ok-define_exported_types.ensures.met) (f.shims ∙ c.in_ok-shims.ensures.ok) (subst (IsShimInstance w b.items.defs) (sym f.instance) there))
 
-pub instantiate_main_module-requires-clause-first : goal.instantiate_main_module-requires-clause-first
-instantiate_main_module-requires-clause-first c =
+pub instantiate_users-requires-clause-main : goal.instantiate_users-requires-clause-main
+instantiate_users-requires-clause-main c = main_same c.define_exported_types.new.root.world.now c.main_user.result c.sources_of-sources.result.user c.sources_of-sources.ensures.user c.main_user.ensures
+
+pub instantiate_users-requires-clause-there : goal.instantiate_users-requires-clause-there
+instantiate_users-requires-clause-there c =
     let w = c.args.root.now.world.now in
     let old = c.args.root.now.items.defs in
     let mid = c.encode_shim_instantiation.new.root.items.defs in
     let b : Root = c.define_exported_types.new.root in
     let k : RootMoved w c.args.root.now b = typed c.args.root.now c.encode_shim_instantiation.new.root c.define_exported_types.new.root c.requires.made.tables c.in_ok-shim_instance.ensures.same c.in_ok-shim_instance.ensures.extends c.in_ok-define_exported_types.ensures.moved in
-    subst (λ x. IsFirstModule x.now b.items.defs) (sym k.world) (first-kept (longer_by (typed_grows c.args.root.now c.encode_shim_instantiation.new.root c.define_exported_types.new.root c.in_ok-shim_instance.ensures.same c.in_ok-define_exported_types.ensures.grows)) (first_after w c.args.debug_names old mid c.in_ok-shim_instance.shim_instance c.in_ok-shim_instance.ensures.added c.requires.alone.first))
+    subst (λ x. HasUserModules x.now b.items.defs) (sym k.world)
+    (modules_kept (typed_grows c.args.root.now c.encode_shim_instantiation.new.root c.define_exported_types.new.root c.in_ok-shim_instance.ensures.same c.in_ok-define_exported_types.ensures.grows) (modules_after w c.args.debug_names old mid c.in_ok-shim_instance.shim_instance c.in_ok-shim_instance.ensures.added c.requires.users))
 
-pub returns-in_err-instance-clause-moved : goal.returns-in_err-instance-clause-moved
-returns-in_err-instance-clause-moved c =
-    moved_items c.args.root.now.world.now c.args.root.now c.define_exported_types.new.root c.instantiate_main_module.new.root (typed c.args.root.now c.encode_shim_instantiation.new.root c.define_exported_types.new.root c.requires.made.tables c.in_ok-shim_instance.ensures.same c.in_ok-shim_instance.ensures.extends c.in_ok-define_exported_types.ensures.moved) c.in_err-instance.ensures.same c.in_err-instance.ensures.extends
+pub returns-in_err-instances-clause-moved : goal.returns-in_err-instances-clause-moved
+returns-in_err-instances-clause-moved c =
+    moved_items c.args.root.now.world.now c.args.root.now c.define_exported_types.new.root c.instantiate_users.new.root (typed c.args.root.now c.encode_shim_instantiation.new.root c.define_exported_types.new.root c.requires.made.tables c.in_ok-shim_instance.ensures.same c.in_ok-shim_instance.ensures.extends c.in_ok-define_exported_types.ensures.moved) c.in_err-instances.ensures.same c.in_err-instances.ensures.extends
 
 pub encode_indirect_lowerings-requires-clause-sources : goal.encode_indirect_lowerings-requires-clause-sources
 encode_indirect_lowerings-requires-clause-sources c =
     let w = c.args.root.now.world.now in
     let b : Root = c.define_exported_types.new.root in
-    let new = c.instantiate_main_module.new.root.items in
-    let f = c.in_ok-instance.ensures in
+    let new = c.instantiate_users.new.root.items in
+    let f = c.in_ok-instances.ensures in
     let k : RootMoved w c.args.root.now b = typed c.args.root.now c.encode_shim_instantiation.new.root c.define_exported_types.new.root c.requires.made.tables c.in_ok-shim_instance.ensures.same c.in_ok-shim_instance.ensures.extends c.in_ok-define_exported_types.ensures.moved in
-    let s : FillSources = record { functions = c.args.functions; options = record { instance = c.in_ok-instance.instance; memory = c.memory_name.result; realloc = c.import_realloc_for.result } } in
-    let world : c.instantiate_main_module.new.root.world ≡ c.args.root.now.world = ap (λ (r : Root). r.world) f.same ∙ k.world in
-    let memory : option_copied c.memory_name.result ≡ memory_name w = subst (λ x. option_copied c.memory_name.result ≡ memory_name x.now) world c.memory_name.ensures in
-    let realloc : option_copied c.import_realloc_for.result ≡ realloc_for is_import_realloc w.main.exports.exports =
-    subst (λ x. option_copied c.import_realloc_for.result ≡ realloc_for is_import_realloc x.now.main.exports.exports) world c.import_realloc_for.ensures in
+    let s : FillSources = c.fill_sources-sources.result in
+    let g = c.fill_sources-sources.ensures in
+    let memory : option_copied s.memory ≡ memory_name w = g.memory ∙ subst (λ x. option_copied c.memory_name.result ≡ memory_name x.now) k.world c.memory_name.ensures in
+    let made : AreImportsMade w s.functions.now b.met b.items.defs b.maps b.instances = subst (λ l. AreImportsMade w l b.met b.items.defs b.maps b.instances) (sym g.functions) (made_after c.args.root.now b k c.requires.made) in
+    let users : AreUserInstances w new.defs s.instances.now = subst (AreUserInstances w new.defs) (sym g.instances) (subst (λ x. AreUserInstances x.now new.defs c.in_ok-instances.instances) k.world f.made) in
     subst (λ (r : Root). AreFillSources r.world.now s r.met new.defs r.maps r.instances) (sym f.same)
-    (subst (λ x. AreFillSources x.now s b.met new.defs b.maps b.instances) (sym k.world) (fills_after f.extends s (made_after c.args.root.now b k c.requires.made) f.made memory realloc))
+    (subst (λ x. AreFillSources x.now s b.met new.defs b.maps b.instances) (sym k.world) (fills_after f.extends s made users memory))
 
 pub encode_indirect_lowerings-requires-clause-next : goal.encode_indirect_lowerings-requires-clause-next
 encode_indirect_lowerings-requires-clause-next c =
     let w = c.args.root.now.world.now in
     let old = c.args.root.now.items.defs in
     let mid = c.encode_shim_instantiation.new.root.items.defs in
-    let new = c.instantiate_main_module.new.root.items.defs in
+    let new = c.instantiate_users.new.root.items.defs in
     let o : Option ℕ = c.in_ok-shim_instance.shim_instance in
     let k : RootMoved w c.args.root.now c.define_exported_types.new.root = typed c.args.root.now c.encode_shim_instantiation.new.root c.define_exported_types.new.root c.requires.made.tables c.in_ok-shim_instance.ensures.same c.in_ok-shim_instance.ensures.extends c.in_ok-define_exported_types.ensures.moved in
-    let world : c.instantiate_main_module.new.root.world ≡ c.args.root.now.world = ap (λ (r : Root). r.world) c.in_ok-instance.ensures.same ∙ k.world in
-    subst (λ x. IsFixupNextIf x.now new o) (sym world) (fixup_next w c.requires.made.valid c.args.debug_names old mid new o c.requires.alone c.in_ok-shim_instance.ensures.added (main_grows c.args.root.now c.encode_shim_instantiation.new.root c.define_exported_types.new.root c.instantiate_main_module.new.root c.in_ok-shim_instance.ensures.same k c.in_ok-define_exported_types.ensures.grows c.in_ok-instance.ensures.grows))
+    let world : c.instantiate_users.new.root.world ≡ c.args.root.now.world = ap (λ (r : Root). r.world) c.in_ok-instances.ensures.same ∙ k.world in
+    subst (λ x. IsFixupNextIf x.now new o) (sym world) (fixup_next w c.args.debug_names old mid new o c.requires.users c.in_ok-shim_instance.ensures.added (users_grow c.args.root.now c.encode_shim_instantiation.new.root c.define_exported_types.new.root c.instantiate_users.new.root c.in_ok-shim_instance.ensures.same k c.in_ok-define_exported_types.ensures.grows c.in_ok-instances.ensures.grows))
 
 pub returns-in_err-encode_indirect_lowerings-clause-moved : goal.returns-in_err-encode_indirect_lowerings-clause-moved
 returns-in_err-encode_indirect_lowerings-clause-moved c =
     let w = c.args.root.now.world.now in
     let b : Root = c.define_exported_types.new.root in
-    let d : Root = c.instantiate_main_module.new.root in
-    moved_items w c.args.root.now d c.encode_indirect_lowerings.new.root (moved_items w c.args.root.now b d (typed c.args.root.now c.encode_shim_instantiation.new.root c.define_exported_types.new.root c.requires.made.tables c.in_ok-shim_instance.ensures.same c.in_ok-shim_instance.ensures.extends c.in_ok-define_exported_types.ensures.moved) c.in_ok-instance.ensures.same c.in_ok-instance.ensures.extends) c.in_err-encode_indirect_lowerings.ensures.same
+    let d : Root = c.instantiate_users.new.root in
+    moved_items w c.args.root.now d c.encode_indirect_lowerings.new.root (moved_items w c.args.root.now b d (typed c.args.root.now c.encode_shim_instantiation.new.root c.define_exported_types.new.root c.requires.made.tables c.in_ok-shim_instance.ensures.same c.in_ok-shim_instance.ensures.extends c.in_ok-define_exported_types.ensures.moved) c.in_ok-instances.ensures.same c.in_ok-instances.ensures.extends) c.in_err-encode_indirect_lowerings.ensures.same
     c.in_err-encode_indirect_lowerings.ensures.extends
 
 pub returns-clause-moved : goal.returns-clause-moved
 returns-clause-moved c =
     let w = c.args.root.now.world.now in
     let b : Root = c.define_exported_types.new.root in
-    let d : Root = c.instantiate_main_module.new.root in
-    moved_items w c.args.root.now d c.encode_indirect_lowerings.new.root (moved_items w c.args.root.now b d (typed c.args.root.now c.encode_shim_instantiation.new.root c.define_exported_types.new.root c.requires.made.tables c.in_ok-shim_instance.ensures.same c.in_ok-shim_instance.ensures.extends c.in_ok-define_exported_types.ensures.moved) c.in_ok-instance.ensures.same c.in_ok-instance.ensures.extends) c.in_ok-encode_indirect_lowerings.ensures.same
+    let d : Root = c.instantiate_users.new.root in
+    moved_items w c.args.root.now d c.encode_indirect_lowerings.new.root (moved_items w c.args.root.now b d (typed c.args.root.now c.encode_shim_instantiation.new.root c.define_exported_types.new.root c.requires.made.tables c.in_ok-shim_instance.ensures.same c.in_ok-shim_instance.ensures.extends c.in_ok-define_exported_types.ensures.moved) c.in_ok-instances.ensures.same c.in_ok-instances.ensures.extends) c.in_ok-encode_indirect_lowerings.ensures.same
     c.in_ok-encode_indirect_lowerings.ensures.extends
 
 pub returns-clause-added : goal.returns-clause-added
@@ -163,35 +171,35 @@ returns-clause-added c =
     let w = c.args.root.now.world.now in
     let old = c.args.root.now.items.defs in
     let mid = c.encode_shim_instantiation.new.root.items.defs in
-    let late = c.instantiate_main_module.new.root.items.defs in
+    let late = c.instantiate_users.new.root.items.defs in
     let new = c.encode_indirect_lowerings.new.root.items.defs in
     let o : Option ℕ = c.in_ok-shim_instance.shim_instance in
     let d = c.args.debug_names in
     let k : RootMoved w c.args.root.now c.define_exported_types.new.root = typed c.args.root.now c.encode_shim_instantiation.new.root c.define_exported_types.new.root c.requires.made.tables c.in_ok-shim_instance.ensures.same c.in_ok-shim_instance.ensures.extends c.in_ok-define_exported_types.ensures.moved in
-    let world : c.instantiate_main_module.new.root.world ≡ c.args.root.now.world = ap (λ (r : Root). r.world) c.in_ok-instance.ensures.same ∙ k.world in
+    let world : c.instantiate_users.new.root.world ≡ c.args.root.now.world = ap (λ (r : Root). r.world) c.in_ok-instances.ensures.same ∙ k.world in
     let filled : MayAddFixup w d late new o = subst (λ x. MayAddFixup x.now d late new o) world c.in_ok-encode_indirect_lowerings.ensures.added in
-    all_added w d old mid late new o c.in_ok-shim_instance.ensures.added (main_grows c.args.root.now c.encode_shim_instantiation.new.root c.define_exported_types.new.root c.instantiate_main_module.new.root c.in_ok-shim_instance.ensures.same k c.in_ok-define_exported_types.ensures.grows c.in_ok-instance.ensures.grows) filled
+    all_added w d old mid late new o c.in_ok-shim_instance.ensures.added (users_grow c.args.root.now c.encode_shim_instantiation.new.root c.define_exported_types.new.root c.instantiate_users.new.root c.in_ok-shim_instance.ensures.same k c.in_ok-define_exported_types.ensures.grows c.in_ok-instances.ensures.grows) filled
 
 pub returns-clause-made : goal.returns-clause-made
-returns-clause-made c = instance-kept (longer c.in_ok-encode_indirect_lowerings.ensures.extends) c.in_ok-instance.ensures.made
+returns-clause-made c = instance-kept (longer c.in_ok-encode_indirect_lowerings.ensures.extends) c.in_ok-instances.ensures.made.main
 
 pub returns-clause-encoded : goal.returns-clause-encoded
 returns-clause-encoded c =
     let k : RootMoved c.args.root.now.world.now c.args.root.now c.define_exported_types.new.root = typed c.args.root.now c.encode_shim_instantiation.new.root c.define_exported_types.new.root c.requires.made.tables c.in_ok-shim_instance.ensures.same c.in_ok-shim_instance.ensures.extends c.in_ok-define_exported_types.ensures.moved in
-    subst (λ x. AllByRecursion (λ i. IsEncodedImport x.now i.role) (core_imports x.now)) k.world c.in_ok-instance.ensures.encoded
+    subst (λ x. AllByRecursion (λ (i : UserImport). IsEncodedImport x.now i.of i.core.role) (user_imports x.now)) k.world c.in_ok-instances.ensures.encoded
 
 pub returns-clause-lowered : goal.returns-clause-lowered
 returns-clause-lowered c =
     let w = c.args.root.now.world.now in
     let k : RootMoved w c.args.root.now c.define_exported_types.new.root = typed c.args.root.now c.encode_shim_instantiation.new.root c.define_exported_types.new.root c.requires.made.tables c.in_ok-shim_instance.ensures.same c.in_ok-shim_instance.ensures.extends c.in_ok-define_exported_types.ensures.moved in
-    let world : c.instantiate_main_module.new.root.world ≡ c.args.root.now.world = ap (λ (r : Root). r.world) c.in_ok-instance.ensures.same ∙ k.world in
+    let world : c.instantiate_users.new.root.world ≡ c.args.root.now.world = ap (λ (r : Root). r.world) c.in_ok-instances.ensures.same ∙ k.world in
     let offered : AllByRecursion (HasShimOptions w) (shims_of w) = subst (λ x. AllByRecursion (HasShimOptions x.now) (shims_of x.now)) world c.in_ok-encode_indirect_lowerings.ensures.offered in
-    all_lowered w c.requires.made.valid offered (subst (λ x. AllByRecursion (λ i. IsEncodedImport x.now i.role) (core_imports x.now)) k.world c.in_ok-instance.ensures.encoded)
+    all_lowered w c.requires.made.valid offered (subst (λ x. AllByRecursion (λ (i : UserImport). IsEncodedImport x.now i.of i.core.role) (user_imports x.now)) k.world c.in_ok-instances.ensures.encoded)
 
 pub returns-clause-ordered : goal.returns-clause-ordered
 returns-clause-ordered c = subst (λ x. AreExportsInOrder x.now) (ap (λ (r : Root). r.world) c.in_ok-shim_instance.ensures.same) c.in_ok-define_exported_types.ensures.ordered
 
 pub returns-clause-met : goal.returns-clause-met
 returns-clause-met c =
-    let same : c.encode_indirect_lowerings.new.root.met ≡ c.define_exported_types.new.root.met = ap (λ (r : Root). r.met) c.in_ok-encode_indirect_lowerings.ensures.same ∙ ap (λ (r : Root). r.met) c.in_ok-instance.ensures.same in
+    let same : c.encode_indirect_lowerings.new.root.met ≡ c.define_exported_types.new.root.met = ap (λ (r : Root). r.met) c.in_ok-encode_indirect_lowerings.ensures.same ∙ ap (λ (r : Root). r.met) c.in_ok-instances.ensures.same in
     subst (λ (m : MetTypes). AreExportsMet c.args.root.now.world.now m) (sym same) (subst (λ x. AreExportsMet x.now c.define_exported_types.new.root.met) (ap (λ (r : Root). r.world) c.in_ok-shim_instance.ensures.same) c.in_ok-define_exported_types.ensures.met)

@@ -51,7 +51,7 @@ returns-clause-grows c =
     let new : Built = c.resource_type.new.self in
     let end : Root = c.record_resource.new.self in
     let k : RootKept w c.args.root.now mid = shimmed c.args.root.now mid c.requires.tables c.in_ok-destructor.ensures.same c.in_ok-destructor.ensures.extends in
-    let first : Grows w old new.defs (ResourceDefined ∷ []) = resource_grows w c.args.id old mid.items.defs new.defs c.in_ok-destructor.destructor c.in_ok-destructor.ensures.grows c.requires.next c.in_ok-destructor.ensures.right (ap (λ (b : Built). b.defs) c.in_ok-index.ensures.adds.1) in
+    let first : Grows w old new.defs (ResourceDefined ∷ []) = resource_grows w c.requires.valid c.args.id old mid.items.defs new.defs c.in_ok-destructor.destructor c.in_ok-destructor.ensures.grows c.requires.next c.in_ok-destructor.ensures.right (ap (λ (b : Built). b.defs) c.in_ok-index.ensures.adds.1) in
     let later : RootGrows w new end.items = subst (λ x. RootGrows x.now new end.items) k.world c.in_ok-record_resource.ensures.grows in
     Grows-then first later.grows
 

@@ -1,5 +1,4 @@
 use Rattle.main_exports.proofs.arguments.type_argument.Goals as goal
-use Rattle.root_imports.specs.Keeping.{Root}
 use Rattle.root_imports.proofs.Keeping.{kept_none, kept_typed}
 
 pub returns-in_err-name-clause-kept : goal.returns-in_err-name-clause-kept

@@ -1,10 +1,12 @@
 use Rattle.std.proofs.Common.{[], ap}
-use Rattle.std.specs.Option.{option_copied}
+use Rattle.std.specs.Option.{option_map}
 use Rattle.comp_builder.specs.Built.{Built}
 use Rattle.comp_bytes.specs.declared.def.Def.TheVariants as defs
 use Rattle.comp_bytes.specs.declared.def.Item.TheVariants as items
 use Rattle.comp_items.proofs.Remembering.{longer}
 use Rattle.comp_terms.specs.Rules.{Grows}
+use Rattle.core_options.proofs.OptionTerms.{some_mapped}
+use Rattle.core_options.specs.MainOptions.{export_ref_of}
 use Rattle.root_imports.specs.Growing.{Grows-by, Grows-then}
 use Rattle.main_fixup.specs.Filling.{IsBehind}
 use Rattle.main_fixup.proofs.Lowering.{behind-kept, lower_options_right, lowering_for, options_there}
@@ -14,25 +16,27 @@ pub returns-clause-grows : goal.returns-clause-grows
 returns-clause-grows c =
     let w = c.args.root.now.world.now in
     let s = c.args.shim.now in
-    let mid = c.options_of_main.new.root.items.defs in
-    let name = option_copied c.args.sources.now.realloc in
-    let b : IsBehind w mid s c.args.encoding c.args.function = behind-kept w c.args.root.now.items.defs mid (longer c.in_ok-options.ensures.extends) s c.args.encoding c.args.function c.requires.behind in
+    let mid = c.options_for.new.root.items.defs in
+    let own = option_map export_ref_of c.args.sources.now.realloc in
+    let b : IsBehind w mid s c.args.encoding own c.args.function = behind-kept w c.args.root.now.items.defs mid (longer c.in_ok-options.ensures.extends) s c.args.encoding own c.args.function c.requires.behind in
     let one : Grows w mid c.lower_function.new.self.defs [] =
     Grows-by (defs.Item (items.Lower c.args.function c.in_ok-options.options)) (ap (λ (x : Built). x.defs) c.in_ok-index.ensures.adds.1)
-    (record { origin = b.is.origin; type = b.is.type; is = b.is.is }, lower_options_right w s c.args.encoding name c.requires.realloc mid b.import b.stands c.in_ok-options.options c.in_ok-options.ensures.named) in
+    (record { origin = b.is.origin; type = b.is.type; is = b.is.is }, lower_options_right w s c.args.encoding own mid b.given b.stands c.in_ok-options.options c.in_ok-options.ensures.named) in
     Grows-then c.in_ok-options.ensures.grows one
 
 pub returns-clause-serves : goal.returns-clause-serves
 returns-clause-serves c =
     let w = c.args.root.now.world.now in
     let s = c.args.shim.now in
-    let mid = c.options_of_main.new.root.items.defs in
-    let name = option_copied c.args.sources.now.realloc in
-    let b : IsBehind w mid s c.args.encoding c.args.function = behind-kept w c.args.root.now.items.defs mid (longer c.in_ok-options.ensures.extends) s c.args.encoding c.args.function c.requires.behind in
+    let mid = c.options_for.new.root.items.defs in
+    let own = option_map export_ref_of c.args.sources.now.realloc in
+    let b : IsBehind w mid s c.args.encoding own c.args.function = behind-kept w c.args.root.now.items.defs mid (longer c.in_ok-options.ensures.extends) s c.args.encoding own c.args.function c.requires.behind in
     let named = c.in_ok-options.ensures.named in
-    lowering_for w s c.args.encoding name c.requires.realloc mid c.lower_function.new.self.defs c.args.function c.in_ok-index.index c.in_ok-options.options b named
+    lowering_for w s c.args.encoding own mid c.lower_function.new.self.defs c.args.function c.in_ok-index.index c.in_ok-options.options b named
     (c.in_ok-index.ensures.lowered b.is.origin b.is.type named.terms b.is.is named.are)
 
 pub returns-clause-offered : goal.returns-clause-offered
 returns-clause-offered c =
-    options_there c.args.root.now.world.now c.args.shim.now (option_copied c.args.sources.now.realloc) c.requires.realloc c.in_ok-options.ensures.memory c.in_ok-options.ensures.realloc
+    let b = c.requires.behind in
+    options_there c.args.root.now.world.now c.args.shim.now b.given b.stands (option_map export_ref_of c.args.sources.now.realloc) b.reallocated c.in_ok-options.ensures.memory
+    (λ needed. some_mapped c.args.sources.now.realloc (c.in_ok-options.ensures.realloc needed))

@@ -1,7 +1,7 @@
-use Rattle.std.proofs.Common.{◌≡◌, ◌∙◌, ◌∷◌, [], ap, ap₂, sym}
+use Rattle.std.proofs.Common.{◌≡◌, ◌∙◌, ap, ap₂, sym}
 use Rattle.comp_links.specs.Naming.{Naming}
 use Rattle.comp_worlds.specs.declared.world.ComponentWorld.{ComponentWorld}
-use Rattle.comp_terms.specs.Rules.{Grows, ModuleIs, exports_marked, imports_marked, landmarks}
+use Rattle.comp_terms.specs.Rules.{Grows, bytes_marked, exports_marked, imports_marked, landmarks}
 use Rattle.core_instances.specs.Instances.{AddsInstances}
 use Rattle.comp_state.specs.Encoding.{Encoding, naming_in}
 use Rattle.comp_state.proofs.Building.{built_by_steps, marked_from}
@@ -21,10 +21,10 @@ encode_exports-requires-clause-none c =
     let w : ComponentWorld = c.args.self.now.world in
     let first : c.encode_imports.new.self.world ≡ w = c.in_ok-encode_imports.ensures.world in
     let second : c.encode_core_modules.new.self.world ≡ w = ap (λ (e : Encoding). e.world) c.in_ok-encode_core_modules.ensures.same ∙ first in
-    let main : Grows w c.encode_imports.new.self.built.defs c.encode_core_modules.new.self.built.defs (ModuleIs w.main.bytes ∷ []) = rw (← first) c.in_ok-encode_core_modules.ensures.grows in
+    let users : Grows w c.encode_imports.new.self.built.defs c.encode_core_modules.new.self.built.defs (bytes_marked w) = rw (← first) c.in_ok-encode_core_modules.ensures.grows in
     let instances : AddsInstances w c.encode_core_modules.new.self.built.defs c.encode_core_instantiation.new.self.built.defs = rw (← second) c.in_ok-encode_core_instantiation.ensures.added in
     none_exported (naming_in c.args.self.now) w c.args.self.now.built.defs c.encode_imports.new.self.built.defs c.encode_core_modules.new.self.built.defs c.encode_core_instantiation.new.self.built.defs c.requires.empty
-    c.in_ok-encode_imports.ensures.grows main instances
+    c.in_ok-encode_imports.ensures.grows users instances
 
 pub returns-clause-built : goal.returns-clause-built
 returns-clause-built c =
@@ -35,11 +35,11 @@ returns-clause-built c =
     let third : c.encode_core_instantiation.new.self.world ≡ w = c.in_ok-encode_core_instantiation.ensures.world ∙ second in
     let named : naming_in c.encode_core_instantiation.new.self ≡ n =
     c.in_ok-encode_core_instantiation.ensures.names ∙ (ap (λ (e : Encoding). naming_in e) c.in_ok-encode_core_modules.ensures.same ∙ c.in_ok-encode_imports.ensures.names) in
-    let main : Grows w c.encode_imports.new.self.built.defs c.encode_core_modules.new.self.built.defs (ModuleIs w.main.bytes ∷ []) = rw (← first) c.in_ok-encode_core_modules.ensures.grows in
+    let users : Grows w c.encode_imports.new.self.built.defs c.encode_core_modules.new.self.built.defs (bytes_marked w) = rw (← first) c.in_ok-encode_core_modules.ensures.grows in
     let instances : AddsInstances w c.encode_core_modules.new.self.built.defs c.encode_core_instantiation.new.self.built.defs = rw (← second) c.in_ok-encode_core_instantiation.ensures.added in
     let exports : Grows w c.encode_core_instantiation.new.self.built.defs c.encode_exports.new.self.built.defs (exports_marked n w) = rw (← third, ← named) c.in_ok-encode_exports.ensures.grows in
     built_by_steps n w c.args.self.now.built.defs c.encode_imports.new.self.built.defs c.encode_core_modules.new.self.built.defs c.encode_core_instantiation.new.self.built.defs c.encode_exports.new.self.built.defs c.requires.empty
-    c.in_ok-encode_imports.ensures.grows main instances exports
+    c.in_ok-encode_imports.ensures.grows users instances exports
 
 pub returns-clause-encoded : goal.returns-clause-encoded
 returns-clause-encoded c =

@@ -1,9 +1,9 @@
 use Rattle.std.proofs.Common.{◌≡◌, ◌∙◌, Some, ap, subst, sym}
 use Rattle.std.specs.List.{AllByRecursion}
 use Rattle.comp_links.specs.Roles.{IsEncodedImport}
-use Rattle.comp_worlds.specs.WorldContents.{core_imports}
+use Rattle.comp_links.specs.Modules.{UserImport, user_imports}
 use Rattle.comp_worlds.specs.declared.world.ComponentWorld.{ComponentWorld}
-use Rattle.core_instances.specs.Instances.{IsMainAlone, AddsInstances}
+use Rattle.core_instances.specs.Instances.{AreUserModules, AddsInstances}
 use Rattle.core_options.specs.MainOptions.{HasLowerOptions}
 use Rattle.root_imports.specs.declared.root_scope.RootScope.{RootScope}
 use Rattle.comp_state.specs.Encoding.{Encoding, AreImported}
@@ -28,8 +28,8 @@ not_yet i e = let same = sym i ∙ e in cc
 pub encode_core_instantiation-requires-clause-made : goal.encode_core_instantiation-requires-clause-made
 encode_core_instantiation-requires-clause-made c = c.self.invariant.imported (imported_now (ap (λ (e : Encoding). e.step) c.self.view_is ∙ c.requires.imported))
 
-pub encode_core_instantiation-requires-clause-alone : goal.encode_core_instantiation-requires-clause-alone
-encode_core_instantiation-requires-clause-alone c = subst (λ (e : Encoding). IsMainAlone e.world e.built.defs) (sym c.self.view_is) c.requires.alone
+pub encode_core_instantiation-requires-clause-users : goal.encode_core_instantiation-requires-clause-users
+encode_core_instantiation-requires-clause-users c = subst (λ (e : Encoding). AreUserModules e.world e.built.defs) (sym c.self.view_is) c.requires.users
 
 pub invariant_of-self : goal.invariant_of-self
 invariant_of-self c =
@@ -57,7 +57,7 @@ pub returns-clause-added : goal.returns-clause-added
 returns-clause-added c = subst (λ (e : Encoding). AddsInstances e.world e.built.defs c.encode_core_instantiation.new.root.items.defs) c.self.view_is c.in_ok-main.ensures.added
 
 pub returns-clause-encoded : goal.returns-clause-encoded
-returns-clause-encoded c = subst (λ (e : Encoding). AllByRecursion (λ i. IsEncodedImport e.world i.role) (core_imports e.world)) c.self.view_is c.in_ok-main.ensures.encoded
+returns-clause-encoded c = subst (λ (e : Encoding). AllByRecursion (λ (i : UserImport). IsEncodedImport e.world i.of i.core.role) (user_imports e.world)) c.self.view_is c.in_ok-main.ensures.encoded
 
 pub returns-clause-lowered : goal.returns-clause-lowered
-returns-clause-lowered c = subst (λ (e : Encoding). AllByRecursion (λ i. HasLowerOptions e.world i.role) (core_imports e.world)) c.self.view_is c.in_ok-main.ensures.lowered
+returns-clause-lowered c = subst (λ (e : Encoding). AllByRecursion (HasLowerOptions e.world) (user_imports e.world)) c.self.view_is c.in_ok-main.ensures.lowered

@@ -1,32 +1,28 @@
-use Rattle.std.proofs.Common.{◌≡◌, ◌∙◌, ◌∷◌, [], ap, rules, subst}
-use Rattle.comp_builder.specs.Built.{Built}
-use Rattle.comp_bytes.specs.ItemIndices.{IsAt}
+use Rattle.std.proofs.Common.{◌≤◌, ◌^◌, ◌∙◌, ap, length, subst}
 use Rattle.comp_bytes.specs.Spaces.{items_in}
-use Rattle.comp_bytes.specs.declared.def.Def.TheVariants as defs
-use Rattle.comp_bytes.specs.declared.def.Item.TheVariants as items
 use Rattle.comp_bytes.specs.declared.space.Space.TheVariants as spaces
-use Rattle.comp_items.specs.Items.{Extends}
-use Rattle.comp_terms.specs.Rules.{Grows, ModuleIs}
+use Rattle.comp_links.specs.Modules.{user_modules}
+use Rattle.comp_terms.specs.Rules.{Grows, bytes_marked}
 use Rattle.comp_worlds.specs.declared.world.ComponentWorld.{ComponentWorld}
-use Rattle.root_imports.specs.Growing.{Grows-by}
 use Rattle.comp_state.specs.Encoding.{Encoding, naming_in}
-use Rattle.comp_state.proofs.Alone.{none_before, alone_after}
-use Rattle.comp_state.proofs.Growth.{encoding-kept}
+use Rattle.comp_state.proofs.CoreModules.{none_before, users_after}
+use Rattle.comp_state.proofs.Growth.{encoding_moved}
 use Rattle.comp_state.proofs.state.EncodingState.encode_core_modules.Goals as goal
 
-pub invariant_of-self-2 : goal.invariant_of-self-2
-invariant_of-self-2 c = let g : Extends c.self.inside.root.items c.core_module.new.self = search rules in encoding-kept g c.self.invariant
+pub encode_core_modules-requires-clause-none : goal.encode_core_modules-requires-clause-none
+encode_core_modules-requires-clause-none c =
+    ap (λ (e : Encoding). items_in spaces.CoreModule e.built.defs) c.self.view_is ∙ none_before (naming_in c.args.self.now) c.args.self.now.world c.args.self.now.built.defs c.requires
 
-pub returns-clause-alone : goal.returns-clause-alone
-returns-clause-alone c =
+pub invariant_of-self : goal.invariant_of-self
+invariant_of-self c = encoding_moved c.self.inside.root c.encode_core_modules.new.root c.self.inside.step c.self.inside.functions c.self.inside.main c.in_err-encode_core_modules.ensures.same c.in_err-encode_core_modules.ensures.extends c.self.invariant
+
+pub invariant_of-self-2 : goal.invariant_of-self-2
+invariant_of-self-2 c = encoding_moved c.self.inside.root c.encode_core_modules.new.root c.self.inside.step c.self.inside.functions c.self.inside.main c.in_ok-encode_core_modules.ensures.same c.in_ok-encode_core_modules.ensures.extends c.self.invariant
+
+pub returns-clause-users : goal.returns-clause-users
+returns-clause-users c =
     let w : ComponentWorld = c.args.self.now.world in
-    let old : Built = c.args.self.now.built in
-    let new = c.core_module.new.self.defs in
-    let built : c.self.inside.root.items ≡ old = ap (λ (e : Encoding). e.built) c.self.view_is in
-    let world : c.self.inside.root.world.now ≡ w = ap (λ (e : Encoding). e.world) c.self.view_is in
-    let bytes : c.as_slice.result.now ≡ w.main.bytes = c.as_slice.ensures ∙ ap (λ (w : ComponentWorld). w.main.bytes) world in
-    let index : c.in_ok-core_module.field-0 ≡ 0 = c.in_ok-core_module.ensures.adds.0 ∙ ap (λ (b : Built). items_in spaces.CoreModule b.defs) built ∙ none_before (naming_in c.args.self.now) w old.defs c.requires in
-    let at : IsAt new spaces.CoreModule 0 (defs.Item (items.CoreModule w.main.bytes)) = rw (← index, ← bytes) c.in_ok-core_module.ensures.at in
-    let added : Grows w c.self.inside.root.items.defs new (ModuleIs c.as_slice.result.now ∷ []) = Grows-by (defs.Item (items.CoreModule c.as_slice.result.now)) (ap (λ (b : Built). b.defs) c.in_ok-core_module.ensures.adds.1) tt in
-    let grows : Grows w old.defs new (ModuleIs w.main.bytes ∷ []) = subst (λ (b : Built). Grows w b.defs new (ModuleIs w.main.bytes ∷ [])) built (subst (λ b. Grows w c.self.inside.root.items.defs new (ModuleIs b ∷ [])) bytes added) in
-    alone_after (naming_in c.args.self.now) w old.defs new c.requires grows at
+    let new = c.encode_core_modules.new.root.items.defs in
+    let grows : Grows w c.args.self.now.built.defs new (bytes_marked w) = subst (λ (e : Encoding). Grows e.world e.built.defs new (bytes_marked e.world)) c.self.view_is c.in_ok-encode_core_modules.ensures.grows in
+    let room : length (user_modules w) ≤ 2 ^ 32 = subst (λ (e : Encoding). length (user_modules e.world) ≤ 2 ^ 32) c.self.view_is c.in_ok-encode_core_modules.ensures.room in
+    users_after (naming_in c.args.self.now) w c.args.self.now.built.defs new c.requires grows room

@@ -4,7 +4,7 @@ use Rattle.wit_data.specs.Sound.{HasKey}
 use Rattle.comp_bytes.specs.declared.space.Sort.TheVariants as sorts
 use Rattle.comp_imports.specs.Names.{naming_of}
 use Rattle.comp_links.specs.Naming.{name_of}
-use Rattle.comp_terms.specs.Exports.{IsRequiredLift, ExportsFunction}
+use Rattle.comp_terms.specs.Exports.{IsRequiredLift, ExportsFunction, exports_in}
 use Rattle.comp_terms.specs.Rules.{Exported, Grows}
 use Rattle.root_imports.specs.Growing.{Grows-then}
 use Rattle.wit_data.specs.declared.worlds.WorldItem.{WorldItem}
@@ -13,7 +13,8 @@ use Rattle.comp_roles.specs.declared.metadata.FunctionKey.{FunctionKey}
 use Rattle.comp_worlds.specs.WorldContents.{exported_item}
 use Rattle.interface_needs.specs.RootNeeds.{interface_of_item}
 use Rattle.main_exports.specs.Exports.{main_function, IsMainFunction}
-use Rattle.main_exports.proofs.Exporting.{exports_same, function_required, key_sound, marked_as}
+use Rattle.comp_links.proofs.OnlyMain.{main_key}
+use Rattle.main_exports.proofs.Exporting.{exports_same, function_required, key_sound, marked_as, next_required}
 use Rattle.root_imports.proofs.Keeping.{kept_items}
 use Rattle.main_exports.proofs.sources.MainExports.export_function.Goals as goal
 
@@ -39,9 +40,9 @@ export-requires-clause-right c =
     let index = c.in_ok-lifted.lifted in
     let lifted = c.in_ok-lifted.ensures.lifted.lifted in
     let right : ExportsFunction w ds index = record {
-      key = c.args.key.now;
+      required = main_key c.args.key.now;
       function = c.args.function.now;
-      next = ap (slice_get w.main_exports) (exports_same c.in_ok-lifted.ensures.grows) ∙ c.requires.next;
+      next = next_required w c.requires.exports.valid (exports_in ds) c.args.key.now (ap (slice_get w.main_exports) (exports_same c.in_ok-lifted.ensures.grows) ∙ c.requires.next);
       item = c.requires.item;
       lifted = subst (λ k. IsRequiredLift w ds (main_function k) index) c.in_ok-required.ensures lifted;
     } in

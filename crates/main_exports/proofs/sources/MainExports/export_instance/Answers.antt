@@ -1,4 +1,4 @@
-use Rattle.std.proofs.Common.{◌≡◌, ◌∙◌, ℕ, List, [], ◌∷◌, ◌++◌, Some, refl, ap, subst, sym}
+use Rattle.std.proofs.Common.{◌≡◌, ◌∙◌, ℕ, List, [], ◌∷◌, ◌++◌, refl, ap, subst, sym}
 use Rattle.std.specs.List.{AllByRecursion, IsDistinct, slice_get}
 use Rattle.std.specs.Map.{keys_of}
 use Rattle.std.specs.Str.{bytes_eq}
@@ -14,7 +14,7 @@ use Rattle.comp_items.proofs.Remembering.{longer}
 use Rattle.comp_links.specs.Lists.{RequiredFunction}
 use Rattle.comp_links.specs.Naming.{name_of}
 use Rattle.comp_terms.specs.Exports.{IsNestedRight, IsNestedFor, ExportsInterface, exports_in}
-use Rattle.comp_terms.specs.Rules.{Exported, Grows, Landmark, export_marked}
+use Rattle.comp_terms.specs.Rules.{Exported, Grows, Landmark}
 use Rattle.core_options.specs.Causes.{IsCauseAmong, IsEncodedExport}
 use Rattle.core_options.specs.MainOptions.{HasLiftOptions}
 use Rattle.core_options.proofs.OptionTerms.{refused_with}
@@ -22,7 +22,7 @@ use Rattle.nested_components.specs.Types.{IsAtHome}
 use Rattle.root_imports.specs.Growing.{Grows-then}
 use Rattle.world_values.specs.Items.{functions_of}
 use Rattle.root_imports.specs.Keeping.{Root, RootKept}
-use Rattle.main_exports.specs.Exports.{AreMainFunctions, AreArgumentsFor, AreArgumentsOf, IsInstantiated, IsNestedOf, functions_of_key, nested_mark}
+use Rattle.main_exports.specs.Exports.{AreMainFunctions, AreArgumentsFor, AreArgumentsOf, IsInstantiated, IsNestedOf, functions_of_key, key_marked, nested_mark}
 use Rattle.main_exports.proofs.Exporting.{exports_same, exports_nested, interface_there, interface_at_home, entries_sound, entries_required, key_sound, marked_as}
 use Rattle.root_imports.proofs.Keeping.{kept_items}
 use Rattle.main_exports.proofs.Instances.{arguments_for, nested_for, functions_as, instance_exported, mark_expected, listed_exported}
@@ -160,7 +160,7 @@ returns-clause-grows c =
     let nested : IsNestedOf w (named_types w.resolve c.args.id) c.functions_of-functions.result.now c.in_ok-nested.nested =
     subst (λ (ts : List (List ℕ × TypeId)). IsNestedOf w ts c.functions_of-functions.result.now c.in_ok-nested.nested) c.listed_types-types.ensures.types c.in_ok-nested.ensures.nested in
     let expected = mark_expected w c.args.key.now c.args.id c.functions_of-functions.result.now c.functions_of-functions.ensures.functions c.in_ok-nested.nested nested in
-    let marks : (nested_mark definitions ∷ []) ++ Exported (record { name = name_of n w.resolve key; sort = sorts.Instance }) ∷ [] ≡ export_marked n w key =
+    let marks : (nested_mark definitions ∷ []) ++ Exported (record { name = name_of n w.resolve key; sort = sorts.Instance }) ∷ [] ≡ key_marked n w key =
     ap (λ (l : List Landmark). l ++ Exported (record { name = name_of n w.resolve key; sort = sorts.Instance }) ∷ []) (mark ∙ expected) ∙ marked_as n w key (world_items.Interface c.args.id) c.requires.item in
     subst (λ m. Grows w first end m) marks (Grows-then c.in_ok-arguments.ensures.grows (Grows-then second last))
 

@@ -1,4 +1,4 @@
-use Rattle.std.proofs.Common.{◌≡◌, ◌∙◌, ◌+◌, ap, arith, suc, sym, subst}
+use Rattle.std.proofs.Common.{◌≡◌, ◌∙◌, ap, arith, suc, sym, subst}
 use Rattle.comp_imports.specs.Names.{naming_of}
 use Rattle.comp_terms.specs.Exports.{exports_in}
 use Rattle.comp_worlds.specs.Encodable.{IsEncodable}
@@ -6,12 +6,11 @@ use Rattle.comp_worlds.specs.ExportOrder.{IsExportedAt}
 use Rattle.interface_needs.specs.RootNeeds.{IsExportedInterface}
 use Rattle.root_imports.specs.Interfaces.{ExportsListed}
 use Rattle.root_imports.specs.Keeping.{Root, RootMoved}
-use Rattle.root_imports.specs.Met.{Leaves}
 use Rattle.root_imports.specs.RootScopes.{AreTablesRight}
 use Rattle.root_imports.specs.declared.met_types.MetTypes.{MetTypes}
 use Rattle.root_imports.proofs.Keeping.{moved_kept, moved_then}
 use Rattle.main_exports.specs.Exports.{AreExportsAtHand, ForgetsTypes}
-use Rattle.main_exports.proofs.AtHand.{at_hand_after, at_hand_kept, at_hand_more, exports_more, supplied_at}
+use Rattle.main_exports.proofs.AtHand.{at_hand_after, at_hand_kept, supplied_at}
 use Rattle.main_exports.proofs.Exporting.{exports_grow, one_marked}
 use Rattle.main_exports.proofs.sources.MainExports.export_interface.Goals as goal
 
@@ -125,7 +124,7 @@ returns-clause-grows c =
     let items = ap (λ (r : Root). r.items) c.forget_exported_types.ensures.same ∙ ap (λ (r : Root). r.items) c.in_ok-enter_export.ensures.same in
     let n = naming_of c.args.self.now.names in
     let w = c.args.root.now.world.now in
-    subst (λ b. Rattle.comp_terms.specs.Rules.Grows w c.args.root.now.items.defs b.defs (Rattle.comp_terms.specs.Rules.export_marked n w c.args.key.now)) (sym items) c.in_ok-instance.ensures.grows
+    subst (λ b. Rattle.comp_terms.specs.Rules.Grows w c.args.root.now.items.defs b.defs (Rattle.main_exports.specs.Exports.key_marked n w c.args.key.now)) (sym items) c.in_ok-instance.ensures.grows
 
 pub returns-clause-forgotten : goal.returns-clause-forgotten
 returns-clause-forgotten c =

@@ -4,12 +4,13 @@ use Rattle.comp_links.specs.Links.{lift_options}
 use Rattle.comp_terms.specs.Planned.{type_of_function}
 use Rattle.comp_terms.specs.Rules.{Grows}
 use Rattle.comp_terms.specs.Terms.{IsFunctionType}
-use Rattle.comp_items.proofs.Kept.{exported-kept, function_type-kept}
+use Rattle.comp_items.proofs.Kept.{function_type-kept}
 use Rattle.comp_items.proofs.Remembering.{longer}
 use Rattle.comp_items.proofs.Extending.{extends_same}
 use Rattle.comp_items.specs.Items.{Extends}
 use Rattle.root_imports.specs.Growing.{Grows-then}
 use Rattle.core_options.specs.MainOptions.{NameOptions}
+use Rattle.core_options.proofs.OptionTerms.{alias_of_kept}
 use Rattle.root_imports.specs.Keeping.{Root, RootKept}
 use Rattle.main_exports.specs.Exports.{AreExports, IsEntryOf, main_function}
 use Rattle.main_exports.proofs.Lifting.{AddsLift, adds_lift, needed_function}
@@ -93,7 +94,7 @@ adds c =
     let fit : NameOptions w named.items.defs c.in_ok-options.options (lift_options w (main_function f)) =
     subst (λ x. NameOptions x.now named.items.defs c.in_ok-options.options (lift_options x.now (main_function f))) world c.in_ok-options.ensures.named in
     let entry : IsEntryOf w entered.items.defs f c.in_ok-core.core = subst (λ x. IsEntryOf x.now entered.items.defs f c.in_ok-core.core) c.in_ok-ty.ensures.world c.in_ok-core.ensures.entry in
-    let kept_entry : IsEntryOf w named.items.defs f c.in_ok-core.core = record { name = entry.name; said = entry.said; alias = exported-kept (longer c.in_ok-options.ensures.extends) entry.alias } in
+    let kept_entry : IsEntryOf w named.items.defs f c.in_ok-core.core = record { name = entry.name; said = entry.said; alias = alias_of_kept (longer c.in_ok-options.ensures.extends) entry.alias } in
     let type : IsFunctionType named.items.defs c.in_ok-ty.ty (type_of_function w c.args.function.now) =
     function_type-kept (longer c.in_ok-options.ensures.extends) (function_type-kept (longer c.in_ok-core.ensures.extends) c.in_ok-ty.ensures.typed) in
     adds_lift w named.items.defs c.lift_function.new.self.defs c.in_ok-core.core c.in_ok-ty.ty c.in_ok-index.index c.in_ok-options.options f c.args.function.now fit kept_entry type c.requires.required.exported

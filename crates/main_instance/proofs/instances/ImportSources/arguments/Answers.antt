@@ -1,12 +1,12 @@
-use Rattle.std.proofs.Common.{◌≡◌, ◌∙◌, ℕ, List, [], ◌∷◌, subst, sym, ap, refl, Contains}
-use Rattle.comp_links.specs.Targets.{Main}
+use Rattle.std.proofs.Common.{◌≡◌, ◌∙◌, ℕ, List, [], ◌∷◌, subst, sym, ap, refl}
 use Rattle.comp_terms.specs.Planned.{IsArgumentFor}
 use Rattle.comp_terms.specs.Rules.{Grows}
 use Rattle.comp_roles.specs.CoreImports.{imports_from}
 use Rattle.comp_worlds.specs.declared.world.ComponentWorld.{ComponentWorld}
 use Rattle.root_imports.specs.declared.root_scope.RootScope.{RootScope}
 use Rattle.core_options.specs.Causes.{IsCauseAmong}
-use Rattle.main_instance.specs.Sources.{AreSources}
+use Rattle.core_options.specs.MainOptions.{user_of}
+use Rattle.main_instance.specs.Sources.{AreSources, imports_by}
 use Rattle.comp_bytes.specs.declared.def.CoreArgument.{CoreArgument}
 use Rattle.comp_roles.specs.declared.imports.ImportInstance.{ImportInstance}
 use Rattle.core_options.specs.Causes.{IsCause}
@@ -19,14 +19,14 @@ Root = RootScope ComponentWorld
 
 pub loop-module-init : goal.loop-module-init
 loop-module-init c =
-    let items : c.into_iter-module-iterator.result ≡ c.args.root.now.world.now.main.imports.modules = c.into_iter-module-iterator.ensures.into_iter_gives ∙ c.iter-module-items.ensures.rest in
+    let items : c.into_iter-module-iterator.result ≡ c.args.self.now.user.found.now.imports.modules = c.into_iter-module-iterator.ensures.into_iter_gives ∙ c.iter-module-items.ensures.rest in
     let none : c.new-arguments.result ≡ [] = c.new-arguments.ensures in (
       tt,
       tt,
       refl,
-      subst (λ (es : List CoreArgument). GroupsSoFar c.args.root.now.world.now c.args.root.now.items c.args.root.now.items es c.into_iter-module-iterator.result) (sym none)
-          (subst (λ (gs : List (List ℕ × ImportInstance)). GroupsSoFar c.args.root.now.world.now c.args.root.now.items c.args.root.now.items [] gs) (sym items)
-          (groups_start c.args.root.now.world.now c.args.root.now.items)),
+      subst (λ (es : List CoreArgument). GroupsSoFar c.args.root.now.world.now (user_of c.args.self.now.user.which) c.args.self.now.user.found.now.imports.modules c.args.root.now.items c.args.root.now.items es c.into_iter-module-iterator.result) (sym none)
+          (subst (λ (gs : List (List ℕ × ImportInstance)). GroupsSoFar c.args.root.now.world.now (user_of c.args.self.now.user.which) c.args.self.now.user.found.now.imports.modules c.args.root.now.items c.args.root.now.items [] gs) (sym items)
+          (groups_start c.args.root.now.world.now (user_of c.args.self.now.user.which) c.args.self.now.user.found.now.imports.modules c.args.root.now.items)),
     )
 
 pub loop-module-preserved : goal.loop-module-preserved
@@ -37,13 +37,13 @@ loop-module-preserved c =
     let same = c.loop-module.invariant.2 in
     let world = ap (λ (r : Root). r.world) same in
     let group : List ℕ × ImportInstance = (c.in-Some.module.now, c.in-Some.instance.now) in
-    let before : GroupsSoFar c.args.root.now.world.now c.args.root.now.items c.loop-module.root.items c.loop-module.arguments (group ∷ c.next.new.self) =
-    subst (λ (gs : List (List ℕ × ImportInstance)). GroupsSoFar c.args.root.now.world.now c.args.root.now.items c.loop-module.root.items c.loop-module.arguments gs) c.in-Some.ensures.steps c.loop-module.invariant.3 in (
+    let before : GroupsSoFar c.args.root.now.world.now (user_of c.args.self.now.user.which) c.args.self.now.user.found.now.imports.modules c.args.root.now.items c.loop-module.root.items c.loop-module.arguments (group ∷ c.next.new.self) =
+    subst (λ (gs : List (List ℕ × ImportInstance)). GroupsSoFar c.args.root.now.world.now (user_of c.args.self.now.user.which) c.args.self.now.user.found.now.imports.modules c.args.root.now.items c.loop-module.root.items c.loop-module.arguments gs) c.in-Some.ensures.steps c.loop-module.invariant.3 in (
       tt,
       tt,
       of.same ∙ ap (λ (r : Root). record r { items = c.argument.new.root.items }) same,
-      groups_step w c.args.root.now.items mid c.argument.new.root.items c.loop-module.arguments c.push.new.self c.in_ok-argument.argument c.next.new.self group before
-          of.extends (subst (λ r. Grows r.now mid.defs c.argument.new.root.items.defs []) world of.grows) (subst (λ r. IsArgumentFor r.now Main c.argument.new.root.items.defs c.in_ok-argument.argument group) world of.serves) c.in_ok-push.ensures.ok,
+      groups_step w (user_of c.args.self.now.user.which) c.args.self.now.user.found.now.imports.modules c.args.root.now.items mid c.argument.new.root.items c.loop-module.arguments c.push.new.self c.in_ok-argument.argument c.next.new.self group before
+          of.extends (subst (λ r. Grows r.now mid.defs c.argument.new.root.items.defs []) world of.grows) (subst (λ r. IsArgumentFor r.now (user_of c.args.self.now.user.which) c.argument.new.root.items.defs c.in_ok-argument.argument group) world of.serves) c.in_ok-push.ensures.ok,
     )
 
 pub argument-requires-clause-sources : goal.argument-requires-clause-sources
@@ -53,16 +53,15 @@ argument-requires-clause-sources c =
 pub argument-requires-clause-present : goal.argument-requires-clause-present
 argument-requires-clause-present c =
     let group : List ℕ × ImportInstance = (c.in-Some.module.now, c.in-Some.instance.now) in
-    let before : GroupsSoFar c.args.root.now.world.now c.args.root.now.items c.loop-module.root.items c.loop-module.arguments (group ∷ c.next.new.self) =
-    subst (λ (gs : List (List ℕ × ImportInstance)). GroupsSoFar c.args.root.now.world.now c.args.root.now.items c.loop-module.root.items c.loop-module.arguments gs) c.in-Some.ensures.steps c.loop-module.invariant.3 in
-    subst (λ (r : Root). Contains r.world.now.main.imports.modules group) (sym c.loop-module.invariant.2)
-    (group_present c.args.root.now.world.now c.args.root.now.items c.loop-module.root.items c.loop-module.arguments group c.next.new.self before)
+    let before : GroupsSoFar c.args.root.now.world.now (user_of c.args.self.now.user.which) c.args.self.now.user.found.now.imports.modules c.args.root.now.items c.loop-module.root.items c.loop-module.arguments (group ∷ c.next.new.self) =
+    subst (λ (gs : List (List ℕ × ImportInstance)). GroupsSoFar c.args.root.now.world.now (user_of c.args.self.now.user.which) c.args.self.now.user.found.now.imports.modules c.args.root.now.items c.loop-module.root.items c.loop-module.arguments gs) c.in-Some.ensures.steps c.loop-module.invariant.3 in
+    group_present c.args.root.now.world.now (user_of c.args.self.now.user.which) c.args.self.now.user.found.now.imports.modules c.args.root.now.items c.loop-module.root.items c.loop-module.arguments group c.next.new.self before
 
 pub returns-in_err-argument-clause-cause : goal.returns-in_err-argument-clause-cause
 returns-in_err-argument-clause-cause c =
     let group : List ℕ × ImportInstance = (c.in-Some.module.now, c.in-Some.instance.now) in
-    let before : GroupsSoFar c.args.root.now.world.now c.args.root.now.items c.loop-module.root.items c.loop-module.arguments (group ∷ c.next.new.self) =
-    subst (λ (gs : List (List ℕ × ImportInstance)). GroupsSoFar c.args.root.now.world.now c.args.root.now.items c.loop-module.root.items c.loop-module.arguments gs) c.in-Some.ensures.steps c.loop-module.invariant.3 in
+    let before : GroupsSoFar c.args.root.now.world.now (user_of c.args.self.now.user.which) c.args.self.now.user.found.now.imports.modules c.args.root.now.items c.loop-module.root.items c.loop-module.arguments (group ∷ c.next.new.self) =
+    subst (λ (gs : List (List ℕ × ImportInstance)). GroupsSoFar c.args.root.now.world.now (user_of c.args.self.now.user.which) c.args.self.now.user.found.now.imports.modules c.args.root.now.items c.loop-module.root.items c.loop-module.arguments gs) c.in-Some.ensures.steps c.loop-module.invariant.3 in
     handed_on c.from_residual.result c.in_err-argument.field-0.0 (IsCause c.args.root.now.world.now) c.from_residual.ensures.1
-    (group_refused c.args.root.now.world.now before.done c.next.new.self group before.split c.in_err-argument.field-0.0
-    (subst (λ (r : Root). IsCauseAmong r.world.now (imports_from group) [] c.in_err-argument.field-0.0) c.loop-module.invariant.2 c.in_err-argument.ensures.cause))
+    (group_refused c.args.root.now.world.now (user_of c.args.self.now.user.which) c.args.self.now.user.found.now c.requires.sources.user.named before.done c.next.new.self group before.split c.in_err-argument.field-0.0
+    (subst (λ (r : Root). IsCauseAmong r.world.now (imports_by (user_of c.args.self.now.user.which) (imports_from group)) [] c.in_err-argument.field-0.0) c.loop-module.invariant.2 c.in_err-argument.ensures.cause))

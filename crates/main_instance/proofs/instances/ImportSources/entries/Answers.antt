@@ -1,11 +1,10 @@
-use Rattle.std.proofs.Common.{◌≡◌, ◌∙◌, ℕ, List, [], ◌∷◌, ap, refl, subst, sym, rules, Contains}
-use Rattle.comp_links.specs.Targets.{Main}
+use Rattle.std.proofs.Common.{◌≡◌, ◌∙◌, ℕ, List, [], ◌∷◌, ap, refl, subst, sym, rules}
 use Rattle.comp_terms.specs.Planned.{IsEntryFor}
 use Rattle.comp_terms.specs.Rules.{Grows}
-use Rattle.comp_worlds.specs.WorldContents.{core_imports}
 use Rattle.comp_worlds.specs.declared.world.ComponentWorld.{ComponentWorld}
 use Rattle.root_imports.specs.declared.root_scope.RootScope.{RootScope}
-use Rattle.main_instance.specs.Sources.{AreSources}
+use Rattle.core_options.specs.MainOptions.{user_of}
+use Rattle.main_instance.specs.Sources.{AreSources, imports_by}
 use Rattle.comp_bytes.specs.declared.def.CoreInlineExport.{CoreInlineExport}
 use Rattle.comp_roles.specs.declared.imports.Import.{Import}
 use Rattle.comp_roles.specs.CoreImports.{imports_from}
@@ -25,9 +24,9 @@ loop-field-init c =
       tt,
       tt,
       refl,
-      subst (λ (es : List CoreInlineExport). FieldsSoFar c.args.root.now.world.now c.args.root.now.items c.args.root.now.items es c.args.fields.now c.into_iter-field-iterator.result) (sym none)
-          (subst (λ (fs : List (List ℕ × Import)). FieldsSoFar c.args.root.now.world.now c.args.root.now.items c.args.root.now.items [] c.args.fields.now fs) (sym items)
-          (fields_start c.args.root.now.world.now c.args.root.now.items c.args.fields.now)),
+      subst (λ (es : List CoreInlineExport). FieldsSoFar c.args.root.now.world.now (user_of c.args.self.now.user.which) c.args.root.now.items c.args.root.now.items es c.args.fields.now c.into_iter-field-iterator.result) (sym none)
+          (subst (λ (fs : List (List ℕ × Import)). FieldsSoFar c.args.root.now.world.now (user_of c.args.self.now.user.which) c.args.root.now.items c.args.root.now.items [] c.args.fields.now fs) (sym items)
+          (fields_start c.args.root.now.world.now (user_of c.args.self.now.user.which) c.args.root.now.items c.args.fields.now)),
     )
 
 pub loop-field-preserved : goal.loop-field-preserved
@@ -38,13 +37,13 @@ loop-field-preserved c =
     let same = c.loop-field.invariant.2 in
     let world = ap (λ (r : Root). r.world) same in
     let entry : List ℕ × Import = (c.in-Some.field.now, c.in-Some.import.now) in
-    let before : FieldsSoFar c.args.root.now.world.now c.args.root.now.items c.loop-field.root.items c.loop-field.entries c.args.fields.now (entry ∷ c.next.new.self) =
-    subst (λ (fs : List (List ℕ × Import)). FieldsSoFar c.args.root.now.world.now c.args.root.now.items c.loop-field.root.items c.loop-field.entries c.args.fields.now fs) c.in-Some.ensures.steps c.loop-field.invariant.3 in (
+    let before : FieldsSoFar c.args.root.now.world.now (user_of c.args.self.now.user.which) c.args.root.now.items c.loop-field.root.items c.loop-field.entries c.args.fields.now (entry ∷ c.next.new.self) =
+    subst (λ (fs : List (List ℕ × Import)). FieldsSoFar c.args.root.now.world.now (user_of c.args.self.now.user.which) c.args.root.now.items c.loop-field.root.items c.loop-field.entries c.args.fields.now fs) c.in-Some.ensures.steps c.loop-field.invariant.3 in (
       tt,
       tt,
       of.same ∙ ap (λ (r : Root). record r { items = c.entry.new.root.items }) same,
-      fields_step w c.args.root.now.items mid c.entry.new.root.items c.loop-field.entries c.push.new.self c.in_ok-entry.entry c.args.fields.now c.next.new.self entry before
-          of.extends (subst (λ r. Grows r.now mid.defs c.entry.new.root.items.defs []) world of.grows) (subst (λ r. IsEntryFor r.now Main c.entry.new.root.items.defs c.in_ok-entry.entry entry) world of.serves) c.in_ok-push.ensures.ok,
+      fields_step w (user_of c.args.self.now.user.which) c.args.root.now.items mid c.entry.new.root.items c.loop-field.entries c.push.new.self c.in_ok-entry.entry c.args.fields.now c.next.new.self entry before
+          of.extends (subst (λ r. Grows r.now mid.defs c.entry.new.root.items.defs []) world of.grows) (subst (λ r. IsEntryFor r.now (user_of c.args.self.now.user.which) c.entry.new.root.items.defs c.in_ok-entry.entry entry) world of.serves) c.in_ok-push.ensures.ok,
     )
 
 pub entry-requires-clause-sources : goal.entry-requires-clause-sources
@@ -54,21 +53,20 @@ entry-requires-clause-sources c =
 pub entry-requires-clause-present : goal.entry-requires-clause-present
 entry-requires-clause-present c =
     let f : List ℕ × Import = (c.in-Some.field.now, c.in-Some.import.now) in
-    let before : FieldsSoFar c.args.root.now.world.now c.args.root.now.items c.loop-field.root.items c.loop-field.entries c.args.fields.now (f ∷ c.next.new.self) =
-    subst (λ (fs : List (List ℕ × Import)). FieldsSoFar c.args.root.now.world.now c.args.root.now.items c.loop-field.root.items c.loop-field.entries c.args.fields.now fs) c.in-Some.ensures.steps c.loop-field.invariant.3 in
-    subst (λ (r : Root). Contains (core_imports r.world.now) (record { module_name = c.args.module.now; field = f.0; role = f.1 })) (sym c.loop-field.invariant.2)
-    (field_present c.args.root.now.world.now c.args.module.now c.args.fields.now before.done c.next.new.self f c.requires.present before.split)
+    let before : FieldsSoFar c.args.root.now.world.now (user_of c.args.self.now.user.which) c.args.root.now.items c.loop-field.root.items c.loop-field.entries c.args.fields.now (f ∷ c.next.new.self) =
+    subst (λ (fs : List (List ℕ × Import)). FieldsSoFar c.args.root.now.world.now (user_of c.args.self.now.user.which) c.args.root.now.items c.loop-field.root.items c.loop-field.entries c.args.fields.now fs) c.in-Some.ensures.steps c.loop-field.invariant.3 in
+    field_present c.args.self.now.user.found.now c.args.module.now c.args.fields.now before.done c.next.new.self f c.requires.present before.split
 
 pub returns-clause-apart : goal.returns-clause-apart
 returns-clause-apart c =
-    entries_apart c.args.root.now.world.now c.args.root.now.items c.loop-field.root.items c.loop-field.entries c.args.fields.now c.loop-field.field-iterator c.loop-field.invariant.3 (search rules)
+    entries_apart c.args.root.now.world.now (user_of c.args.self.now.user.which) c.args.root.now.items c.loop-field.root.items c.loop-field.entries c.args.fields.now c.loop-field.field-iterator c.loop-field.invariant.3 (search rules)
     c.iter-field-items.ensures.unique
 
 pub returns-in_err-entry-clause-cause : goal.returns-in_err-entry-clause-cause
 returns-in_err-entry-clause-cause c =
     let f : List ℕ × Import = (c.in-Some.field.now, c.in-Some.import.now) in
-    let before : FieldsSoFar c.args.root.now.world.now c.args.root.now.items c.loop-field.root.items c.loop-field.entries c.args.fields.now (f ∷ c.next.new.self) =
-    subst (λ (fs : List (List ℕ × Import)). FieldsSoFar c.args.root.now.world.now c.args.root.now.items c.loop-field.root.items c.loop-field.entries c.args.fields.now fs) c.in-Some.ensures.steps c.loop-field.invariant.3 in
-    handed_on c.from_residual.result c.in_err-entry.field-0.0 (IsCauseAmong c.args.root.now.world.now (imports_from (c.args.module.now, Names c.args.fields.now)) []) c.from_residual.ensures.1
-    (field_refused c.args.root.now.world.now c.args.module.now before.done c.next.new.self c.args.fields.now f before.split c.in_err-entry.field-0.0
-    (subst (λ (r : Root). IsCauseAmong r.world.now (record { module_name = c.args.module.now; field = f.0; role = f.1 } ∷ []) [] c.in_err-entry.field-0.0) c.loop-field.invariant.2 c.in_err-entry.ensures.cause))
+    let before : FieldsSoFar c.args.root.now.world.now (user_of c.args.self.now.user.which) c.args.root.now.items c.loop-field.root.items c.loop-field.entries c.args.fields.now (f ∷ c.next.new.self) =
+    subst (λ (fs : List (List ℕ × Import)). FieldsSoFar c.args.root.now.world.now (user_of c.args.self.now.user.which) c.args.root.now.items c.loop-field.root.items c.loop-field.entries c.args.fields.now fs) c.in-Some.ensures.steps c.loop-field.invariant.3 in
+    handed_on c.from_residual.result c.in_err-entry.field-0.0 (IsCauseAmong c.args.root.now.world.now (imports_by (user_of c.args.self.now.user.which) (imports_from (c.args.module.now, Names c.args.fields.now))) []) c.from_residual.ensures.1
+    (field_refused c.args.root.now.world.now (user_of c.args.self.now.user.which) c.args.module.now before.done c.next.new.self c.args.fields.now f before.split c.in_err-entry.field-0.0
+    (subst (λ (r : Root). IsCauseAmong r.world.now (record { of = user_of c.args.self.now.user.which; core = record { module_name = c.args.module.now; field = f.0; role = f.1 } } ∷ []) [] c.in_err-entry.field-0.0) c.loop-field.invariant.2 c.in_err-entry.ensures.cause))

@@ -1,14 +1,15 @@
 use Rattle.std.proofs.Common.{ap}
 use Rattle.comp_builder.specs.Built.{Built}
 use Rattle.root_imports.specs.Growing.{Grows-then}
+use Rattle.core_options.specs.MainOptions.{user_of}
 use Rattle.main_instance.proofs.Serving.{ServesGroup, serve_group}
 use Rattle.comp_roles.specs.declared.imports.ImportInstance.TheVariants as instances
 use Rattle.main_instance.proofs.instances.ImportSources.inline_instance.Goals as goal
 
 served : (c : goal.In_ok-instance) →
-    ServesGroup c.args.root.now.world.now c.entries.new.root.items.defs c.inline_instance.new.self.defs (record { name = c.args.module.now; instance = c.in_ok-instance.instance }) (c.args.module.now, instances.Names c.args.fields.now)
+    ServesGroup c.args.root.now.world.now (user_of c.args.self.now.user.which) c.entries.new.root.items.defs c.inline_instance.new.self.defs (record { name = c.args.module.now; instance = c.in_ok-instance.instance }) (c.args.module.now, instances.Names c.args.fields.now)
 served c =
-    serve_group c.args.root.now.world.now c.requires.sources.valid c.entries.new.root.items c.inline_instance.new.self c.in_ok-instance.instance c.in_ok-entries.entries c.args.module.now c.args.fields.now c.requires.present
+    serve_group c.args.root.now.world.now c.requires.sources.valid c.args.self.now.user c.requires.sources.user c.entries.new.root.items c.inline_instance.new.self c.in_ok-instance.instance c.in_ok-entries.entries c.args.module.now c.args.fields.now c.requires.present
     c.in_ok-entries.ensures.serves c.in_ok-entries.ensures.apart (ap (λ (b : Built). b.defs) c.in_ok-instance.ensures.adds.1) c.in_ok-instance.ensures.at
 
 pub returns-clause-grows : goal.returns-clause-grows

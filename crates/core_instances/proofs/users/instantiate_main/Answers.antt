@@ -1,0 +1,29 @@
+use Rattle.std.proofs.Common.{[], subst}
+use Rattle.comp_items.proofs.Kept.{instance-kept}
+use Rattle.comp_items.proofs.Remembering.{longer}
+use Rattle.comp_terms.specs.Rules.{Grows}
+use Rattle.comp_terms.specs.Terms.{IsInstanceOf}
+use Rattle.root_imports.specs.Keeping.{Root}
+use Rattle.core_instances.proofs.UserInstances.{main_encoded, main_grows, main_there}
+use Rattle.core_instances.proofs.users.instantiate_main.Goals as goal
+
+pub instantiate_user-requires-clause-there : goal.instantiate_user-requires-clause-there
+instantiate_user-requires-clause-there c = main_there c.args.root.now.world.now c.args.root.now.items.defs c.args.sources.now.user c.requires.there c.requires.main
+
+pub memory_of_main-requires-clause-made : goal.memory_of_main-requires-clause-made
+memory_of_main-requires-clause-made c = subst (λ n. IsInstanceOf c.instantiate_user.new.root.items.defs c.in_ok-index.index n) c.requires.main.number c.in_ok-index.ensures.made
+
+pub returns-clause-grows : goal.returns-clause-grows
+returns-clause-grows c =
+    let w = c.args.root.now.world.now in
+    let mid = c.instantiate_user.new.root.items.defs in
+    let new = c.memory_of_main.new.root.items.defs in
+    let memory : Grows w mid new [] = subst (λ (r : Root). Grows r.world.now mid new []) c.in_ok-index.ensures.same c.in_ok-memory_of_main.ensures.grows in
+    main_grows w c.args.root.now.items.defs mid new c.args.sources.now.user c.requires.main c.in_ok-index.ensures.grows memory
+
+pub returns-clause-made : goal.returns-clause-made
+returns-clause-made c =
+    instance-kept (longer c.in_ok-memory_of_main.ensures.extends) (subst (λ n. IsInstanceOf c.instantiate_user.new.root.items.defs c.in_ok-index.index n) c.requires.main.number c.in_ok-index.ensures.made)
+
+pub returns-clause-encoded : goal.returns-clause-encoded
+returns-clause-encoded c = main_encoded c.args.root.now.world.now c.args.sources.now.user c.requires.main c.in_ok-index.ensures.encoded

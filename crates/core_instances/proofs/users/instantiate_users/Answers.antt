@@ -1,0 +1,44 @@
+use Rattle.std.proofs.Common.{subst, sym}
+use Rattle.comp_items.proofs.Kept.{instance-kept}
+use Rattle.comp_items.proofs.Remembering.{longer}
+use Rattle.root_imports.specs.Keeping.{Root}
+use Rattle.main_instance.specs.Sources.{AreSources}
+use Rattle.main_instance.proofs.Growth.{sources-kept}
+use Rattle.core_instances.specs.Instances.{HasUserModules, AllAdapters}
+use Rattle.core_instances.proofs.Ordering.{modules_kept}
+use Rattle.core_instances.proofs.UserInstances.{all_encoded, instances_found, users_grow}
+use Rattle.core_instances.proofs.users.instantiate_users.Goals as goal
+
+pub instantiate_adapters-requires-clause-sources : goal.instantiate_adapters-requires-clause-sources
+instantiate_adapters-requires-clause-sources c =
+    let mid : Root = c.instantiate_main.new.root in
+    subst (λ (r : Root). AreSources r.world.now c.args.sources.now r.met mid.items.defs r.maps r.instances) (sym c.in_ok-main.ensures.same) (sources-kept c.in_ok-main.ensures.extends c.requires.sources)
+
+pub instantiate_adapters-requires-clause-there : goal.instantiate_adapters-requires-clause-there
+instantiate_adapters-requires-clause-there c =
+    let mid : Root = c.instantiate_main.new.root in
+    subst (λ (r : Root). HasUserModules r.world.now mid.items.defs) (sym c.in_ok-main.ensures.same) (modules_kept c.in_ok-main.ensures.grows c.requires.there)
+
+pub returns-clause-grows : goal.returns-clause-grows
+returns-clause-grows c =
+    let w = c.args.root.now.world.now in
+    let mid = c.instantiate_main.new.root.items.defs in
+    let new = c.instantiate_adapters.new.root.items.defs in
+    let all : AllAdapters w mid new c.in_ok-adapters.adapters = subst (λ (r : Root). AllAdapters r.world.now mid new c.in_ok-adapters.adapters) c.in_ok-main.ensures.same c.in_ok-adapters.ensures.all in
+    users_grow w c.args.root.now.items.defs mid new c.in_ok-adapters.adapters c.in_ok-main.ensures.grows all
+
+pub returns-clause-made : goal.returns-clause-made
+returns-clause-made c =
+    let w = c.args.root.now.world.now in
+    let mid = c.instantiate_main.new.root.items.defs in
+    let new = c.instantiate_adapters.new.root.items.defs in
+    let all : AllAdapters w mid new c.in_ok-adapters.adapters = subst (λ (r : Root). AllAdapters r.world.now mid new c.in_ok-adapters.adapters) c.in_ok-main.ensures.same c.in_ok-adapters.ensures.all in
+    instances_found w new (record { main = c.in_ok-main.main; adapters = c.in_ok-adapters.adapters }) (instance-kept (longer c.in_ok-adapters.ensures.extends) c.in_ok-main.ensures.made) all.apart all.made
+
+pub returns-clause-encoded : goal.returns-clause-encoded
+returns-clause-encoded c =
+    let w = c.args.root.now.world.now in
+    let mid = c.instantiate_main.new.root.items.defs in
+    let new = c.instantiate_adapters.new.root.items.defs in
+    let all : AllAdapters w mid new c.in_ok-adapters.adapters = subst (λ (r : Root). AllAdapters r.world.now mid new c.in_ok-adapters.adapters) c.in_ok-main.ensures.same c.in_ok-adapters.ensures.all in
+    all_encoded w c.in_ok-main.ensures.encoded all.encoded

@@ -1,0 +1,170 @@
+//! The instances of the user modules: main's, and then those of the adapters in order.
+#![tactic(auto, using(comp_items::proofs::Extending::extends_none, comp_items::proofs::Extending::extends_same, comp_items::proofs::Extending::extends_then))]
+
+ghost use Rattle.std.specs.Prelude.{◌≡◌, ◌<◌, ◌+◌, ◌^◌, [], ◌∷◌, IfOk, IfErr, OnOk, Some};
+ghost use Rattle.std.specs.List.{AllByRecursion};
+ghost use Rattle.comp_bytes.specs.Spaces.{items_in};
+ghost use Rattle.comp_bytes.specs.declared.space.Space.TheVariants as spaces;
+ghost use Rattle.comp_items.specs.Items.{Extends};
+ghost use Rattle.comp_links.specs.Modules.{UserImport, user_imports};
+ghost use Rattle.comp_links.specs.Roles.{IsEncodedImport};
+ghost use Rattle.comp_links.specs.Targets.{Main};
+ghost use Rattle.comp_terms.specs.Rules.{Grows, InstanceOf, users_marked};
+ghost use Rattle.comp_terms.specs.Terms.{IsInstanceOf};
+ghost use Rattle.comp_worlds.specs.Lookups.{module_name};
+ghost use Rattle.core_instances.specs.Instances.{HasUserModules, IsMainUser, IsSameUser, IsEncodedUser, AllAdapters};
+ghost use Rattle.core_options.specs.Causes.{IsCause};
+ghost use Rattle.core_options.specs.MainOptions.{user_of, AreUserInstances};
+ghost use Rattle.main_instance.specs.Sources.{AreSources};
+
+use comp_lists::{Keyed, Text};
+use comp_worlds::{ComponentWorld, CustomModule, WorldAdapter};
+use core_options::{StateFault, UserInstances, UserModule, memory_name, memory_of_main};
+use main_instance::ImportSources;
+use root_imports::RootScope;
+use shim_plan::Shims;
+
+/// Main, as a user module.
+pub(crate) fn main_user(world: &ComponentWorld) -> UserModule<'_>
+    ensures { IsMainUser world.now result }
+{
+    UserModule {
+        number: 0,
+        which: CustomModule::Main,
+        found: &world.main,
+    }
+}
+
+/// What the imports of a user module are given: root functions that were imported, and shims with their instance.
+pub(crate) fn sources_of<'a>(
+    user: UserModule<'a>,
+    functions: &'a Keyed<Text, u32>,
+    shims: &'a Shims,
+    shim_instance: Option<u32>,
+) -> ImportSources<'a>
+    ensures user { IsSameUser user.entry result.user }
+    ensures functions { result.functions.now ≡ functions.now }
+    ensures shims { result.shims.now ≡ shims.now }
+    ensures instance { result.shim_instance ≡ shim_instance }
+{
+    ImportSources {
+        user,
+        functions,
+        shims,
+        shim_instance,
+    }
+}
+
+/// The adapter with the number after this one, as a user module.
+fn next_user<'a>(last: u32, name: &'a Text, adapter: &'a WorldAdapter) -> UserModule<'a>
+    requires { last + 1 < 2 ^ 32 }
+    ensures number { result.number ≡ last + 1 }
+    ensures named { module_name result.which ≡ Some name.now }
+    ensures found { result.found.now ≡ adapter.now.info }
+{
+    UserModule {
+        number: last + 1,
+        which: CustomModule::Adapter(name.as_str()),
+        found: &adapter.info,
+    }
+}
+
+/// Makes the instance of a user module. `debug` is its debug name.
+///
+/// `E9` where an import of a function has no string encoding.
+fn instantiate_user(
+    root: &mut RootScope<'_, ComponentWorld>,
+    sources: &ImportSources<'_>,
+    debug: &str,
+) -> Result<u32, StateFault>
+    requires sources { AreSources root.old.world.now sources.now root.old.met root.old.items.defs root.old.maps root.old.instances }
+    requires there { sources.now.user.number < items_in spaces.CoreModule root.old.items.defs }
+    ensures same { root.new ≡ record root.old { items = root.new.items } }
+    ensures extends { Extends root.old.items root.new.items }
+    ensures grows { OnOk result (Grows root.old.world.now root.old.items.defs root.new.items.defs (InstanceOf sources.now.user.number ∷ [])) }
+    ensures made { IfOk result (λ index. IsInstanceOf root.new.items.defs index sources.now.user.number) }
+    ensures encoded { OnOk result (IsEncodedUser root.old.world.now (user_of sources.now.user.which) sources.now.user.found.now) }
+    ensures cause { IfErr result (IsCause root.old.world.now) }
+{
+    let arguments = sources.arguments(root)?;
+    let index = root
+        .items
+        .core_instance(Some(debug), sources.user.number, arguments)?;
+    Ok(index)
+}
+
+/// Makes main's instance, and an alias of the memory that it exports, if it exports one.
+fn instantiate_main(
+    root: &mut RootScope<'_, ComponentWorld>,
+    sources: &ImportSources<'_>,
+) -> Result<u32, StateFault>
+    requires sources { AreSources root.old.world.now sources.now root.old.met root.old.items.defs root.old.maps root.old.instances }
+    requires main { IsMainUser root.old.world.now sources.now.user }
+    requires there { HasUserModules root.old.world.now root.old.items.defs }
+    ensures same { root.new ≡ record root.old { items = root.new.items } }
+    ensures extends { Extends root.old.items root.new.items }
+    ensures grows { OnOk result (Grows root.old.world.now root.old.items.defs root.new.items.defs (InstanceOf 0 ∷ [])) }
+    ensures made { IfOk result (λ index. IsInstanceOf root.new.items.defs index 0) }
+    ensures encoded { OnOk result (IsEncodedUser root.old.world.now Main root.old.world.now.main) }
+    ensures cause { IfErr result (IsCause root.old.world.now) }
+{
+    let index = instantiate_user(root, sources, "main")?;
+    let memory = memory_name(root.world);
+    memory_of_main(root, index, memory)?;
+    Ok(index)
+}
+
+/// Makes the instances of the adapters, in order.
+fn instantiate_adapters(
+    root: &mut RootScope<'_, ComponentWorld>,
+    sources: &ImportSources<'_>,
+) -> Result<Keyed<Text, u32>, StateFault>
+    requires sources { AreSources root.old.world.now sources.now root.old.met root.old.items.defs root.old.maps root.old.instances }
+    requires there { HasUserModules root.old.world.now root.old.items.defs }
+    ensures same { root.new ≡ record root.old { items = root.new.items } }
+    ensures extends { Extends root.old.items root.new.items }
+    ensures all { IfOk result (AllAdapters root.old.world.now root.old.items.defs root.new.items.defs) }
+    ensures cause { IfErr result (IsCause root.old.world.now) }
+{
+    let world = root.world;
+    let alloc = root.items.allocator();
+    let mut table = Keyed::new(alloc);
+    let mut last: u32 = 0;
+    for (name, adapter) in world.adapters.iter() {
+        let key = name.clone(alloc)?;
+        let user = next_user(last, name, adapter);
+        let own = sources_of(
+            user,
+            sources.functions,
+            sources.shims,
+            sources.shim_instance,
+        );
+        let index = instantiate_user(root, &own, name.as_str())?;
+        table.insert(key, index)?;
+        last += 1;
+    }
+    Ok(table)
+}
+
+/// Makes the instances of the user modules: main's, with an alias of the memory that it exports, if it exports one, and then those of
+/// the adapters in order.
+///
+/// `E9` where an import of a function has no string encoding.
+pub(crate) fn instantiate_users(
+    root: &mut RootScope<'_, ComponentWorld>,
+    sources: &ImportSources<'_>,
+) -> Result<UserInstances, StateFault>
+    requires sources { AreSources root.old.world.now sources.now root.old.met root.old.items.defs root.old.maps root.old.instances }
+    requires main { IsMainUser root.old.world.now sources.now.user }
+    requires there { HasUserModules root.old.world.now root.old.items.defs }
+    ensures same { root.new ≡ record root.old { items = root.new.items } }
+    ensures extends { Extends root.old.items root.new.items }
+    ensures grows { OnOk result (Grows root.old.world.now root.old.items.defs root.new.items.defs (users_marked root.old.world.now)) }
+    ensures made { IfOk result (AreUserInstances root.old.world.now root.new.items.defs) }
+    ensures encoded { OnOk result (AllByRecursion (λ (i : UserImport). IsEncodedImport root.old.world.now i.of i.core.role) (user_imports root.old.world.now)) }
+    ensures cause { IfErr result (IsCause root.old.world.now) }
+{
+    let main = instantiate_main(root, sources)?;
+    let adapters = instantiate_adapters(root, sources)?;
+    Ok(UserInstances { main, adapters })
+}

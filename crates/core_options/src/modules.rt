@@ -1,0 +1,153 @@
+//! User modules, and what their instances export.
+//!
+//! Core standard, execution: module instances.
+#![tactic(auto, using(comp_items::proofs::Extending::extends_none, comp_items::proofs::Extending::extends_same, comp_items::proofs::Extending::extends_then))]
+
+ghost use Rattle.std.specs.Prelude.{◌≡◌, [], List, ℕ, Some, IfOk, IfErr, IfSome, OnOk, slice_get};
+ghost use Rattle.std.specs.Option.{option_map};
+ghost use Rattle.comp_bytes.specs.declared.def.Def.{Def};
+ghost use Rattle.comp_items.specs.Items.{Extends};
+ghost use Rattle.comp_links.specs.Links.{lift_realloc, lower_realloc};
+ghost use Rattle.comp_links.specs.Modules.{module_found, user_modules};
+ghost use Rattle.comp_terms.specs.Rules.{Grows};
+ghost use Rattle.comp_terms.specs.Terms.{IsInstanceOf};
+ghost use Rattle.comp_worlds.specs.Encodable.{IsEncodable};
+ghost use Rattle.core_options.specs.MainOptions.{user_of, module_named, placed_export, export_ref_of, IsInstanceExport, IsAliasOf, IsAliasIf};
+ghost use Rattle.root_imports.specs.RootScopes.{IsRefusal};
+
+use byte_encoding::BuildFault;
+use comp_lists::{Keyed, Text};
+use comp_worlds::{ComponentWorld, CustomModule, ValidatedModule};
+use root_imports::RootScope;
+use wit_data::{InterfaceId, WorldKey};
+
+/// A user module of a world: its number among the core modules, how others name it, and what validation found of it.
+#[derive(Clone, Copy)]
+pub struct UserModule<'a> {
+    pub number: u32,
+    pub which: CustomModule<'a>,
+    pub found: &'a ValidatedModule,
+}
+
+/// A function that the instance of a user module exports.
+#[derive(Clone, Copy)]
+pub struct InstanceExport<'a> {
+    /// The instance of the module.
+    pub instance: u32,
+    pub of: CustomModule<'a>,
+    pub name: &'a str,
+}
+
+/// The instances of all user modules: main's, and those of the adapters by their names.
+pub struct UserInstances {
+    pub main: u32,
+    pub adapters: Keyed<Text, u32>,
+}
+
+impl Drop for UserInstances {
+    fn drop(self) {
+        let UserInstances {
+            main: _,
+            adapters: _,
+        } = self;
+    }
+}
+
+/// The alias of a function that an instance exports.
+pub fn alias_of(
+    root: &mut RootScope<'_, ComponentWorld>,
+    export: InstanceExport<'_>,
+) -> Result<u32, BuildFault>
+    requires made { IsInstanceExport root.old.world.now root.old.items.defs export }
+    ensures same { root.new ≡ record root.old { items = root.new.items } }
+    ensures extends { Extends root.old.items root.new.items }
+    ensures grows { OnOk result (Grows root.old.world.now root.old.items.defs root.new.items.defs []) }
+    ensures alias { IfOk result (λ index. IsAliasOf root.old.world.now root.new.items.defs index (export_ref_of export.entry)) }
+    ensures cause { IfErr result IsRefusal }
+{
+    let index = root.items.core_function(export.instance, export.name)?;
+    Ok(index)
+}
+
+/// The alias of a function that an instance exports, if one is given.
+pub fn alias_if(
+    root: &mut RootScope<'_, ComponentWorld>,
+    export: Option<InstanceExport<'_>>,
+) -> Result<Option<u32>, BuildFault>
+    requires made { IfSome export (IsInstanceExport root.old.world.now root.old.items.defs) }
+    ensures same { root.new ≡ record root.old { items = root.new.items } }
+    ensures extends { Extends root.old.items root.new.items }
+    ensures grows { OnOk result (Grows root.old.world.now root.old.items.defs root.new.items.defs []) }
+    ensures alias { IfOk result (λ index. IsAliasIf root.old.world.now root.new.items.defs (option_map export_ref_of export.entry) index) }
+    ensures cause { IfErr result IsRefusal }
+{
+    match export {
+        Some(export) => {
+            let index = alias_of(root, export)?;
+            Ok(Some(index))
+        }
+        None => Ok(None),
+    }
+}
+
+/// The export, where a look-up across modules found it: `main` and `instance` are the instances of main and of the module that
+/// was asked for.
+fn found_export<'a>(
+    found: Option<(CustomModule<'a>, &'a str)>,
+    main: u32,
+    instance: u32,
+) -> Option<InstanceExport<'a>>
+    ensures { result ≡ option_map (placed_export main instance) found.entry }
+{
+    match found {
+        Some((CustomModule::Main, name)) => Some(InstanceExport {
+            instance: main,
+            of: CustomModule::Main,
+            name,
+        }),
+        Some((CustomModule::Adapter(adapter), name)) => Some(InstanceExport {
+            instance,
+            of: CustomModule::Adapter(adapter),
+            name,
+        }),
+        None => None,
+    }
+}
+
+/// The realloc of the calls of a module's imports, as an export of an instance, if there is one: `validated` is what validation
+/// found of the module. `main` and `instance` are the instances of main and of this module.
+pub fn import_realloc_of<'a>(
+    world: &'a ComponentWorld,
+    which: CustomModule<'a>,
+    validated: &'a ValidatedModule,
+    main: u32,
+    instance: u32,
+) -> Option<InstanceExport<'a>>
+    requires valid { IsEncodable world.now }
+    requires named { module_found world.now (user_of which) ≡ Some validated.now }
+    ensures same { option_map export_ref_of result ≡ lower_realloc world.now (user_of which.entry) }
+    ensures made { (ds : List Def) (number : ℕ) → IsInstanceOf ds main 0 → IsInstanceOf ds instance number → slice_get (user_modules world.now) number ≡ Some (module_named which.entry validated.now) → IfSome result (IsInstanceExport world.now ds) }
+{
+    let own = validated.exports.import_realloc_for(None, "");
+    let found = world.resolve_realloc(which, own);
+    found_export(found, main, instance)
+}
+
+/// The realloc of the calls of a module's exports, like [`import_realloc_of`].
+pub fn export_realloc_of<'a>(
+    world: &'a ComponentWorld,
+    which: CustomModule<'a>,
+    validated: &'a ValidatedModule,
+    main: u32,
+    instance: u32,
+) -> Option<InstanceExport<'a>>
+    requires valid { IsEncodable world.now }
+    requires named { module_found world.now (user_of which) ≡ Some validated.now }
+    ensures same { option_map export_ref_of result ≡ lift_realloc world.now (user_of which.entry) }
+    ensures made { (ds : List Def) (number : ℕ) → IsInstanceOf ds main 0 → IsInstanceOf ds instance number → slice_get (user_modules world.now) number ≡ Some (module_named which.entry validated.now) → IfSome result (IsInstanceExport world.now ds) }
+{
+    let any = WorldKey::Interface(InterfaceId { index: 0 });
+    let own = validated.exports.export_realloc_for(&any, "");
+    let found = world.resolve_realloc(which, own);
+    found_export(found, main, instance)
+}

@@ -1,0 +1,103 @@
+//! User modules, as the kinds of shims name them: their instances, and the options of calls of their imports.
+
+ghost use Rattle.std.specs.Prelude.{◌≡◌, ℕ, Some, IfSome};
+ghost use Rattle.std.specs.Option.{option_map};
+ghost use Rattle.comp_links.specs.Links.{lower_realloc, module_of};
+ghost use Rattle.comp_links.specs.Modules.{IsModule, module_found};
+ghost use Rattle.comp_links.specs.Targets.{Adapter};
+ghost use Rattle.comp_terms.specs.Terms.{IsInstanceOf};
+ghost use Rattle.core_options.specs.MainOptions.{IsInstanceExport, AreOptionSources, export_ref_of, user_of};
+ghost use Rattle.main_fixup.specs.Filling.{AreFillSources, IsUserNamed};
+
+use crate::sources::FillSources;
+use comp_lists::Text;
+use comp_roles::MainOrAdapter;
+use comp_worlds::{ComponentWorld, CustomModule, ValidatedModule};
+use core_options::{InstanceExport, OptionSources, import_realloc_of};
+use root_imports::RootScope;
+
+/// The module that a shim names, as code names it.
+pub(crate) fn custom_module(which: &MainOrAdapter) -> CustomModule<'_>
+    ensures { user_of result ≡ module_of which.now }
+{
+    match which {
+        MainOrAdapter::Main => CustomModule::Main,
+        MainOrAdapter::Adapter(name) => CustomModule::Adapter(name.as_str()),
+    }
+}
+
+/// What validation found of the module that a shim names.
+fn validated_module<'a>(world: &'a ComponentWorld, which: &MainOrAdapter) -> &'a ValidatedModule
+    requires { IsUserNamed world.now (module_of which.now) }
+    ensures { module_found world.now (module_of which.now) ≡ Some result.now }
+{
+    match which {
+        MainOrAdapter::Main => &world.main,
+        MainOrAdapter::Adapter(name) => &world.adapters.get(name).unwrap().info,
+    }
+}
+
+/// The instance of an adapter.
+pub(crate) fn instance_of_adapter(
+    root: &RootScope<'_, ComponentWorld>,
+    sources: &FillSources<'_>,
+    name: &Text,
+) -> u32
+    requires sources { AreFillSources root.now.world.now sources.now root.now.met root.now.items.defs root.now.maps root.now.instances }
+    requires named { IsUserNamed root.now.world.now (Adapter name.now) }
+    ensures { (number : ℕ) → IsModule root.now.world.now number (Adapter name.now) → IsInstanceOf root.now.items.defs result number }
+{
+    *sources.instances.adapters.get(name).unwrap()
+}
+
+/// The instance of the module that a shim names.
+pub(crate) fn instance_of_module(
+    root: &RootScope<'_, ComponentWorld>,
+    sources: &FillSources<'_>,
+    which: &MainOrAdapter,
+) -> u32
+    requires sources { AreFillSources root.now.world.now sources.now root.now.met root.now.items.defs root.now.maps root.now.instances }
+    requires named { IsUserNamed root.now.world.now (module_of which.now) }
+    ensures { (number : ℕ) → IsModule root.now.world.now number (module_of which.now) → IsInstanceOf root.now.items.defs result number }
+{
+    match which {
+        MainOrAdapter::Main => sources.instances.main,
+        MainOrAdapter::Adapter(name) => instance_of_adapter(root, sources, name),
+    }
+}
+
+/// The realloc of calls of the imports of the module that a shim names, if there is one.
+fn realloc_of_calls<'a>(
+    root: &RootScope<'a, ComponentWorld>,
+    sources: &FillSources<'_>,
+    which: &'a MainOrAdapter,
+) -> Option<InstanceExport<'a>>
+    requires sources { AreFillSources root.now.world.now sources.now root.now.met root.now.items.defs root.now.maps root.now.instances }
+    requires named { IsUserNamed root.now.world.now (module_of which.now) }
+    ensures same { option_map export_ref_of result ≡ lower_realloc root.now.world.now (module_of which.now) }
+    ensures made { IfSome result (IsInstanceExport root.now.world.now root.now.items.defs) }
+{
+    let of = custom_module(which);
+    let validated = validated_module(root.world, which);
+    let instance = instance_of_module(root, sources, which);
+    import_realloc_of(root.world, of, validated, sources.instances.main, instance)
+}
+
+/// The options of calls of the imports of the module that a shim names: main's memory, and the realloc of the module.
+pub(crate) fn options_of_calls<'a>(
+    root: &RootScope<'a, ComponentWorld>,
+    sources: &FillSources<'a>,
+    which: &'a MainOrAdapter,
+) -> OptionSources<'a>
+    requires sources { AreFillSources root.now.world.now sources.now root.now.met root.now.items.defs root.now.maps root.now.instances }
+    requires named { IsUserNamed root.now.world.now (module_of which.now) }
+    ensures options { AreOptionSources root.now.world.now root.now.items.defs result }
+    ensures realloc { option_map export_ref_of result.realloc ≡ lower_realloc root.now.world.now (module_of which.now) }
+{
+    let realloc = realloc_of_calls(root, sources, which);
+    OptionSources {
+        instance: sources.instances.main,
+        memory: sources.memory,
+        realloc,
+    }
+}
