@@ -1,4 +1,4 @@
 pub mod WorkedRoles
 pub mod WorkedImports
 pub mod Groups
-pub mod OnlyMain
+pub mod Keys

@@ -25,9 +25,10 @@ use Rattle.comp_roles.specs.declared.imports.Import.{Import}
 use Rattle.comp_roles.specs.declared.imports.Import.TheVariants as imports
 use Rattle.world_values.specs.Items.{functions_of}
 use Rattle.world_values.specs.Mentions.{interface_types, interfaces_of, same_interface}
-use Rattle.comp_worlds.specs.WorldContents.{items_of, imported_types, core_imports, interface_at, name_at}
+use Rattle.comp_worlds.specs.WorldContents.{items_of, imported_types, interface_at, name_at}
 use Rattle.comp_worlds.specs.Worlds.{IsWorld, IsResource}
 use Rattle.comp_worlds.specs.ExportOrder.{required_interfaces}
+use Rattle.comp_worlds.specs.Uses.{all_imports}
 use Rattle.comp_worlds.specs.WorldTables.{HasTables}
 use Rattle.comp_worlds.specs.declared.world.ComponentWorld.{ComponentWorld}
 
@@ -163,9 +164,9 @@ pub record IsEncodable (w : ComponentWorld) : Type 0 where
   pub resources : ImportsResources w
   -- no interface is imported or exported twice, nor both
   pub apart : IsDistinct same_interface (interfaces_of (items_of w).imports ++ interfaces_of (items_of w).exports)
-  -- main doesn't have to export one twice
+  -- none has to be exported twice
   pub required_apart : IsDistinct same_interface (required_interfaces w)
   pub types : (n : ℕ) → n < length w.resolve.types → IsTypePlaced w.resolve (items_of w).imports n
   pub imports : AllByRecursion (λ e. IsItemPlaced w.resolve (items_of w).imports e.1) (items_of w).imports
   pub exports : AllByRecursion (λ e. IsExportPlaced w.resolve (items_of w) e.1) (items_of w).exports
-  pub roles : AllByRecursion (λ i. IsRolePlaced w.resolve (items_of w).imports i.role) (core_imports w)
+  pub roles : AllByRecursion (λ i. IsRolePlaced w.resolve (items_of w).imports i.role) (all_imports w.main w.adapters)

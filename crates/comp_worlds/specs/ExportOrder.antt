@@ -8,7 +8,7 @@ use Rattle.wit_data.specs.declared.worlds.WorldItem.{WorldItem}
 use Rattle.wit_data.specs.declared.worlds.WorldItem.TheVariants as items
 use Rattle.wit_data.specs.declared.worlds.WorldKey.{WorldKey}
 use Rattle.world_values.specs.Mentions.{same_interface}
-use Rattle.comp_worlds.specs.WorldContents.{exported_item}
+use Rattle.comp_worlds.specs.WorldContents.{exported_item, keys_required}
 use Rattle.comp_worlds.specs.declared.world.ComponentWorld.{ComponentWorld}
 
 -- the exported interfaces that an exported one uses
@@ -20,20 +20,20 @@ abbrev pub interface_among : Option WorldItem → List InterfaceId
 interface_among (Some (items.Interface id)) = id ∷ []
 interface_among item = []
 
--- the interfaces among the keys that main has to export, and among the first of them
+-- the interfaces among the keys that user modules have to export, and among the first of them
 abbrev pub required_interfaces : ComponentWorld → List InterfaceId
-required_interfaces w = flat_map (λ key. interface_among (exported_item w key)) w.main_exports
+required_interfaces w = flat_map (λ key. interface_among (exported_item w key)) (keys_required w)
 
 abbrev pub exported_before : ComponentWorld → ℕ → List InterfaceId
-exported_before w number = flat_map (λ key. interface_among (exported_item w key)) (take number w.main_exports)
+exported_before w number = flat_map (λ key. interface_among (exported_item w key)) (take number (keys_required w))
 
--- main has to export this interface at the key of this number
+-- a user module has to export this interface at the key of this number
 pub record IsExportedAt (w : ComponentWorld) (number : ℕ) (id : InterfaceId) : Type 0 where
   pub key : WorldKey
-  pub required : slice_get w.main_exports number ≡ Some key
+  pub required : slice_get (keys_required w) number ≡ Some key
   pub item : exported_item w key ≡ Some (items.Interface id)
 
--- an interface that main has to export uses types of another exported one, which main doesn't export before it
+-- an interface that has to be exported uses types of another exported one, which isn't exported before it
 pub record IsLaterExport (w : ComponentWorld) (interface used : InterfaceId) : Type 0 where
   pub number : ℕ
   pub exported : IsExportedAt w number interface

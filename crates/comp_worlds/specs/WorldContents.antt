@@ -1,5 +1,5 @@
 -- What a validated world contains (component model: the imports and exports of a world; WIT: functions, types).
-use Rattle.std.specs.Prelude.{ℕ, List, [], ◌∷◌, Option, Some, None, get_or, slice_get}
+use Rattle.std.specs.Prelude.{ℕ, List, [], ◌∷◌, ◌++◌, Option, Some, None, get_or, slice_get}
 use Rattle.std.specs.List.{flat_map}
 use Rattle.std.specs.Map.{lookup}
 use Rattle.std.specs.Option.{option_and_then}
@@ -70,6 +70,10 @@ imported_name role = None
 
 -- ---- exports
 
+-- the keys that user modules have to export: those of main, then those of the adapters in order
+abbrev pub keys_required : ComponentWorld → List WorldKey
+keys_required w = w.main_exports ++ flat_map (λ a. a.1.required_exports) w.adapters
+
 -- what the world exports at a key
 abbrev pub exported_item : ComponentWorld → WorldKey → Option WorldItem
 exported_item w key = lookup (is_same_key key) (items_of w).exports
@@ -78,9 +82,6 @@ exported_item w key = lookup (is_same_key key) (items_of w).exports
 abbrev pub function_exported : ComponentWorld → WorldKey → List ℕ → Option Function
 function_exported w key name = function_of_item w.resolve name (exported_item w key)
 
--- the core export that implements the function of this name at a key, among those of a module, and of main
+-- the core export that implements the function of this name at a key, among those of a module
 abbrev pub core_name_in : List (List ℕ × Export) → WorldKey → List ℕ → Option (List ℕ)
 core_name_in exports key name = of_function key name (implementations exports)
-
-abbrev pub core_name_of : ComponentWorld → WorldKey → List ℕ → Option (List ℕ)
-core_name_of w key name = core_name_in w.main.exports.exports key name

@@ -31,7 +31,8 @@ use Rattle.comp_worlds.specs.declared.world.ComponentWorld.{ComponentWorld}
 use Rattle.comp_worlds.specs.declared.world.ValidatedModule.{ValidatedModule}
 use Rattle.world_values.specs.Items.{functions_of, functions_in}
 use Rattle.comp_worlds.specs.Typed.{FitsImport, FitsExport}
-use Rattle.comp_worlds.specs.WorldContents.{items_of, imported_functions, exported_functions, exported_item, core_name_in, interface_at}
+use Rattle.comp_worlds.specs.Uses.{imports_of}
+use Rattle.comp_worlds.specs.WorldContents.{items_of, imported_functions, exported_functions, exported_item, core_name_in, interface_at, keys_required}
 
 -- a kind of function that is called synchronously
 abbrev pub IsSynchronous : FunctionKind → Type 0
@@ -75,13 +76,13 @@ pub record IsResource (types : List TypeDef) (number : ℕ) : Type 0 where
   pub present : number < length types
   pub kind : kind_at types number ≡ kinds.Resource
 
--- the type is a resource of an interface that main has to export at a key
+-- the type is a resource of an interface that a user module has to export at a key
 pub record IsOwnResource (w : ComponentWorld) (key : WorldKey) (id : TypeId) : Type 0 where
   pub resource : IsResource w.resolve.types id.index
   pub interface : InterfaceId
   pub owner : interface_at w.resolve.types id.index ≡ Some interface
   pub exported : exported_item w key ≡ Some (items.Interface interface)
-  pub required : Contains w.main_exports key
+  pub required : Contains (keys_required w) key
 
 -- the role of an import is a function that the world imports, at its root or in an interface, called in the right form, the drop of a
 -- resource, or `resource.drop`, `resource.rep` or `resource.new` of a resource of an exported interface
@@ -93,6 +94,13 @@ IsImportRole w (imports.ExportedResourceDrop key id) = IsOwnResource w key id
 IsImportRole w (imports.ExportedResourceRep key id) = IsOwnResource w key id
 IsImportRole w (imports.ExportedResourceNew key id) = IsOwnResource w key id
 IsImportRole w role = ⊥
+
+-- a function of the handles of an exported resource is for the module that has to export its interface
+abbrev pub IsForOwnKey : List WorldKey → Import → Type 0
+IsForOwnKey keys (imports.ExportedResourceDrop key id) = Contains keys key
+IsForOwnKey keys (imports.ExportedResourceRep key id) = Contains keys key
+IsForOwnKey keys (imports.ExportedResourceNew key id) = Contains keys key
+IsForOwnKey keys role = Unit {0}
 
 -- the roles of the imports from one module
 abbrev pub IsImportGroup : ComponentWorld → List ℕ × ImportInstance → Type 0
@@ -130,6 +138,7 @@ pub record IsUserModule (w : ComponentWorld) (m : ValidatedModule) (keys : List 
   pub core : IsCoreModule m.bytes
   pub modules_apart : IsDistinct bytes_eq (map (λ g. g.0) m.imports.modules)
   pub import_roles : AllByRecursion (IsImportGroup w) m.imports.modules
+  pub own_keys : AllByRecursion (λ i. IsForOwnKey keys i.role) (imports_of m)
   pub imported : AllByRecursion (FitsImport w.resolve (items_of w) m) m.imported
   pub export_roles : AllByRecursion (λ e. IsExportRole w e.1) m.exports.exports
   pub exported : AllByRecursion (FitsExport w.resolve (items_of w) m) m.exports.exports
@@ -148,4 +157,6 @@ pub record IsWorld (w : ComponentWorld) : Type 0 where
   pub exported_interfaces_apart : IsDistinct bytes_eq (flat_map (interface_text w.resolve) (items_of w).exports)
   pub main : IsUserModule w w.main w.main_exports
   pub adapters : AllByRecursion (λ a. IsUserModule w a.1.info a.1.required_exports) w.adapters
-  pub alone : w.adapters ≡ []
+  -- adapters have names of their own, and no key has to be exported twice
+  pub adapters_apart : IsDistinct bytes_eq (keys_of w.adapters)
+  pub keys_apart : IsDistinct is_same_key (keys_required w)
