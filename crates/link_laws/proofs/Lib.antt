@@ -45,3 +45,4 @@ mod WorkedNestedTypes
 mod WorkedOwnResource
 mod CrossedDestructors
 mod WorkedHandles
+mod WorkedUsers
