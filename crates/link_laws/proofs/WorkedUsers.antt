@@ -1,7 +1,7 @@
 -- A worked example: a validated world of main and an adapter, each of which has to export a function; the adapter imports one. Its list
 -- keeps the rules, and so it links.
 use Rattle.comp_links.specs.Naming.{own_names}
-use Rattle.std.proofs.Common.{inl, ◌≡◌, ℕ, suc, List, [], ◌∷◌, refl, false, Option, Some, None, map, take, arith}
+use Rattle.std.proofs.Common.{inl, ◌≡◌, ℕ, suc, List, [], ◌∷◌, refl, true, false, Option, Some, None, map, take, arith}
 use Rattle.std.specs.Prelude.{codes}
 use Rattle.std.specs.List.{IsDistinct, slice_get}
 use Rattle.std.specs.Map.{keys_of}
