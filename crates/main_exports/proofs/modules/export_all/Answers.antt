@@ -13,9 +13,6 @@ use Rattle.main_exports.specs.Exports.{AreExported, AreExportsAtHand, AreExports
 use Rattle.main_exports.proofs.Adapters.{all_exported, main_counted, ready-moved}
 use Rattle.main_exports.proofs.modules.export_all.Goals as goal
 
-ready : (c : goal.In_ok-export_main) → AreExportsReady c.args.root.now.world.now c.args.root.now
-ready c = record { valid = c.requires.valid; tables = c.requires.tables; passed = c.requires.passed; ordered = c.requires.ordered; at_hand = c.requires.at_hand }
-
 pub export_main-requires-clause-ready : goal.export_main-requires-clause-ready
 export_main-requires-clause-ready c = record { valid = c.requires.valid; tables = c.requires.tables; passed = c.requires.passed; ordered = c.requires.ordered; at_hand = c.requires.at_hand }
 
@@ -26,7 +23,9 @@ pub export_adapters-requires-clause-ready : goal.export_adapters-requires-clause
 export_adapters-requires-clause-ready c =
     let mid = c.export_main.new.root in
     let e = c.in_ok-export_main.ensures in
-    subst (λ x. AreExportsReady x.now mid) (sym e.moved.world) (ready-moved c.args.root.now.world.now c.args.root.now mid e.moved e.at_hand (ready c))
+    let ready : AreExportsReady c.args.root.now.world.now c.args.root.now =
+    record { valid = c.requires.valid; tables = c.requires.tables; passed = c.requires.passed; ordered = c.requires.ordered; at_hand = c.requires.at_hand } in
+    subst (λ x. AreExportsReady x.now mid) (sym e.moved.world) (ready-moved c.args.root.now.world.now c.args.root.now mid e.moved e.at_hand ready)
 
 pub export_adapters-requires-clause-made : goal.export_adapters-requires-clause-made
 export_adapters-requires-clause-made c =
