@@ -50,7 +50,7 @@ fn fill_sources<'a>(
 ///
 /// `E9` where an import of a function has no string encoding, `E7` where a function is lowered with a memory and main exports none,
 /// `E8` where it is lowered with a realloc and there is none for the module, and `E11` where an exported interface uses types of another
-/// one that main doesn't export before it.
+/// one that isn't exported before it.
 pub fn encode_core_instantiation(
     root: &mut RootScope<'_, ComponentWorld>,
     functions: &Keyed<Text, u32>,
