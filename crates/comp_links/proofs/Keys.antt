@@ -68,8 +68,8 @@ same_keys = search (comparing, rules) depth 12
 
 listed_there : {X : Type 0} (xs : List X) (i : ℕ) (x : X) → slice_get xs i ≡ Some x → Contains xs x
 listed_there [] i x e = absurd (none-some x e)
-listed_there (y ∷ ys) zero x e = (0, (omega arith, same_Some y x e))
-listed_there (y ∷ ys) (suc i) x e = let c = listed_there ys i x e in (suc c.0, (let l = c.1 in omega (arith, l), c.2))
+listed_there (y ∷ ys) zero x e = (0, omega arith, same_Some y x e)
+listed_there (y ∷ ys) (suc i) x e = let c = listed_there ys i x e in (suc c.0, (let l = c.1 in omega (arith, l)), c.2)
 
 one_number : (keys : List WorldKey) → IsDistinct is_same_key keys → (i j : ℕ) (key : WorldKey) → slice_get keys i ≡ Some key → slice_get keys j ≡ Some key → i ≡ j
 unfolding IsDistinct

@@ -19,7 +19,6 @@ use Rattle.comp_roles.specs.declared.imports.Import.{Import}
 use Rattle.comp_roles.specs.declared.imports.Import.TheVariants as imports
 use Rattle.comp_roles.specs.declared.exports.Export.{Export}
 use Rattle.comp_worlds.specs.declared.world.ComponentWorld.{ComponentWorld}
-use Rattle.comp_roles.specs.CoreImports.{CoreImport, imports_from}
 use Rattle.comp_roles.specs.Functions.{of_function}
 use Rattle.world_values.specs.CoreExports.{implementations}
 use Rattle.world_values.specs.Items.{no_items, function_of_item}
@@ -58,10 +57,6 @@ imported_functions w = flat_map root_function (items_of w).imports
 
 abbrev pub exported_functions : ComponentWorld → List (List ℕ)
 exported_functions w = flat_map root_function (items_of w).exports
-
--- the imports of main, module by module
-abbrev pub core_imports : ComponentWorld → List CoreImport
-core_imports w = flat_map imports_from w.main.imports.modules
 
 -- the name of the root function that an import uses
 abbrev pub imported_name : Import → Option (List ℕ)

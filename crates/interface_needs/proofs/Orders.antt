@@ -28,7 +28,7 @@ use Rattle.type_scopes.specs.Needs.{IsLive, each_passes, is_at_home}
 use Rattle.world_values.specs.Mentions.{same_interface}
 use Rattle.comp_worlds.specs.Encodable.{IsEncodable, IsListedType, IsTypePlaced, place, place_in}
 use Rattle.comp_worlds.specs.ExportOrder.{used_exports, interface_among, exported_before, IsExportedAt, AreExportsInOrder}
-use Rattle.comp_worlds.specs.WorldContents.{items_of, exported_item, interface_at}
+use Rattle.comp_worlds.specs.WorldContents.{exported_item, interface_at, items_of, keys_required}
 use Rattle.comp_worlds.specs.declared.world.ComponentWorld.{ComponentWorld}
 use Rattle.interface_needs.specs.Needs.{IsImported}
 use Rattle.interface_needs.specs.RootNeeds.{IsExportedInterface, is_lent_type}
@@ -72,7 +72,7 @@ no_cycle w order zero number id other l at uses used = omega (arith, l)
 no_cycle w order (suc bound) number id other l at uses used =
     let before : list_any (same_interface other) (exported_before w number) ≡ true =
     AllByRecursion-contains (λ (used : InterfaceId). list_any (same_interface used) (exported_before w number) ≡ true) (used_exports w id) other (order.each number id at) uses in
-    let e = earlier_among w w.main_exports number other (among (exported_before w number) other before) in
+    let e = earlier_among w (keys_required w) number other (among (exported_before w number) other before) in
     let b = e.before in
     no_cycle w order bound e.at other id (omega (arith, l, b)) (record { key = e.key; required = e.there; item = e.item }) used uses
 

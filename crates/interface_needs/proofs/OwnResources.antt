@@ -1,4 +1,5 @@
--- The resources that a component defines: those of the interfaces that main has to export, each by its number. All others are imported.
+-- The resources that a component defines: those of the interfaces that user modules have to export, each by its number. All others are
+-- imported.
 use Rattle.std.proofs.Common.{◌≡◌, ◌∙◌, ◌<◌, ◌≤◌, ◌+◌, ◌==◌, ◌||◌, ℕ, zero, suc, Bool, true, false, true≢false, List, [], ◌∷◌, ◌++◌, map, filter, length, refl, sym, ap, subst, inl, inr, arith, Contains, Option, Some, None, IsSome, if◌then◌else◌}
 use Rattle.std.specs.List.{IsDistinct, flat_map, slice_get}
 use Rattle.std.proofs.lemmas.Bool.{eqb-true, eq-eqb}
@@ -17,11 +18,11 @@ use Rattle.type_scopes.specs.Titles.{AscendFrom, is_one_of}
 use Rattle.world_values.specs.Mentions.{same_interface}
 use Rattle.comp_worlds.specs.Encodable.{IsEncodable}
 use Rattle.comp_worlds.specs.ExportOrder.{interface_among}
-use Rattle.comp_worlds.specs.WorldContents.{exported_item, interface_at, name_at}
+use Rattle.comp_worlds.specs.WorldContents.{exported_item, interface_at, keys_required, name_at}
 use Rattle.comp_worlds.specs.Worlds.{IsOwnResource}
 use Rattle.comp_worlds.specs.declared.world.ComponentWorld.{ComponentWorld}
 use Rattle.comp_links.specs.Lists.{types_in, is_resource, own_resources, resource_among, origin_of_type, resource_of}
-use Rattle.comp_links.proofs.OnlyMain.{main_resources, own_of_main}
+use Rattle.comp_links.proofs.Keys.{listed_resources, own_are}
 use Rattle.interface_needs.specs.Needs.{IsImported}
 use Rattle.interface_needs.specs.RootNeeds.{IsExportedInterface}
 use Rattle.interface_needs.proofs.ExportedInterfaces.{exported_ascend, exported_every, listed_owner}
@@ -103,7 +104,7 @@ among_at o (x ∷ xs) h n (suc k) id e = by (id.index == x.index) refl (among_at
         absurd (is_not_one xs x h.0 (subst (λ (t : TypeId). Contains xs t) is (at_contains xs k id e)))
     by false other rest = rest ∙ ap DefinedAt (let s : suc n + k ≡ n + suc k = omega arith in s)
 
--- a type that an interface lists which main has to export
+-- a type that an interface lists which has to be exported
 pub record IsRequiredType (w : ComponentWorld) (keys : List WorldKey) (t : TypeId) : Type 0 where
   pub key : WorldKey
   pub required : Contains keys key
@@ -116,9 +117,9 @@ module _ (w : ComponentWorld) (ok : IsEncodable w) where
   abbrev listed : WorldKey → List TypeId
   listed key = map (λ e. e.1) (types_in w (exported_item w key))
 
-  -- main has to export all interfaces
-  own_is : own_resources w ≡ main_resources w
-  own_is = own_of_main w ok.valid
+  -- which they are
+  own_is : own_resources w ≡ listed_resources w
+  own_is = own_are w
 
   listed_has : (keys : List WorldKey) (t : TypeId) → Contains (flat_map (λ key. map (λ e. e.1) (types_in w (exported_item w key))) keys) t → IsRequiredType w keys t
   listed_has keys t c =
@@ -135,8 +136,8 @@ module _ (w : ComponentWorld) (ok : IsEncodable w) where
   required_owner : (keys : List WorldKey) (t : TypeId) (h : IsRequiredType w keys t) → interface_at w.resolve.types t.index ≡ Some h.interface
   required_owner keys t h = listed_owner w ok h.interface (record { key = h.key; of = h.item }) t h.listed
 
-  own_has : (t : TypeId) → Contains (main_resources w) t → IsRequiredType w w.main_exports t
-  own_has t c = listed_has w.main_exports t (filter_has (λ (id : TypeId). is_resource (kind_at w.resolve.types id.index)) (flat_map listed w.main_exports) t c).0
+  own_has : (t : TypeId) → Contains (listed_resources w) t → IsRequiredType w (keys_required w) t
+  own_has t c = listed_has (keys_required w) t (filter_has (λ (id : TypeId). is_resource (kind_at w.resolve.types id.index)) (flat_map listed (keys_required w)) t c).0
 
   -- ---- resources that are imported
 
@@ -144,9 +145,9 @@ module _ (w : ComponentWorld) (ok : IsEncodable w) where
   pub resource_imported : (id : TypeId) → ((i : InterfaceId) → interface_at w.resolve.types id.index ≡ Some i → IsExportedInterface w i → ⊥) → resource_of w id ≡ ImportedAt (origin_of_type w id)
   resource_imported id none =
       ap (resource_among (origin_of_type w id) id 0) own_is
-      ∙ not_among (origin_of_type w id) id 0 (main_resources w)
-      (is_none_of (main_resources w) id.index
-      (λ c. let h : IsRequiredType w w.main_exports id = own_has id c in none h.interface (required_owner w.main_exports id h) (record { key = h.key; of = h.item })))
+      ∙ not_among (origin_of_type w id) id 0 (listed_resources w)
+      (is_none_of (listed_resources w) id.index
+      (λ c. let h : IsRequiredType w (keys_required w) id = own_has id c in none h.interface (required_owner (keys_required w) id h) (record { key = h.key; of = h.item })))
 
   -- one of an imported interface, and one of the root
   pub interface_resource : (id : TypeId) (i : InterfaceId) → IsImported w i → interface_at w.resolve.types id.index ≡ Some i → resource_of w id ≡ ImportedAt (origin_of_type w id)
@@ -185,17 +186,17 @@ module _ (w : ComponentWorld) (ok : IsEncodable w) where
       by (Some (items.NamedType id)) is d others = others d
       by None is d others = others d
 
-  own_apart : AreTypesApart (main_resources w)
-  own_apart = apart_filtered (λ (id : TypeId). is_resource (kind_at w.resolve.types id.index)) (flat_map listed w.main_exports) (keys_apart w.main_exports ok.required_apart)
+  own_apart : AreTypesApart (listed_resources w)
+  own_apart = apart_filtered (λ (id : TypeId). is_resource (kind_at w.resolve.types id.index)) (flat_map listed (keys_required w)) (keys_apart (keys_required w) ok.required_apart)
 
   -- each is known by its number
   pub resource_defined : (number : ℕ) (id : TypeId) → slice_get (own_resources w) number ≡ Some id → resource_of w id ≡ DefinedAt number
   resource_defined number id e =
       ap (resource_among (origin_of_type w id) id 0) own_is
-      ∙ (among_at (origin_of_type w id) (main_resources w) own_apart 0 number id (ap (λ ids. slice_get ids number) (sym own_is) ∙ e)
+      ∙ (among_at (origin_of_type w id) (listed_resources w) own_apart 0 number id (ap (λ ids. slice_get ids number) (sym own_is) ∙ e)
       ∙ ap DefinedAt (let s : 0 + number ≡ number = omega arith in s))
 
-  -- a resource of an interface that main has to export is one of them
+  -- a resource of an interface that has to be exported is one of them
   pub own_there : (key : WorldKey) (id : TypeId) → IsOwnResource w key id → Contains (own_resources w) id
   own_there key id h =
       subst (λ ids. Contains ids id) (sym own_is) (
@@ -205,12 +206,12 @@ module _ (w : ComponentWorld) (ok : IsEncodable w) where
       let named : IsSome (name_at w.resolve.types n) = (ok.types n within).named h.resource.kind in
       by within exported (name_at w.resolve.types n) refl named)
     where
-      by : id.index < length w.resolve.types → IsExportedInterface w h.interface → (o : Option (List ℕ)) → name_at w.resolve.types id.index ≡ o → IsSome o → Contains (main_resources w) id
+      by : id.index < length w.resolve.types → IsExportedInterface w h.interface → (o : Option (List ℕ)) → name_at w.resolve.types id.index ≡ o → IsSome o → Contains (listed_resources w) id
       by within exported None is some = absurd (true≢false (sym some))
       by within exported (Some name) is some =
           let entry = exported_every w ok h.interface exported id.index within (owner_of w.resolve.types id.index h.interface h.owner) name (same_name w.resolve.types id.index ∙ is) in
           let at : Contains (listed key) id = subst (λ (o : Option WorldItem). Contains (map (λ e. e.1) (types_in w o)) id) (sym h.exported) (Contains-map (λ (e : List ℕ × TypeId). e.1) (named_types w.resolve h.interface) (name, id) entry) in
-          filter_keeps (λ (id : TypeId). is_resource (kind_at w.resolve.types id.index)) (flat_map listed w.main_exports) id (contains_flat listed w.main_exports key id h.required at) (ap is_resource h.resource.kind)
+          filter_keeps (λ (id : TypeId). is_resource (kind_at w.resolve.types id.index)) (flat_map listed (keys_required w)) id (contains_flat listed (keys_required w) key id h.required at) (ap is_resource h.resource.kind)
 
   -- by a number
   pub own_number : (key : WorldKey) (id : TypeId) → IsOwnResource w key id → (number : ℕ) × (slice_get (own_resources w) number ≡ Some id)

@@ -35,10 +35,9 @@ use Rattle.world_values.specs.Mentions.{function_types, import_types, export_typ
 use Rattle.comp_worlds.specs.Encodable.{IsEncodable, IsTypePlaced, IsFunctionPlaced, IsItemPlaced, IsExportPlaced, IsRolePlaced, place}
 use Rattle.comp_worlds.specs.Uses.{all_imports}
 use Rattle.comp_worlds.specs.Uses.{all_imports}
-use Rattle.comp_worlds.specs.WorldContents.{items_of, exported_item, core_imports, interface_at, name_at}
+use Rattle.comp_worlds.specs.WorldContents.{items_of, exported_item, interface_at, name_at}
 use Rattle.comp_links.specs.Modules.{import_groups}
 use Rattle.comp_links.proofs.Groups.{grouped_imports, groups_right}
-use Rattle.comp_links.proofs.OnlyMain.{imports_of_main}
 use Rattle.comp_worlds.specs.Worlds.{IsImportGroup, IsImportRole, IsResource}
 use Rattle.comp_worlds.specs.declared.world.ComponentWorld.{ComponentWorld}
 use Rattle.interface_needs.specs.Needs.{IsImported}
@@ -157,7 +156,7 @@ module _ (w : ComponentWorld) (ok : IsEncodable w) where
       let es = (items_of w).imports in
       let types = w.resolve.types in
       let resource : IsResource types t.index = subst (IsImportRole w) is (role_right i c) in
-      let placed : place types es (Some (Id t)) ≤ length es = subst (IsRolePlaced w.resolve es) is (AllByRecursion-contains (λ (i : CoreImport). IsRolePlaced w.resolve es i.role) (core_imports w) i ok.roles (subst (λ (l : List CoreImport). Contains l i) (imports_of_main w ok.valid) c)) in
+      let placed : place types es (Some (Id t)) ≤ length es = subst (IsRolePlaced w.resolve es) is (AllByRecursion-contains (λ (i : CoreImport). IsRolePlaced w.resolve es i.role) (all_imports w.main w.adapters) i ok.roles c) in
       let used : Contains (used_in w) (Id t) = role_used w i (Id t) c (subst (λ r. Contains (role_types w.resolve es r) (Id t)) (sym is) (contains_first (Id t) [])) in
       let at : IsTypePlaced w.resolve es t.index = ok.types t.index resource.present in
       record {

@@ -52,7 +52,7 @@ use Rattle.comp_runs.specs.Running.{core_argument}
 use Rattle.link_laws.proofs.Zips.{all_some-zip, found-zip}
 use Rattle.comp_worlds.proofs.Roles.{bound_some}
 use Rattle.link_laws.proofs.Plain.{IsFunctionImport, lowered_type, same_signature-refl, function_type_in, fields_right}
-use Rattle.link_laws.proofs.Alone.{one_module}
+use Rattle.comp_links.proofs.Named.{one_module}
 use Rattle.link_laws.proofs.Given.{thing_there, target_there, shim_there, shim_typed, IsFunctionTyped, func_kind, at_some}
 use Rattle.link_laws.proofs.Stores.{IsOpaqueOf, IsNamedEntry, IsInlineInstance, ShimsAt, IsFunctionOf, IsServedAs, resource_core, IsShimGiven, Serves, IsPlanned, Agrees}
 

@@ -7,7 +7,7 @@ use Rattle.comp_terms.specs.Terms.{IsResource}
 use Rattle.comp_terms.specs.Rules.{HasOwnResource}
 use Rattle.comp_worlds.specs.Encodable.{IsEncodable}
 use Rattle.comp_worlds.specs.ExportOrder.{interface_among, required_interfaces}
-use Rattle.comp_worlds.specs.WorldContents.{exported_item, interface_at, name_at}
+use Rattle.comp_worlds.specs.WorldContents.{exported_item, interface_at, keys_required, name_at}
 use Rattle.comp_worlds.specs.declared.world.ComponentWorld.{ComponentWorld}
 use Rattle.interface_needs.proofs.Lists.{contains_flat, contains_first}
 use Rattle.interface_needs.proofs.OwnResources.{own_number, resource_defined}
@@ -20,10 +20,10 @@ use Rattle.root_imports.specs.declared.met_types.MetTypes.{MetTypes}
 use Rattle.interface_needs.proofs.Lending.{same_self}
 use Rattle.main_instance.specs.Sources.{IsDefinedHere, AreExportsMet}
 
--- main has to export its interface
+-- its interface has to be exported
 required : (w : ComponentWorld) (id : TypeId) (h : IsDefinedHere w id) → Contains (required_interfaces w) h.own.interface
 required w id h =
-    contains_flat (λ key. interface_among (exported_item w key)) w.main_exports h.key h.own.interface h.own.required
+    contains_flat (λ key. interface_among (exported_item w key)) (keys_required w) h.key h.own.interface h.own.required
     (subst (λ (o : Option WorldItem). Contains (interface_among o) h.own.interface) (sym h.own.exported) (contains_first h.own.interface []))
 
 -- it has a name, and belongs to that interface

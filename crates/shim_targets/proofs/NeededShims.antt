@@ -34,7 +34,8 @@ use Rattle.shim_targets.proofs.Calls.{world_call, interface_call}
 use Rattle.shim_targets.proofs.Lists.{contains_none, contains_cons, contains_first, contains_later, contains_flat, passes_any, any_push}
 use Rattle.shim_targets.proofs.NoOptions.{no_options}
 use Rattle.shim_targets.proofs.Roles.{import_role}
-use Rattle.shim_targets.proofs.Users.{IsImportOf, import_of, of_module, listed_found, needed_in}
+use Rattle.comp_links.proofs.Named.{listed_found}
+use Rattle.shim_targets.proofs.Users.{IsImportOf, import_of, of_module, needed_in}
 
 -- ---- each kind that is needed has a shim
 

@@ -76,13 +76,6 @@ found_in w (Adapter name) m e = by (found name w.adapters) refl e
     by None at e = absurd (none-some m e)
     by (Some a) at e = contains_later users.Main (map adapter_at w.adapters) (users.Adapter name) (Contains-map adapter_at w.adapters (name, a) (listed_adapter name w.adapters a at))
 
--- A module of the world is found by its name. (This rests on `IsWorld.alone`: it would do that the names of the adapters differ.)
-pub listed_found : (w : ComponentWorld) → IsWorld w → (m : WorldModule) → Contains (user_modules w) m → module_found w m.of ≡ Some m.found
-listed_found w h m c = elim (contains_cons (record { of = Main; found = w.main }) (map adapter_module w.adapters) m c) [
-  | inl same ↦ subst (λ (x : WorldModule). module_found w x.of ≡ Some x.found) same refl
-  | inr later ↦ contains_none m (subst (λ adapters. Contains (map adapter_module adapters) m) h.alone later)
-]
-
 -- ---- what holds of a user module
 
 pub user_module : (w : ComponentWorld) → IsWorld w → (m : WorldModule) → Contains (user_modules w) m → (keys : List WorldKey) × IsUserModule w m.found keys

@@ -14,10 +14,10 @@ encode_core_modules-requires-clause-none c =
     ap (λ (e : Encoding). items_in spaces.CoreModule e.built.defs) c.self.view_is ∙ none_before (naming_in c.args.self.now) c.args.self.now.world c.args.self.now.built.defs c.requires
 
 pub invariant_of-self : goal.invariant_of-self
-invariant_of-self c = encoding_moved c.self.inside.root c.encode_core_modules.new.root c.self.inside.step c.self.inside.functions c.self.inside.main c.in_err-encode_core_modules.ensures.same c.in_err-encode_core_modules.ensures.extends c.self.invariant
+invariant_of-self c = encoding_moved c.self.inside.root c.encode_core_modules.new.root c.self.inside.step c.self.inside.functions c.self.inside.users c.in_err-encode_core_modules.ensures.same c.in_err-encode_core_modules.ensures.extends c.self.invariant
 
 pub invariant_of-self-2 : goal.invariant_of-self-2
-invariant_of-self-2 c = encoding_moved c.self.inside.root c.encode_core_modules.new.root c.self.inside.step c.self.inside.functions c.self.inside.main c.in_ok-encode_core_modules.ensures.same c.in_ok-encode_core_modules.ensures.extends c.self.invariant
+invariant_of-self-2 c = encoding_moved c.self.inside.root c.encode_core_modules.new.root c.self.inside.step c.self.inside.functions c.self.inside.users c.in_ok-encode_core_modules.ensures.same c.in_ok-encode_core_modules.ensures.extends c.self.invariant
 
 pub returns-clause-users : goal.returns-clause-users
 returns-clause-users c =
