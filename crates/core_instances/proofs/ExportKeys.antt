@@ -1,6 +1,6 @@
 -- The interfaces at the keys of user modules, their types defined one interface after the other.
-use Rattle.std.proofs.Common.{arith, ◌≡◌, ◌∙◌, ◌<◌, ◌||◌, ◌+◌, ◌⊎◌, inl, inr, ℕ, zero, suc, Bool, true, false, List, [], ◌∷◌, ◌++◌, Option, Some, None, Result, Ok, Err, OnOk, refl, sym, ap, ap₂, subst, append_assoc, append-nil, length, map, filter, take, if◌then◌else◌}
-use Rattle.std.specs.Prelude.{slice_get}
+use Rattle.std.proofs.Common.{arith, ◌≡◌, ◌∙◌, ◌||◌, ◌+◌, ◌⊎◌, inl, inr, ℕ, zero, suc, Bool, true, false, List, [], ◌∷◌, ◌++◌, Option, Some, None, refl, sym, ap, ap₂, subst, append_assoc, append-nil, length, map, filter, take, if◌then◌else◌}
+use Rattle.std.specs.Prelude.{Result, Ok, Err, OnOk, slice_get}
 use Rattle.std.specs.List.{AllByRecursion, flat_map, list_any}
 use Rattle.std.proofs.lemmas.Grind.{flat_map-append}
 use Rattle.std.proofs.lemmas.List.{map-append, length-append}
@@ -34,7 +34,7 @@ use Rattle.core_instances.specs.Instances.{types_at, IsDefinedType}
 use Rattle.core_instances.specs.ExportedTypes.{entries_at, ids_at, interfaces_at, is_own, marks_at, provided_at, provided_by, resource_marks, AreKeysInOrder, AreNextKeys, AreNextResources, EntersTypes, IsTypesRefusal, UsesEarlier, UsesMet}
 use Rattle.core_instances.proofs.Defining.{defined-kept}
 use Rattle.core_instances.proofs.Entering.{AreDefined, by_ids}
-use Rattle.core_instances.proofs.Resourced.{all_defined, is_defined, resources_grown}
+use Rattle.core_instances.proofs.Resourced.{all_defined, resources_grown}
 
 any_append : {X : Type 0} (p : X → Bool) (xs ys : List X) → list_any p (xs ++ ys) ≡ (list_any p xs || list_any p ys)
 any_append p [] ys = refl

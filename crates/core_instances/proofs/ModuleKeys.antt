@@ -1,6 +1,6 @@
 -- The keys of user modules, one after the other: those of main, and those of the adapters in order.
-use Rattle.std.proofs.Common.{arith, ◌≡◌, ◌∙◌, ◌||◌, ◌+◌, ℕ, false, true, List, [], ◌∷◌, ◌++◌, Some, None, refl, sym, ap, ap₂, subst, append_assoc, append-nil, length, map, filter, take}
-use Rattle.std.specs.Prelude.{get_or, slice_get, ◌<◌}
+use Rattle.std.proofs.Common.{arith, ◌≡◌, ◌∙◌, ◌<◌, ◌+◌, ℕ, true, List, [], ◌∷◌, ◌++◌, Some, None, refl, sym, ap, ap₂, subst, append_assoc, append-nil, length, map, take}
+use Rattle.std.specs.Prelude.{get_or}
 use Rattle.std.specs.List.{AllByRecursion, IsDistinct, flat_map, list_any}
 use Rattle.std.specs.Map.{keys_of}
 use Rattle.std.specs.Str.{bytes_eq}
@@ -9,18 +9,17 @@ use Rattle.std.proofs.lemmas.List.{map-append, take_more, take_all}
 use Rattle.std.proofs.lemmas.Option.{slice_get-get_or}
 use Rattle.comp_bytes.specs.declared.def.Def.{Def}
 use Rattle.comp_inventories.specs.Inventories.{inventory}
-use Rattle.wit_data.specs.declared.ids.InterfaceId.{InterfaceId}
 use Rattle.wit_data.specs.declared.worlds.WorldKey.{WorldKey}
 use Rattle.world_values.specs.Mentions.{same_interface}
 use Rattle.comp_items.proofs.Extending.{extends_none}
-use Rattle.comp_worlds.specs.ExportOrder.{AreExportsInOrder, interface_among, required_interfaces, used_exports}
+use Rattle.comp_worlds.specs.ExportOrder.{AreExportsInOrder, interface_among, required_interfaces}
 use Rattle.comp_worlds.specs.Lookups.{module_name}
-use Rattle.comp_worlds.specs.WorldContents.{exported_item, keys_required}
+use Rattle.comp_worlds.specs.WorldContents.{keys_required}
 use Rattle.comp_worlds.specs.declared.world.ComponentWorld.{ComponentWorld}
 use Rattle.comp_worlds.specs.declared.world.WorldAdapter.{WorldAdapter}
-use Rattle.comp_links.specs.Lists.{RequiredKey, keys_of_adapter, required_keys}
+use Rattle.comp_links.specs.Lists.{RequiredKey, keys_of_adapter}
 use Rattle.comp_links.specs.Modules.{module_found}
-use Rattle.comp_links.specs.Targets.{UserModule, Main, Adapter}
+use Rattle.comp_links.specs.Targets.{Main, Adapter}
 use Rattle.comp_links.proofs.Keys.{key_for}
 use Rattle.comp_terms.specs.Rules.{Grows, Landmark, resources_marked}
 use Rattle.core_options.specs.MainOptions.{user_of, user_of_name}
@@ -34,7 +33,7 @@ use Rattle.root_imports.proofs.Keeping.{moved_then}
 use Rattle.core_instances.specs.Instances.{exported_types, IsDefinedType}
 use Rattle.core_instances.specs.declared.own_resources.DestructorSources.{DestructorSources}
 use Rattle.core_instances.specs.declared.own_resources.ShimSources.{ShimSources}
-use Rattle.core_instances.specs.ExportedTypes.{interfaces_at, is_own, marks_at, provided_at, AreDestructorSources, AreNextKeys, AreShimSources, EntersTypes, UsesEarlier}
+use Rattle.core_instances.specs.ExportedTypes.{interfaces_at, AreDestructorSources, AreNextKeys, AreShimSources, UsesEarlier}
 use Rattle.core_instances.proofs.ExportKeys.{KeysDone, all_marked, back, keys_none, keys_then, provided_count, resources_then}
 use Rattle.core_instances.proofs.Resourced.{IsSplit, split_at}
 use Rattle.core_instances.proofs.UserInstances.{adapter_found}
@@ -96,14 +95,19 @@ root_begun old new same tables =
 pub main_next : (w : ComponentWorld) (met : MetTypes) (ds : List Def) → (inventory ds).resources ≡ 0 → AreNextKeys w (begun met) ds Main w.main_exports
 main_next w met ds none = record { before = []; after = flat_map keys_of_adapter w.adapters; parts = refl; count = none; has = λ other. refl }
 
-pub modules_start : (w : ComponentWorld) (old mid new : Root) → mid ≡ record old { met = begun old.met } → RootMoved w old mid → RootMoved w mid new → KeysDone w w.main_exports mid.met new.met mid.items.defs new.items.defs → ModulesDone w old new w.adapters
-modules_start w old mid new same begins moved done = record {
+pub first_keys : (w : ComponentWorld) (old mid : Root) → mid ≡ record old { met = begun old.met } → (inventory old.items.defs).resources ≡ 0 → (s : DestructorSources) → module_name s.which ≡ None → (keys : List WorldKey) → keys ≡ w.main_exports → AreNextKeys w mid.met mid.items.defs (user_of s.which) keys
+first_keys w old mid same none s named keys is =
+    subst (λ (r : Root). AreNextKeys w r.met r.items.defs (user_of s.which) keys) (sym same)
+    (subst (λ of. AreNextKeys w (begun old.met) old.items.defs of keys) (sym (ap user_of_name named)) (subst (AreNextKeys w (begun old.met) old.items.defs Main) (sym is) (main_next w old.met old.items.defs none)))
+
+pub modules_start : (w : ComponentWorld) (old mid new : Root) (keys : List WorldKey) → mid ≡ record old { met = begun old.met } → keys ≡ w.main_exports → RootMoved w old mid → RootMoved w mid new → KeysDone w keys mid.met new.met mid.items.defs new.items.defs → ModulesDone w old new w.adapters
+modules_start w old mid new keys same is begins moved done = record {
   moved = moved_then w old mid new begins moved;
   done = [];
   split = refl;
   keys =
-      subst (λ ks. KeysDone w ks (begun old.met) new.met old.items.defs new.items.defs) (sym (append-nil w.main_exports))
-      (subst (λ (r : Root). KeysDone w w.main_exports r.met new.met r.items.defs new.items.defs) same done);
+      subst (λ ks. KeysDone w ks (begun old.met) new.met old.items.defs new.items.defs) (is ∙ sym (append-nil w.main_exports))
+      (subst (λ (r : Root). KeysDone w keys r.met new.met r.items.defs new.items.defs) same done);
 }
 
 -- those of the next adapter come next
@@ -130,8 +134,14 @@ adapter_next w old mid a rest none h =
     keys_back : (done : List (List ℕ × WorldAdapter)) → map (λ (r : RequiredKey). r.key) (map (key_for Main) w.main_exports ++ flat_map keys_of_adapter done) ≡ keys_with w done
     keys_back done = map-append (λ (r : RequiredKey). r.key) (map (key_for Main) w.main_exports) (flat_map keys_of_adapter done) ∙ ap₂ (λ l m. l ++ m) (back w Main w.main_exports) (adapters_back done)
 
-pub modules_step : (w : ComponentWorld) (old mid new : Root) (a : List ℕ × WorldAdapter) (rest : List (List ℕ × WorldAdapter)) → ModulesDone w old mid (a ∷ rest) → RootMoved w mid new → KeysDone w a.1.required_exports mid.met new.met mid.items.defs new.items.defs → ModulesDone w old new rest
-modules_step w old mid new a rest h moved done =
+pub next_keys : (w : ComponentWorld) (old mid : Root) (a : List ℕ × WorldAdapter) (rest : List (List ℕ × WorldAdapter)) → (inventory old.items.defs).resources ≡ 0 → ModulesDone w old mid (a ∷ rest) → (s : DestructorSources) → module_name s.which ≡ Some a.0 → (keys : List WorldKey) → keys ≡ a.1.required_exports →
+    AreNextKeys w mid.met mid.items.defs (user_of s.which) keys
+next_keys w old mid a rest none h s named keys is =
+    subst (λ of. AreNextKeys w mid.met mid.items.defs of keys) (sym (ap user_of_name named)) (subst (AreNextKeys w mid.met mid.items.defs (Adapter a.0)) (sym is) (adapter_next w old mid a rest none h))
+
+pub modules_step : (w : ComponentWorld) (old mid new : Root) (a : List ℕ × WorldAdapter) (rest : List (List ℕ × WorldAdapter)) (keys : List WorldKey) → keys ≡ a.1.required_exports → ModulesDone w old mid (a ∷ rest) → RootMoved w mid new →
+    KeysDone w keys mid.met new.met mid.items.defs new.items.defs → ModulesDone w old new rest
+modules_step w old mid new a rest keys is h moved done =
     let required : List ℕ × WorldAdapter → List WorldKey = λ (a : List ℕ × WorldAdapter). a.1.required_exports in
     let more : keys_with w (h.done ++ a ∷ []) ≡ keys_with w h.done ++ a.1.required_exports =
     ap (λ l. w.main_exports ++ l) (flat_map-append required h.done (a ∷ []) ∙ ap (λ l. flat_map required h.done ++ l) (append-nil a.1.required_exports)) ∙ sym (append_assoc w.main_exports (flat_map required h.done) a.1.required_exports) in
@@ -139,7 +149,8 @@ modules_step w old mid new a rest h moved done =
       moved = moved_then w old mid new h.moved moved;
       done = h.done ++ a ∷ [];
       split = append_assoc h.done (a ∷ []) rest ∙ h.split;
-      keys = subst (λ ks. KeysDone w ks (begun old.met) new.met old.items.defs new.items.defs) (sym more) (keys_then w (keys_with w h.done) a.1.required_exports (begun old.met) mid.met new.met old.items.defs mid.items.defs new.items.defs h.keys done);
+      keys = subst (λ ks. KeysDone w ks (begun old.met) new.met old.items.defs new.items.defs) (sym more) (keys_then w (keys_with w h.done) a.1.required_exports (begun old.met) mid.met new.met old.items.defs mid.items.defs new.items.defs h.keys
+          (subst (λ ks. KeysDone w ks mid.met new.met mid.items.defs new.items.defs) is done));
     }
 
 -- ---- once all are done

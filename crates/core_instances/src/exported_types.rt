@@ -177,7 +177,7 @@ fn define_types_of_module(
 
 /// What the destructors of main are found in.
 fn main_sources<'a>(world: &'a ComponentWorld, shims: ShimSources<'a>) -> DestructorSources<'a>
-    ensures shims { result.shims ≡ shims }
+    ensures shims { result.shims ≡ shims.entry }
     ensures named { module_name result.which ≡ None }
     ensures found { result.found.now ≡ world.now.main }
 {
@@ -194,7 +194,7 @@ fn adapter_sources<'a>(
     adapter: &'a WorldAdapter,
     shims: ShimSources<'a>,
 ) -> DestructorSources<'a>
-    ensures shims { result.shims ≡ shims }
+    ensures shims { result.shims ≡ shims.entry }
     ensures named { module_name result.which ≡ Some name.now }
     ensures found { result.found.now ≡ adapter.now.info }
 {

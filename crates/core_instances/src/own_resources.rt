@@ -91,7 +91,7 @@ fn destructor_shim(
     ensures same { root.new ≡ record root.old { items = root.new.items } }
     ensures extends { Extends root.old.items root.new.items }
     ensures grows { OnOk result (Grows root.old.world.now root.old.items.defs root.new.items.defs []) }
-    ensures right { IfOk result (λ index. IsDestructorRight root.old.world.now root.new.items.defs index (destructor_of root.old.world.now (provided_by (user_of sources.which) id))) }
+    ensures right { IfOk result (λ index. IsDestructorRight root.old.world.now root.new.items.defs index (destructor_of root.old.world.now (provided_by (user_of sources.entry.which) id))) }
     ensures cause { IfErr result IsRefusal }
 {
     match sources.found.exports.resource_dtor(id) {

@@ -1,4 +1,4 @@
-use Rattle.std.proofs.Common.{◌≡◌, ◌<◌, List, [], Some, arith, refl, sym, subst}
+use Rattle.std.proofs.Common.{◌≡◌, [], arith, sym, subst}
 use Rattle.std.specs.Prelude.{length, take}
 use Rattle.std.specs.List.{AllByRecursion}
 use Rattle.comp_items.proofs.Remembering.{longer}
@@ -14,7 +14,7 @@ use Rattle.root_imports.specs.RootScopes.{AreTablesRight}
 use Rattle.root_imports.proofs.Keeping.{kept_none, moved_kept, moved_then}
 use Rattle.core_instances.specs.ExportedTypes.{entries_at, resource_marks, AreDestructorSources, AreNextResources, EntersTypes, IsTypesRefusal, UsesMet}
 use Rattle.core_instances.specs.Instances.{types_at, IsDefinedType}
-use Rattle.core_instances.proofs.ExportKeys.{KeysDone, key_done, key_refused, next_resources}
+use Rattle.core_instances.proofs.ExportKeys.{key_done, key_refused, next_resources}
 use Rattle.core_instances.proofs.Made.{destructor_sources-kept}
 use Rattle.core_instances.proofs.ModuleKeys.{key_at, keys_end, keys_start, keys_step}
 use Rattle.core_instances.proofs.exported_types.define_types_of_module.Goals as goal
