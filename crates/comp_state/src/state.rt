@@ -46,10 +46,8 @@ pub enum Step {
 pub struct EncodingState<'a> {
     /// The world, the component under construction, and the types that were met.
     pub(crate) root: RootScope<'a, ComponentWorld>,
-    /// Makes the names of interfaces that are imported or exported.
+    /// Makes the names of interfaces that are imported or exported, and says whether core modules have names.
     pub(crate) names: ImportNames<'a>,
-    /// Whether the modules that are generated have debug names.
-    pub(crate) debug_names: bool,
     pub(crate) step: Step,
     /// The root functions that were imported.
     pub(crate) functions: Keyed<Text, u32>,
@@ -62,7 +60,6 @@ impl Drop for EncodingState<'_> {
         let EncodingState {
             root: _,
             names: _,
-            debug_names: _,
             step: _,
             functions: _,
             users: _,
@@ -76,27 +73,25 @@ impl<'a> Model for EncodingState<'a> {
 
     ghost Value = { Encoding };
 
-    ghost view = { λ s. record { world = s.root.world.now; canonical = s.names.canonical; renamed = s.names.renamed.now; built = s.root.items; step = s.step } };
+    ghost view = { λ s. record { world = s.root.world.now; canonical = s.names.canonical; renamed = s.names.renamed.now; debug_names = s.names.debug_names; built = s.root.items; step = s.step } };
 
     ghost invariant = { λ s. IsEncoding s.root.world.now s.root.met s.root.items.defs s.root.maps s.root.instances s.step s.functions s.users };
 }
 
 impl<'a> EncodingState<'a> {
     /// The state before the first step: no item is made yet. Interfaces are to be imported under the names that `names`
-    /// makes, and the modules that are generated have debug names if `debug_names` says so.
+    /// makes, and core modules have names for debuggers if it says so.
     pub fn new(
         alloc: Global,
         world: &'a ComponentWorld,
         names: ImportNames<'a>,
-        debug_names: bool,
     ) -> Result<EncodingState<'a>, AllocError>
         requires { IsEncodable world.now }
-        ensures { IfOk result (λ s. s ≡ record { world = world.entry.now; canonical = names.entry.canonical; renamed = names.entry.renamed.now; built = nothing_built; step = Started }) }
+        ensures { IfOk result (λ s. s ≡ record { world = world.entry.now; canonical = names.entry.canonical; renamed = names.entry.renamed.now; debug_names = names.entry.debug_names; built = nothing_built; step = Started }) }
     {
         Ok(EncodingState {
             root: RootScope::new(alloc, world),
             names,
-            debug_names,
             step: Step::Started,
             functions: Keyed::new(alloc),
             users: None,
@@ -112,7 +107,6 @@ impl EncodingState<'_> {
         let EncodingState {
             root,
             names: _,
-            debug_names: _,
             step: _,
             functions: _,
             users: _,
@@ -144,11 +138,11 @@ impl EncodingState<'_> {
         requires { landmarks self.old.built.defs ≡ imports_marked (naming_in self.old) self.old.world }
         ensures same { self.new ≡ record self.old { built = self.new.built } }
         ensures extends { Extends self.old.built self.new.built }
-        ensures grows { OnOk result (Grows self.old.world self.old.built.defs self.new.built.defs (bytes_marked self.old.world)) }
+        ensures grows { OnOk result (Grows self.old.world self.old.built.defs self.new.built.defs (bytes_marked self.old.debug_names self.old.world)) }
         ensures users { OnOk result (AreUserModules self.old.world self.new.built.defs) }
         ensures cause { IfErr result (IsCause self.old.world) }
     {
-        encode_core_modules(&mut self.root)?;
+        encode_core_modules(&mut self.root, self.names.debug_names)?;
         Ok(())
     }
 
@@ -171,7 +165,7 @@ impl EncodingState<'_> {
         ensures lowered { OnOk result (AllByRecursion (HasLowerOptions self.old.world) (user_imports self.old.world)) }
         ensures cause { IfErr result (IsCause self.old.world) }
     {
-        let users = encode_core_instantiation(&mut self.root, &self.functions, self.debug_names)?;
+        let users = encode_core_instantiation(&mut self.root, &self.functions, self.names.debug_names)?;
         self.users = Some(users);
         self.step = Step::Instantiated;
         Ok(())

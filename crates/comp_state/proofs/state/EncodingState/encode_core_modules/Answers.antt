@@ -23,6 +23,6 @@ pub returns-clause-users : goal.returns-clause-users
 returns-clause-users c =
     let w : ComponentWorld = c.args.self.now.world in
     let new = c.encode_core_modules.new.root.items.defs in
-    let grows : Grows w c.args.self.now.built.defs new (bytes_marked w) = subst (λ (e : Encoding). Grows e.world e.built.defs new (bytes_marked e.world)) c.self.view_is c.in_ok-encode_core_modules.ensures.grows in
+    let grows : Grows w c.args.self.now.built.defs new (bytes_marked c.args.self.now.debug_names w) = subst (λ (e : Encoding). Grows e.world e.built.defs new (bytes_marked e.debug_names e.world)) c.self.view_is c.in_ok-encode_core_modules.ensures.grows in
     let room : length (user_modules w) ≤ 2 ^ 32 = subst (λ (e : Encoding). length (user_modules e.world) ≤ 2 ^ 32) c.self.view_is c.in_ok-encode_core_modules.ensures.room in
     users_after (naming_in c.args.self.now) w c.args.self.now.built.defs new c.requires grows room

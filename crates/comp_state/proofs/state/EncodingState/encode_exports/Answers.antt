@@ -50,7 +50,7 @@ returns-clause-same c =
     let new = c.export_all.new.root in
     let in' = c.self.inside in
     let after : Encoding → Encoding = λ e. record e { built = new.items } in
-    ap (λ r. record { world = r.now; canonical = in'.names.canonical; renamed = in'.names.renamed.now; built = new.items; step = in'.step }) c.export_all.ensures.moved.world ∙ ap after c.self.view_is
+    ap (λ r. record { world = r.now; canonical = in'.names.canonical; renamed = in'.names.renamed.now; debug_names = in'.names.debug_names; built = new.items; step = in'.step }) c.export_all.ensures.moved.world ∙ ap after c.self.view_is
 
 pub returns-clause-extends : goal.returns-clause-extends
 returns-clause-extends c = subst (λ (e : Encoding). Extends e.built c.export_all.new.root.items) c.self.view_is c.export_all.ensures.moved.extends
