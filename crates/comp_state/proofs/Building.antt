@@ -38,7 +38,7 @@ built_by_steps n w a b c d e empty imports main added exports =
     built_from n w added.generated added.are_generated a e empty
     (subst (λ m. Grows w a e m) (modules_are added.generated) (Grows-then imports (Grows-then main (Grows-then added.grows exports))))
   where
-    modules_are : (o : Option GeneratedBytes) → imports_marked n w ++ (bytes_marked w ++ (instances_marked w o ++ exports_marked n w)) ≡ expected n w o
+    modules_are : (o : Option GeneratedBytes) → imports_marked n w ++ (bytes_marked n.debug_names w ++ (instances_marked w o ++ exports_marked n w)) ≡ expected n w o
     modules_are None = ap (λ m. imports_marked n w ++ m) (sym (append_assoc (bytes_marked n.debug_names w) (instances_marked w None) (exports_marked n w)))
     modules_are (Some g) = ap (λ m. imports_marked n w ++ m) (sym (append_assoc (bytes_marked n.debug_names w) (instances_marked w (Some g)) (exports_marked n w)))
 

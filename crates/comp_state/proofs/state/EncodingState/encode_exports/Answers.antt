@@ -19,7 +19,7 @@ pub export_all-requires-clause-valid : goal.export_all-requires-clause-valid
 export_all-requires-clause-valid c = c.self.invariant.valid
 
 pub export_all-requires-clause-made : goal.export_all-requires-clause-made
-export_all-requires-clause-made c = users_made c.self.invariant (ap (λ (e : Encoding). e.step) c.self.view_is ∙ c.requires.instantiated) c.in-Some.users.now c.in-Some.is
+export_all-requires-clause-made c = users_made c.self.invariant (ap (λ (e : Encoding). e.step) c.self.view_is ∙ c.requires.instantiated) c.in-Some.users c.in-Some.is
 
 pub export_all-requires-clause-tables : goal.export_all-requires-clause-tables
 export_all-requires-clause-tables c = (imports_made c.self.invariant (ap (λ (e : Encoding). e.step) c.self.view_is ∙ c.requires.instantiated)).tables
