@@ -12,9 +12,9 @@ pub record Encoder (L B : Type 0) : Type 0 where
   pub gathered : Gathered B
   pub renamed : List (List ℕ × List ℕ)
 
--- how the names of imports and exports are made
+-- how the names of imports and exports are made, and whether core modules have names for debuggers
 abbrev pub naming : {L B : Type 0} → Encoder L B → Naming
-naming e = naming_by e.gathered.options.emit_canonical_names e.renamed
+naming e = naming_by e.gathered.options.emit_canonical_names e.renamed e.gathered.options.debug_names
 
 -- the bytes of the main module, none where there is no module
 abbrev pub main_bytes : {B : Type 0} → Option (Part B) → List ℕ

@@ -349,15 +349,9 @@ impl<L: Lower> ComponentEncoder<L> {
         let names = ImportNames {
             canonical: self.gathered.options.emit_canonical_names,
             renamed: &self.renamed,
+            debug_names: self.gathered.options.debug_names,
         };
-        let options = &self.gathered.options;
-        component_bytes(
-            self.alloc,
-            world,
-            names,
-            options.debug_names,
-            options.validate,
-        )
+        component_bytes(self.alloc, world, names, self.gathered.options.validate)
     }
 
     /// The component of what was gathered, in the component model's binary format.
@@ -365,8 +359,8 @@ impl<L: Lower> ComponentEncoder<L> {
     /// It refuses when out of memory, where there is no main module or its bytes are empty, where
     /// the lower layer can't prepare the world, with canonical names on where two imports or two exports have
     /// one canonical name, where the world has no string encoding for a function, where a function is lowered or lifted with a
-    /// memory or a realloc that main doesn't export, where a required interface uses types of another exported one that main
-    /// doesn't export before it, where a count or a size passes 2^32 - 1, and, with `validate` on, where a name of an import or an
+    /// memory that main doesn't export, or a realloc that there isn't for the module, where a required interface uses types of another
+    /// exported one that isn't exported before it, where a count or a size passes 2^32 - 1, and, with `validate` on, where a name of an import or an
     /// export occurs twice or is not well formed.
     pub fn encode(&self) -> Result<Vec<u8>, EncodeFault<L::Fault>>
         ensures ok { IfOk result (λ bytes. IsEncoding L.Lower self.now bytes.items) }

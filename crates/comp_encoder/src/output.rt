@@ -99,13 +99,12 @@ fn check_if(alloc: Global, validate: bool, component: &ComponentBuilder) -> Resu
     Ok(())
 }
 
-/// The bytes of a world's component, whose imported interfaces have the names that `names` makes, and whose generated modules have
-/// debug names if `debug_names` says so.
+/// The bytes of a world's component, whose imported interfaces have the names that `names` makes, and whose core modules have names for
+/// debuggers if it says so.
 pub(crate) fn component_bytes(
     alloc: Global,
     world: &ComponentWorld,
     names: ImportNames<'_>,
-    debug_names: bool,
     validate: bool,
 ) -> Result<Vec<u8>, OutputFault>
     requires { IsEncodable world.now }
@@ -114,7 +113,7 @@ pub(crate) fn component_bytes(
     ensures cause { IfErr result (IsOutputRefusal (naming_of names.entry) world.now validate) }
 {
     check_names(alloc, world, names.canonical)?;
-    let component = encode_world(alloc, world, names, debug_names)?;
+    let component = encode_world(alloc, world, names)?;
     check_if(alloc, validate, &component)?;
     Ok(component.finish()?)
 }

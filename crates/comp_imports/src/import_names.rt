@@ -11,13 +11,15 @@ use comp_lists::{Keyed, Text};
 use std::alloc::{AllocError, Global};
 use wit_data::{Resolve, WorldKey};
 
-/// How the names of interfaces are made.
+/// How the names of interfaces are made, and whether core modules have names.
 #[derive(Clone, Copy)]
 pub struct ImportNames<'a> {
     /// Whether a name has the canonical part of its version alone, with the rest as a suffix.
     pub canonical: bool,
     /// Other names for imported interfaces, by their names with the whole version.
     pub renamed: &'a Keyed<Text, Text>,
+    /// Whether the core modules of adapters, and those that are generated, have names for debuggers.
+    pub debug_names: bool,
 }
 
 /// The rest of the version of an interface, which its canonical name lacks.

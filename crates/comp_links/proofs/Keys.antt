@@ -1,9 +1,9 @@
 -- The keys that user modules have to export: each is required of one module, and the resources that are listed at them.
-use Rattle.std.proofs.Common.{◌≡◌, ◌∙◌, ◌++◌, ◌+◌, ◌<◌, [], ◌∷◌, Bool, true, false, true≢false, List, ℕ, zero, suc, map, filter, length, take, refl, sym, ap, ap₂, subst, append-nil, if◌then◌else◌, arith, inl, inr, Contains, Option, Some, None}
+use Rattle.std.proofs.Common.{◌≡◌, ◌∙◌, ◌++◌, ◌+◌, [], ◌∷◌, Bool, true, false, true≢false, List, ℕ, zero, suc, map, filter, length, refl, sym, ap, ap₂, if◌then◌else◌, arith, Contains, Option, Some, None}
 use Rattle.std.proofs.Common.{rules}
 use Rattle.std.specs.Cmp.Rules.{comparing}
 use Rattle.std.specs.Cmp.{IsEquivalence}
-use Rattle.std.specs.List.{AllByRecursion, IsDistinct, flat_map, slice_get}
+use Rattle.std.specs.List.{IsDistinct, flat_map, slice_get}
 use Rattle.std.specs.Option.{option_map}
 use Rattle.std.proofs.lemmas.Grind.{flat_map-append}
 use Rattle.std.proofs.lemmas.List.{map-append, length-append, length-map}
@@ -17,7 +17,7 @@ use Rattle.comp_worlds.specs.WorldContents.{exported_item, keys_required}
 use Rattle.comp_worlds.specs.Worlds.{IsWorld}
 use Rattle.comp_worlds.specs.declared.world.ComponentWorld.{ComponentWorld}
 use Rattle.comp_worlds.specs.declared.world.WorldAdapter.{WorldAdapter}
-use Rattle.comp_links.specs.Lists.{RequiredKey, ProvidedType, keys_of_adapter, required_keys, types_in, types_provided, is_resource, provided_resources, own_resources}
+use Rattle.comp_links.specs.Lists.{RequiredKey, ProvidedType, keys_of_adapter, required_keys, types_in, types_provided, is_resource, own_resources}
 use Rattle.comp_links.specs.Targets.{UserModule, Main, Adapter}
 
 abbrev pub key_for : UserModule → WorldKey → RequiredKey

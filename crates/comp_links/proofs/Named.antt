@@ -1,5 +1,5 @@
 -- The names of user modules are apart: a module of a world is found by its name, and one name is that of one module.
-use Rattle.std.proofs.Common.{◌≡◌, ◌∙◌, ℕ, zero, suc, List, [], ◌∷◌, map, refl, sym, ap, ap₂, subst, inl, inr, arith, Contains, Option, Some, None}
+use Rattle.std.proofs.Common.{◌≡◌, ◌∙◌, ℕ, zero, suc, List, [], ◌∷◌, map, refl, sym, ap, ap₂, subst, arith, Contains, Some}
 use Rattle.std.proofs.Common.{rules}
 use Rattle.std.specs.Cmp.Rules.{comparing}
 use Rattle.std.specs.Cmp.{IsEquivalence}
@@ -14,7 +14,7 @@ use Rattle.comp_worlds.specs.declared.world.ComponentWorld.{ComponentWorld}
 use Rattle.comp_worlds.specs.declared.world.ValidatedModule.{ValidatedModule}
 use Rattle.comp_worlds.specs.declared.world.WorldAdapter.{WorldAdapter}
 use Rattle.comp_links.specs.Modules.{WorldModule, adapter_module, user_modules, module_found}
-use Rattle.comp_links.specs.Targets.{UserModule, Main, Adapter}
+use Rattle.comp_links.specs.Targets.{UserModule}
 
 bytes_laws : IsEquivalence bytes_eq
 bytes_laws = search (comparing, rules)

@@ -8,10 +8,12 @@ use Rattle.wit_data.specs.declared.worlds.WorldKey.TheVariants as keys
 use Rattle.wit_data.specs.Names.{key_text, canonical_key_text, version_suffix, id_name_of}
 use Rattle.std.specs.Option.{option_and_then}
 
--- whether names have the canonical part of their version, with the rest as a suffix; and other names for imported interfaces
+-- How the parts of a component are named: whether names of interfaces have the canonical part of their version, with the rest as a
+-- suffix; other names for imported interfaces; and whether core modules have names for debuggers.
 pub record Naming : Type 0 where
   pub canonical : Bool
   pub renamed : List ℕ → Option (List ℕ)
+  pub debug_names : Bool
 
 -- a name without a version suffix
 abbrev pub plain_name : List ℕ → ExternName
@@ -21,9 +23,9 @@ abbrev pub suffix_of : Resolve → WorldKey → Option (List ℕ)
 suffix_of r (keys.Name text) = None
 suffix_of r (keys.Interface id) = option_and_then version_suffix (id_name_of r id)
 
--- names with their whole version, none of them given another one
+-- names with their whole version, none of them given another one, and no names for debuggers
 abbrev pub own_names : Naming
-own_names = record { canonical = false; renamed = λ text. None }
+own_names = record { canonical = false; renamed = λ text. None; debug_names = false }
 
 -- the name of a key
 abbrev pub name_of : Naming → Resolve → WorldKey → ExternName

@@ -33,14 +33,14 @@ built_from n w o generated old new empty g =
     let right : RightAfter w [] g.more = subst (λ l. RightAfter w l g.more) empty g.right in
     record { generated = o; are_generated = generated; right = subst (λ l. RightAfter w [] l) (sym same) right; marked = ap landmarks same ∙ g.marked }
 
-pub built_by_steps : (n : Naming) (w : ComponentWorld) (a b c d e : List Def) → a ≡ [] → Grows w a b (imports_marked n w) → Grows w b c (bytes_marked w) → AddsInstances w c d → Grows w d e (exports_marked n w) → IsUnnamed n w e
+pub built_by_steps : (n : Naming) (w : ComponentWorld) (a b c d e : List Def) → a ≡ [] → Grows w a b (imports_marked n w) → Grows w b c (bytes_marked n.debug_names w) → AddsInstances w c d → Grows w d e (exports_marked n w) → IsUnnamed n w e
 built_by_steps n w a b c d e empty imports main added exports =
     built_from n w added.generated added.are_generated a e empty
     (subst (λ m. Grows w a e m) (modules_are added.generated) (Grows-then imports (Grows-then main (Grows-then added.grows exports))))
   where
     modules_are : (o : Option GeneratedBytes) → imports_marked n w ++ (bytes_marked w ++ (instances_marked w o ++ exports_marked n w)) ≡ expected n w o
-    modules_are None = ap (λ m. imports_marked n w ++ m) (sym (append_assoc (bytes_marked w) (instances_marked w None) (exports_marked n w)))
-    modules_are (Some g) = ap (λ m. imports_marked n w ++ m) (sym (append_assoc (bytes_marked w) (instances_marked w (Some g)) (exports_marked n w)))
+    modules_are None = ap (λ m. imports_marked n w ++ m) (sym (append_assoc (bytes_marked n.debug_names w) (instances_marked w None) (exports_marked n w)))
+    modules_are (Some g) = ap (λ m. imports_marked n w ++ m) (sym (append_assoc (bytes_marked n.debug_names w) (instances_marked w (Some g)) (exports_marked n w)))
 
 -- the landmarks of a list that grew from the empty one
 pub marked_from : (w : ComponentWorld) (old new : List Def) (m : List Landmark) → old ≡ [] → Grows w old new m → landmarks new ≡ m

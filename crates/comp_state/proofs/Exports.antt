@@ -8,6 +8,7 @@ use Rattle.comp_links.specs.Modules.{WorldModule, user_modules}
 use Rattle.comp_links.specs.Naming.{Naming}
 use Rattle.comp_terms.specs.Exports.{exports_in}
 use Rattle.comp_terms.specs.Generated.{fixup_number, GeneratedBytes}
+use Rattle.comp_terms.specs.UserBytes.{user_bytes}
 use Rattle.comp_terms.specs.Rules.{Grows, Landmark, ModuleIs, InstanceOf, ResourceDefined, bytes_marked, users_marked, import_marked, imports_marked}
 use Rattle.core_instances.specs.Instances.{instances_marked, AddsInstances}
 use Rattle.main_exports.proofs.Exporting.{exported_marks, exports_grow}
@@ -28,9 +29,9 @@ none_made : (numbers : List ℕ) (rest : List Landmark) → exported_marks (map 
 none_made [] rest = refl
 none_made (n ∷ numbers) rest = none_made numbers rest
 
-no_module : (ms : List WorldModule) → exported_marks (map (λ (m : WorldModule). ModuleIs m.found.bytes) ms) ≡ 0
+no_module : (bytes : List (List ℕ)) → exported_marks (map ModuleIs bytes) ≡ 0
 no_module [] = refl
-no_module (m ∷ ms) = no_module ms
+no_module (b ∷ bytes) = no_module bytes
 
 none_instantiated : (w : ComponentWorld) (o : Option GeneratedBytes) → exported_marks (instances_marked w o) ≡ 0
 none_instantiated w None = none_defined (provided_resources w) (users_marked w) ∙ (ap exported_marks (sym (append-nil (users_marked w))) ∙ none_made (range_with_len 0 (length (user_modules w))) [])
@@ -38,13 +39,13 @@ none_instantiated w (Some g) =
     none_defined (provided_resources w) (users_marked w ++ ModuleIs g.fixup ∷ InstanceOf (fixup_number w) ∷ [])
     ∙ none_made (range_with_len 0 (length (user_modules w))) (ModuleIs g.fixup ∷ InstanceOf (fixup_number w) ∷ [])
 
-pub none_exported : (n : Naming) (w : ComponentWorld) (a b c d : List Def) → a ≡ [] → Grows w a b (imports_marked n w) → Grows w b c (bytes_marked w) → AddsInstances w c d → exports_in d ≡ 0
+pub none_exported : (n : Naming) (w : ComponentWorld) (a b c d : List Def) → a ≡ [] → Grows w a b (imports_marked n w) → Grows w b c (bytes_marked n.debug_names w) → AddsInstances w c d → exports_in d ≡ 0
 none_exported n w a b c d empty imports main added =
     let first : exports_in a ≡ 0 = ap exports_in empty in
     let imported : exports_in b ≡ exports_in a + exported_marks (imports_marked n w) = exports_grow imports in
     let of_imports : exported_marks (imports_marked n w) ≡ 0 = none_imported n w (import_entries w) in
-    let with_users : exports_in c ≡ exports_in b + exported_marks (bytes_marked w) = exports_grow main in
-    let of_users : exported_marks (bytes_marked w) ≡ 0 = no_module (user_modules w) in
+    let with_users : exports_in c ≡ exports_in b + exported_marks (bytes_marked n.debug_names w) = exports_grow main in
+    let of_users : exported_marks (bytes_marked n.debug_names w) ≡ 0 = no_module (user_bytes n.debug_names w) in
     let instantiated : exports_in d ≡ exports_in c + exported_marks (instances_marked w added.generated) = exports_grow added.grows in
     let of_instances : exported_marks (instances_marked w added.generated) ≡ 0 = none_instantiated w added.generated in
     omega (arith, first, imported, of_imports, with_users, of_users, instantiated, of_instances)

@@ -8,27 +8,28 @@ use Rattle.comp_worlds.specs.Encodable.{IsEncodable}
 use Rattle.comp_worlds.specs.declared.world.ComponentWorld.{ComponentWorld}
 use Rattle.comp_worlds.specs.ExportOrder.{AreExportsInOrder}
 use Rattle.comp_terms.specs.Exports.{exports_in}
-use Rattle.comp_terms.specs.Terms.{IsInstanceOf}
+use Rattle.core_options.specs.MainOptions.{AreUserInstances}
+use Rattle.core_options.specs.declared.modules.UserInstances.{UserInstances}
 use Rattle.main_exports.specs.Exports.{AreExportsAtHand}
 use Rattle.core_instances.specs.Instances.{AreImportsMade}
 use Rattle.comp_state.specs.Encoding.{AreImported}
 use Rattle.comp_state.specs.declared.state.Step.{Step}
 use Rattle.comp_state.specs.declared.state.Step.TheVariants.{Instantiated}
 
--- main's instance
-pub record IsMain (ds : List Def) (main : Option ℕ) : Type 0 where
-  pub index : ℕ
-  pub known : main ≡ Some index
-  pub made : IsInstanceOf ds index 0
+-- the instances of the user modules
+pub record AreUsersMade (w : ComponentWorld) (ds : List Def) (users : Option UserInstances) : Type 0 where
+  pub instances : UserInstances
+  pub known : users ≡ Some instances
+  pub made : AreUserInstances w ds instances
 
--- the types of each interface that main has to export are at hand, and each comes behind those that it uses
+-- the types of each interface that has to be exported are at hand, and each comes behind those that it uses
 pub record AreExportsReady (w : ComponentWorld) (met : MetTypes) (ds : List Def) : Type 0 where
   pub ordered : AreExportsInOrder w
   pub at_hand : AreExportsAtHand w met (exports_in ds)
 
 -- the world is a valid one, and the tables and look-ups hold what the steps so far have made
-pub record IsEncoding (w : ComponentWorld) (met : MetTypes) (ds : List Def) (maps : TypeEncodingMaps) (instances : List (InterfaceId × ℕ)) (step : Step) (functions : List (List ℕ × ℕ)) (main : Option ℕ) : Type 0 where
+pub record IsEncoding (w : ComponentWorld) (met : MetTypes) (ds : List Def) (maps : TypeEncodingMaps) (instances : List (InterfaceId × ℕ)) (step : Step) (functions : List (List ℕ × ℕ)) (users : Option UserInstances) : Type 0 where
   pub valid : IsEncodable w
   pub imported : AreImported step → AreImportsMade w functions met ds maps instances
-  pub made : step ≡ Instantiated → IsMain ds main
+  pub made : step ≡ Instantiated → AreUsersMade w ds users
   pub exports : step ≡ Instantiated → AreExportsReady w met ds

@@ -59,18 +59,17 @@ impl EncodingState<'_> {
 }
 
 /// The component of a validated world, definition by definition, with the names of its items. Interfaces are imported under the
-/// names that `names` makes. The modules that are generated have debug names if `debug_names` says so.
+/// names that `names` makes; core modules have names for debuggers if it says so.
 ///
-/// Refused when out of memory, where a function is lowered or lifted with a memory that main doesn't export, or a realloc that there isn't (`E7`,
-/// `E8`, with the name of the import's shim, or the function that is lifted), where a function that is imported or exported has no
-/// string encoding (`E9`, with the import, or the function), where an interface uses types of another exported one that main doesn't
-/// export before it (`E11`, with both), and where a space would have more than 2^32 - 1 items, or a count or
-/// a size among the names or in a module that is generated would pass that (`E16`).
+/// Refused when out of memory, where a function is lowered or lifted with a memory that main doesn't export, or a realloc that there
+/// isn't for the module (`E7`, `E8`, with the name of the import's shim, or the function that is lifted), where a function that is
+/// imported or exported has no string encoding (`E9`, with the import, or the function), where an interface uses types of another
+/// exported one that isn't exported before it (`E11`, with both), and where a space would have more than 2^32 - 1 items, or a count or
+/// a size among the names, or in a module that is generated or given a name, would pass that (`E16`).
 pub fn encode_world(
     alloc: Global,
     world: &ComponentWorld,
     names: ImportNames<'_>,
-    debug_names: bool,
 ) -> Result<ComponentBuilder, StateFault>
     requires { IsEncodable world.now }
     ensures ok { IfOk result (λ component. Scoped component.defs × IsBuilt (naming_of names.entry) world.now component.defs) }
@@ -80,7 +79,7 @@ pub fn encode_world(
     ensures order { IsOk result → (interface used : List ℕ) → ExportsLater world.now interface used → ⊥ }
     ensures cause { IfErr result (IsCause world.now) }
 {
-    let mut state = EncodingState::new(alloc, world, names, debug_names)?;
+    let mut state = EncodingState::new(alloc, world, names)?;
     state.encode_all()?;
     state.finish()
 }

@@ -23,7 +23,7 @@ use comp_items::ComponentItems;
 use comp_lists::{Keyed, Text};
 use comp_worlds::ComponentWorld;
 use core_instances::{encode_core_instantiation, encode_core_modules};
-use core_options::StateFault;
+use core_options::{StateFault, UserInstances};
 use main_exports::export_all;
 use root_imports::RootScope;
 use std::alloc::{AllocError, Global};
@@ -36,7 +36,7 @@ pub enum Step {
     Started,
     /// What the world imports is there.
     Imported,
-    /// Main's instance is there too.
+    /// The instances of the user modules are there too.
     Instantiated,
 }
 
@@ -46,15 +46,13 @@ pub enum Step {
 pub struct EncodingState<'a> {
     /// The world, the component under construction, and the types that were met.
     pub(crate) root: RootScope<'a, ComponentWorld>,
-    /// Makes the names of interfaces that are imported or exported.
+    /// Makes the names of interfaces that are imported or exported, and says whether core modules have names.
     pub(crate) names: ImportNames<'a>,
-    /// Whether the modules that are generated have debug names.
-    pub(crate) debug_names: bool,
     pub(crate) step: Step,
     /// The root functions that were imported.
     pub(crate) functions: Keyed<Text, u32>,
-    /// Main's instance.
-    pub(crate) main: Option<u32>,
+    /// The instances of the user modules.
+    pub(crate) users: Option<UserInstances>,
 }
 
 impl Drop for EncodingState<'_> {
@@ -62,10 +60,9 @@ impl Drop for EncodingState<'_> {
         let EncodingState {
             root: _,
             names: _,
-            debug_names: _,
             step: _,
             functions: _,
-            main: _,
+            users: _,
         } = self;
     }
 }
@@ -76,30 +73,28 @@ impl<'a> Model for EncodingState<'a> {
 
     ghost Value = { Encoding };
 
-    ghost view = { λ s. record { world = s.root.world.now; canonical = s.names.canonical; renamed = s.names.renamed.now; built = s.root.items; step = s.step } };
+    ghost view = { λ s. record { world = s.root.world.now; canonical = s.names.canonical; renamed = s.names.renamed.now; debug_names = s.names.debug_names; built = s.root.items; step = s.step } };
 
-    ghost invariant = { λ s. IsEncoding s.root.world.now s.root.met s.root.items.defs s.root.maps s.root.instances s.step s.functions s.main };
+    ghost invariant = { λ s. IsEncoding s.root.world.now s.root.met s.root.items.defs s.root.maps s.root.instances s.step s.functions s.users };
 }
 
 impl<'a> EncodingState<'a> {
     /// The state before the first step: no item is made yet. Interfaces are to be imported under the names that `names`
-    /// makes, and the modules that are generated have debug names if `debug_names` says so.
+    /// makes, and core modules have names for debuggers if it says so.
     pub fn new(
         alloc: Global,
         world: &'a ComponentWorld,
         names: ImportNames<'a>,
-        debug_names: bool,
     ) -> Result<EncodingState<'a>, AllocError>
         requires { IsEncodable world.now }
-        ensures { IfOk result (λ s. s ≡ record { world = world.entry.now; canonical = names.entry.canonical; renamed = names.entry.renamed.now; built = nothing_built; step = Started }) }
+        ensures { IfOk result (λ s. s ≡ record { world = world.entry.now; canonical = names.entry.canonical; renamed = names.entry.renamed.now; debug_names = names.entry.debug_names; built = nothing_built; step = Started }) }
     {
         Ok(EncodingState {
             root: RootScope::new(alloc, world),
             names,
-            debug_names,
             step: Step::Started,
             functions: Keyed::new(alloc),
-            main: None,
+            users: None,
         })
     }
 }
@@ -112,10 +107,9 @@ impl EncodingState<'_> {
         let EncodingState {
             root,
             names: _,
-            debug_names: _,
             step: _,
             functions: _,
-            main: _,
+            users: _,
         } = self;
         root.into_items()
     }
@@ -144,11 +138,11 @@ impl EncodingState<'_> {
         requires { landmarks self.old.built.defs ≡ imports_marked (naming_in self.old) self.old.world }
         ensures same { self.new ≡ record self.old { built = self.new.built } }
         ensures extends { Extends self.old.built self.new.built }
-        ensures grows { OnOk result (Grows self.old.world self.old.built.defs self.new.built.defs (bytes_marked self.old.world)) }
+        ensures grows { OnOk result (Grows self.old.world self.old.built.defs self.new.built.defs (bytes_marked self.old.debug_names self.old.world)) }
         ensures users { OnOk result (AreUserModules self.old.world self.new.built.defs) }
         ensures cause { IfErr result (IsCause self.old.world) }
     {
-        encode_core_modules(&mut self.root)?;
+        encode_core_modules(&mut self.root, self.names.debug_names)?;
         Ok(())
     }
 
@@ -157,7 +151,7 @@ impl EncodingState<'_> {
     ///
     /// `E9` where an import of a function has no string encoding, `E7` where a function is lowered with a memory and main exports
     /// none, `E8` where it is lowered with a realloc and there is none for the module, and `E11` where an exported interface uses types
-    /// of another one that main doesn't export before it.
+    /// of another one that isn't exported before it.
     pub fn encode_core_instantiation(&mut self) -> Result<(), StateFault>
         requires users { AreUserModules self.old.world self.old.built.defs }
         requires imported { self.old.step ≡ Imported }
@@ -171,13 +165,13 @@ impl EncodingState<'_> {
         ensures lowered { OnOk result (AllByRecursion (HasLowerOptions self.old.world) (user_imports self.old.world)) }
         ensures cause { IfErr result (IsCause self.old.world) }
     {
-        let main = encode_core_instantiation(&mut self.root, &self.functions, self.debug_names)?;
-        self.main = Some(main);
+        let users = encode_core_instantiation(&mut self.root, &self.functions, self.names.debug_names)?;
+        self.users = Some(users);
         self.step = Step::Instantiated;
         Ok(())
     }
 
-    /// Lifts and exports the required exports of main, in order.
+    /// Lifts and exports what is required of main, and then of each adapter, in order.
     pub fn encode_exports(&mut self) -> Result<(), StateFault>
         requires instantiated { self.old.step ≡ Instantiated }
         requires none { exports_in self.old.built.defs ≡ 0 }
@@ -188,7 +182,9 @@ impl EncodingState<'_> {
         ensures has { OnOk result (AllByRecursion (HasLiftOptions self.old.world) (required_functions self.old.world)) }
         ensures cause { IfErr result (IsCause self.old.world) }
     {
-        let main = self.main.unwrap();
-        export_all(&mut self.root, main, &self.names)
+        match &self.users {
+            Some(users) => export_all(&mut self.root, users, &self.names),
+            None => unreachable!(),
+        }
     }
 }

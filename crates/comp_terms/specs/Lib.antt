@@ -1,4 +1,5 @@
 pub mod Terms
+pub mod UserBytes
 pub mod Generated
 pub mod Planned
 pub mod Exports

@@ -1,7 +1,7 @@
 -- Rules that each definition keeps at its index, and the landmarks of the whole list (component model,
 -- explainer: component definitions). They are what the steps guarantee to the proof that the list runs; no rule is
 -- part of a public guarantee.
-use Rattle.std.specs.Prelude.{◌≡◌, ◌<◌, ◌⊎◌, ℕ, codes, List, [], ◌∷◌, ◌++◌, Option, Some, None, true, length, map, filter, get_or, slice_get}
+use Rattle.std.specs.Prelude.{◌≡◌, ◌<◌, ◌⊎◌, ℕ, Bool, codes, List, [], ◌∷◌, ◌++◌, Option, Some, None, true, length, map, filter, get_or, slice_get}
 use Rattle.std.specs.Fmt.{decimal}
 use Rattle.std.specs.List.{AllByRecursion, AllZip, IsDistinct, flat_map, filter_map, list_any, range_with_len}
 use Rattle.std.specs.Str.{bytes_eq}
@@ -55,6 +55,7 @@ use Rattle.comp_links.specs.Lists.{ImportEntry, ImportedInterface, WorldType, Ro
 use Rattle.comp_links.specs.Links.{destructor_of}
 use Rattle.comp_terms.specs.Terms.{InstanceOf as InstanceTerm, imports_in, IsFunctionType, IsResource, IsImportedFunction, Is}
 use Rattle.world_shims.specs.WorldShims.{shims_of}
+use Rattle.comp_terms.specs.UserBytes.{user_bytes}
 use Rattle.comp_terms.specs.Generated.{shims_number, fixup_number, GeneratedBytes, MayBeGenerated}
 use Rattle.comp_terms.specs.Planned.{IsArgumentFor, AreFillsFor, IsShimFor}
 use Rattle.comp_terms.specs.Exports.{IsNestedRight, IsNestedFor, InstantiatesNested, ExportsFunction, ExportsInterface}
@@ -350,22 +351,22 @@ abbrev pub resources_marked : ComponentWorld → List Landmark
 resources_marked w = map (λ id. ResourceDefined) (provided_resources w)
 
 -- the landmarks of the user modules, and of their instances
-abbrev pub bytes_marked : ComponentWorld → List Landmark
-bytes_marked w = map (λ (m : WorldModule). ModuleIs m.found.bytes) (user_modules w)
+abbrev pub bytes_marked : Bool → ComponentWorld → List Landmark
+bytes_marked debug_names w = map ModuleIs (user_bytes debug_names w)
 
 abbrev pub users_marked : ComponentWorld → List Landmark
 users_marked w = map InstanceOf (range_with_len 0 (length (user_modules w)))
 
 -- the landmarks of the core modules and their instances, where these modules are generated. The resources are defined before the user
 -- modules are instantiated, and after the shims
-abbrev pub modules_marked : ComponentWorld → Option GeneratedBytes → List Landmark
-modules_marked w None = bytes_marked w ++ (resources_marked w ++ users_marked w)
-modules_marked w (Some g) =
-    bytes_marked w ++ (ModuleIs g.shims ∷ InstanceOf (shims_number w) ∷ (resources_marked w ++ (users_marked w ++ ModuleIs g.fixup ∷ InstanceOf (fixup_number w) ∷ [])))
+abbrev pub modules_marked : Bool → ComponentWorld → Option GeneratedBytes → List Landmark
+modules_marked debug_names w None = bytes_marked debug_names w ++ (resources_marked w ++ users_marked w)
+modules_marked debug_names w (Some g) =
+    bytes_marked debug_names w ++ (ModuleIs g.shims ∷ InstanceOf (shims_number w) ∷ (resources_marked w ++ (users_marked w ++ ModuleIs g.fixup ∷ InstanceOf (fixup_number w) ∷ [])))
 
 -- the landmarks of a component without the names of its items
 abbrev pub expected : Naming → ComponentWorld → Option GeneratedBytes → List Landmark
-expected n w g = imports_marked n w ++ (modules_marked w g ++ exports_marked n w)
+expected n w g = imports_marked n w ++ (modules_marked n.debug_names w g ++ exports_marked n w)
 
 -- a component for the world, without the names of its items
 pub record IsUnnamed (n : Naming) (w : ComponentWorld) (ds : List Def) : Type 0 where

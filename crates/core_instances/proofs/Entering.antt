@@ -3,7 +3,7 @@ use Rattle.std.proofs.Common.{◌≡◌, ◌∙◌, ◌<◌, ◌≤◌, inl, inr
 use Rattle.std.specs.Prelude.{nat_lt}
 use Rattle.std.specs.List.{AllByRecursion}
 use Rattle.std.proofs.lemmas.Bool.{lt-ltb}
-use Rattle.std.proofs.lemmas.List.{map-append}
+use Rattle.std.proofs.lemmas.List.{map-append, length-map}
 use Rattle.std.proofs.lemmas.List.Elements.{Contains-append_cases, Contains-append_left, Contains-append_right, filter-append}
 use Rattle.comp_lists.proofs.Lists.{AllByRecursion-contains, AllByRecursion-push, AllByRecursion-weaker, Contains-map}
 use Rattle.comp_bytes.specs.declared.def.Def.{Def}
@@ -17,7 +17,8 @@ use Rattle.comp_worlds.specs.Encodable.{IsEncodable, IsListedType}
 use Rattle.comp_worlds.specs.ExportOrder.{used_exports}
 use Rattle.comp_worlds.specs.WorldContents.{interface_at, name_at}
 use Rattle.comp_worlds.specs.declared.world.ComponentWorld.{ComponentWorld}
-use Rattle.comp_links.specs.Lists.{own_resources}
+use Rattle.comp_links.specs.Lists.{provided_resources}
+use Rattle.comp_links.specs.Targets.{UserModule}
 use Rattle.comp_terms.specs.Rules.{Grows, Landmark, ResourceDefined}
 use Rattle.interface_needs.specs.RootNeeds.{IsExportedInterface}
 use Rattle.interface_needs.proofs.ExportedInterfaces.{exported_ascend, listed_owner, usable_listed}
@@ -31,7 +32,7 @@ use Rattle.root_imports.proofs.Keeping.{moved_then}
 use Rattle.root_imports.proofs.ListedTypes.{found_contains}
 use Rattle.root_imports.proofs.Meeting.{and_both, listed_is_met, listed_met, named_parts, named_whole, or_right, owner_found, some_is}
 use Rattle.core_instances.specs.Instances.{IsDefinedType}
-use Rattle.core_instances.specs.ExportedTypes.{is_own, resource_mark, resource_marks, AreNextResources, IsNextListed}
+use Rattle.core_instances.specs.ExportedTypes.{is_own, provided_by, resource_mark, resource_marks, AreNextResources, IsNextListed}
 use Rattle.core_instances.proofs.Defining.{defined-kept}
 use Rattle.core_instances.proofs.Resourced.{all_defined, filtered_at, next_at, resources_grown}
 
@@ -126,20 +127,24 @@ module _ (w : ComponentWorld) (ok : IsEncodable w) (id : InterfaceId) (exported 
     pub next_own : IsNextOwn w mid.met t.1
     next_own = record { id = id; own = listed_owner w ok id exported t.1 listed_id; earlier = earlier }
 
-    pub next_listed : AllByRecursion (λ other. has_types old.met other ≡ true) (used_exports w id) → AreNextResources w old.items.defs all → IsNextListed w mid.met mid.items.defs id t.1
+    pub next_listed : (of : UserModule) → AllByRecursion (λ other. has_types old.met other ≡ true) (used_exports w id) → AreNextResources w old.items.defs of all → IsNextListed w mid.met mid.items.defs of id t.1
     unfolding next_own
-    next_listed uses resources = record {
+    next_listed of uses resources = record {
       usable = usable_listed w ok id exported t.1 listed_id;
       uses = subst (λ (m : MetTypes). AllByRecursion (λ other. has_types m other ≡ true) (used_exports w id)) (sym h.same) uses;
       order = next_own;
       owner = refl;
       resource = λ own.
           let filtered : filter (is_own w) (ids_of all) ≡ filter (is_own w) (ids_of h.done) ++ t.1 ∷ filter (is_own w) (ids_of rest) = ap (filter (is_own w)) split ∙ filtered_at (is_own w) (ids_of h.done) t.1 (ids_of rest) own in
+          let done : List TypeId = filter (is_own w) (ids_of h.done) in
+          let later : List TypeId = filter (is_own w) (ids_of rest) in
+          let given : map (provided_by of) (filter (is_own w) (ids_of all)) ≡ map (provided_by of) done ++ provided_by of t.1 ∷ map (provided_by of) later = ap (map (provided_by of)) filtered ∙ map-append (provided_by of) done (t.1 ∷ later) in
           let grown = resources_grown h.grows in
-          let many = all_defined (filter (is_own w) (ids_of h.done)) in
+          let many = all_defined done in
+          let same = length-map done (provided_by of) in
           let count = resources.count in
-          next_at (own_resources w) resources.before (filter (is_own w) (ids_of h.done)) t.1 (filter (is_own w) (ids_of rest)) resources.after (inventory mid.items.defs).resources
-          (resources.parts ∙ ap (λ l. resources.before ++ (l ++ resources.after)) filtered) (omega (arith, grown, many, count));
+          next_at (provided_resources w) resources.before (map (provided_by of) done) (provided_by of t.1) (map (provided_by of) later) resources.after (inventory mid.items.defs).resources
+          (resources.parts ∙ ap (λ l. resources.before ++ (l ++ resources.after)) given) (omega (arith, grown, many, same, count));
     }
 
     -- each of those that were listed so far is met once this one is entered

@@ -11,6 +11,7 @@ mod Destructing
 mod Entering
 mod OwnTypes
 mod ExportKeys
+mod ModuleKeys
 mod ExportNames
 pub mod Defining
 mod Foreign

@@ -24,7 +24,8 @@ use Rattle.comp_worlds.specs.WorldContents.{imported_types}
 use Rattle.root_imports.specs.Met.{next_of}
 use Rattle.root_imports.specs.Keeping.{Root, RootMoved}
 use Rattle.root_imports.specs.Met.{AreExportsMet}
-use Rattle.core_instances.specs.ExportedTypes.{AreShimSources}
+use Rattle.core_instances.specs.ExportedTypes.{AreDestructorSources, AreShimSources}
+use Rattle.core_instances.specs.declared.own_resources.DestructorSources.{DestructorSources}
 use Rattle.core_instances.specs.declared.own_resources.ShimSources.{ShimSources}
 use Rattle.core_instances.specs.Instances.{AreImportsMade}
 
@@ -53,3 +54,6 @@ shim_instance-kept w g (Some index) h = instance-kept g h
 
 pub shim_sources-kept : (w : ComponentWorld) {old new : List Def} → Longer old new → (s : ShimSources) → AreShimSources w old s → AreShimSources w new s
 shim_sources-kept w g s h = record { shims = h.shims; instance = shim_instance-kept w g s.instance h.instance }
+
+pub destructor_sources-kept : (w : ComponentWorld) {old new : List Def} → Longer old new → (s : DestructorSources) → AreDestructorSources w old s → AreDestructorSources w new s
+destructor_sources-kept w g s h = record { shims = shim_sources-kept w g s.shims h.shims; found = h.found }

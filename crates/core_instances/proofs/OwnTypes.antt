@@ -18,6 +18,7 @@ use Rattle.comp_worlds.specs.Encodable.{IsEncodable}
 use Rattle.comp_worlds.specs.ExportOrder.{used_exports}
 use Rattle.comp_worlds.specs.WorldContents.{interface_at, name_at}
 use Rattle.comp_worlds.specs.declared.world.ComponentWorld.{ComponentWorld}
+use Rattle.comp_links.specs.Targets.{UserModule}
 use Rattle.comp_terms.specs.Rules.{ResourceDefined}
 use Rattle.root_imports.specs.Met.{has_types, has_instance, is_met, is_named_of, IsSupplied}
 use Rattle.root_imports.specs.declared.met_types.MetTypes.{MetTypes}
@@ -28,8 +29,8 @@ kind_is : (k : TypeDefKind) → is_resource k ≡ true → k ≡ kinds.Resource
 kind_is kinds.Resource e = refl
 kind_is k e = absurd (true≢false (sym e))
 
-pub supplied_next : (w : ComponentWorld) → IsEncodable w → (met : MetTypes) (ds : List Def) (interface : InterfaceId) (id : TypeId) → IsNextListed w met ds interface id → is_own w id ≡ false → IsSupplied w met interface (suc id.index)
-supplied_next w ok met ds interface id h other = record {
+pub supplied_next : (w : ComponentWorld) → IsEncodable w → (met : MetTypes) (ds : List Def) (of : UserModule) (interface : InterfaceId) (id : TypeId) → IsNextListed w met ds of interface id → is_own w id ≡ false → IsSupplied w met interface (suc id.index)
+supplied_next w ok met ds of interface id h other = record {
   uses = AllByRecursion-weaker (λ (o : InterfaceId) e. or_left (has_types met o) (has_instance met o) e) (used_exports w interface) h.uses;
   resources = λ n less own resource. by n (nat_lt n id.index) refl less own resource;
 }

@@ -12,8 +12,7 @@ use Rattle.comp_links.specs.Links.{destructor_of}
 use Rattle.std.specs.Option.{option_map}
 use Rattle.std.proofs.lemmas.Option.{slice_get-map}
 use Rattle.comp_links.specs.Lists.{ProvidedType, own_resources, provided_resources, type_of_world}
-use Rattle.comp_links.specs.Targets.{Main}
-use Rattle.comp_links.proofs.OnlyMain.{main_resources, resources_of_main, own_of_main}
+use Rattle.comp_links.specs.Targets.{UserModule}
 use Rattle.comp_terms.specs.Rules.{Grows, IsDestructorRight, IsRight, ResourceDefined}
 use Rattle.comp_terms.specs.Terms.{IsResource}
 use Rattle.comp_trees.specs.DefinedScopes.{Denotes}
@@ -30,6 +29,7 @@ use Rattle.root_imports.specs.Keeping.{Root, RootKept}
 use Rattle.root_imports.specs.RootScopes.{AreTablesRight, RootGrows}
 use Rattle.root_imports.proofs.Keeping.{kept_items, kept_none, kept_then, kept_typed, moved_kept}
 use Rattle.root_imports.proofs.Resources.{kind_is, resource_tree}
+use Rattle.core_instances.specs.ExportedTypes.{provided_by}
 use Rattle.core_instances.proofs.Resourced.{resources_same}
 
 abbrev pub resource_of : Option ℕ → Def
@@ -42,25 +42,23 @@ tree_of_next : (w : ComponentWorld) → IsEncodable w → (id : TypeId) → id.i
 tree_of_next w ok id within resource number next =
     sym (resource_tree w ok id within (kind_is (kind_at w.resolve.types id.index) resource) ∙ ap (λ r. OfValues (ResourceAt r)) (resource_defined w ok number id next))
 
+-- by its number among those that user modules have to export
+own_next : (w : ComponentWorld) (of : UserModule) (number : ℕ) (id : TypeId) → slice_get (provided_resources w) number ≡ Some (provided_by of id) → slice_get (own_resources w) number ≡ Some id
+own_next w of number id next = slice_get-map (λ (p : ProvidedType). p.id) (provided_resources w) number ∙ ap (option_map (λ (p : ProvidedType). p.id)) next
+
 -- the shim of the destructor defines none
-still_next : (w : ComponentWorld) (id : TypeId) (old mid : List Def) → Grows w old mid [] → slice_get (own_resources w) (inventory old).resources ≡ Some id → slice_get (own_resources w) (inventory mid).resources ≡ Some id
-still_next w id old mid g next = ap (λ n. slice_get (own_resources w) n) (resources_same g) ∙ next
+still_next : (w : ComponentWorld) (p : ProvidedType) (old mid : List Def) → Grows w old mid [] → slice_get (provided_resources w) (inventory old).resources ≡ Some p → slice_get (provided_resources w) (inventory mid).resources ≡ Some p
+still_next w p old mid g next = ap (λ n. slice_get (provided_resources w) n) (resources_same g) ∙ next
 
-pub resource_denotes : (w : ComponentWorld) → IsEncodable w → (id : TypeId) → id.index < length w.resolve.types → is_resource (kind_at w.resolve.types id.index) ≡ true →
-    (old mid new : List Def) → Grows w old mid [] → slice_get (own_resources w) (inventory old).resources ≡ Some id → (index : ℕ) → IsResource new index (DefinedAt (inventory mid).resources) → Denotes (scope_of new) index (type_of_world w id)
-resource_denotes w ok id within resource old mid new g next index h = subst (λ t. Denotes (scope_of new) index t) (tree_of_next w ok id within resource (inventory mid).resources (still_next w id old mid g next)) h.denotes
+pub resource_denotes : (w : ComponentWorld) → IsEncodable w → (of : UserModule) (id : TypeId) → id.index < length w.resolve.types → is_resource (kind_at w.resolve.types id.index) ≡ true →
+    (old mid new : List Def) → Grows w old mid [] → slice_get (provided_resources w) (inventory old).resources ≡ Some (provided_by of id) → (index : ℕ) → IsResource new index (DefinedAt (inventory mid).resources) → Denotes (scope_of new) index (type_of_world w id)
+resource_denotes w ok of id within resource old mid new g next index h =
+    let own = own_next w of (inventory mid).resources id (still_next w (provided_by of id) old mid g next) in
+    subst (λ t. Denotes (scope_of new) index t) (tree_of_next w ok id within resource (inventory mid).resources own) h.denotes
 
--- main has to export it
-provided_next : (w : ComponentWorld) → IsEncodable w → (number : ℕ) (id : TypeId) → slice_get (own_resources w) number ≡ Some id → slice_get (provided_resources w) number ≡ Some (record { of = Main; id = id })
-provided_next w ok number id next =
-    let main_type : TypeId → ProvidedType = λ id. record { of = Main; id = id } in
-    ap (λ (ps : List ProvidedType). slice_get ps number) (resources_of_main w ok.valid)
-    ∙ (slice_get-map main_type (main_resources w) number
-    ∙ (ap (λ (ids : List TypeId). option_map main_type (slice_get ids number)) (sym (own_of_main w ok.valid)) ∙ ap (option_map main_type) next))
-
-pub resource_grows : (w : ComponentWorld) → IsEncodable w → (id : TypeId) (old mid new : List Def) (destructor : Option ℕ) → Grows w old mid [] → slice_get (own_resources w) (inventory old).resources ≡ Some id → IsDestructorRight w mid destructor (destructor_of w (record { of = Main; id = id })) → new ≡ mid ++ resource_of destructor ∷ [] → Grows w old new (ResourceDefined ∷ [])
-resource_grows w ok id old mid new destructor g next destructed added =
-    let right : IsRight w mid (resource_of destructor) = record { provided = record { of = Main; id = id }; next = provided_next w ok (inventory mid).resources id (still_next w id old mid g next); destructed = destructed } in
+pub resource_grows : (w : ComponentWorld) (of : UserModule) (id : TypeId) (old mid new : List Def) (destructor : Option ℕ) → Grows w old mid [] → slice_get (provided_resources w) (inventory old).resources ≡ Some (provided_by of id) → IsDestructorRight w mid destructor (destructor_of w (provided_by of id)) → new ≡ mid ++ resource_of destructor ∷ [] → Grows w old new (ResourceDefined ∷ [])
+resource_grows w of id old mid new destructor g next destructed added =
+    let right : IsRight w mid (resource_of destructor) = record { provided = provided_by of id; next = still_next w (provided_by of id) old mid g next; destructed = destructed } in
     Grows-then g (Grows-by (resource_of destructor) added right)
 
 -- ---- the root

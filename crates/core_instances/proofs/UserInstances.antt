@@ -183,6 +183,10 @@ other_names (m ∷ names) name rest d (x ∷ table) e = by (bytes_eq name x.0) r
         let is : m ≡ name = sym parts.0 ∙ sym ((bytes_eq-Decides name x.0).0 same) in
         absurd (true≢false (sym ((bytes_eq-Decides m name).1 is) ∙ name_apart names m name rest d.0))
 
+-- an adapter is found by its name
+pub adapter_found : (w : ComponentWorld) → IsDistinct bytes_eq (keys_of w.adapters) → (done : Adapters) (a : List ℕ × WorldAdapter) (rest : Adapters) → done ++ a ∷ rest ≡ w.adapters → module_found w (Adapter a.0) ≡ Some a.1.info
+adapter_found w apart done a rest split = ap (option_map (λ (x : WorldAdapter). x.info)) (lookup-from_Contains bytes_laws a.0 a.1 w.adapters apart (there_in done a rest w.adapters split))
+
 pub next_adapter : (w : ComponentWorld) (old mid : Built) (table : List (List ℕ × ℕ)) (last : ℕ) (rest : Adapters) (a : List ℕ × WorldAdapter) → IsDistinct bytes_eq (keys_of w.adapters) → AdaptersSoFar w old mid table last (a ∷ rest) → IsNextAdapter w table last a
 next_adapter w old mid table last rest a apart h =
     let at : slice_get w.adapters (length h.done) ≡ Some a = there_at h.done a rest w.adapters h.split in
@@ -191,7 +195,7 @@ next_adapter w old mid table last rest a apart h =
     ap (λ (l : Adapters). map (λ (x : List ℕ × WorldAdapter). x.0) l) (sym h.split) ∙ map-append (λ (x : List ℕ × WorldAdapter). x.0) h.done (a ∷ rest) in
     record {
       listed = ap (λ n. slice_get (user_modules w) n) number ∙ (slice_get-map adapter_module w.adapters (length h.done) ∙ ap (option_map adapter_module) at);
-      named = ap (option_map (λ (x : WorldAdapter). x.info)) (lookup-from_Contains bytes_laws a.0 a.1 w.adapters apart (there_in h.done a rest w.adapters h.split));
+      named = adapter_found w apart h.done a rest h.split;
       absent = other_names (map (λ (x : List ℕ × WorldAdapter). x.0) h.done) a.0 (map (λ (x : List ℕ × WorldAdapter). x.0) rest) (subst (IsDistinct bytes_eq) names apart) table h.made.names;
       below =
           let within = slice_get_within w.adapters (length h.done) a at in

@@ -1,7 +1,7 @@
 -- The types of exported interfaces: which are defined next, and when one is refused. (The rules are this project's own; component model,
 -- WIT: `use`.)
-use Rattle.std.specs.Prelude.{◌≡◌, ◌≤◌, ◌^◌, ◌||◌, ℕ, Bool, true, false, List, [], ◌∷◌, ◌++◌, length, map, filter, Some, Contains, slice_get}
-use Rattle.std.specs.List.{AllByRecursion, list_any}
+use Rattle.std.specs.Prelude.{◌≡◌, ◌≤◌, ◌^◌, ◌||◌, ℕ, Bool, true, false, List, [], ◌∷◌, ◌++◌, length, map, filter, take, Some, Contains, slice_get}
+use Rattle.std.specs.List.{AllByRecursion, flat_map, list_any}
 use Rattle.comp_bytes.specs.declared.def.Def.{Def}
 use Rattle.comp_inventories.specs.Inventories.{inventory}
 use Rattle.wit_data.specs.Names.{key_text}
@@ -13,14 +13,18 @@ use Rattle.wit_data.specs.declared.worlds.WorldItem.TheVariants as items
 use Rattle.wit_data.specs.declared.worlds.WorldKey.{WorldKey}
 use Rattle.wit_types.specs.Allowing.{is_resource}
 use Rattle.world_values.specs.Mentions.{same_interface}
-use Rattle.comp_worlds.specs.ExportOrder.{used_exports}
+use Rattle.comp_worlds.specs.ExportOrder.{interface_among, used_exports}
 use Rattle.comp_worlds.specs.WorldContents.{exported_item}
 use Rattle.comp_worlds.specs.declared.world.ComponentWorld.{ComponentWorld}
-use Rattle.comp_links.specs.Lists.{own_resources, types_in}
+use Rattle.comp_links.specs.Lists.{ProvidedType, RequiredKey, provided_resources, required_keys, types_in, types_provided}
+use Rattle.comp_links.specs.Modules.{module_found}
+use Rattle.comp_links.specs.Targets.{UserModule}
 use Rattle.comp_terms.specs.Rules.{Landmark, ResourceDefined}
 use Rattle.core_options.specs.Causes.{IsExportName}
+use Rattle.core_options.specs.MainOptions.{user_of}
 use Rattle.core_options.specs.declared.fault.StateFault.{StateFault}
 use Rattle.core_options.specs.declared.fault.StateFault.TheVariants as faults
+use Rattle.core_instances.specs.declared.own_resources.DestructorSources.{DestructorSources}
 use Rattle.core_instances.specs.declared.own_resources.ShimSources.{ShimSources}
 use Rattle.world_shims.specs.WorldShims.{shims_of}
 use Rattle.main_instance.specs.Sources.{IsShimInstance}
@@ -39,6 +43,11 @@ pub record AreShimSources (w : ComponentWorld) (ds : List Def) (s : ShimSources)
   pub shims : s.shims.now ≡ shims_of w
   pub instance : IsShimInstance w ds s.instance
 
+-- these are the shims of the world, and what validation found of the user module
+pub record AreDestructorSources (w : ComponentWorld) (ds : List Def) (s : DestructorSources) : Type 0 where
+  pub shims : AreShimSources w ds s.shims
+  pub found : module_found w (user_of s.which) ≡ Some s.found.now
+
 abbrev pub is_own : ComponentWorld → TypeId → Bool
 is_own w id = is_resource (kind_at w.resolve.types id.index)
 
@@ -49,20 +58,28 @@ resource_mark w id = map (λ t. ResourceDefined) (filter (is_own w) (id ∷ []))
 abbrev pub resource_marks : ComponentWorld → List (List ℕ × TypeId) → List Landmark
 resource_marks w listed = map (λ t. ResourceDefined) (filter (is_own w) (map (λ t. t.1) listed))
 
--- the resources among these types are the next ones that the component defines
-pub record AreNextResources (w : ComponentWorld) (ds : List Def) (listed : List (List ℕ × TypeId)) : Type 0 where
-  pub before : List TypeId
-  pub after : List TypeId
-  pub parts : own_resources w ≡ before ++ (filter (is_own w) (map (λ t. t.1) listed) ++ after)
+-- a type, as one that this user module has to export
+abbrev pub provided_by : UserModule → TypeId → ProvidedType
+provided_by of id = record { of = of; id = id }
+
+-- the resources that are listed at these keys, each with the module that has to export it
+abbrev pub provided_at : ComponentWorld → List RequiredKey → List ProvidedType
+provided_at w required = filter (λ p. is_own w p.id) (flat_map (types_provided w) required)
+
+-- the resources among these types are the next ones that the component defines, and this module has to export them
+pub record AreNextResources (w : ComponentWorld) (ds : List Def) (of : UserModule) (listed : List (List ℕ × TypeId)) : Type 0 where
+  pub before : List ProvidedType
+  pub after : List ProvidedType
+  pub parts : provided_resources w ≡ before ++ (map (provided_by of) (filter (is_own w) (map (λ t. t.1) listed)) ++ after)
   pub count : (inventory ds).resources ≡ length before
 
--- the type is the next of those that an exported interface lists
-pub record IsNextListed (w : ComponentWorld) (met : MetTypes) (ds : List Def) (interface : InterfaceId) (id : TypeId) : Type 0 where
+-- the type is the next of those that an exported interface lists, which this module has to export
+pub record IsNextListed (w : ComponentWorld) (met : MetTypes) (ds : List Def) (of : UserModule) (interface : InterfaceId) (id : TypeId) : Type 0 where
   pub usable : IsUsableType w interface id
   pub uses : AllByRecursion (λ other. has_types met other ≡ true) (used_exports w interface)
   pub order : IsNextOwn w met id
   pub owner : order.id ≡ interface
-  pub resource : is_own w id ≡ true → slice_get (own_resources w) (inventory ds).resources ≡ Some id
+  pub resource : is_own w id ≡ true → slice_get (provided_resources w) (inventory ds).resources ≡ Some (provided_by of id)
 
 -- ---- the order of interfaces
 
@@ -99,3 +116,33 @@ IsTypesRefusal w met key faults.Memory = Unit {0}
 IsTypesRefusal w met key (faults.TooMany excess) = 2 ^ 32 ≤ excess
 IsTypesRefusal w met key (faults.LaterExport interface used) = LacksTypes w met key interface used
 IsTypesRefusal w met key fault = ⊥
+
+-- ---- the keys of a module
+
+-- the interfaces that are exported at these keys, and the types that they list
+abbrev pub interfaces_at : ComponentWorld → List WorldKey → List InterfaceId
+interfaces_at w keys = flat_map (λ key. interface_among (exported_item w key)) keys
+
+abbrev pub ids_at : ComponentWorld → List WorldKey → List TypeId
+ids_at w keys = flat_map (λ key. map (λ t. t.1) (entries_at w key)) keys
+
+-- the landmarks of the resources among these
+abbrev pub marks_at : ComponentWorld → List WorldKey → List Landmark
+marks_at w keys = map (λ t. ResourceDefined) (filter (is_own w) (ids_at w keys))
+
+-- This module has to export the next of the keys: the resources that are listed at those before them are defined, and the interfaces there
+-- are those whose types are in the tables.
+pub record AreNextKeys (w : ComponentWorld) (met : MetTypes) (ds : List Def) (of : UserModule) (keys : List WorldKey) : Type 0 where
+  pub before : List RequiredKey
+  pub after : List RequiredKey
+  pub parts : required_keys w ≡ before ++ (map (λ key. record { of = of; key = key }) keys ++ after)
+  pub count : (inventory ds).resources ≡ length (provided_at w before)
+  pub has : (other : InterfaceId) → has_types met other ≡ list_any (same_interface other) (interfaces_at w (map (λ r. r.key) before))
+
+-- The types of the exported interfaces that these use are in the tables, or those interfaces are at earlier ones of some keys.
+abbrev pub UsesEarlier : ComponentWorld → MetTypes → List WorldKey → List InterfaceId → Type 0
+UsesEarlier w met earlier ids = AllByRecursion (λ id. AllByRecursion (λ other. (has_types met other || list_any (same_interface other) (interfaces_at w earlier)) ≡ true) (used_exports w id)) ids
+
+-- the same, of each of some keys
+pub record AreKeysInOrder (w : ComponentWorld) (met : MetTypes) (keys : List WorldKey) : Type 0 where
+  pub each : (n : ℕ) (key : WorldKey) → slice_get keys n ≡ Some key → UsesEarlier w met (take n keys) (interface_among (exported_item w key))

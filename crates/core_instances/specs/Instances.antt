@@ -17,7 +17,7 @@ use Rattle.wit_data.specs.declared.worlds.WorldKey.{WorldKey}
 use Rattle.comp_trees.specs.DefinedScopes.{Denotes}
 use Rattle.comp_inventories.specs.Inventories.{inventory, scope_of}
 use Rattle.comp_worlds.specs.Encodable.{IsEncodable}
-use Rattle.comp_worlds.specs.WorldContents.{exported_item}
+use Rattle.comp_worlds.specs.WorldContents.{exported_item, keys_required}
 use Rattle.comp_links.specs.Lists.{type_of_world}
 use Rattle.interface_needs.specs.RootNeeds.{interface_of_item}
 use Rattle.comp_worlds.specs.declared.world.ComponentWorld.{ComponentWorld}
@@ -106,12 +106,12 @@ abbrev pub types_listed : ComponentWorld → Option InterfaceId → List TypeId
 types_listed w (Some id) = map (λ t. t.1) (named_types w.resolve id)
 types_listed w None = []
 
--- those of the interface that main has to export at a key, and of all
+-- those of the interface that a user module has to export at a key, and of all
 abbrev pub types_at : ComponentWorld → WorldKey → List TypeId
 types_at w key = types_listed w (interface_of_item (exported_item w key))
 
 abbrev pub exported_types : ComponentWorld → List TypeId
-exported_types w = flat_map (types_at w) w.main_exports
+exported_types w = flat_map (types_at w) (keys_required w)
 
 -- the component has a type that is this one of the world
 pub record IsDefinedType (w : ComponentWorld) (ds : List Def) (t : TypeId) : Type 0 where

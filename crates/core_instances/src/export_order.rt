@@ -10,7 +10,6 @@ ghost use Rattle.std.specs.Option.{IfSome, option_copied};
 ghost use Rattle.comp_worlds.specs.Encodable.{IsEncodable};
 ghost use Rattle.comp_worlds.specs.ExportOrder.{used_exports};
 ghost use Rattle.comp_worlds.specs.WorldContents.{exported_item};
-ghost use Rattle.comp_worlds.specs.Worlds.{IsRequired};
 ghost use Rattle.core_instances.specs.ExportedTypes.{is_item, IsMissing, IsTypesRefusal};
 ghost use Rattle.interface_needs.specs.RootNeeds.{IsExportedInterface};
 ghost use Rattle.root_imports.specs.Met.{has_types};
@@ -160,7 +159,6 @@ pub(crate) fn check_order(
     id: InterfaceId,
 ) -> Result<(), StateFault>
     requires valid { IsEncodable root.now.world.now }
-    requires required { IsRequired root.now.world.now root.now.world.now.main key.now }
     requires item { exported_item root.now.world.now key.now ≡ Some (items.Interface id) }
     ensures all { OnOk result (AllByRecursion (λ other. has_types root.now.met other ≡ true) (used_exports root.now.world.now id)) }
     ensures cause { IfErr result (IsTypesRefusal root.now.world.now root.now.met key.now) }

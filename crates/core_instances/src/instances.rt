@@ -6,13 +6,12 @@ ghost use Rattle.std.specs.Option.{option_copied};
 ghost use Rattle.std.specs.List.{AllByRecursion};
 ghost use Rattle.root_imports.specs.Keeping.{RootMoved};
 ghost use Rattle.comp_links.specs.Roles.{IsEncodedImport};
-ghost use Rattle.comp_terms.specs.Terms.{IsInstanceOf};
 ghost use Rattle.comp_links.specs.Modules.{UserImport, user_imports};
 ghost use Rattle.comp_worlds.specs.ExportOrder.{AreExportsInOrder};
 ghost use Rattle.root_imports.specs.Met.{AreExportsMet};
 ghost use Rattle.core_instances.specs.Instances.{AreImportsMade, AreUserModules, AddsInstances};
 ghost use Rattle.core_options.specs.Causes.{IsCause};
-ghost use Rattle.core_options.specs.MainOptions.{HasLowerOptions};
+ghost use Rattle.core_options.specs.MainOptions.{AreUserInstances, HasLowerOptions};
 
 use crate::exported_types::define_exported_types;
 use crate::fixup::encode_indirect_lowerings;
@@ -44,25 +43,25 @@ fn fill_sources<'a>(
 }
 
 /// Adds the module of shims and its instance, the types of exported interfaces, the instances of the user modules, and the fixup's
-/// module and its instance; without those of shims and fixup, where no module needs shims. The answer is the index of main's instance.
+/// module and its instance; without those of shims and fixup, where no module needs shims. It returns the instances of the user modules.
 /// `functions` has the root functions that were imported, by their names. After a refusal the definitions that were made until then
 /// stay.
 ///
 /// `E9` where an import of a function has no string encoding, `E7` where a function is lowered with a memory and main exports none,
 /// `E8` where it is lowered with a realloc and there is none for the module, and `E11` where an exported interface uses types of another
-/// one that main doesn't export before it.
+/// one that isn't exported before it.
 pub fn encode_core_instantiation(
     root: &mut RootScope<'_, ComponentWorld>,
     functions: &Keyed<Text, u32>,
     debug_names: bool,
-) -> Result<u32, StateFault>
+) -> Result<UserInstances, StateFault>
     requires made { AreImportsMade root.old.world.now functions.now root.old.met root.old.items.defs root.old.maps root.old.instances }
     requires users { AreUserModules root.old.world.now root.old.items.defs }
     ensures moved { RootMoved root.old.world.now root.old root.new }
     ensures added { OnOk result (AddsInstances root.old.world.now root.old.items.defs root.new.items.defs) }
     ensures ordered { OnOk result (AreExportsInOrder root.old.world.now) }
     ensures met { OnOk result (AreExportsMet root.old.world.now root.new.met) }
-    ensures made { IfOk result (λ index. IsInstanceOf root.new.items.defs index 0) }
+    ensures made { IfOk result (AreUserInstances root.old.world.now root.new.items.defs) }
     ensures encoded { OnOk result (AllByRecursion (λ (i : UserImport). IsEncodedImport root.old.world.now i.of i.core.role) (user_imports root.old.world.now)) }
     ensures lowered { OnOk result (AllByRecursion (HasLowerOptions root.old.world.now) (user_imports root.old.world.now)) }
     ensures cause { IfErr result (IsCause root.old.world.now) }
@@ -79,5 +78,5 @@ pub fn encode_core_instantiation(
     let instances = instantiate_users(root, &sources)?;
     let sources = fill_sources(functions, memory_name(world), &instances);
     encode_indirect_lowerings(root, &sources, &shims, shim_instance, debug_names)?;
-    Ok(instances.main)
+    Ok(instances)
 }

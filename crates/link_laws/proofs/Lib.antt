@@ -3,7 +3,6 @@ mod Stores
 mod Kept
 pub mod Plain
 mod ModuleMarks
-mod Alone
 mod Given
 mod GivenImports
 mod GivenTypes
@@ -45,3 +44,4 @@ mod WorkedNestedTypes
 mod WorkedOwnResource
 mod CrossedDestructors
 mod WorkedHandles
+mod WorkedUsers

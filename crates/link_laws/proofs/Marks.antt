@@ -1,5 +1,5 @@
 -- The landmarks of a list of definitions, and what they say of it.
-use Rattle.std.proofs.Common.{◌≡◌, ◌∙◌, ◌+◌, arith, ℕ, List, [], ◌∷◌, ◌++◌, length, map, refl, sym, ap, ap₂, append-nil, add-one, add-zero, zero-add, length-append, Option, Some, None}
+use Rattle.std.proofs.Common.{◌≡◌, ◌∙◌, ◌+◌, arith, ℕ, Bool, List, [], ◌∷◌, ◌++◌, length, map, refl, sym, ap, ap₂, append-nil, add-one, add-zero, zero-add, length-append, Option, Some, None}
 use Rattle.std.proofs.lemmas.List.{length-map}
 use Rattle.std.proofs.lemmas.Grind.{flat_map-append}
 use Rattle.std.specs.List.{flat_map, filter_map}
@@ -13,6 +13,7 @@ use Rattle.comp_worlds.specs.declared.world.ComponentWorld.{ComponentWorld}
 use Rattle.comp_worlds.specs.WorldContents.{exported_item}
 use Rattle.comp_links.specs.Naming.{Naming, name_of}
 use Rattle.comp_links.specs.Lists.{ImportEntry, ImportedInterface, WorldType, RootFunction, Stated, root_function, root_type, import_entries, names_of_interface, stated_import, stated_imports, names_in, instance_type_names, AreNames, stated_export, stated_exports, functions_of_interface, nested_export_names, nested_lists, nested_names, RequiredKey, required_keys, ProvidedType, provided_resources, own_resources}
+use Rattle.comp_terms.specs.UserBytes.{user_bytes}
 use Rattle.comp_terms.specs.Rules.{Landmark, Imported, ModuleIs, InstanceOf, Exported, CustomNamed, InstanceTypeOf, landmark, import_marked, imports_marked, resources_marked, bytes_marked, users_marked, modules_marked, exports_marked, IsBuilt, NestedOf, ResourceDefined, nested_marked, export_marked}
 use Rattle.comp_terms.specs.Generated.{shims_number, fixup_number, GeneratedBytes}
 use Rattle.comp_inventories.specs.Inventories.{Inventory, resources_made, with_def, inventory_after, inventory, empty_inventory}
@@ -223,73 +224,70 @@ all_nothing : {A : Type 0} (bytes shims shim_instance instances fixup fixup_inst
     bytes ++ (shims ++ (shim_instance ++ (instances ++ (fixup ++ (fixup_instance ++ []))))) ≡ []
 all_nothing bytes shims shim_instance instances fixup fixup_instance a b c d e f = rw (a, b, c, d, e, f) refl
 
--- the bytes of the user modules
-abbrev pub bytes_of_users : ComponentWorld → List (List ℕ)
-bytes_of_users w = map (λ (m : WorldModule). m.found.bytes) (user_modules w)
+same_bytes : (bytes : List (List ℕ)) → map (λ (b : List ℕ). b) bytes ≡ bytes
+same_bytes [] = refl
+same_bytes (b ∷ bytes) = ap (λ l. b ∷ l) (same_bytes bytes)
 
-abbrev module_marked : WorldModule → Landmark
-module_marked m = ModuleIs m.found.bytes
-
-module _ (w : ComponentWorld) where
+module _ (named : Bool) (w : ComponentWorld) where
   -- nothing
-  users_nothing : {A : Type 0} (g : Landmark → List A) → g ResourceDefined ≡ [] → ((bytes : List ℕ) → g (ModuleIs bytes) ≡ []) → ((number : ℕ) → g (InstanceOf number) ≡ []) → (o : Option GeneratedBytes) → flat_map g (modules_marked w o) ≡ []
-  users_nothing {A} g none m i o = reads_users g none w o ∙ by o
+  users_nothing : {A : Type 0} (g : Landmark → List A) → g ResourceDefined ≡ [] → ((bytes : List ℕ) → g (ModuleIs bytes) ≡ []) → ((number : ℕ) → g (InstanceOf number) ≡ []) → (o : Option GeneratedBytes) → flat_map g (modules_marked named w o) ≡ []
+  users_nothing {A} g none m i o = reads_users g none named w o ∙ by o
     where
-      no_bytes : flat_map g (bytes_marked w) ≡ []
-      no_bytes = mapped_nothing g module_marked (λ x. m x.found.bytes) (user_modules w)
+      no_bytes : flat_map g (bytes_marked named w) ≡ []
+      no_bytes = mapped_nothing g ModuleIs m (user_bytes named w)
 
       no_numbers : flat_map g (users_marked w) ≡ []
       no_numbers = mapped_nothing g InstanceOf i (user_range w)
 
-      by : (o : Option GeneratedBytes) → read_of g w o ≡ []
+      by : (o : Option GeneratedBytes) → read_of g named w o ≡ []
       by None = ap₂ (λ xs ys. xs ++ ys) no_bytes no_numbers
       by (Some b) =
-          all_nothing (flat_map g (bytes_marked w)) (g (ModuleIs b.shims)) (g (InstanceOf (shims_number w))) (flat_map g (users_marked w)) (g (ModuleIs b.fixup)) (g (InstanceOf (fixup_number w)))
+          all_nothing (flat_map g (bytes_marked named w)) (g (ModuleIs b.shims)) (g (InstanceOf (shims_number w))) (flat_map g (users_marked w)) (g (ModuleIs b.fixup)) (g (InstanceOf (fixup_number w)))
           no_bytes (m b.shims) (i (shims_number w)) no_numbers (m b.fixup) (i (fixup_number w))
 
   -- the modules
-  users_modules : (o : Option GeneratedBytes) → flat_map module_mark (modules_marked w o) ≡ bytes_of_users w ++ bytes_listed o
-  users_modules o = reads_users module_mark refl w o ∙ by o
+  users_modules : (o : Option GeneratedBytes) → flat_map module_mark (modules_marked named w o) ≡ user_bytes named w ++ bytes_listed o
+  users_modules o = reads_users module_mark refl named w o ∙ by o
     where
-      own : flat_map module_mark (bytes_marked w) ≡ bytes_of_users w
-      own = mapped_each module_mark module_marked (λ (m : WorldModule). m.found.bytes) (λ x. refl) (user_modules w)
+      own : flat_map module_mark (bytes_marked named w) ≡ user_bytes named w
+      own = mapped_each module_mark ModuleIs (λ (b : List ℕ). b) (λ b. refl) (user_bytes named w) ∙ same_bytes (user_bytes named w)
 
       no_numbers : flat_map module_mark (users_marked w) ≡ []
       no_numbers = mapped_nothing module_mark InstanceOf (λ n. refl) (user_range w)
 
-      by : (o : Option GeneratedBytes) → read_of module_mark w o ≡ bytes_of_users w ++ bytes_listed o
+      by : (o : Option GeneratedBytes) → read_of module_mark named w o ≡ user_bytes named w ++ bytes_listed o
       by None = ap₂ (λ xs ys. xs ++ ys) own no_numbers
       by (Some b) = ap₂ (λ xs ys. xs ++ (b.shims ∷ (ys ++ b.fixup ∷ []))) own no_numbers
 
   -- the instances
-  users_instances : (o : Option GeneratedBytes) → flat_map instance_mark (modules_marked w o) ≡ numbers_listed w o
-  users_instances o = reads_users instance_mark refl w o ∙ by o
+  users_instances : (o : Option GeneratedBytes) → flat_map instance_mark (modules_marked named w o) ≡ numbers_listed w o
+  users_instances o = reads_users instance_mark refl named w o ∙ by o
     where
-      no_bytes : flat_map instance_mark (bytes_marked w) ≡ []
-      no_bytes = mapped_nothing instance_mark module_marked (λ x. refl) (user_modules w)
+      no_bytes : flat_map instance_mark (bytes_marked named w) ≡ []
+      no_bytes = mapped_nothing instance_mark ModuleIs (λ b. refl) (user_bytes named w)
 
-      by : (o : Option GeneratedBytes) → read_of instance_mark w o ≡ numbers_listed w o
+      by : (o : Option GeneratedBytes) → read_of instance_mark named w o ≡ numbers_listed w o
       by None = ap₂ (λ xs ys. xs ++ ys) no_bytes (numbers_read (user_range w))
       by (Some b) = ap₂ (λ xs ys. xs ++ (shims_number w ∷ (ys ++ fixup_number w ∷ []))) no_bytes (numbers_read (user_range w))
 
   -- the resources
-  users_resources : (o : Option GeneratedBytes) → flat_map resource_mark (modules_marked w o) ≡ map (λ id. 0) (provided_resources w)
+  users_resources : (o : Option GeneratedBytes) → flat_map resource_mark (modules_marked named w o) ≡ map (λ id. 0) (provided_resources w)
   users_resources o = by o
     where
-      no_bytes : flat_map resource_mark (bytes_marked w) ≡ []
-      no_bytes = mapped_nothing resource_mark module_marked (λ x. refl) (user_modules w)
+      no_bytes : flat_map resource_mark (bytes_marked named w) ≡ []
+      no_bytes = mapped_nothing resource_mark ModuleIs (λ b. refl) (user_bytes named w)
 
       no_numbers : flat_map resource_mark (users_marked w) ≡ []
       no_numbers = mapped_nothing resource_mark InstanceOf (λ n. refl) (user_range w)
 
-      by : (o : Option GeneratedBytes) → flat_map resource_mark (modules_marked w o) ≡ map (λ id. 0) (provided_resources w)
+      by : (o : Option GeneratedBytes) → flat_map resource_mark (modules_marked named w o) ≡ map (λ id. 0) (provided_resources w)
       by None =
-          flat_map-append resource_mark (bytes_marked w) (resources_marked w ++ users_marked w)
+          flat_map-append resource_mark (bytes_marked named w) (resources_marked w ++ users_marked w)
           ∙ ap₂ (λ xs ys. xs ++ ys) no_bytes (each_resource (provided_resources w) (users_marked w) no_numbers)
       by (Some b) =
           let fixup : List Landmark = ModuleIs b.fixup ∷ InstanceOf (fixup_number w) ∷ [] in
           let behind : flat_map resource_mark (users_marked w ++ fixup) ≡ [] = flat_map-append resource_mark (users_marked w) fixup ∙ ap (λ l. l ++ flat_map resource_mark fixup) no_numbers in
-          flat_map-append resource_mark (bytes_marked w) (ModuleIs b.shims ∷ InstanceOf (shims_number w) ∷ (resources_marked w ++ (users_marked w ++ fixup)))
+          flat_map-append resource_mark (bytes_marked named w) (ModuleIs b.shims ∷ InstanceOf (shims_number w) ∷ (resources_marked w ++ (users_marked w ++ fixup)))
           ∙ ap₂ (λ xs ys. xs ++ ys) no_bytes (each_resource (provided_resources w) (users_marked w ++ fixup) behind)
 
 -- ---- the names of nested components
@@ -320,23 +318,23 @@ module _ (n : Naming) (w : ComponentWorld) (ds : List Def) (built : IsBuilt n w 
 
   -- what is read of all definitions but the section of names
   front_marks : {A : Type 0} (f : Def → List A) (g : Landmark → List A) → ((d : Def) → f d ≡ flat_map g (filter_map landmark (d ∷ []))) →
-      flat_map f built.front ≡ flat_map g (imports_marked n w) ++ (flat_map g (modules_marked w built.generated) ++ flat_map g (exports_marked n w))
+      flat_map f built.front ≡ flat_map g (imports_marked n w) ++ (flat_map g (modules_marked n.debug_names w built.generated) ++ flat_map g (exports_marked n w))
   front_marks f g same =
       flat_map-marked f landmark g same built.front
       ∙ (ap (flat_map g) built.marked
-      ∙ (flat_map-append g (imports_marked n w) (modules_marked w built.generated ++ exports_marked n w)
-      ∙ ap (λ l. flat_map g (imports_marked n w) ++ l) (flat_map-append g (modules_marked w built.generated) (exports_marked n w))))
+      ∙ (flat_map-append g (imports_marked n w) (modules_marked n.debug_names w built.generated ++ exports_marked n w)
+      ∙ ap (λ l. flat_map g (imports_marked n w) ++ l) (flat_map-append g (modules_marked n.debug_names w built.generated) (exports_marked n w))))
 
   read_marks : {A : Type 0} (f : Def → List A) (g : Landmark → List A) → ((d : Def) → f d ≡ flat_map g (filter_map landmark (d ∷ []))) → ((name contents : List ℕ) → f (defs.Item (items.Custom name contents)) ≡ []) →
-      flat_map f ds ≡ flat_map g (imports_marked n w) ++ (flat_map g (modules_marked w built.generated) ++ flat_map g (exports_marked n w))
+      flat_map f ds ≡ flat_map g (imports_marked n w) ++ (flat_map g (modules_marked n.debug_names w built.generated) ++ flat_map g (exports_marked n w))
   read_marks f g same none =
       ap (flat_map f) built.whole
       ∙ (flat_map-append f built.front built.names
       ∙ (ap (λ l. flat_map f built.front ++ l) (names_nothing f none built.names built.named) ∙ (append-nil (flat_map f built.front) ∙ front_marks f g same)))
 
   -- the modules and their instances have no import, no export, no custom section, and no type of instances
-  none_of_modules : {A : Type 0} (g : Landmark → List A) → g ResourceDefined ≡ [] → ((bytes : List ℕ) → g (ModuleIs bytes) ≡ []) → ((number : ℕ) → g (InstanceOf number) ≡ []) → flat_map g (modules_marked w built.generated) ≡ []
-  none_of_modules g none m i = users_nothing w g none m i built.generated
+  none_of_modules : {A : Type 0} (g : Landmark → List A) → g ResourceDefined ≡ [] → ((bytes : List ℕ) → g (ModuleIs bytes) ≡ []) → ((number : ℕ) → g (InstanceOf number) ≡ []) → flat_map g (modules_marked n.debug_names w built.generated) ≡ []
+  none_of_modules g none m i = users_nothing n.debug_names w g none m i built.generated
 
   pub root_imports : flat_map (at_root item_imports) ds ≡ stated_imports n w
   root_imports =
@@ -344,23 +342,23 @@ module _ (n : Naming) (w : ComponentWorld) (ds : List Def) (built : IsBuilt n w 
       ∙ rw (imports_said, none_of_modules import_mark refl (λ b. refl) (λ k. refl), exports_nothing n w import_mark (λ i e. refl) (λ s. refl)) (append-nil (stated_imports n w))
 
   -- the core modules, and their instances
-  pub root_modules : flat_map (at_root item_module) ds ≡ bytes_of_users w ++ bytes_listed built.generated
+  pub root_modules : flat_map (at_root item_module) ds ≡ user_bytes n.debug_names w ++ bytes_listed built.generated
   root_modules =
       read_marks (at_root item_module) module_mark module_is (λ n c. refl)
       ∙ rw (said_by module_mark (λ s. refl) (λ names. refl), exports_nothing n w module_mark (λ i e. refl) (λ s. refl))
-      (append-nil (flat_map module_mark (modules_marked w built.generated)) ∙ users_modules w built.generated)
+      (append-nil (flat_map module_mark (modules_marked n.debug_names w built.generated)) ∙ users_modules n.debug_names w built.generated)
 
   pub root_instances : flat_map (at_root item_instantiates) ds ≡ numbers_listed w built.generated
   root_instances =
       read_marks (at_root item_instantiates) instance_mark instance_is (λ n c. refl)
       ∙ rw (said_by instance_mark (λ s. refl) (λ names. refl), exports_nothing n w instance_mark (λ i e. refl) (λ s. refl))
-      (append-nil (flat_map instance_mark (modules_marked w built.generated)) ∙ users_instances w built.generated)
+      (append-nil (flat_map instance_mark (modules_marked n.debug_names w built.generated)) ∙ users_instances n.debug_names w built.generated)
 
   root_resources : flat_map (at_root item_resource) ds ≡ map (λ id. 0) (provided_resources w)
   root_resources =
       read_marks (at_root item_resource) resource_mark resource_is (λ n c. refl)
       ∙ rw (said_by resource_mark (λ s. refl) (λ names. refl), exports_nothing n w resource_mark (λ i e. refl) (λ s. refl))
-      (append-nil (flat_map resource_mark (modules_marked w built.generated)) ∙ users_resources w built.generated)
+      (append-nil (flat_map resource_mark (modules_marked n.debug_names w built.generated)) ∙ users_resources n.debug_names w built.generated)
 
   -- as many resources are defined as the world has
   pub all_resources : (inventory ds).resources ≡ length (own_resources w)

@@ -1,5 +1,5 @@
 -- What is read of the landmarks of the core modules, of their instances and of the resources.
-use Rattle.std.proofs.Common.{◌≡◌, ◌∙◌, ℕ, List, [], ◌∷◌, ◌++◌, length, map, refl, ap, ap₂, Option, Some, None}
+use Rattle.std.proofs.Common.{◌≡◌, ◌∙◌, Bool, ℕ, List, [], ◌∷◌, ◌++◌, length, map, refl, ap, ap₂, Option, Some, None}
 use Rattle.std.proofs.lemmas.Grind.{flat_map-append}
 use Rattle.std.specs.List.{flat_map, range_with_len}
 use Rattle.comp_worlds.specs.declared.world.ComponentWorld.{ComponentWorld}
@@ -33,18 +33,18 @@ module _ {A : Type 0} (g : Landmark → List A) where
   behind_resources none ids rest = flat_map-append g (map (λ id. ResourceDefined) ids) rest ∙ ap (λ l. l ++ flat_map g rest) (mapped_nothing (λ (id : ProvidedType). ResourceDefined) (λ id. none) ids)
 
   -- what is read of all, where nothing is read of resources
-  abbrev pub read_of : ComponentWorld → Option GeneratedBytes → List A
-  read_of w None = flat_map g (bytes_marked w) ++ flat_map g (users_marked w)
-  read_of w (Some b) =
-      flat_map g (bytes_marked w)
+  abbrev pub read_of : Bool → ComponentWorld → Option GeneratedBytes → List A
+  read_of named w None = flat_map g (bytes_marked named w) ++ flat_map g (users_marked w)
+  read_of named w (Some b) =
+      flat_map g (bytes_marked named w)
       ++ (g (ModuleIs b.shims) ++ (g (InstanceOf (shims_number w)) ++ (flat_map g (users_marked w) ++ (g (ModuleIs b.fixup) ++ (g (InstanceOf (fixup_number w)) ++ [])))))
 
-  pub reads_users : g ResourceDefined ≡ [] → (w : ComponentWorld) (o : Option GeneratedBytes) → flat_map g (modules_marked w o) ≡ read_of w o
-  reads_users none w None =
-      flat_map-append g (bytes_marked w) (resources_marked w ++ users_marked w)
-      ∙ ap (λ l. flat_map g (bytes_marked w) ++ l) (behind_resources none (provided_resources w) (users_marked w))
-  reads_users none w (Some b) =
+  pub reads_users : g ResourceDefined ≡ [] → (named : Bool) (w : ComponentWorld) (o : Option GeneratedBytes) → flat_map g (modules_marked named w o) ≡ read_of named w o
+  reads_users none named w None =
+      flat_map-append g (bytes_marked named w) (resources_marked w ++ users_marked w)
+      ∙ ap (λ l. flat_map g (bytes_marked named w) ++ l) (behind_resources none (provided_resources w) (users_marked w))
+  reads_users none named w (Some b) =
       let fixup : List Landmark = ModuleIs b.fixup ∷ InstanceOf (fixup_number w) ∷ [] in
-      flat_map-append g (bytes_marked w) (ModuleIs b.shims ∷ InstanceOf (shims_number w) ∷ (resources_marked w ++ (users_marked w ++ fixup)))
-      ∙ ap (λ l. flat_map g (bytes_marked w) ++ (g (ModuleIs b.shims) ++ (g (InstanceOf (shims_number w)) ++ l)))
+      flat_map-append g (bytes_marked named w) (ModuleIs b.shims ∷ InstanceOf (shims_number w) ∷ (resources_marked w ++ (users_marked w ++ fixup)))
+      ∙ ap (λ l. flat_map g (bytes_marked named w) ++ (g (ModuleIs b.shims) ++ (g (InstanceOf (shims_number w)) ++ l)))
       (behind_resources none (provided_resources w) (users_marked w ++ fixup) ∙ flat_map-append g (users_marked w) fixup)

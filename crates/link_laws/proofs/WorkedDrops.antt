@@ -145,13 +145,15 @@ is_world = record {
     core = refl;
     modules_apart = one_apart root;
     import_roles = ((fields_apart, (record { present = omega arith; kind = refl }, (record { present = omega arith; kind = refl }, tt))), tt);
+    own_keys = (tt, (tt, tt));
     imported = (record { role = drop_of r 0; has_role = refl; fits = refl }, (record { role = drop_of s 1; has_role = refl; fits = refl }, tt));
     export_roles = tt;
     exported = tt;
     required = tt;
   };
   adapters = tt;
-  alone = refl;
+  adapters_apart = none_apart;
+  keys_apart = no_keys_apart;
 }
 
 -- ---- a list for it, where the two imports of main are given the drops of these types

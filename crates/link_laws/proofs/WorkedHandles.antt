@@ -137,6 +137,7 @@ is_world = record {
     core = refl;
     modules_apart = one_apart exported_i;
     import_roles = ((fields_apart, (r_is_own, (r_is_own, (r_is_own, tt)))), tt);
+    own_keys = ((0, omega arith, refl), ((0, omega arith, refl), ((0, omega arith, refl), tt)));
     imported = (
       record { role = imports.ExportedResourceNew key (type_id 0); has_role = refl; fits = refl },
       (record { role = imports.ExportedResourceRep key (type_id 0); has_role = refl; fits = refl }, (record { role = imports.ExportedResourceDrop key (type_id 0); has_role = refl; fits = refl }, tt)),
@@ -146,7 +147,8 @@ is_world = record {
     required = (record { exported = (0, omega arith, refl); present = tt }, tt);
   };
   adapters = tt;
-  alone = refl;
+  adapters_apart = none_apart;
+  keys_apart = one_key_apart key;
 }
 
 -- it exports one interface

@@ -136,13 +136,15 @@ is_world = record {
     core = refl;
     modules_apart = none_apart;
     import_roles = tt;
+    own_keys = tt;
     imported = tt;
     export_roles = (((0, omega arith, refl), refl, refl), (tt, (tt, ((0, omega arith, refl), tt))));
     exported = (record { type = externs.Func g_core; offered = refl; fits = refl }, (record { type = externs.Func r_core; offered = refl; fits = refl }, (record { type = externs.Memory memory_type; offered = refl; fits = refl }, (record { type = externs.Func p_core; offered = refl; fits = refl }, tt))));
     required = (record { exported = (0, omega arith, refl); present = (refl, tt) }, tt);
   };
   adapters = tt;
-  alone = refl;
+  adapters_apart = none_apart;
+  keys_apart = one_key_apart (keys.Name g);
 }
 
 -- the options that the link table names

@@ -145,13 +145,15 @@ is_world = record {
     core = refl;
     modules_apart = none_apart;
     import_roles = tt;
+    own_keys = tt;
     imported = tt;
     export_roles = (record { present = omega arith; kind = refl }, tt);
     exported = (record { type = externs.Func dtor_core; offered = refl; fits = refl }, tt);
     required = (record { exported = (0, omega arith, refl); present = tt }, tt);
   };
   adapters = tt;
-  alone = refl;
+  adapters_apart = none_apart;
+  keys_apart = one_key_apart key;
 }
 
 has_tables : HasTables world

@@ -126,13 +126,15 @@ is_world = record {
     core = refl;
     modules_apart = one_apart root;
     import_roles = ((one_apart f, (((0, omega arith, refl), refl, refl), tt)), tt);
+    own_keys = (tt, tt);
     imported = (record { role = role_f; has_role = refl; fits = refl }, tt);
     export_roles = (tt, tt);
     exported = (record { type = externs.Memory memory_type; offered = refl; fits = refl }, tt);
     required = tt;
   };
   adapters = tt;
-  alone = refl;
+  adapters_apart = none_apart;
+  keys_apart = no_keys_apart;
 }
 
 -- the options that the link table names

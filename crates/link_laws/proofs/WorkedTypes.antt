@@ -135,13 +135,15 @@ is_world = record {
     core = refl;
     modules_apart = one_apart root;
     import_roles = ((one_apart f, (((0, omega arith, refl), refl, refl), tt)), tt);
+    own_keys = (tt, tt);
     imported = (record { role = imports.WorldFunc (keys.Name f) f GuestImport; has_role = refl; fits = refl }, tt);
     export_roles = (((0, omega arith, refl), refl, refl), tt);
     exported = (record { type = externs.Func g_core; offered = refl; fits = refl }, tt);
     required = (record { exported = (0, omega arith, refl); present = (refl, tt) }, tt);
   };
   adapters = tt;
-  alone = refl;
+  adapters_apart = none_apart;
+  keys_apart = one_key_apart (keys.Name g);
 }
 
 -- ---- a list for it

@@ -9,6 +9,7 @@ use Rattle.core_bytes.specs.Modules.{Encodes}
 use Rattle.core_bytes.specs.declared.section.Section.{Section}
 use Rattle.comp_worlds.specs.declared.world.ComponentWorld.{ComponentWorld}
 use Rattle.comp_links.specs.Modules.{user_modules}
+use Rattle.comp_terms.specs.UserBytes.{user_bytes}
 use Rattle.comp_links.specs.Naming.{Naming}
 use Rattle.comp_links.specs.Lists.{Stated, described_sort, AreNames, stated_imports, stated_exports}
 
@@ -84,11 +85,11 @@ pub record EndsWithNames (ds : List Def) : Type 0 where
   pub none_before : flat_map (at_root item_customs) front ≡ []
   pub named : AreNames names
 
--- As a list: the user modules are the first core modules, byte for byte, and all others are generated; the imports and
--- exports are exactly the stated ones; each module is instantiated once, in order.
+-- As a list: the user modules are the first core modules, byte for byte but for the names that adapters may get for debuggers, and all
+-- others are generated; the imports and exports are exactly the stated ones; each module is instantiated once, in order.
 pub record IsComposed (n : Naming) (w : ComponentWorld) (g : GeneratedModules) (ds : List Def) : Type 0 where
   pub generated : List (List ℕ)
-  pub modules : flat_map (at_root item_module) ds ≡ map (λ m. m.found.bytes) (user_modules w) ++ generated
+  pub modules : flat_map (at_root item_module) ds ≡ user_bytes n.debug_names w ++ generated
   pub encoded : AllZip Encodes generated (generated_sections g)
   pub imports : flat_map (at_root item_imports) ds ≡ stated_imports n w
   pub exports : flat_map (at_root item_exports) ds ≡ stated_exports n w

@@ -248,13 +248,15 @@ is_world = record {
       ),
       tt,
     );
+    own_keys = (tt, (tt, (tt, (tt, tt))));
     imported = tt;
     export_roles = (tt, (tt, tt));
     exported = (record { type = externs.Memory memory_type; offered = refl; fits = refl }, (record { type = realloc_type; offered = refl; fits = refl }, tt));
     required = tt;
   };
   adapters = tt;
-  alone = refl;
+  adapters_apart = tt;
+  keys_apart = tt;
 }
 
 is_encodable : IsEncodable mixed_world

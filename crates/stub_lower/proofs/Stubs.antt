@@ -88,13 +88,15 @@ valid_of bytes core = record {
     core = core;
     modules_apart = alone (codes "$root");
     import_roles = ((alone (codes "f"), (((0, omega arith, refl), refl, refl), tt)), tt);
+    own_keys = (tt, tt);
     imported = (record { role = stub_role; has_role = refl; fits = refl }, tt);
     export_roles = tt;
     exported = tt;
     required = tt;
   };
   adapters = tt;
-  alone = refl;
+  adapters_apart = none;
+  keys_apart = no_key;
 }
 
 none_twice : IsDistinct same_interface []

@@ -1,14 +1,15 @@
 //! The program `tests_of_components`: the components of core modules with records, by cases from files.
 //!
-//! The input of a case is a core module in hexadecimal digits and, after a space, its records, with ` & ` between two of them.
-//! Options may be in front of it, as in `[canonical, rename a:b/c to d:e/f] 0061736d..`: `canonical`, `debug-names`, `no-merge`,
-//! `unchecked` (without `validate`, which is on otherwise) and `rename NAME to NAME`. The answer is the component in hexadecimal digits, by
+//! The input of a case is a core module in hexadecimal digits and, after a space, its records, with ` & ` between two of them, if it
+//! has any. Further modules follow after ` + `, each with its name: `NAME: MODULE` is an adapter, `library NAME: MODULE` a library without
+//! arguments. Options may be in front of all, as in `[canonical, rename a:b/c to d:e/f] 0061736d..`: `canonical`, `debug-names`,
+//! `no-merge`, `memory-grow`, `unchecked` (without `validate`, which is on otherwise) and `rename NAME to NAME`. The answer is the component in hexadecimal digits, by
 //! the encoder over the lower layer by records; or the fault. `test_cases` says how the files are read; each says where its expected answers are from. The program prints the
 //! comments too, so that the file `stdout`, which its output is compared with, is the data without the inputs.
 #![tactic(auto)]
 
-use comp_encoder::{ComponentEncoder, EncodeFault};
-use comp_lists::{Keyed, Text};
+use comp_encoder::{ComponentEncoder, EncodeFault, LibraryInfo};
+use comp_lists::{Keyed, Seq, Text};
 use plain_lower::{PlainFault, PlainLower};
 use std::alloc::{AllocError, Global};
 use std::process::ExitCode;
@@ -26,8 +27,10 @@ fn add_record(module: &mut Vec<u8>, record: &str) -> Result<(), AllocError> {
 fn module_of(alloc: Global, input: &str) -> Result<Vec<u8>, AllocError> {
     let (digits, records) = word_and_rest(input);
     let mut module = bytes_of(alloc, digits)?;
-    for record in records.split(" & ") {
-        add_record(&mut module, record)?;
+    if !records.is_empty() {
+        for record in records.split(" & ") {
+            add_record(&mut module, record)?;
+        }
     }
     Ok(module)
 }
@@ -72,16 +75,38 @@ fn encoder_with(alloc: Global, options: &str) -> Result<ComponentEncoder<PlainLo
     encoder.debug_names(has(options, "debug-names"));
     encoder.merge_imports_based_on_semver(!has(options, "no-merge"));
     encoder.emit_canonical_names(has(options, "canonical"));
+    encoder.realloc_via_memory_grow(has(options, "memory-grow"));
     encoder.import_name_map(names);
     Ok(encoder)
 }
 
-/// The component of the module of an input, which is given as main.
+/// Gives a further module of an input to an encoder, an adapter or a library.
+fn add_part(
+    alloc: Global,
+    encoder: &mut ComponentEncoder<PlainLower>,
+    part: &str,
+) -> Result<(), EncodeFault<PlainFault>> {
+    let (name, rest) = part.split_once(": ").unwrap_or((part, ""));
+    let module = module_of(alloc, rest)?;
+    match name.strip_prefix("library ") {
+        Some(name) => {
+            let arguments = Seq::new(alloc);
+            encoder.add_library(name, &module, LibraryInfo { arguments })
+        }
+        None => encoder.add_adapter(name, &module),
+    }
+}
+
+/// The component of the modules of an input, the first of which is given as main.
 fn component_of(alloc: Global, input: &str) -> Result<Vec<u8>, EncodeFault<PlainFault>> {
     let (options, rest) = options_and_rest(input);
-    let module = module_of(alloc, rest)?;
     let mut encoder = encoder_with(alloc, options)?;
-    encoder.module(&module)?.encode()
+    let (main, _) = rest.split_once(" + ").unwrap_or((rest, ""));
+    encoder.add_module(&module_of(alloc, main)?)?;
+    for part in rest.split(" + ").skip(1) {
+        add_part(alloc, &mut encoder, part)?;
+    }
+    encoder.encode()
 }
 
 /// All files have modules.

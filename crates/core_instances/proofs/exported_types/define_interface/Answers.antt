@@ -10,6 +10,7 @@ use Rattle.root_imports.specs.RootScopes.{AreTablesRight}
 use Rattle.root_imports.specs.declared.met_types.MetTypes.{MetTypes}
 use Rattle.root_imports.proofs.Keeping.{kept_none, moved_kept, moved_then}
 use Rattle.root_imports.proofs.ListedTypes.{export_there}
+use Rattle.core_options.specs.MainOptions.{user_of}
 use Rattle.core_instances.specs.ExportedTypes.{resource_marks, AreNextResources}
 use Rattle.core_instances.specs.Instances.{IsDefinedType}
 use Rattle.core_instances.proofs.OwnTypes.{enters_one}
@@ -28,7 +29,7 @@ pub define_types_of-requires-clause-exported : goal.define_types_of-requires-cla
 define_types_of-requires-clause-exported c = record { key = c.args.key.now; of = c.requires.item }
 
 pub define_types_of-requires-clause-resources : goal.define_types_of-requires-clause-resources
-define_types_of-requires-clause-resources c = subst (λ (l : Listed). AreNextResources c.args.root.now.world.now c.args.root.now.items.defs l) (sym c.types_of.ensures) c.requires.resources
+define_types_of-requires-clause-resources c = subst (λ (l : Listed). AreNextResources c.args.root.now.world.now c.args.root.now.items.defs (user_of c.args.sources.which) l) (sym c.types_of.ensures) c.requires.resources
 
 pub enter_interface-requires-clause-all : goal.enter_interface-requires-clause-all
 enter_interface-requires-clause-all c =

@@ -1,4 +1,5 @@
 use Rattle.std.proofs.Common.{rules, ◌≡◌, false}
+use Rattle.core_options.specs.MainOptions.{user_of}
 use Rattle.core_instances.specs.ExportedTypes.{is_own}
 use Rattle.core_instances.proofs.OwnTypes.{supplied_next}
 use Rattle.core_instances.proofs.exported_types.define_type.Goals as goal
@@ -7,4 +8,4 @@ pub exported_type-requires-clause-supplied : goal.exported_type-requires-clause-
 exported_type-requires-clause-supplied c =
     let w = c.args.root.now.world.now in
     let other : is_own w c.args.id ≡ false = search rules in
-    supplied_next w c.requires.valid c.args.root.now.met c.args.root.now.items.defs c.args.interface c.args.id c.requires.next other
+    supplied_next w c.requires.valid c.args.root.now.met c.args.root.now.items.defs (user_of c.args.sources.which) c.args.interface c.args.id c.requires.next other

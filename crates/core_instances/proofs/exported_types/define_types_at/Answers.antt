@@ -10,6 +10,7 @@ use Rattle.comp_worlds.specs.WorldContents.{exported_item}
 use Rattle.interface_needs.specs.RootNeeds.{interface_of_item}
 use Rattle.root_imports.specs.Growing.{Grows-none}
 use Rattle.root_imports.proofs.Keeping.{kept_none, moved_kept}
+use Rattle.core_options.specs.MainOptions.{user_of}
 use Rattle.core_instances.specs.ExportedTypes.{resource_marks, AreNextResources, EntersTypes, UsesMet}
 use Rattle.core_instances.specs.Instances.{types_listed, IsDefinedType}
 use Rattle.core_instances.proofs.ExportKeys.{no_interface, on_listed, same_item}
@@ -22,7 +23,7 @@ pub define_interface-requires-clause-resources : goal.define_interface-requires-
 define_interface-requires-clause-resources c =
     let w = c.args.root.now.world.now in
     let item = same_item (exported_item w c.args.key.now) c.in-Some.id (sym c.interface_at.ensures ∙ c.in-Some.is) in
-    subst (λ o. AreNextResources w c.args.root.now.items.defs (types_in w o)) item c.requires.resources
+    subst (λ o. AreNextResources w c.args.root.now.items.defs (user_of c.args.sources.which) (types_in w o)) item c.requires.resources
 
 pub returns-in-Some-clause-grows : goal.returns-in-Some-clause-grows
 returns-in-Some-clause-grows c =

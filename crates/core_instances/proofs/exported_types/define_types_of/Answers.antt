@@ -10,10 +10,11 @@ use Rattle.root_imports.specs.Met.{IsNextOwn}
 use Rattle.root_imports.specs.RootScopes.{AreTablesRight}
 use Rattle.root_imports.specs.declared.met_types.MetTypes.{MetTypes}
 use Rattle.root_imports.proofs.Keeping.{kept_none, moved_kept, moved_tables, moved_then}
-use Rattle.core_instances.specs.ExportedTypes.{AreNextResources, AreShimSources, IsNextListed, resource_mark}
+use Rattle.core_options.specs.MainOptions.{user_of}
+use Rattle.core_instances.specs.ExportedTypes.{AreDestructorSources, AreNextResources, IsNextListed, resource_mark}
 use Rattle.core_instances.specs.Instances.{IsDefinedType}
 use Rattle.core_instances.proofs.Entering.{ListedSoFar, listed_all, listed_defined, listed_grows, listed_start, listed_step, next_listed, next_own}
-use Rattle.core_instances.proofs.Made.{shim_sources-kept}
+use Rattle.core_instances.proofs.Made.{destructor_sources-kept}
 use Rattle.core_instances.proofs.exported_types.define_types_of.Goals as goal
 
 abbrev Listed : Type 0
@@ -34,12 +35,13 @@ define_type-requires c =
     let e : List ℕ × TypeId = (c.in-Some.entry.0.now, c.in-Some.entry.1.now) in
     let h : ListedSoFar w old mid c.args.types.now (e ∷ c.next.new.self) = subst (λ (es : Listed). ListedSoFar w old mid c.args.types.now es) c.in-Some.ensures.steps c.loop-entry.invariant.2 in
     let all : ListedSoFar w old mid (named_types w.resolve c.args.id) (e ∷ c.next.new.self) = subst (λ (l : Listed). ListedSoFar w old mid l (e ∷ c.next.new.self)) c.requires.listed h in
-    let resources : AreNextResources w old.items.defs (named_types w.resolve c.args.id) = subst (λ (l : Listed). AreNextResources w old.items.defs l) c.requires.listed c.requires.resources in
+    let of = user_of c.args.sources.which in
+    let resources : AreNextResources w old.items.defs of (named_types w.resolve c.args.id) = subst (λ (l : Listed). AreNextResources w old.items.defs of l) c.requires.listed c.requires.resources in
     record {
       valid = subst (λ x. IsEncodable x.now) (sym h.moved.world) c.requires.valid;
-      shims = subst (λ x. AreShimSources x.now mid.items.defs c.args.shims) (sym h.moved.world) (shim_sources-kept w (longer h.moved.extends) c.args.shims c.requires.shims);
+      sources = subst (λ x. AreDestructorSources x.now mid.items.defs c.args.sources) (sym h.moved.world) (destructor_sources-kept w (longer h.moved.extends) c.args.sources c.requires.sources);
       tables = subst (λ x. AreTablesRight x.now mid.met mid.instances mid.items.defs mid.maps) (sym h.moved.world) h.moved.tables;
-      next = subst (λ x. IsNextListed x.now mid.met mid.items.defs c.args.id e.1) (sym h.moved.world) (next_listed w c.requires.valid c.args.id c.requires.exported old mid e c.next.new.self all c.requires.uses resources);
+      next = subst (λ x. IsNextListed x.now mid.met mid.items.defs of c.args.id e.1) (sym h.moved.world) (next_listed w c.requires.valid c.args.id c.requires.exported old mid e c.next.new.self all of c.requires.uses resources);
     }
 
 pub returns-in_err-define_type-clause-moved : goal.returns-in_err-define_type-clause-moved

@@ -4,7 +4,6 @@ use Rattle.core_options.specs.MainOptions.{memory_name, AreUserInstances}
 use Rattle.std.specs.List.{AllByRecursion}
 use Rattle.comp_items.specs.Items.{Extends}
 use Rattle.comp_items.proofs.Extending.{extends_none}
-use Rattle.comp_items.proofs.Kept.{instance-kept}
 use Rattle.comp_items.proofs.Remembering.{longer}
 use Rattle.comp_links.specs.Roles.{IsEncodedImport}
 use Rattle.comp_terms.specs.Rules.{Grows, resources_marked, users_marked}
@@ -20,7 +19,7 @@ use Rattle.root_imports.specs.declared.met_types.MetTypes.{MetTypes}
 use Rattle.comp_worlds.specs.ExportOrder.{AreExportsInOrder}
 use Rattle.comp_links.specs.Lists.{required_functions}
 use Rattle.core_options.specs.Causes.{IsCause, IsCauseAmong}
-use Rattle.core_options.proofs.OptionTerms.{refused_with}
+use Rattle.core_options.proofs.OptionTerms.{instances_kept, refused_with}
 use Rattle.core_options.proofs.Refusals.{among_more}
 use Rattle.interface_needs.proofs.Lists.{contains_none}
 use Rattle.core_instances.specs.ExportedTypes.{AreShimSources}
@@ -181,7 +180,9 @@ returns-clause-added c =
     all_added w d old mid late new o c.in_ok-shim_instance.ensures.added (users_grow c.args.root.now c.encode_shim_instantiation.new.root c.define_exported_types.new.root c.instantiate_users.new.root c.in_ok-shim_instance.ensures.same k c.in_ok-define_exported_types.ensures.grows c.in_ok-instances.ensures.grows) filled
 
 pub returns-clause-made : goal.returns-clause-made
-returns-clause-made c = instance-kept (longer c.in_ok-encode_indirect_lowerings.ensures.extends) c.in_ok-instances.ensures.made.main
+returns-clause-made c =
+    let k : RootMoved c.args.root.now.world.now c.args.root.now c.define_exported_types.new.root = typed c.args.root.now c.encode_shim_instantiation.new.root c.define_exported_types.new.root c.requires.made.tables c.in_ok-shim_instance.ensures.same c.in_ok-shim_instance.ensures.extends c.in_ok-define_exported_types.ensures.moved in
+    instances_kept (longer c.in_ok-encode_indirect_lowerings.ensures.extends) (subst (λ x. AreUserInstances x.now c.instantiate_users.new.root.items.defs c.in_ok-instances.instances) k.world c.in_ok-instances.ensures.made)
 
 pub returns-clause-encoded : goal.returns-clause-encoded
 returns-clause-encoded c =

@@ -7,4 +7,4 @@ invariant-loop-name l =
     goal.iterator-loop-name.can_next l.name-iterator ×
     goal.iterator-loop-name.is_finite l.name-iterator ×
     (l.root ≡ record l.fn.root { items = l.root.items }) ×
-    ModulesSoFar l.fn.root.world.now l.fn.root.items l.root.items l.name-iterator
+    ModulesSoFar l.fn.debug_names l.fn.root.world.now l.fn.root.items l.root.items l.name-iterator

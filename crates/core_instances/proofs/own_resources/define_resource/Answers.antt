@@ -11,6 +11,7 @@ use Rattle.comp_links.specs.Lists.{type_of_world}
 use Rattle.root_imports.specs.Growing.{longer_by, Grows-then}
 use Rattle.root_imports.specs.Keeping.{Root, RootKept}
 use Rattle.root_imports.specs.RootScopes.{RootGrows}
+use Rattle.core_options.specs.MainOptions.{user_of}
 use Rattle.core_instances.proofs.Defining.{defined-kept}
 use Rattle.core_instances.proofs.Recording.{defined, defined_tables, resource_denotes, resource_grows, resource_of, shimmed}
 use Rattle.core_instances.proofs.own_resources.define_resource.Goals as goal
@@ -40,7 +41,7 @@ record_resource-requires-clause-denotes c =
     let mid : Root = c.destructor_shim.new.root in
     let new : List Def = c.resource_type.new.self.defs in
     let k : RootKept w c.args.root.now mid = shimmed c.args.root.now mid c.requires.tables c.in_ok-destructor.ensures.same c.in_ok-destructor.ensures.extends in
-    let d = resource_denotes w c.requires.valid c.args.id c.requires.present c.requires.resource c.args.root.now.items.defs mid.items.defs new c.in_ok-destructor.ensures.grows c.requires.next c.in_ok-index.index c.in_ok-index.ensures.defined in
+    let d = resource_denotes w c.requires.valid (user_of c.args.sources.which) c.args.id c.requires.present c.requires.resource c.args.root.now.items.defs mid.items.defs new c.in_ok-destructor.ensures.grows c.requires.next c.in_ok-index.index c.in_ok-index.ensures.defined in
     subst (λ x. Denotes (scope_of new) c.in_ok-index.index (type_of_world x.now c.args.id)) (sym k.world) d
 
 pub returns-clause-grows : goal.returns-clause-grows
@@ -51,7 +52,7 @@ returns-clause-grows c =
     let new : Built = c.resource_type.new.self in
     let end : Root = c.record_resource.new.self in
     let k : RootKept w c.args.root.now mid = shimmed c.args.root.now mid c.requires.tables c.in_ok-destructor.ensures.same c.in_ok-destructor.ensures.extends in
-    let first : Grows w old new.defs (ResourceDefined ∷ []) = resource_grows w c.requires.valid c.args.id old mid.items.defs new.defs c.in_ok-destructor.destructor c.in_ok-destructor.ensures.grows c.requires.next c.in_ok-destructor.ensures.right (ap (λ (b : Built). b.defs) c.in_ok-index.ensures.adds.1) in
+    let first : Grows w old new.defs (ResourceDefined ∷ []) = resource_grows w (user_of c.args.sources.which) c.args.id old mid.items.defs new.defs c.in_ok-destructor.destructor c.in_ok-destructor.ensures.grows c.requires.next c.in_ok-destructor.ensures.right (ap (λ (b : Built). b.defs) c.in_ok-index.ensures.adds.1) in
     let later : RootGrows w new end.items = subst (λ x. RootGrows x.now new end.items) k.world c.in_ok-record_resource.ensures.grows in
     Grows-then first later.grows
 
@@ -62,6 +63,6 @@ returns-clause-defined c =
     let new : Built = c.resource_type.new.self in
     let end : Root = c.record_resource.new.self in
     let k : RootKept w c.args.root.now mid = shimmed c.args.root.now mid c.requires.tables c.in_ok-destructor.ensures.same c.in_ok-destructor.ensures.extends in
-    let d = resource_denotes w c.requires.valid c.args.id c.requires.present c.requires.resource c.args.root.now.items.defs mid.items.defs new.defs c.in_ok-destructor.ensures.grows c.requires.next c.in_ok-index.index c.in_ok-index.ensures.defined in
+    let d = resource_denotes w c.requires.valid (user_of c.args.sources.which) c.args.id c.requires.present c.requires.resource c.args.root.now.items.defs mid.items.defs new.defs c.in_ok-destructor.ensures.grows c.requires.next c.in_ok-index.index c.in_ok-index.ensures.defined in
     let later : RootGrows w new end.items = subst (λ x. RootGrows x.now new end.items) k.world c.in_ok-record_resource.ensures.grows in
     defined-kept (longer_by later.grows) c.args.id (record { index = c.in_ok-index.index; denotes = d })

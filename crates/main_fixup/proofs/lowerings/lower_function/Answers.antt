@@ -5,11 +5,13 @@ use Rattle.comp_bytes.specs.declared.def.Def.TheVariants as defs
 use Rattle.comp_bytes.specs.declared.def.Item.TheVariants as items
 use Rattle.comp_items.proofs.Remembering.{longer}
 use Rattle.comp_terms.specs.Rules.{Grows}
-use Rattle.core_options.proofs.OptionTerms.{some_mapped}
+use Rattle.comp_links.specs.Modules.{user_imports}
+use Rattle.core_options.proofs.OptionTerms.{refused_with, some_mapped}
+use Rattle.core_options.specs.Causes.{IsCauseAmong}
 use Rattle.core_options.specs.MainOptions.{export_ref_of}
 use Rattle.root_imports.specs.Growing.{Grows-by, Grows-then}
 use Rattle.main_fixup.specs.Filling.{IsBehind}
-use Rattle.main_fixup.proofs.Lowering.{behind-kept, lower_options_right, lowering_for, options_there}
+use Rattle.main_fixup.proofs.Lowering.{behind-kept, lower_options_right, lowering_for, options_there, shim_refused}
 use Rattle.main_fixup.proofs.lowerings.lower_function.Goals as goal
 
 pub returns-clause-grows : goal.returns-clause-grows
@@ -40,3 +42,11 @@ returns-clause-offered c =
     let b = c.requires.behind in
     options_there c.args.root.now.world.now c.args.shim.now b.given b.stands (option_map export_ref_of c.args.sources.now.realloc) b.reallocated c.in_ok-options.ensures.memory
     (λ needed. some_mapped c.args.sources.now.realloc (c.in_ok-options.ensures.realloc needed))
+
+pub returns-in_err-options-clause-cause : goal.returns-in_err-options-clause-cause
+returns-in_err-options-clause-cause c =
+    let w = c.args.root.now.world.now in
+    let b = c.requires.behind in
+    let e = c.in_err-options.field-0.0 in
+    refused_with c.from_residual.result e (IsCauseAmong w (user_imports w) []) c.from_residual.ensures.1
+    (shim_refused w c.args.shim.now b.given b.stands (option_map export_ref_of c.args.sources.now.realloc) b.reallocated e c.in_err-options.ensures.cause)

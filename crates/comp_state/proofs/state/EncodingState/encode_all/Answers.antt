@@ -1,4 +1,4 @@
-use Rattle.std.proofs.Common.{◌≡◌, ◌∙◌, ap, ap₂, sym}
+use Rattle.std.proofs.Common.{◌≡◌, ◌∙◌, ap, ap₂, subst, sym}
 use Rattle.comp_links.specs.Naming.{Naming}
 use Rattle.comp_worlds.specs.declared.world.ComponentWorld.{ComponentWorld}
 use Rattle.comp_terms.specs.Rules.{Grows, bytes_marked, exports_marked, imports_marked, landmarks}
@@ -21,7 +21,9 @@ encode_exports-requires-clause-none c =
     let w : ComponentWorld = c.args.self.now.world in
     let first : c.encode_imports.new.self.world ≡ w = c.in_ok-encode_imports.ensures.world in
     let second : c.encode_core_modules.new.self.world ≡ w = ap (λ (e : Encoding). e.world) c.in_ok-encode_core_modules.ensures.same ∙ first in
-    let users : Grows w c.encode_imports.new.self.built.defs c.encode_core_modules.new.self.built.defs (bytes_marked w) = rw (← first) c.in_ok-encode_core_modules.ensures.grows in
+    let of_state : Grows w c.encode_imports.new.self.built.defs c.encode_core_modules.new.self.built.defs (bytes_marked c.encode_imports.new.self.debug_names w) = rw (← first) c.in_ok-encode_core_modules.ensures.grows in
+    let users : Grows w c.encode_imports.new.self.built.defs c.encode_core_modules.new.self.built.defs (bytes_marked c.args.self.now.debug_names w) =
+    subst (λ b. Grows w c.encode_imports.new.self.built.defs c.encode_core_modules.new.self.built.defs (bytes_marked b w)) (ap (λ (m : Naming). m.debug_names) c.in_ok-encode_imports.ensures.names) of_state in
     let instances : AddsInstances w c.encode_core_modules.new.self.built.defs c.encode_core_instantiation.new.self.built.defs = rw (← second) c.in_ok-encode_core_instantiation.ensures.added in
     none_exported (naming_in c.args.self.now) w c.args.self.now.built.defs c.encode_imports.new.self.built.defs c.encode_core_modules.new.self.built.defs c.encode_core_instantiation.new.self.built.defs c.requires.empty
     c.in_ok-encode_imports.ensures.grows users instances
@@ -35,7 +37,9 @@ returns-clause-built c =
     let third : c.encode_core_instantiation.new.self.world ≡ w = c.in_ok-encode_core_instantiation.ensures.world ∙ second in
     let named : naming_in c.encode_core_instantiation.new.self ≡ n =
     c.in_ok-encode_core_instantiation.ensures.names ∙ (ap (λ (e : Encoding). naming_in e) c.in_ok-encode_core_modules.ensures.same ∙ c.in_ok-encode_imports.ensures.names) in
-    let users : Grows w c.encode_imports.new.self.built.defs c.encode_core_modules.new.self.built.defs (bytes_marked w) = rw (← first) c.in_ok-encode_core_modules.ensures.grows in
+    let of_state : Grows w c.encode_imports.new.self.built.defs c.encode_core_modules.new.self.built.defs (bytes_marked c.encode_imports.new.self.debug_names w) = rw (← first) c.in_ok-encode_core_modules.ensures.grows in
+    let users : Grows w c.encode_imports.new.self.built.defs c.encode_core_modules.new.self.built.defs (bytes_marked c.args.self.now.debug_names w) =
+    subst (λ b. Grows w c.encode_imports.new.self.built.defs c.encode_core_modules.new.self.built.defs (bytes_marked b w)) (ap (λ (m : Naming). m.debug_names) c.in_ok-encode_imports.ensures.names) of_state in
     let instances : AddsInstances w c.encode_core_modules.new.self.built.defs c.encode_core_instantiation.new.self.built.defs = rw (← second) c.in_ok-encode_core_instantiation.ensures.added in
     let exports : Grows w c.encode_core_instantiation.new.self.built.defs c.encode_exports.new.self.built.defs (exports_marked n w) = rw (← third, ← named) c.in_ok-encode_exports.ensures.grows in
     built_by_steps n w c.args.self.now.built.defs c.encode_imports.new.self.built.defs c.encode_core_modules.new.self.built.defs c.encode_core_instantiation.new.self.built.defs c.encode_exports.new.self.built.defs c.requires.empty

@@ -35,8 +35,8 @@ pub invariant_of-self : goal.invariant_of-self
 invariant_of-self c =
     let in' = c.self.inside in
     let r : Root = c.encode_core_instantiation.new.root in
-    let k = c.in_err-main.ensures.moved in
-    subst (λ x. IsEncoding x.now r.met r.items.defs r.maps r.instances in'.step in'.functions in'.main) (sym k.world)
+    let k = c.in_err-users.ensures.moved in
+    subst (λ x. IsEncoding x.now r.met r.items.defs r.maps r.instances in'.step in'.functions in'.users) (sym k.world)
     (encoding-moved k.extends k.tables k.last (not_yet (ap (λ (e : Encoding). e.step) c.self.view_is ∙ c.requires.imported)) c.self.invariant)
 
 pub invariant_of-self-2 : goal.invariant_of-self-2
@@ -44,20 +44,20 @@ invariant_of-self-2 c =
     let in' = c.self.inside in
     let w = in'.root.world.now in
     let r : Root = c.encode_core_instantiation.new.root in
-    let k = c.in_ok-main.ensures.moved in
+    let k = c.in_ok-users.ensures.moved in
     let step = ap (λ (e : Encoding). e.step) c.self.view_is ∙ c.requires.imported in
-    let moved : IsEncoding w r.met r.items.defs r.maps r.instances in'.step in'.functions in'.main = encoding-moved k.extends k.tables k.last (not_yet step) c.self.invariant in
-    subst (λ x. IsEncoding x.now r.met r.items.defs r.maps r.instances Instantiated in'.functions (Some c.in_ok-main.main)) (sym k.world)
-    (encoding-instantiated c.in_ok-main.main (imported_now step) c.in_ok-main.ensures.made (record { ordered = c.in_ok-main.ensures.ordered; at_hand = at_hand_start w r.met (exports_in r.items.defs) c.in_ok-main.ensures.met }) moved)
+    let moved : IsEncoding w r.met r.items.defs r.maps r.instances in'.step in'.functions in'.users = encoding-moved k.extends k.tables k.last (not_yet step) c.self.invariant in
+    subst (λ x. IsEncoding x.now r.met r.items.defs r.maps r.instances Instantiated in'.functions (Some c.in_ok-users.users)) (sym k.world)
+    (encoding-instantiated c.in_ok-users.users (imported_now step) c.in_ok-users.ensures.made (record { ordered = c.in_ok-users.ensures.ordered; at_hand = at_hand_start w r.met (exports_in r.items.defs) c.in_ok-users.ensures.met }) moved)
 
 pub returns-clause-ordered : goal.returns-clause-ordered
-returns-clause-ordered c = subst (λ (e : Encoding). AreExportsInOrder e.world) c.self.view_is c.in_ok-main.ensures.ordered
+returns-clause-ordered c = subst (λ (e : Encoding). AreExportsInOrder e.world) c.self.view_is c.in_ok-users.ensures.ordered
 
 pub returns-clause-added : goal.returns-clause-added
-returns-clause-added c = subst (λ (e : Encoding). AddsInstances e.world e.built.defs c.encode_core_instantiation.new.root.items.defs) c.self.view_is c.in_ok-main.ensures.added
+returns-clause-added c = subst (λ (e : Encoding). AddsInstances e.world e.built.defs c.encode_core_instantiation.new.root.items.defs) c.self.view_is c.in_ok-users.ensures.added
 
 pub returns-clause-encoded : goal.returns-clause-encoded
-returns-clause-encoded c = subst (λ (e : Encoding). AllByRecursion (λ (i : UserImport). IsEncodedImport e.world i.of i.core.role) (user_imports e.world)) c.self.view_is c.in_ok-main.ensures.encoded
+returns-clause-encoded c = subst (λ (e : Encoding). AllByRecursion (λ (i : UserImport). IsEncodedImport e.world i.of i.core.role) (user_imports e.world)) c.self.view_is c.in_ok-users.ensures.encoded
 
 pub returns-clause-lowered : goal.returns-clause-lowered
-returns-clause-lowered c = subst (λ (e : Encoding). AllByRecursion (HasLowerOptions e.world) (user_imports e.world)) c.self.view_is c.in_ok-main.ensures.lowered
+returns-clause-lowered c = subst (λ (e : Encoding). AllByRecursion (HasLowerOptions e.world) (user_imports e.world)) c.self.view_is c.in_ok-users.ensures.lowered

@@ -9,17 +9,17 @@ use Rattle.core_options.specs.Causes.{IsCause, IsEncodedExport}
 use Rattle.core_options.specs.MainOptions.{HasLiftOptions}
 use Rattle.comp_state.specs.Tables.{IsEncoding}
 use Rattle.comp_state.specs.Encoding.{Encoding, naming_in}
-use Rattle.comp_state.proofs.Growth.{encoding-moved, imports_made, main_known, main_made}
+use Rattle.comp_state.proofs.Growth.{encoding-moved, imports_made, users_known, users_made}
 use Rattle.comp_state.proofs.state.EncodingState.encode_exports.Goals as goal
 
-pub unwrap-main-requires : goal.unwrap-main-requires
-unwrap-main-requires c = main_known c.self.invariant (ap (λ (e : Encoding). e.step) c.self.view_is ∙ c.requires.instantiated)
+pub unreachable-requires : goal.unreachable-requires
+unreachable-requires c = users_known c.self.invariant (ap (λ (e : Encoding). e.step) c.self.view_is ∙ c.requires.instantiated) c.in-None.is
 
 pub export_all-requires-clause-valid : goal.export_all-requires-clause-valid
 export_all-requires-clause-valid c = c.self.invariant.valid
 
 pub export_all-requires-clause-made : goal.export_all-requires-clause-made
-export_all-requires-clause-made c = main_made c.self.invariant (ap (λ (e : Encoding). e.step) c.self.view_is ∙ c.requires.instantiated) _ c.unwrap-main.ensures
+export_all-requires-clause-made c = users_made c.self.invariant (ap (λ (e : Encoding). e.step) c.self.view_is ∙ c.requires.instantiated) c.in-Some.users.now c.in-Some.is
 
 pub export_all-requires-clause-tables : goal.export_all-requires-clause-tables
 export_all-requires-clause-tables c = (imports_made c.self.invariant (ap (λ (e : Encoding). e.step) c.self.view_is ∙ c.requires.instantiated)).tables
@@ -42,7 +42,7 @@ invariant_of-self c =
     let in' = c.self.inside in
     let moved = c.export_all.ensures.moved in
     let ordered = (c.self.invariant.exports (ap (λ (e : Encoding). e.step) c.self.view_is ∙ c.requires.instantiated)).ordered in
-    subst (λ r. IsEncoding r.now new.met new.items.defs new.maps new.instances in'.step in'.functions in'.main) (sym moved.world)
+    subst (λ r. IsEncoding r.now new.met new.items.defs new.maps new.instances in'.step in'.functions in'.users) (sym moved.world)
     (encoding-moved moved.extends moved.tables moved.last (λ s. record { ordered = ordered; at_hand = c.export_all.ensures.at_hand }) c.self.invariant)
 
 pub returns-clause-same : goal.returns-clause-same
@@ -50,7 +50,7 @@ returns-clause-same c =
     let new = c.export_all.new.root in
     let in' = c.self.inside in
     let after : Encoding → Encoding = λ e. record e { built = new.items } in
-    ap (λ r. record { world = r.now; canonical = in'.names.canonical; renamed = in'.names.renamed.now; built = new.items; step = in'.step }) c.export_all.ensures.moved.world ∙ ap after c.self.view_is
+    ap (λ r. record { world = r.now; canonical = in'.names.canonical; renamed = in'.names.renamed.now; debug_names = in'.names.debug_names; built = new.items; step = in'.step }) c.export_all.ensures.moved.world ∙ ap after c.self.view_is
 
 pub returns-clause-extends : goal.returns-clause-extends
 returns-clause-extends c = subst (λ (e : Encoding). Extends e.built c.export_all.new.root.items) c.self.view_is c.export_all.ensures.moved.extends

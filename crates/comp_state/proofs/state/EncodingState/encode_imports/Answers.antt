@@ -14,7 +14,7 @@ pub invariant_of-self : goal.invariant_of-self
 invariant_of-self c =
     let new = c.import_all.new.root in
     let in' = c.self.inside in
-    subst (λ r. IsEncoding r.now new.met new.items.defs new.maps new.instances in'.step in'.functions in'.main) (sym c.in_err-functions.ensures.world)
+    subst (λ r. IsEncoding r.now new.met new.items.defs new.maps new.instances in'.step in'.functions in'.users) (sym c.in_err-functions.ensures.world)
     (encoding-started c.in_err-functions.ensures.extends (ap (λ (e : Encoding). e.step) c.self.view_is ∙ c.requires.started) c.self.invariant)
 
 pub invariant_of-self-2 : goal.invariant_of-self-2
@@ -22,7 +22,7 @@ invariant_of-self-2 c =
     let new = c.import_all.new.root in
     let in' = c.self.inside in
     let i = c.in_ok-functions.ensures in
-    subst (λ r. IsEncoding r.now new.met new.items.defs new.maps new.instances Imported c.in_ok-functions.functions in'.main) (sym i.world)
+    subst (λ r. IsEncoding r.now new.met new.items.defs new.maps new.instances Imported c.in_ok-functions.functions in'.users) (sym i.world)
     (encoding-imported (record { valid = c.self.invariant.valid; imports = i.imports; used = i.found; tables = i.tables; passed = i.passed }) c.self.invariant)
 
 pub returns-clause-grows : goal.returns-clause-grows
