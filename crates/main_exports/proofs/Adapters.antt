@@ -7,25 +7,22 @@ use Rattle.std.proofs.lemmas.Option.{same_Some}
 use Rattle.comp_lists.specs.Found.{found}
 use Rattle.comp_lists.proofs.Lists.{AllByRecursion-contains}
 use Rattle.comp_bytes.specs.declared.def.Def.{Def}
-use Rattle.comp_items.proofs.Remembering.{longer}
 use Rattle.wit_data.specs.declared.ids.TypeId.{TypeId}
-use Rattle.wit_data.specs.declared.worlds.WorldKey.{WorldKey}
-use Rattle.comp_worlds.specs.Encodable.{IsEncodable}
 use Rattle.comp_worlds.specs.Lookups.{module_name}
 use Rattle.comp_worlds.specs.WorldContents.{imported_types}
-use Rattle.comp_worlds.specs.Worlds.{IsRequired, IsUserModule, IsWorld}
+use Rattle.comp_worlds.specs.Worlds.{IsUserModule, IsWorld}
 use Rattle.comp_worlds.specs.declared.world.ComponentWorld.{ComponentWorld}
 use Rattle.comp_worlds.specs.declared.world.ValidatedModule.{ValidatedModule}
 use Rattle.comp_worlds.specs.declared.world.WorldAdapter.{WorldAdapter}
-use Rattle.comp_links.specs.Lists.{RequiredKey, keys_of_adapter, required_keys}
-use Rattle.comp_links.specs.Modules.{WorldModule, adapter_module, user_modules, module_found}
+use Rattle.comp_links.specs.Lists.{keys_of_adapter, required_keys}
+use Rattle.comp_links.specs.Modules.{adapter_module, module_found}
 use Rattle.comp_links.specs.Naming.{Naming}
 use Rattle.comp_links.specs.Targets.{UserModule as User, Main, Adapter}
 use Rattle.comp_links.proofs.Keys.{adapter_keys, key_of, keys_before, main_keys}
 use Rattle.comp_links.proofs.Named.{listed_found}
 use Rattle.comp_terms.specs.Exports.{exports_in}
 use Rattle.comp_terms.specs.Terms.{IsInstanceOf}
-use Rattle.core_options.specs.MainOptions.{user_of, user_of_name, module_named, IsAdapterInstance, AreUserInstances}
+use Rattle.core_options.specs.MainOptions.{user_of, user_of_name, IsAdapterInstance, AreUserInstances}
 use Rattle.core_options.specs.declared.modules.UserInstances.{UserInstances}
 use Rattle.interface_needs.proofs.Lists.{contains_first, contains_later}
 use Rattle.root_imports.specs.Keeping.{Root, RootMoved}

@@ -43,7 +43,7 @@ use Rattle.comp_links.specs.Modules.{module_found, user_imports}
 use Rattle.comp_links.specs.Naming.{Naming, name_of}
 use Rattle.comp_links.specs.Targets.{UserModule as User}
 use Rattle.comp_terms.specs.Exports.{exports_in}
-use Rattle.comp_terms.specs.Rules.{Landmark, NestedOf, Exported, landmark, landmarks, Grows, IsExportRight, nested_marked, export_marked, exports_marked}
+use Rattle.comp_terms.specs.Rules.{Landmark, NestedOf, Exported, landmark, landmarks, Grows, IsExportRight, nested_marked, export_marked}
 use Rattle.interface_needs.proofs.Lists.{all_both, all_of_each, contains_cons, contains_first, contains_flat, contains_later, contains_none}
 use Rattle.wit_data.specs.Live.{named_types}
 use Rattle.nested_components.specs.Types.{IsAtHome}
@@ -112,7 +112,7 @@ one_marked n w of key = by (exported_item w key)
     by (Some (world_items.NamedType id)) = refl
     by None = refl
 
-pub all_marked : (n : Naming) (w : ComponentWorld) (rs : List RequiredKey) → exported_marks (flat_map (export_marked n w) rs) ≡ length rs
+all_marked : (n : Naming) (w : ComponentWorld) (rs : List RequiredKey) → exported_marks (flat_map (export_marked n w) rs) ≡ length rs
 all_marked n w [] = refl
 all_marked n w (r ∷ rs) =
     marks_append (export_marked n w r) (flat_map (export_marked n w) rs) ∙ (ap₂ (λ a b. a + b) (one_marked n w r.of r.key) (all_marked n w rs) ∙ omega arith)
@@ -195,9 +195,6 @@ function_required w ok of m found key f is h =
       present = core_known w of m found (at_key key f.name) (subst (λ o. AllByRecursion (λ name. IsSome (core_name_in m.exports.exports key name)) (functions_in w.resolve o)) is h.present).0;
       sound = (entry_sound w ok (there.0, world_items.Function f) there.1).1;
     }
-
-pub function_alone : (w : ComponentWorld) (of : User) (key : WorldKey) (f : Function) → exported_item w key ≡ Some (world_items.Function f) → functions_of_key w of key ≡ function_of of (at_key key f.name) ∷ []
-function_alone w of key f is = ap (λ o. map (λ name. record { of = of; key = key; function = name }) (functions_in w.resolve o)) is
 
 -- ---- the functions of a required interface
 

@@ -4,7 +4,6 @@ use Rattle.std.specs.Option.{option_and_then, option_map}
 use Rattle.comp_bytes.specs.declared.def.Def.{Def}
 use Rattle.comp_roles.specs.Functions.{of_function}
 use Rattle.comp_roles.specs.declared.metadata.FunctionKey.{FunctionKey}
-use Rattle.standard_kinds.specs.declared.kinds.StringEncoding.{StringEncoding}
 use Rattle.world_values.specs.CoreExports.{post_returns}
 use Rattle.comp_worlds.specs.WorldContents.{core_name_in}
 use Rattle.comp_worlds.specs.Worlds.{IsWorld}

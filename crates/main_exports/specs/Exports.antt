@@ -33,7 +33,6 @@ use Rattle.comp_worlds.specs.Encodable.{IsEncodable}
 use Rattle.comp_worlds.specs.Lookups.{module_name}
 use Rattle.comp_worlds.specs.WorldContents.{function_exported}
 use Rattle.comp_worlds.specs.Worlds.{IsRequired}
-use Rattle.comp_worlds.specs.declared.modules.CustomModule.{CustomModule}
 use Rattle.comp_worlds.specs.declared.world.ComponentWorld.{ComponentWorld}
 use Rattle.comp_worlds.specs.declared.world.ValidatedModule.{ValidatedModule}
 use Rattle.comp_worlds.specs.declared.world.WorldAdapter.{WorldAdapter}
@@ -158,12 +157,12 @@ functions_of_key w of key = functions_required w (key_for of key)
 abbrev pub key_marked : Naming → ComponentWorld → User → WorldKey → List Landmark
 key_marked n w of key = export_marked n w (key_for of key)
 
--- the keys that the world requires from this number on are these of the module, which has what they need
+-- from this number on, the keys that the world requires are these of the module, which implements what is required at them
 pub record AreNextKeys (w : ComponentWorld) (of : User) (found : ValidatedModule) (first : ℕ) (keys : List WorldKey) : Type 0 where
   pub each : (n : ℕ) (key : WorldKey) → slice_get keys n ≡ Some key → slice_get (required_keys w) (first + n) ≡ Some (key_for of key)
   pub required : AllByRecursion (IsRequired w found) keys
 
--- what is required at these keys is exported, with all that lifts need
+-- what is required at these keys is exported, and its functions have the string encodings and the options that lifts need
 pub record AreExported (n : Naming) (w : ComponentWorld) (old new : List Def) (keys : List RequiredKey) : Type 0 where
   pub grows : Grows w old new (flat_map (export_marked n w) keys)
   pub encoded : AllByRecursion (IsEncodedExport w) (flat_map (functions_required w) keys)
@@ -171,7 +170,7 @@ pub record AreExported (n : Naming) (w : ComponentWorld) (old new : List Def) (k
 
 -- ---- one user module after the other
 
--- interfaces are exported behind those that they use, and their types are at hand
+-- what is exported next finds what it needs: interfaces come behind those that they use, and their types are at hand
 pub record AreExportsReady (w : ComponentWorld) (root : Root) : Type 0 where
   pub valid : IsEncodable w
   pub tables : AreTablesRight w root.met root.instances root.items.defs root.maps
@@ -179,7 +178,7 @@ pub record AreExportsReady (w : ComponentWorld) (root : Root) : Type 0 where
   pub ordered : AreExportsInOrder w
   pub at_hand : AreExportsAtHand w root.met (exports_in root.items.defs)
 
--- the adapter is one of the world's, and what is required of main and of the adapters before it, these are so many keys
+-- the adapter is one of the world's, and so many keys are required of main and of the adapters before it
 pub record IsNextAdapter (w : ComponentWorld) (first : ℕ) (name : List ℕ) (adapter : WorldAdapter) : Type 0 where
   pub done : List (List ℕ × WorldAdapter)
   pub rest : List (List ℕ × WorldAdapter)

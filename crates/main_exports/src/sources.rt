@@ -33,7 +33,7 @@ pub(crate) struct ModuleExports<'a> {
     pub names: ImportNames<'a>,
 }
 
-impl<'m> ModuleExports<'m> {
+impl ModuleExports<'_> {
     /// The function that the module's instance exports under this name.
     pub(crate) fn own_export<'a>(&'a self, name: &'a Text) -> InstanceExport<'a>
         ensures { IsOwnExport self.now name.now result }

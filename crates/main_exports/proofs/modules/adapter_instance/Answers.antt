@@ -1,6 +1,5 @@
 use Rattle.std.proofs.Common.{◌≡◌, ap, refl, rules, List, ℕ, Some, IsSome}
 use Rattle.comp_lists.specs.Found.{found}
-use Rattle.comp_worlds.specs.declared.world.WorldAdapter.{WorldAdapter}
 use Rattle.main_exports.proofs.Adapters.{adapter_instance, instance_there}
 use Rattle.main_exports.proofs.modules.adapter_instance.Goals as goal
 

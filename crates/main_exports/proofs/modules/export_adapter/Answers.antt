@@ -1,7 +1,6 @@
-use Rattle.std.proofs.Common.{List, ap, map, sym, subst}
+use Rattle.std.proofs.Common.{List, ap, sym, subst}
 use Rattle.wit_data.specs.declared.worlds.WorldKey.{WorldKey}
-use Rattle.comp_links.specs.Targets.{UserModule as User, Adapter}
-use Rattle.comp_imports.specs.Names.{naming_of}
+use Rattle.comp_links.specs.Targets.{UserModule as User}
 use Rattle.comp_terms.specs.Exports.{exports_in}
 use Rattle.comp_worlds.specs.declared.world.ValidatedModule.{ValidatedModule}
 use Rattle.core_options.specs.MainOptions.{user_of, user_of_name}

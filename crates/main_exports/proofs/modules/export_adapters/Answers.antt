@@ -4,7 +4,6 @@ use Rattle.comp_items.proofs.Remembering.{longer}
 use Rattle.comp_links.specs.Lists.{keys_of_adapter}
 use Rattle.comp_terms.specs.Exports.{exports_in}
 use Rattle.comp_worlds.specs.declared.world.WorldAdapter.{WorldAdapter}
-use Rattle.core_options.specs.Causes.{IsCause}
 use Rattle.core_options.specs.MainOptions.{AreUserInstances}
 use Rattle.core_options.proofs.OptionTerms.{instances_kept}
 use Rattle.root_imports.specs.Keeping.{RootMoved}

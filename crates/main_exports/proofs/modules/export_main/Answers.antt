@@ -1,9 +1,7 @@
 use Rattle.std.proofs.Common.{refl, sym, subst, List}
 use Rattle.wit_data.specs.declared.worlds.WorldKey.{WorldKey}
 use Rattle.comp_links.specs.Targets.{Main}
-use Rattle.comp_imports.specs.Names.{naming_of}
 use Rattle.comp_terms.specs.Exports.{exports_in}
-use Rattle.core_options.specs.MainOptions.{user_of}
 use Rattle.main_exports.specs.Exports.{AreNextKeys}
 use Rattle.main_exports.proofs.Adapters.{main_instance, main_next}
 use Rattle.main_exports.proofs.modules.export_main.Goals as goal

@@ -1,4 +1,4 @@
-use Rattle.std.proofs.Common.{◌∙◌, ap, sym}
+use Rattle.std.proofs.Common.{◌∙◌, sym}
 use Rattle.core_options.proofs.Refusals.{one_export_lacks}
 use Rattle.main_exports.specs.Exports.{exporter, function_of}
 use Rattle.main_exports.proofs.Lifting.{none_there, unwrapped}
