@@ -20,7 +20,7 @@ use Rattle.comp_builder.specs.Built.{Built}
 use Rattle.comp_items.specs.Items.{Extends}
 use Rattle.comp_worlds.specs.Encodable.{IsEncodable}
 use Rattle.comp_worlds.specs.ExportOrder.{AreExportsInOrder, IsExportedAt, exported_before, interface_among, required_interfaces, used_exports}
-use Rattle.comp_worlds.specs.WorldContents.{exported_item, name_at}
+use Rattle.comp_worlds.specs.WorldContents.{exported_item, keys_required, name_at}
 use Rattle.comp_worlds.specs.declared.world.ComponentWorld.{ComponentWorld}
 use Rattle.comp_terms.specs.Exports.{exports_in}
 use Rattle.interface_needs.proofs.Lending.{among, same_self}
@@ -59,7 +59,7 @@ module _ (w : ComponentWorld) where
 
   required_at : (number : ℕ) (id : InterfaceId) → IsExportedAt w number id → Contains (required_interfaces w) id
   required_at number id at =
-      contains_flat (λ key. interface_among (exported_item w key)) w.main_exports at.key id (there w.main_exports number at.required)
+      contains_flat (λ key. interface_among (exported_item w key)) (keys_required w) at.key id (there (keys_required w) number at.required)
       (subst (λ o. Contains (interface_among o) id) (sym at.item) (0, omega arith, refl))
     where
       there : (ks : List WorldKey) (n : ℕ) → slice_get ks n ≡ Some at.key → Contains ks at.key
@@ -108,8 +108,8 @@ record IsExportedBefore (w : ComponentWorld) (number : ℕ) (id : InterfaceId) :
 
 before_at : (w : ComponentWorld) (number : ℕ) (id : InterfaceId) → list_any (same_interface id) (exported_before w number) ≡ true → IsExportedBefore w number id
 before_at w number id e =
-    let one : IsInOne (λ key. interface_among (exported_item w key)) (take number w.main_exports) id = flat_contains (λ key. interface_among (exported_item w key)) (take number w.main_exports) id (among (exported_before w number) id e) in
-    let earlier = earlier_in w.main_exports number one.x one.one in
+    let one : IsInOne (λ key. interface_among (exported_item w key)) (take number (keys_required w)) id = flat_contains (λ key. interface_among (exported_item w key)) (take number (keys_required w)) id (among (exported_before w number) id e) in
+    let earlier = earlier_in (keys_required w) number one.x one.one in
     record { n = earlier.n; less = earlier.less; at = record { key = one.x; required = earlier.at; item = among_item (exported_item w one.x) id one.there } }
 
 -- the next interface is made of types that are at hand
@@ -127,7 +127,7 @@ supplied_at w ok met number id order h at = record {
 
 -- ---- after an interface was exported
 
--- main exports no interface twice
+-- no interface has to be exported twice
 apart_in : (w : ComponentWorld) (keys : List WorldKey) (n m : ℕ) (a b : WorldKey) (i j : InterfaceId) → IsDistinct same_interface (flat_map (λ key. interface_among (exported_item w key)) keys) → slice_get keys n ≡ Some a → exported_item w a ≡ Some (items.Interface i) → slice_get keys m ≡ Some b →
     exported_item w b ≡ Some (items.Interface j) → n < m → same_interface i j ≡ false
 unfolding IsDistinct
@@ -157,7 +157,7 @@ pub at_hand_after : (w : ComponentWorld) → IsEncodable w → (old mid new : Me
 at_hand_after w ok old mid new number id index entered at same is left h = record {
   before = λ n other less here. by n other (nat_lt n number) refl less here;
   from = λ n other le here.
-      let apart : same_interface id other ≡ false = apart_in w w.main_exports number n at.key here.key id other ok.required_apart at.required at.item here.required here.item le in
+      let apart : same_interface id other ≡ false = apart_in w (keys_required w) number n at.key here.key id other ok.required_apart at.required at.item here.required here.item le in
       left.interfaces other ∙ (ap (λ b. if b then false else has_types mid other) apart ∙ (ap (λ (m : MetTypes). has_types m other) same ∙ h.from n other (omega (arith, le)) here));
 }
   where

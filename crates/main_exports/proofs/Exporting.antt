@@ -1,17 +1,17 @@
 -- What each export adds, and what is known of a required export.
-use Rattle.std.proofs.Common.{◌≡◌, ◌∙◌, ◌+◌, ◌<◌, arith, ℕ, suc, Bool, true, false, true≢false, List, [], ◌∷◌, ◌++◌, refl, ap, ap₂, sym, subst, Contains, Some, None, Option, IsSome, append-nil, cond, take, rules, ◌⊎◌, inl, inr, Bor}
+use Rattle.std.proofs.Common.{◌≡◌, ◌∙◌, ◌+◌, ◌<◌, arith, ℕ, zero, suc, Bool, true, false, true≢false, List, [], ◌∷◌, ◌++◌, refl, ap, ap₂, sym, subst, Contains, Some, None, Option, IsSome, append-nil, cond, take, rules, ◌⊎◌, inl, inr, Bor}
 use Rattle.std.specs.Prelude.{length, map, get_or}
-use Rattle.std.specs.Option.{option_copied, option_map}
+use Rattle.std.specs.Option.{option_and_then, option_copied}
 use Rattle.std.specs.Cmp.{IsEquivalence}
 use Rattle.std.specs.Cmp.Rules.{comparing}
 use Rattle.std.specs.List.{AllByRecursion, IsDistinct, filter_map, flat_map, slice_get}
 use Rattle.std.specs.Map.{keys_of, lookup}
 use Rattle.std.specs.Str.{bytes_eq}
 use Rattle.std.proofs.lemmas.Grind.{flat_map-append}
-use Rattle.std.proofs.lemmas.List.{length-append, length-take-le, take_more, take_all}
+use Rattle.std.proofs.lemmas.List.{length-append, length-map, length-take-le, map-append, take_more, take_all}
 use Rattle.std.proofs.lemmas.Map.Views.{lookup-from_Contains}
 use Rattle.std.proofs.lemmas.List.Elements.{filter_map-append}
-use Rattle.std.proofs.lemmas.Option.{none-some, same_Some, slice_get-get_or, slice_get-map}
+use Rattle.std.proofs.lemmas.Option.{none-some, same_Some, slice_get-get_or}
 use Rattle.comp_lists.proofs.Lists.{AllByRecursion-at, AllByRecursion-contains, AllByRecursion-weaker, Contains-map}
 use Rattle.comp_bytes.specs.ScopeNames.{def_export}
 use Rattle.comp_bytes.specs.declared.def.Def.{Def}
@@ -23,6 +23,7 @@ use Rattle.comp_bytes.specs.declared.types.ExternName.{ExternName}
 use Rattle.wit_data.specs.Keys.{is_same_key}
 use Rattle.wit_data.specs.Sound.{HasEntry, HasFunction, HasInterface, HasKey, HasWorld}
 use Rattle.wit_data.proofs.Values.{all_at}
+use Rattle.comp_roles.specs.declared.metadata.FunctionKey.{FunctionKey}
 use Rattle.wit_data.specs.declared.functions.Function.{Function}
 use Rattle.wit_data.specs.declared.ids.InterfaceId.{InterfaceId}
 use Rattle.wit_data.specs.declared.ids.TypeId.{TypeId}
@@ -32,14 +33,15 @@ use Rattle.wit_data.specs.declared.worlds.WorldKey.{WorldKey}
 use Rattle.wit_data.specs.declared.worlds.WorldKey.TheVariants as keys
 use Rattle.world_values.specs.Items.{no_items, functions_of, functions_in, function_of_item}
 use Rattle.comp_worlds.specs.Encodable.{IsEncodable}
-use Rattle.comp_worlds.specs.WorldContents.{items_of, exported_item, function_exported, core_name_of}
+use Rattle.comp_worlds.specs.WorldContents.{items_of, exported_item, function_exported, core_name_in, keys_required}
 use Rattle.comp_worlds.specs.Worlds.{IsExportItem, IsNamedFunction, IsRequired}
 use Rattle.comp_worlds.specs.declared.world.ComponentWorld.{ComponentWorld}
-use Rattle.comp_links.specs.Lists.{functions_required, required_functions, required_keys, sort_of}
-use Rattle.comp_links.specs.Modules.{user_imports}
-use Rattle.comp_links.proofs.OnlyMain.{main_key, keys_of_main}
+use Rattle.comp_worlds.specs.declared.world.ValidatedModule.{ValidatedModule}
+use Rattle.comp_links.specs.Links.{core_name}
+use Rattle.comp_links.specs.Lists.{RequiredKey, functions_required, required_functions, required_keys, sort_of}
+use Rattle.comp_links.specs.Modules.{module_found, user_imports}
 use Rattle.comp_links.specs.Naming.{Naming, name_of}
-use Rattle.comp_links.specs.Targets.{Main}
+use Rattle.comp_links.specs.Targets.{UserModule as User}
 use Rattle.comp_terms.specs.Exports.{exports_in}
 use Rattle.comp_terms.specs.Rules.{Landmark, NestedOf, Exported, landmark, landmarks, Grows, IsExportRight, nested_marked, export_marked, exports_marked}
 use Rattle.interface_needs.proofs.Lists.{all_both, all_of_each, contains_cons, contains_first, contains_flat, contains_later, contains_none}
@@ -56,7 +58,7 @@ use Rattle.core_options.specs.MainOptions.{HasLiftOptions}
 use Rattle.core_options.specs.declared.fault.StateFault.{StateFault}
 use Rattle.core_options.proofs.Refusals.{among_more}
 use Rattle.root_imports.specs.Keeping.{Root, RootMoved}
-use Rattle.main_exports.specs.Exports.{main_function, at_key, functions_at, functions_of_key, key_marked, IsMainFunction, AreMainFunctions}
+use Rattle.main_exports.specs.Exports.{function_of, at_key, functions_at, functions_of_key, key_for, key_marked, IsModuleFunction, AreModuleFunctions, AreNextKeys, AreExported}
 use Rattle.root_imports.proofs.Keeping.{moved_then}
 
 -- ---- how many exports there are
@@ -101,8 +103,8 @@ exports_same {w} {old} g = exports_grow g ∙ omega arith
 pub exports_nested : {w : ComponentWorld} {old new : List Def} {imports exports : List (List ℕ)} → Grows w old new (NestedOf imports exports ∷ []) → exports_in new ≡ exports_in old
 exports_nested {w} {old} g = exports_grow g ∙ omega arith
 
-pub one_marked : (n : Naming) (w : ComponentWorld) (key : WorldKey) → exported_marks (key_marked n w key) ≡ 1
-one_marked n w key = by (exported_item w key)
+pub one_marked : (n : Naming) (w : ComponentWorld) (of : User) (key : WorldKey) → exported_marks (key_marked n w of key) ≡ 1
+one_marked n w of key = by (exported_item w key)
   where
     by : (o : Option WorldItem) → exported_marks (nested_marked w o ++ Exported (record { name = name_of n w.resolve key; sort = sort_of o }) ∷ []) ≡ 1
     by (Some (world_items.Interface id)) = refl
@@ -110,9 +112,10 @@ one_marked n w key = by (exported_item w key)
     by (Some (world_items.NamedType id)) = refl
     by None = refl
 
-all_marked : (n : Naming) (w : ComponentWorld) (ks : List WorldKey) → exported_marks (flat_map (key_marked n w) ks) ≡ length ks
+pub all_marked : (n : Naming) (w : ComponentWorld) (rs : List RequiredKey) → exported_marks (flat_map (export_marked n w) rs) ≡ length rs
 all_marked n w [] = refl
-all_marked n w (k ∷ ks) = marks_append (key_marked n w k) (flat_map (key_marked n w) ks) ∙ (ap₂ (λ a b. a + b) (one_marked n w k) (all_marked n w ks) ∙ omega arith)
+all_marked n w (r ∷ rs) =
+    marks_append (export_marked n w r) (flat_map (export_marked n w) rs) ∙ (ap₂ (λ a b. a + b) (one_marked n w r.of r.key) (all_marked n w rs) ∙ omega arith)
 
 -- ---- one export
 
@@ -121,9 +124,9 @@ pub adds_export : (w : ComponentWorld) (old new : List Def) (name : ExternName) 
 adds_export w old new name sort index right appended = Grows-by (defs.Item (items.Export name sort index None)) appended right
 
 -- its landmarks are those of the key
-pub marked_as : (n : Naming) (w : ComponentWorld) (key : WorldKey) (item : WorldItem) → exported_item w key ≡ Some item →
-    nested_marked w (Some item) ++ Exported (record { name = name_of n w.resolve key; sort = sort_of (Some item) }) ∷ [] ≡ key_marked n w key
-marked_as n w key item is = ap (λ o. nested_marked w o ++ Exported (record { name = name_of n w.resolve key; sort = sort_of o }) ∷ []) (sym is)
+pub marked_as : (n : Naming) (w : ComponentWorld) (of : User) (key : WorldKey) (item : WorldItem) → exported_item w key ≡ Some item →
+    nested_marked w (Some item) ++ Exported (record { name = name_of n w.resolve key; sort = sort_of (Some item) }) ∷ [] ≡ key_marked n w of key
+marked_as n w of key item is = ap (λ o. nested_marked w o ++ Exported (record { name = name_of n w.resolve key; sort = sort_of o }) ∷ []) (sym is)
 
 -- ---- what is known of a required export
 
@@ -162,8 +165,8 @@ item_at (e ∷ es) key c = by (is_same_key key e.0) refl (contains_cons e.0 (map
     by false other (inr c) rest = rest c
     by false other (inl is) rest = absurd (true≢false (sym (same_keys.refl key) ∙ (ap (λ k. is_same_key key k) (sym is) ∙ other)))
 
-pub required_item : (w : ComponentWorld) (key : WorldKey) → IsRequired w w.main key → IsSome (exported_item w key)
-required_item w key h = item_at (items_of w).exports key h.exported
+pub required_item : (w : ComponentWorld) (m : ValidatedModule) (key : WorldKey) → IsRequired w m key → IsSome (exported_item w key)
+required_item w m key h = item_at (items_of w).exports key h.exported
 
 contained_key : (es : List (WorldKey × WorldItem)) (key : WorldKey) → Contains (map (λ e. e.0) es) key → (e : WorldKey × WorldItem) × ((e.0 ≡ key) × Contains es e)
 contained_key [] key c = contains_none key c
@@ -173,23 +176,28 @@ contained_key (e ∷ es) key c = by (contains_cons e.0 (map (λ e. e.0) es) key 
     by (inl is) rest = (e, (is, contains_first e es))
     by (inr later) rest = let r = rest later in (r.0, (r.1.0, contains_later e es r.0 r.1.1))
 
-pub key_sound : (w : ComponentWorld) → IsEncodable w → (key : WorldKey) → IsRequired w w.main key → HasKey w.resolve key
-key_sound w ok key h =
+pub key_sound : (w : ComponentWorld) → IsEncodable w → (m : ValidatedModule) (key : WorldKey) → IsRequired w m key → HasKey w.resolve key
+key_sound w ok m key h =
     let e = contained_key (items_of w).exports key h.exported in
     subst (HasKey w.resolve) e.1.0 (entry_sound w ok e.0 e.1.1).0
 
+-- a core export that is found in a module is found by the module's name
+core_known : (w : ComponentWorld) (of : User) (m : ValidatedModule) → module_found w of ≡ Some m → (f : FunctionKey) → IsSome (core_name_in m.exports.exports f.key f.function) → IsSome (core_name w (function_of of f))
+core_known w of m found f h = subst (λ o. IsSome o) (sym (ap (option_and_then (λ (m : ValidatedModule). core_name_in m.exports.exports f.key f.function)) found)) h
+
 -- the function that a required key exports
-pub function_required : (w : ComponentWorld) → IsEncodable w → (key : WorldKey) (f : Function) → exported_item w key ≡ Some (world_items.Function f) → IsRequired w w.main key → IsMainFunction w (at_key key f.name) f
-function_required w ok key f is h =
+pub function_required : (w : ComponentWorld) → IsEncodable w → (of : User) (m : ValidatedModule) → module_found w of ≡ Some m → (key : WorldKey) (f : Function) → exported_item w key ≡ Some (world_items.Function f) → IsRequired w m key →
+    IsModuleFunction w of (at_key key f.name) f
+function_required w ok of m found key f is h =
     let there = item_there w key (world_items.Function f) is in
     record {
       exported = ap (λ o. function_of_item w.resolve f.name o) is;
-      present = (subst (λ o. AllByRecursion (λ name. IsSome (core_name_of w key name)) (functions_in w.resolve o)) is h.present).0;
+      present = core_known w of m found (at_key key f.name) (subst (λ o. AllByRecursion (λ name. IsSome (core_name_in m.exports.exports key name)) (functions_in w.resolve o)) is h.present).0;
       sound = (entry_sound w ok (there.0, world_items.Function f) there.1).1;
     }
 
-pub function_alone : (w : ComponentWorld) (key : WorldKey) (f : Function) → exported_item w key ≡ Some (world_items.Function f) → functions_of_key w key ≡ main_function (at_key key f.name) ∷ []
-function_alone w key f is = ap (λ o. map (λ name. record { of = Main; key = key; function = name }) (functions_in w.resolve o)) is
+pub function_alone : (w : ComponentWorld) (of : User) (key : WorldKey) (f : Function) → exported_item w key ≡ Some (world_items.Function f) → functions_of_key w of key ≡ function_of of (at_key key f.name) ∷ []
+function_alone w of key f is = ap (λ o. map (λ name. record { of = of; key = key; function = name }) (functions_in w.resolve o)) is
 
 -- ---- the functions of a required interface
 
@@ -220,7 +228,7 @@ module _ (w : ComponentWorld) (ok : IsEncodable w) (key : WorldKey) (id : Interf
   pub entries_sound : IsDistinct bytes_eq (keys_of entries) → AllByRecursion (λ (e : List ℕ × Function). HasFunction w.resolve e.1) entries
   entries_sound apart = all_of_each (λ (e : List ℕ × Function). HasFunction w.resolve e.1) entries (λ e c. one_sound apart e c)
 
-  pub interface_at_home : (number : ℕ) → slice_get w.main_exports number ≡ Some key → AreExportsInOrder w → IsAtHome w.resolve.types id (named_types w.resolve id) entries
+  pub interface_at_home : (number : ℕ) → slice_get (keys_required w) number ≡ Some key → AreExportsInOrder w → IsAtHome w.resolve.types id (named_types w.resolve id) entries
   interface_at_home number at order =
       let exported : IsExportedInterface w id = record { key = key; of = is } in
       record {
@@ -233,105 +241,99 @@ module _ (w : ComponentWorld) (ok : IsEncodable w) (key : WorldKey) (id : Interf
         later = record { each = λ t within other h. home_later w ok id number (record { key = key; required = at; item = is }) order t within other h };
       }
 
-  pub interface_functions : functions_of_key w key ≡ functions_at key entries
-  interface_functions = ap (λ o. map (λ name. record { of = Main; key = key; function = name }) (functions_in w.resolve o)) is ∙ twice entries
+  pub interface_functions : (of : User) → functions_of_key w of key ≡ functions_at of key entries
+  interface_functions of = ap (λ o. map (λ name. record { of = of; key = key; function = name }) (functions_in w.resolve o)) is ∙ twice entries
     where
-      twice : (es : List (List ℕ × Function)) → map (λ name. record { of = Main; key = key; function = name }) (map (λ (e : List ℕ × Function). e.0) es) ≡ functions_at key es
+      twice : (es : List (List ℕ × Function)) → map (λ name. record { of = of; key = key; function = name }) (map (λ (e : List ℕ × Function). e.0) es) ≡ functions_at of key es
       twice [] = refl
-      twice (e ∷ es) = ap (λ l. main_function (at_key key e.0) ∷ l) (twice es)
+      twice (e ∷ es) = ap (λ l. function_of of (at_key key e.0) ∷ l) (twice es)
 
-  pub entries_required : IsRequired w w.main key → IsDistinct bytes_eq (keys_of entries) → AreMainFunctions w key entries
-  entries_required h apart =
-      let present : AllByRecursion (λ name. IsSome (core_name_of w key name)) (map (λ (e : List ℕ × Function). e.0) entries) = subst (λ o. AllByRecursion (λ name. IsSome (core_name_of w key name)) (functions_in w.resolve o)) is h.present in
-      all_of_each (λ e. IsMainFunction w (at_key key e.0) e.1) entries
+  pub entries_required : (of : User) (m : ValidatedModule) → module_found w of ≡ Some m → IsRequired w m key → IsDistinct bytes_eq (keys_of entries) → AreModuleFunctions w of key entries
+  entries_required of m found h apart =
+      let has : List ℕ → Type 0 = λ name. IsSome (core_name_in m.exports.exports key name) in
+      let present : AllByRecursion has (map (λ (e : List ℕ × Function). e.0) entries) = subst (λ o. AllByRecursion has (functions_in w.resolve o)) is h.present in
+      all_of_each (λ e. IsModuleFunction w of (at_key key e.0) e.1) entries
       (λ e c. record {
         exported = entry_found apart e c;
-        present = AllByRecursion-contains (λ name. IsSome (core_name_of w key name)) (map (λ (e : List ℕ × Function). e.0) entries) e.0 present (Contains-map (λ (e : List ℕ × Function). e.0) entries e c);
+        present = core_known w of m found (at_key key e.0) (AllByRecursion-contains has (map (λ (e : List ℕ × Function). e.0) entries) e.0 present (Contains-map (λ (e : List ℕ × Function). e.0) entries e c));
         sound = one_sound apart e c;
       })
 
--- ---- all exports
+-- ---- what is required at several keys
 
--- the keys that were exported so far
-pub record ExportsSoFar (n : Naming) (w : ComponentWorld) (old new : Root) (done : List WorldKey) : Type 0 where
-  pub moved : RootMoved w old new
-  pub grows : Grows w old.items.defs new.items.defs (flat_map (key_marked n w) done)
-  pub encoded : AllByRecursion (IsEncodedExport w) (flat_map (functions_of_key w) done)
-  pub has : AllByRecursion (HasLiftOptions w) (flat_map (functions_of_key w) done)
+pub exported_none : (n : Naming) (w : ComponentWorld) (ds : List Def) → AreExported n w ds ds []
+exported_none n w ds = record { grows = Grows-none w ds; encoded = tt; has = tt }
 
-pub exports_start : (n : Naming) (w : ComponentWorld) (root : Root) → RootMoved w root root → ExportsSoFar n w root root []
-exports_start n w root moved = record { moved = moved; grows = Grows-none w root.items.defs; encoded = tt; has = tt }
+pub exported_then : (n : Naming) (w : ComponentWorld) (a b c : List Def) (rs ss : List RequiredKey) → AreExported n w a b rs → AreExported n w b c ss → AreExported n w a c (rs ++ ss)
+exported_then n w a b c rs ss g h = record {
+  grows = subst (Grows w a c) (sym (flat_map-append (export_marked n w) rs ss)) (Grows-then g.grows h.grows);
+  encoded = subst (AllByRecursion (IsEncodedExport w)) (sym (flat_map-append (functions_required w) rs ss)) (all_both (IsEncodedExport w) (flat_map (functions_required w) rs) (flat_map (functions_required w) ss) g.encoded h.encoded);
+  has = subst (AllByRecursion (HasLiftOptions w)) (sym (flat_map-append (functions_required w) rs ss)) (all_both (HasLiftOptions w) (flat_map (functions_required w) rs) (flat_map (functions_required w) ss) g.has h.has);
+}
 
-flat_more : {A B : Type 0} (f : A → List B) (xs : List A) (i : ℕ) (x : A) → i < length xs → x ≡ get_or xs i x → flat_map f (take (i + 1) xs) ≡ flat_map f (take i xs) ++ f x
-flat_more f xs i x l is =
-    ap (flat_map f) (take_more xs i x l ∙ ap (λ k. take i xs ++ k ∷ []) (sym is)) ∙ (flat_map-append f (take i xs) (x ∷ []) ∙ ap (λ l. flat_map f (take i xs) ++ l) (append-nil (f x)))
-
-pub exports_step : (n : Naming) (w : ComponentWorld) (old mid new : Root) (ks : List WorldKey) (i : ℕ) (key : WorldKey) → ExportsSoFar n w old mid (take i ks) → i < length ks → key ≡ get_or ks i key → RootMoved w mid new →
-    Grows w mid.items.defs new.items.defs (key_marked n w key) → AllByRecursion (IsEncodedExport w) (functions_of_key w key) → AllByRecursion (HasLiftOptions w) (functions_of_key w key) → ExportsSoFar n w old new (take (i + 1) ks)
-exports_step n w old mid new ks i key h l is moved grows encoded has = record {
-  moved = moved_then w old mid new h.moved moved;
-  grows = subst (λ m. Grows w old.items.defs new.items.defs m) (sym (flat_more (key_marked n w) ks i key l is)) (Grows-then h.grows grows);
-  encoded = subst (AllByRecursion (IsEncodedExport w)) (sym (flat_more (functions_of_key w) ks i key l is)) (all_both (IsEncodedExport w) (flat_map (functions_of_key w) (take i ks)) (functions_of_key w key) h.encoded encoded);
-  has = subst (AllByRecursion (HasLiftOptions w)) (sym (flat_more (functions_of_key w) ks i key l is)) (all_both (HasLiftOptions w) (flat_map (functions_of_key w) (take i ks)) (functions_of_key w key) h.has has);
+-- at one
+pub exported_one : (n : Naming) (w : ComponentWorld) (old new : List Def) (r : RequiredKey) → Grows w old new (export_marked n w r) → AllByRecursion (IsEncodedExport w) (functions_required w r) → AllByRecursion (HasLiftOptions w) (functions_required w r) →
+    AreExported n w old new (r ∷ [])
+exported_one n w old new r grows encoded has = record {
+  grows = subst (Grows w old new) (sym (append-nil (export_marked n w r))) grows;
+  encoded = subst (AllByRecursion (IsEncodedExport w)) (sym (append-nil (functions_required w r))) encoded;
+  has = subst (AllByRecursion (HasLiftOptions w)) (sym (append-nil (functions_required w r))) has;
 }
 
 -- so many were exported
-pub exports_counted : (n : Naming) (w : ComponentWorld) (old new : Root) (ks : List WorldKey) (i : ℕ) → exports_in old.items.defs ≡ 0 → i < length ks → ExportsSoFar n w old new (take i ks) → exports_in new.items.defs ≡ i
-exports_counted n w old new ks i none l h =
-    let many : exported_marks (flat_map (key_marked n w) (take i ks)) ≡ i = all_marked n w (take i ks) ∙ length-take-le i ks (omega (arith, l)) in
-    let grown = exports_grow h.grows in
-    omega (arith, grown, none, many)
+pub exported_counted : {n : Naming} {w : ComponentWorld} {old new : List Def} (rs : List RequiredKey) → AreExported n w old new rs → exports_in new ≡ exports_in old + length rs
+exported_counted {n} {w} {old} {new} rs h = exports_grow h.grows ∙ ap (λ k. exports_in old + k) (all_marked n w rs)
+
+-- ---- one key of a module after the other
+
+-- the keys that were exported so far
+pub record ExportsSoFar (n : Naming) (w : ComponentWorld) (of : User) (old new : Root) (done : List WorldKey) : Type 0 where
+  pub moved : RootMoved w old new
+  pub exported : AreExported n w old.items.defs new.items.defs (map (key_for of) done)
+
+pub exports_start : (n : Naming) (w : ComponentWorld) (of : User) (root : Root) → RootMoved w root root → ExportsSoFar n w of root root []
+exports_start n w of root moved = record { moved = moved; exported = exported_none n w root.items.defs }
+
+mapped_more : (of : User) (ks : List WorldKey) (i : ℕ) (key : WorldKey) → i < length ks → key ≡ get_or ks i key → map (key_for of) (take (i + 1) ks) ≡ map (key_for of) (take i ks) ++ key_for of key ∷ []
+mapped_more of ks i key l is = ap (map (key_for of)) (take_more ks i key l ∙ ap (λ k. take i ks ++ k ∷ []) (sym is)) ∙ map-append (key_for of) (take i ks) (key ∷ [])
+
+pub exports_step : (n : Naming) (w : ComponentWorld) (of : User) (old mid new : Root) (ks : List WorldKey) (i : ℕ) (key : WorldKey) → ExportsSoFar n w of old mid (take i ks) → i < length ks → key ≡ get_or ks i key → RootMoved w mid new →
+    Grows w mid.items.defs new.items.defs (key_marked n w of key) → AllByRecursion (IsEncodedExport w) (functions_of_key w of key) → AllByRecursion (HasLiftOptions w) (functions_of_key w of key) → ExportsSoFar n w of old new (take (i + 1) ks)
+exports_step n w of old mid new ks i key h l is moved grows encoded has = record {
+  moved = moved_then w old mid new h.moved moved;
+  exported =
+      subst (AreExported n w old.items.defs new.items.defs) (sym (mapped_more of ks i key l is))
+      (exported_then n w old.items.defs mid.items.defs new.items.defs (map (key_for of) (take i ks)) (key_for of key ∷ []) h.exported (exported_one n w mid.items.defs new.items.defs (key_for of key) grows encoded has));
+}
+
+-- so many were exported
+pub exports_counted : (n : Naming) (w : ComponentWorld) (of : User) (old new : Root) (ks : List WorldKey) (i : ℕ) → i < length ks → ExportsSoFar n w of old new (take i ks) → exports_in new.items.defs ≡ exports_in old.items.defs + i
+exports_counted n w of old new ks i l h =
+    exported_counted (map (key_for of) (take i ks)) h.exported ∙ ap (λ k. exports_in old.items.defs + k) (length-map (take i ks) (key_for of) ∙ length-take-le i ks (omega (arith, l)))
 
 -- the next one is exported at this key
-pub next_exported : (n : Naming) (w : ComponentWorld) (old new : Root) (ks : List WorldKey) (i : ℕ) (key : WorldKey) → ks ≡ w.main_exports → exports_in old.items.defs ≡ 0 → i < length ks → key ≡ get_or ks i key → ExportsSoFar n w old new (take i ks) →
-    slice_get w.main_exports (exports_in new.items.defs) ≡ Some key
-next_exported n w old new ks i key same none l is h = ap₂ slice_get (sym same) (exports_counted n w old new ks i none l h) ∙ (slice_get-get_or ks i key l ∙ ap Some (sym is))
+pub next_exported : (n : Naming) (w : ComponentWorld) (of : User) (m : ValidatedModule) (old new : Root) (ks : List WorldKey) (i : ℕ) (key : WorldKey) → AreNextKeys w of m (exports_in old.items.defs) ks → i < length ks → key ≡ get_or ks i key →
+    ExportsSoFar n w of old new (take i ks) → slice_get (required_keys w) (exports_in new.items.defs) ≡ Some (key_for of key)
+next_exported n w of m old new ks i key next l is h = ap (slice_get (required_keys w)) (exports_counted n w of old new ks i l h) ∙ next.each i key (slice_get-get_or ks i key l ∙ ap Some (sym is))
 
 -- all keys were exported
-required_are : (w : ComponentWorld) (ks : List WorldKey) → flat_map (functions_required w) (map main_key ks) ≡ flat_map (functions_of_key w) ks
-required_are w [] = refl
-required_are w (k ∷ ks) = ap (λ l. functions_of_key w k ++ l) (required_are w ks)
-
-required_of_main : (w : ComponentWorld) → IsEncodable w → required_functions w ≡ flat_map (functions_of_key w) w.main_exports
-required_of_main w ok = ap (flat_map (functions_required w)) (keys_of_main w ok.valid) ∙ required_are w w.main_exports
-
-marked_are : (n : Naming) (w : ComponentWorld) (ks : List WorldKey) → flat_map (export_marked n w) (map main_key ks) ≡ flat_map (key_marked n w) ks
-marked_are n w [] = refl
-marked_are n w (k ∷ ks) = ap (λ l. key_marked n w k ++ l) (marked_are n w ks)
-
-marked_of_main : (n : Naming) (w : ComponentWorld) → IsEncodable w → exports_marked n w ≡ flat_map (key_marked n w) w.main_exports
-marked_of_main n w ok = ap (flat_map (export_marked n w)) (keys_of_main w ok.valid) ∙ marked_are n w w.main_exports
-
--- the key of a number among all
-pub next_required : (w : ComponentWorld) → IsEncodable w → (number : ℕ) (key : WorldKey) → slice_get w.main_exports number ≡ Some key → slice_get (required_keys w) number ≡ Some (main_key key)
-next_required w ok number key at = ap (λ ks. slice_get ks number) (keys_of_main w ok.valid) ∙ (slice_get-map main_key w.main_exports number ∙ ap (option_map main_key) at)
-
-pub record ExportsDone (n : Naming) (w : ComponentWorld) (old new : Root) : Type 0 where
-  pub moved : RootMoved w old new
-  pub grows : Grows w old.items.defs new.items.defs (exports_marked n w)
-  pub encoded : AllByRecursion (IsEncodedExport w) (required_functions w)
-  pub has : AllByRecursion (HasLiftOptions w) (required_functions w)
-
-pub exports_done : (n : Naming) (w : ComponentWorld) → IsEncodable w → (old new : Root) (i : ℕ) → length w.main_exports ≡ i → ExportsSoFar n w old new (take i w.main_exports) → ExportsDone n w old new
-exports_done n w ok old new i e h =
-    let all : take i w.main_exports ≡ w.main_exports = take_all i w.main_exports (omega (arith, e)) in
-    let functions : flat_map (functions_of_key w) (take i w.main_exports) ≡ required_functions w = ap (flat_map (functions_of_key w)) all ∙ sym (required_of_main w ok) in
-    record {
-      moved = h.moved;
-      grows = subst (λ marks. Grows w old.items.defs new.items.defs marks) (ap (flat_map (key_marked n w)) all ∙ sym (marked_of_main n w ok)) h.grows;
-      encoded = subst (AllByRecursion (IsEncodedExport w)) functions h.encoded;
-      has = subst (AllByRecursion (HasLiftOptions w)) functions h.has;
-    }
+pub exports_done : (n : Naming) (w : ComponentWorld) (of : User) (old new : Root) (ks : List WorldKey) (i : ℕ) → length ks ≡ i → ExportsSoFar n w of old new (take i ks) → AreExported n w old.items.defs new.items.defs (map (key_for of) ks)
+exports_done n w of old new ks i e h = subst (λ (l : List WorldKey). AreExported n w old.items.defs new.items.defs (map (key_for of) l)) (take_all i ks (omega (arith, e))) h.exported
 
 -- the next key is required
-pub key_required : (w : ComponentWorld) → IsEncodable w → (i : ℕ) (key : WorldKey) → i < length w.main_exports → key ≡ get_or w.main_exports i key → IsRequired w w.main key
-key_required w ok i key l is = AllByRecursion-at (IsRequired w w.main) w.main_exports i key ok.valid.main.required l (sym is)
+pub key_required : (w : ComponentWorld) (of : User) (m : ValidatedModule) (first : ℕ) (ks : List WorldKey) (i : ℕ) (key : WorldKey) → AreNextKeys w of m first ks → i < length ks → key ≡ get_or ks i key → IsRequired w m key
+key_required w of m first ks i key next l is = AllByRecursion-at (IsRequired w m) ks i key next.required l (sym is)
 
 -- a refusal of a required export is one of the world's
-pub export_refused : (w : ComponentWorld) → IsEncodable w → (i : ℕ) (key : WorldKey) → i < length w.main_exports → key ≡ get_or w.main_exports i key → (e : StateFault) → IsCauseAmong w [] (functions_of_key w key) e → IsCause w e
-export_refused w ok i key l is e h =
-    among_more w [] (user_imports w) (functions_of_key w key) (required_functions w) (λ x c. contains_none x c)
-    (λ r c. subst (λ fs. Contains fs r) (sym (required_of_main w ok)) (contains_flat (functions_of_key w) w.main_exports key r (i, l, sym is) c)) e h
+there_at : {X : Type 0} (xs : List X) (number : ℕ) (x : X) → slice_get xs number ≡ Some x → Contains xs x
+there_at [] number x e = absurd (none-some x e)
+there_at (y ∷ ys) zero x e = subst (λ z. Contains (y ∷ ys) z) (same_Some y x e) (contains_first y ys)
+there_at (y ∷ ys) (suc number) x e = contains_later y ys x (there_at ys number x e)
+
+pub export_refused : (w : ComponentWorld) (of : User) (number : ℕ) (key : WorldKey) → slice_get (required_keys w) number ≡ Some (key_for of key) → (e : StateFault) → IsCauseAmong w [] (functions_of_key w of key) e → IsCause w e
+export_refused w of number key at e h =
+    among_more w [] (user_imports w) (functions_of_key w of key) (required_functions w) (λ x c. contains_none x c)
+    (λ r c. contains_flat (functions_required w) (required_keys w) (key_for of key) r (there_at (required_keys w) number (key_for of key) at) c) e h
 
 -- a look-up that finds something, as its caller sees it
 pub copied_there : {X : Type 0} (o : Option (Bor X)) → IsSome (option_copied o) → IsSome o

@@ -45,7 +45,8 @@ use Rattle.world_values.specs.Items.{functions_of}
 use Rattle.comp_worlds.specs.Encodable.{IsEncodable}
 use Rattle.comp_worlds.specs.WorldContents.{exported_item}
 use Rattle.comp_worlds.specs.declared.world.ComponentWorld.{ComponentWorld}
-use Rattle.comp_links.specs.Lists.{resource_of, IsTypeImport}
+use Rattle.comp_links.specs.Lists.{required_keys, resource_of, IsTypeImport}
+use Rattle.comp_links.specs.Targets.{UserModule as User}
 use Rattle.interface_needs.proofs.Lists.{all_both}
 use Rattle.comp_terms.specs.Exports.{IsNestedRight, IsNestedFor, IsArgumentIn, IsArgumentRight, IsFunctionGiven, IsTypeGiven, IsImportGiven, InstantiatesNested, PassesOn, ExportsInterface, exports_in}
 use Rattle.comp_terms.specs.Rules.{Grows, NestedOf, nested_marked}
@@ -57,9 +58,8 @@ use Rattle.comp_inventories.specs.Inventories.{NestedInstance, given_by, scope_o
 use Rattle.root_imports.specs.Interfaces.{ExportsListed}
 use Rattle.main_exports.proofs.GivenTypes.{exported_entry, same_given}
 use Rattle.main_exports.proofs.TypeArguments.{usable_import}
-use Rattle.main_exports.specs.Exports.{IsExportAdded, IsNestedOf, nested_mark, functions_at, functions_of_key, AreLiftArguments, IsTypeArgument, AreArgumentsOf, AreArgumentsFor, IsInstantiated}
-use Rattle.comp_links.proofs.OnlyMain.{main_key}
-use Rattle.main_exports.proofs.Exporting.{own_names, interface_functions, next_required}
+use Rattle.main_exports.specs.Exports.{IsExportAdded, IsNestedOf, nested_mark, functions_at, functions_of_key, key_for, AreLiftArguments, IsTypeArgument, AreArgumentsOf, AreArgumentsFor, IsInstantiated}
+use Rattle.main_exports.proofs.Exporting.{own_names, interface_functions}
 use Rattle.main_exports.proofs.Growth.{all_arguments-kept}
 use Rattle.main_exports.proofs.Nested.{AreFound, Finds, IsOfSort, all_found, all_given, types_given, imports_given, all_passed, arguments_named, types_named, lifts_sorted, types_sorted, exports_found, past_types, IsTypeFound, types_found, functions_named, import_types_named, functions_then_types, exports_named, imported_names, given_names, listed_names, exported_names, export_name}
 
@@ -68,13 +68,13 @@ use Rattle.main_exports.proofs.Nested.{AreFound, Finds, IsOfSort, all_found, all
 function_given : (ds : List Def) (a : Argument) → a.sort ≡ sorts.Func → a.index < items_in spaces.Func ds → IsArgumentRight ds a
 function_given ds a same l = subst (λ s. IsArgumentIn ds s a.index) (sym same) l
 
-lifts_scoped : (w : ComponentWorld) (ds : List Def) (key : WorldKey) (es : List (List ℕ × Function)) (names : List (List ℕ)) (as' : List Argument) → AreLiftArguments w ds key es names as' → AllByRecursion (IsArgumentRight ds) as'
-lifts_scoped w ds key [] [] [] h = tt
-lifts_scoped w ds key (e ∷ es) (name ∷ names) (a ∷ as') h = (function_given ds a h.0.sort (in_range h.0.lifted.lifted.is.is.made), lifts_scoped w ds key es names as' h.1)
-lifts_scoped w ds key [] [] (a ∷ as') h = absurd h
-lifts_scoped w ds key [] (name ∷ names) as' h = absurd h
-lifts_scoped w ds key (e ∷ es) [] as' h = absurd h
-lifts_scoped w ds key (e ∷ es) (name ∷ names) [] h = absurd h
+lifts_scoped : (w : ComponentWorld) (of : User) (ds : List Def) (key : WorldKey) (es : List (List ℕ × Function)) (names : List (List ℕ)) (as' : List Argument) → AreLiftArguments w of ds key es names as' → AllByRecursion (IsArgumentRight ds) as'
+lifts_scoped w of ds key [] [] [] h = tt
+lifts_scoped w of ds key (e ∷ es) (name ∷ names) (a ∷ as') h = (function_given ds a h.0.sort (in_range h.0.lifted.lifted.is.is.made), lifts_scoped w of ds key es names as' h.1)
+lifts_scoped w of ds key [] [] (a ∷ as') h = absurd h
+lifts_scoped w of ds key [] (name ∷ names) as' h = absurd h
+lifts_scoped w of ds key (e ∷ es) [] as' h = absurd h
+lifts_scoped w of ds key (e ∷ es) (name ∷ names) [] h = absurd h
 
 types_scoped : (w : ComponentWorld) (ds : List Def) (is : List TypeImport) (as' : List Argument) → AllZip (IsTypeArgument w ds) is as' → AllByRecursion (IsArgumentRight ds) as'
 types_scoped w ds [] [] h = tt
@@ -159,18 +159,18 @@ module _ (w : ComponentWorld) (key : WorldKey) (listed : List (List ℕ × TypeI
   type_names_are : flat_map type_import c.items ≡ map (λ (i : TypeImport). i.name) c.types
   type_names_are = import_types_named n.given empty_scope c.items ∙ (ap (map (λ (t : List ℕ × TypeTree). t.0)) n.passes.types ∙ given_names origin all_types c.types)
 
-  module _ (ds : List Def) (arguments : List Argument) (h : AreArgumentsOf w ds key entries c arguments) where
+  module _ (of : User) (ds : List Def) (arguments : List Argument) (h : AreArgumentsOf w of ds key entries c arguments) where
     both_named : map (λ (a : Argument). a.name) (h.lifts ++ h.types) ≡ flat_map function_import c.items ++ flat_map type_import c.items
     both_named =
         map-append (λ (a : Argument). a.name) h.lifts h.types
-        ∙ ap₂ (λ xs ys. xs ++ ys) (arguments_named w ds key entries c.names h.lifts h.lifted ∙ sym function_names) (types_named w ds c.types h.types h.given ∙ sym type_names_are)
+        ∙ ap₂ (λ xs ys. xs ++ ys) (arguments_named w of ds key entries c.names h.lifts h.lifted ∙ sym function_names) (types_named w ds c.types h.types h.given ∙ sym type_names_are)
 
     distinct : IsDistinct bytes_eq (map (λ (a : Argument). a.name) (h.lifts ++ h.types))
     distinct = subst (IsDistinct bytes_eq) (sym both_named) (functions_then_types c.items n.apart)
 
     finds : AllByRecursion (Finds (h.lifts ++ h.types)) (h.lifts ++ h.types)
     finds =
-        all_found (h.lifts ++ h.types) (all_both IsOfSort h.lifts h.types (lifts_sorted w ds key entries c.names h.lifts h.lifted) (types_sorted w ds c.types h.types h.given)) distinct
+        all_found (h.lifts ++ h.types) (all_both IsOfSort h.lifts h.types (lifts_sorted w of ds key entries c.names h.lifts h.lifted) (types_sorted w ds c.types h.types h.given)) distinct
 
     finds_lifts : AllByRecursion (Finds (h.lifts ++ h.types)) h.lifts
     finds_lifts = AllByRecursion-front (Finds (h.lifts ++ h.types)) h.lifts h.types finds
@@ -179,15 +179,15 @@ module _ (w : ComponentWorld) (key : WorldKey) (listed : List (List ℕ × TypeI
     given : AllByRecursion (IsImportGiven ds (h.lifts ++ h.types)) (imports_after n.given empty_scope c.items)
     given =
         let all : List Argument = h.lifts ++ h.types in
-        imports_given w ds key all (imports_after n.given empty_scope c.items)
-        (subst (AllByRecursion (λ (g : NestedFunction). IsFunctionGiven ds all g.argument g.type)) (sym n.passes.functions) (all_given w ds key all [] entries c.names h.lifts n.names h.lifted finds_lifts))
+        imports_given w of ds key all (imports_after n.given empty_scope c.items)
+        (subst (AllByRecursion (λ (g : NestedFunction). IsFunctionGiven ds all g.argument g.type)) (sym n.passes.functions) (all_given w of ds key all [] entries c.names h.lifts n.names h.lifted finds_lifts))
         (subst (AllByRecursion (λ (t : List ℕ × TypeTree). IsTypeGiven ds all t.0 t.1)) (sym n.passes.types)
-        (types_given w ds key all c.types h.types h.given (AllByRecursion-back (Finds all) h.lifts h.types finds)))
+        (types_given w of ds key all c.types h.types h.given (AllByRecursion-back (Finds all) h.lifts h.types finds)))
 
     pub all_scoped : AllByRecursion (IsArgumentRight ds) arguments
     all_scoped =
         subst (AllByRecursion (IsArgumentRight ds)) (sym h.both)
-        (all_both (IsArgumentRight ds) h.lifts h.types (lifts_scoped w ds key entries c.names h.lifts h.lifted) (types_scoped w ds c.types h.types h.given))
+        (all_both (IsArgumentRight ds) h.lifts h.types (lifts_scoped w of ds key entries c.names h.lifts h.lifted) (types_scoped w ds c.types h.types h.given))
 
     pub names_apart : IsDistinct bytes_eq (map (λ (a : Argument). a.name) arguments)
     names_apart = subst (λ as'. IsDistinct bytes_eq (map (λ (a : Argument). a.name) as')) (sym h.both) distinct
@@ -204,14 +204,14 @@ module _ (w : ComponentWorld) (key : WorldKey) (listed : List (List ℕ × TypeI
     instantiates component made = record { definitions = c.items; given = n.given; made = made; scoped = all_scoped; apart = names_apart; right = n.passes.right; each = each_given }
 
     -- and the lifts are passed on
-    pub lifts_passed : AllByRecursion (λ (e : List ℕ × Function). e.0 ≡ e.1.name) entries → IsDistinct bytes_eq (keys_of entries) → AllByRecursion (PassesOn w ds arguments (exports_after n.given empty_scope c.items)) (functions_at key entries)
+    pub lifts_passed : AllByRecursion (λ (e : List ℕ × Function). e.0 ≡ e.1.name) entries → IsDistinct bytes_eq (keys_of entries) → AllByRecursion (PassesOn w ds arguments (exports_after n.given empty_scope c.items)) (functions_at of key entries)
     lifts_passed own apart =
         let xs = exported (functions_among entries) (nested_functions origin all_types (functions_among entries) c.names) in
         let found : AreFound origin all_types (map (exported_type origin all_types) listed ++ xs) entries c.names =
         past_types origin all_types listed xs entries c.names (exports_found origin all_types [] entries c.names n.names own apart) in
-        subst (λ as'. AllByRecursion (PassesOn w ds as' (exports_after n.given empty_scope c.items)) (functions_at key entries)) (sym h.both)
-        (subst (λ l. AllByRecursion (PassesOn w ds (h.lifts ++ h.types) l) (functions_at key entries)) (sym n.passes.exports)
-        (all_passed w ds key (h.lifts ++ h.types) (map (exported_type origin all_types) listed ++ xs) entries c.names h.lifts found h.lifted finds_lifts))
+        subst (λ as'. AllByRecursion (PassesOn w ds as' (exports_after n.given empty_scope c.items)) (functions_at of key entries)) (sym h.both)
+        (subst (λ l. AllByRecursion (PassesOn w ds (h.lifts ++ h.types) l) (functions_at of key entries)) (sym n.passes.exports)
+        (all_passed w of ds key (h.lifts ++ h.types) (map (exported_type origin all_types) listed ++ xs) entries c.names h.lifts found h.lifted finds_lifts))
 
   -- the types that are listed are exported
   pub types_exported : IsDistinct bytes_eq (keys_of listed) → AllByRecursion (IsTypeFound origin all_types (exports_after n.given empty_scope c.items)) listed
@@ -250,34 +250,34 @@ nested_for w ok key id is c n = record {
 
 -- an instance of it is what an interface is exported as
 pub exports_interface : (w : ComponentWorld) → IsEncodable w → (key : WorldKey) (id : InterfaceId) → exported_item w key ≡ Some (world_items.Interface id) → (c : NestedComponent) → IsNestedOf w (named_types w.resolve id) (functions_of w.resolve id) c →
-    (arguments : List Argument) (ds : List Def) (index : ℕ) → slice_get w.main_exports (exports_in ds) ≡ Some key → AreArgumentsOf w ds key (functions_of w.resolve id) c arguments → IsDistinct bytes_eq (keys_of (functions_of w.resolve id)) →
+    (of : User) (arguments : List Argument) (ds : List Def) (index : ℕ) → slice_get (required_keys w) (exports_in ds) ≡ Some (key_for of key) → AreArgumentsOf w of ds key (functions_of w.resolve id) c arguments → IsDistinct bytes_eq (keys_of (functions_of w.resolve id)) →
     IsDistinct bytes_eq (keys_of (named_types w.resolve id)) → IsInstantiated ds c.items arguments index → ExportsInterface w ds index
-exports_interface w ok key id is c n arguments ds index next h apart types_apart made = record {
-  required = main_key key;
+exports_interface w ok key id is c n of arguments ds index next h apart types_apart made = record {
+  required = key_for of key;
   id = id;
-  next = next_required w ok (exports_in ds) key next;
+  next = next;
   item = is;
   component = made.component;
   arguments = arguments;
   instance = made.instance;
-  nested = instantiates w key (named_types w.resolve id) (functions_of w.resolve id) c n ds arguments h made.component made.made;
+  nested = instantiates w key (named_types w.resolve id) (functions_of w.resolve id) c n of ds arguments h made.component made.made;
   types = types_exported w key (named_types w.resolve id) (functions_of w.resolve id) c n types_apart;
-  each = subst (AllByRecursion (PassesOn w ds arguments (exports_after n.given empty_scope c.items))) (sym (interface_functions w ok key id is))
-      (lifts_passed w key (named_types w.resolve id) (functions_of w.resolve id) c n ds arguments h (own_names w ok key id is) apart);
+  each = subst (AllByRecursion (PassesOn w ds arguments (exports_after n.given empty_scope c.items))) (sym (interface_functions w ok key id is of))
+      (lifts_passed w key (named_types w.resolve id) (functions_of w.resolve id) c n of ds arguments h (own_names w ok key id is) apart);
 }
 
 -- its functions are those of the key
-pub functions_as : (w : ComponentWorld) → IsEncodable w → (key : WorldKey) (id : InterfaceId) → exported_item w key ≡ Some (world_items.Interface id) → (es : List (List ℕ × Function)) → es ≡ functions_of w.resolve id →
-    functions_of_key w key ≡ functions_at key es
-functions_as w ok key id is es same = interface_functions w ok key id is ∙ ap (functions_at key) (sym same)
+pub functions_as : (w : ComponentWorld) → IsEncodable w → (of : User) (key : WorldKey) (id : InterfaceId) → exported_item w key ≡ Some (world_items.Interface id) → (es : List (List ℕ × Function)) → es ≡ functions_of w.resolve id →
+    functions_of_key w of key ≡ functions_at of key es
+functions_as w ok of key id is es same = interface_functions w ok key id is of ∙ ap (functions_at of key) (sym same)
 
 -- the instance that was made last is exported
 pub instance_exported : (w : ComponentWorld) → IsEncodable w → (key : WorldKey) (id : InterfaceId) → exported_item w key ≡ Some (world_items.Interface id) → (es : List (List ℕ × Function)) → es ≡ functions_of w.resolve id → IsDistinct bytes_eq (keys_of es) →
-    IsDistinct bytes_eq (keys_of (named_types w.resolve id)) → (c : NestedComponent) → IsNestedOf w (named_types w.resolve id) es c → (arguments : List Argument) (mid new : List Def) → Longer mid new → AreArgumentsOf w mid key es c arguments →
-    (index : ℕ) → slice_get w.main_exports (exports_in new) ≡ Some key → IsInstantiated new c.items arguments index → ExportsInterface w new index
-instance_exported w ok key id is es same apart types_apart c n arguments mid new g given index next made =
-    let later : AreArgumentsOf w new key es c arguments = all_arguments-kept w mid new g key es c arguments given in
-    exports_interface w ok key id is c (subst (λ l. IsNestedOf w (named_types w.resolve id) l c) same n) arguments new index next (subst (λ l. AreArgumentsOf w new key l c arguments) same later)
+    IsDistinct bytes_eq (keys_of (named_types w.resolve id)) → (c : NestedComponent) → IsNestedOf w (named_types w.resolve id) es c → (of : User) (arguments : List Argument) (mid new : List Def) → Longer mid new → AreArgumentsOf w of mid key es c arguments →
+    (index : ℕ) → slice_get (required_keys w) (exports_in new) ≡ Some (key_for of key) → IsInstantiated new c.items arguments index → ExportsInterface w new index
+instance_exported w ok key id is es same apart types_apart c n of arguments mid new g given index next made =
+    let later : AreArgumentsOf w of new key es c arguments = all_arguments-kept w of mid new g key es c arguments given in
+    exports_interface w ok key id is c (subst (λ l. IsNestedOf w (named_types w.resolve id) l c) same n) of arguments new index next (subst (λ l. AreArgumentsOf w of new key l c arguments) same later)
     (subst (λ (l : List (List ℕ × Function)). IsDistinct bytes_eq (keys_of l)) same apart) types_apart made
 
 -- the landmark of its nested component is the one that is expected
@@ -287,11 +287,11 @@ mark_expected w key id es same c n =
     ap (λ m. m ∷ []) (nested_marked_as w key (named_types w.resolve id) (functions_of w.resolve id) c (subst (λ l. IsNestedOf w (named_types w.resolve id) l c) same n))
 
 -- the instance that is exported has each type of the interface
-pub listed_exported : (w : ComponentWorld) (key : WorldKey) (id : InterfaceId) (c : NestedComponent) (n : IsNestedOf w (named_types w.resolve id) (functions_of w.resolve id) c) (arguments : List Argument) (mid new end : List Def) → AreArgumentsOf w mid key (functions_of w.resolve id) c arguments →
+pub listed_exported : (w : ComponentWorld) (key : WorldKey) (id : InterfaceId) (c : NestedComponent) (n : IsNestedOf w (named_types w.resolve id) (functions_of w.resolve id) c) (of : User) (arguments : List Argument) (mid new end : List Def) → AreArgumentsOf w of mid key (functions_of w.resolve id) c arguments →
     IsDistinct bytes_eq (keys_of (named_types w.resolve id)) → (definitions : List Item) → definitions ≡ c.items → (instance exported : ℕ) →
     slice_get (inventory new).instances instance ≡ Some (NestedInstance (exports_after (given_by (scope_of mid) arguments) empty_scope definitions)) → IsExportAdded new end sorts.Instance instance exported → ExportsListed w end id exported
-listed_exported w key id c n arguments mid new end given apart definitions same instance exported there added =
-    let a : AreArgumentsFor mid c.items arguments = arguments_for w key (named_types w.resolve id) (functions_of w.resolve id) c n mid arguments given in
+listed_exported w key id c n of arguments mid new end given apart definitions same instance exported there added =
+    let a : AreArgumentsFor mid c.items arguments = arguments_for w key (named_types w.resolve id) (functions_of w.resolve id) c n of mid arguments given in
     let exports : exports_after n.given empty_scope c.items ≡ exports_after (given_by (scope_of mid) arguments) empty_scope c.items = same_given mid arguments n.given empty_scope c.items a.each in
     let entry : slice_get (inventory new).instances instance ≡ Some (NestedInstance (exports_after n.given empty_scope c.items)) =
     there ∙ (ap (λ is. Some (NestedInstance (exports_after (given_by (scope_of mid) arguments) empty_scope is))) same ∙ ap (λ es. Some (NestedInstance es)) (sym exports)) in

@@ -9,4 +9,5 @@ pub mod Exporting
 pub mod Instances
 pub mod TypeArguments
 pub mod AtHand
+pub mod Adapters
 mod GivenTypes

@@ -8,6 +8,7 @@ use Rattle.wit_data.specs.declared.functions.Function.{Function}
 use Rattle.wit_data.specs.declared.worlds.WorldKey.{WorldKey}
 use Rattle.comp_worlds.specs.declared.world.ComponentWorld.{ComponentWorld}
 use Rattle.comp_links.specs.Lists.{RequiredFunction}
+use Rattle.comp_links.specs.Targets.{UserModule as User}
 use Rattle.comp_terms.specs.Rules.{Grows}
 use Rattle.comp_items.proofs.Kept.{Longer}
 use Rattle.root_imports.specs.Growing.{Grows-none, Grows-then}
@@ -15,7 +16,7 @@ use Rattle.core_options.specs.Causes.{IsEncodedExport}
 use Rattle.core_options.specs.MainOptions.{HasLiftOptions}
 use Rattle.interface_needs.proofs.Lists.{contains_cons, contains_first, contains_later, contains_none}
 use Rattle.root_imports.specs.Keeping.{Root, RootKept}
-use Rattle.main_exports.specs.Exports.{at_key, main_function, functions_at, AreMainFunctions, IsLiftArgument, AreLiftArguments}
+use Rattle.main_exports.specs.Exports.{at_key, function_of, functions_at, AreModuleFunctions, IsLiftArgument, AreLiftArguments}
 use Rattle.root_imports.proofs.Keeping.{kept_then}
 use Rattle.main_exports.proofs.Growth.{argument-kept}
 
@@ -24,17 +25,17 @@ Entries = List (List ℕ × Function)
 
 -- Once the functions before the rest have their arguments, the arguments of the rest behind these are those of all; what holds of
 -- the rest holds of all; and the rest is among all.
-pub record ArgumentsSoFar (w : ComponentWorld) (old new : Root) (key : WorldKey) (all : Entries) (names : List (List ℕ)) (rest : Entries) (left : List (List ℕ)) (done : List Argument) : Type 0 where
+pub record ArgumentsSoFar (w : ComponentWorld) (of : User) (old new : Root) (key : WorldKey) (all : Entries) (names : List (List ℕ)) (rest : Entries) (left : List (List ℕ)) (done : List Argument) : Type 0 where
   pub kept : RootKept w old new
   pub grows : Grows w old.items.defs new.items.defs []
-  pub whole : (ds : List Def) (more : List Argument) → Longer new.items.defs ds → AreLiftArguments w ds key rest left more → AreLiftArguments w ds key all names (done ++ more)
-  pub has : AllByRecursion (HasLiftOptions w) (functions_at key rest) → AllByRecursion (HasLiftOptions w) (functions_at key all)
-  pub encoded : AllByRecursion (IsEncodedExport w) (functions_at key rest) → AllByRecursion (IsEncodedExport w) (functions_at key all)
-  pub among : (r : RequiredFunction) → Contains (functions_at key rest) r → Contains (functions_at key all) r
-  pub functions : AreMainFunctions w key rest
+  pub whole : (ds : List Def) (more : List Argument) → Longer new.items.defs ds → AreLiftArguments w of ds key rest left more → AreLiftArguments w of ds key all names (done ++ more)
+  pub has : AllByRecursion (HasLiftOptions w) (functions_at of key rest) → AllByRecursion (HasLiftOptions w) (functions_at of key all)
+  pub encoded : AllByRecursion (IsEncodedExport w) (functions_at of key rest) → AllByRecursion (IsEncodedExport w) (functions_at of key all)
+  pub among : (r : RequiredFunction) → Contains (functions_at of key rest) r → Contains (functions_at of key all) r
+  pub functions : AreModuleFunctions w of key rest
 
-pub so_far_start : (w : ComponentWorld) (root : Root) (key : WorldKey) (all : Entries) (names : List (List ℕ)) → RootKept w root root → AreMainFunctions w key all → ArgumentsSoFar w root root key all names all names []
-so_far_start w root key all names kept functions = record {
+pub so_far_start : (w : ComponentWorld) (of : User) (root : Root) (key : WorldKey) (all : Entries) (names : List (List ℕ)) → RootKept w root root → AreModuleFunctions w of key all → ArgumentsSoFar w of root root key all names all names []
+so_far_start w of root key all names kept functions = record {
   kept = kept;
   grows = Grows-none w root.items.defs;
   whole = λ ds more g h. h;
@@ -44,18 +45,18 @@ so_far_start w root key all names kept functions = record {
   functions = functions;
 }
 
-pub so_far_step : (w : ComponentWorld) (old mid new : Root) (key : WorldKey) (all : Entries) (names : List (List ℕ)) (e : List ℕ × Function) (rest : Entries) (name : List ℕ) (left : List (List ℕ)) (done : List Argument) (a : Argument) →
-    ArgumentsSoFar w old mid key all names (e ∷ rest) (name ∷ left) done → RootKept w mid new → Grows w mid.items.defs new.items.defs [] → IsLiftArgument w new.items.defs key e name a → HasLiftOptions w (main_function (at_key key e.0)) →
-    IsEncodedExport w (main_function (at_key key e.0)) → ArgumentsSoFar w old new key all names rest left (done ++ a ∷ [])
-so_far_step w old mid new key all names e rest name left done a h kept grows lifted has encoded = record {
+pub so_far_step : (w : ComponentWorld) (of : User) (old mid new : Root) (key : WorldKey) (all : Entries) (names : List (List ℕ)) (e : List ℕ × Function) (rest : Entries) (name : List ℕ) (left : List (List ℕ)) (done : List Argument) (a : Argument) →
+    ArgumentsSoFar w of old mid key all names (e ∷ rest) (name ∷ left) done → RootKept w mid new → Grows w mid.items.defs new.items.defs [] → IsLiftArgument w of new.items.defs key e name a → HasLiftOptions w (function_of of (at_key key e.0)) →
+    IsEncodedExport w (function_of of (at_key key e.0)) → ArgumentsSoFar w of old new key all names rest left (done ++ a ∷ [])
+so_far_step w of old mid new key all names e rest name left done a h kept grows lifted has encoded = record {
   kept = kept_then w old mid new h.kept kept;
   grows = Grows-then h.grows grows;
   whole = λ ds more g k.
-      subst (λ l. AreLiftArguments w ds key all names l) (sym (append_assoc done (a ∷ []) more))
-      (h.whole ds (a ∷ more) (record { more = longer_more grows g; grown = longer_grown grows g }) (argument-kept w new.items.defs ds g key e name a lifted, k));
+      subst (λ l. AreLiftArguments w of ds key all names l) (sym (append_assoc done (a ∷ []) more))
+      (h.whole ds (a ∷ more) (record { more = longer_more grows g; grown = longer_grown grows g }) (argument-kept w of new.items.defs ds g key e name a lifted, k));
   has = λ k. h.has (has, k);
   encoded = λ k. h.encoded (encoded, k);
-  among = λ r c. h.among r (contains_later (main_function (at_key key e.0)) (functions_at key rest) r c);
+  among = λ r c. h.among r (contains_later (function_of of (at_key key e.0)) (functions_at of key rest) r c);
   functions = h.functions.1;
 }
   where
@@ -65,13 +66,13 @@ so_far_step w old mid new key all names e rest name left done a h kept grows lif
     longer_grown : (grows : Grows w mid.items.defs new.items.defs []) → {ds : List Def} → (g : Longer new.items.defs ds) → ds ≡ mid.items.defs ++ (grows.more ++ g.more)
     longer_grown grows g = g.grown ∙ (ap (λ l. l ++ g.more) grows.extended ∙ append_assoc mid.items.defs grows.more g.more)
 
-pub so_far_end : (w : ComponentWorld) (old new : Root) (key : WorldKey) (all : Entries) (names : List (List ℕ)) (done : List Argument) → ArgumentsSoFar w old new key all names [] [] done → AreLiftArguments w new.items.defs key all names done
-so_far_end w old new key all names done h = subst (λ l. AreLiftArguments w new.items.defs key all names l) (append-nil done) (h.whole new.items.defs [] (record { more = []; grown = sym (append-nil new.items.defs) }) tt)
+pub so_far_end : (w : ComponentWorld) (of : User) (old new : Root) (key : WorldKey) (all : Entries) (names : List (List ℕ)) (done : List Argument) → ArgumentsSoFar w of old new key all names [] [] done → AreLiftArguments w of new.items.defs key all names done
+so_far_end w of old new key all names done h = subst (λ l. AreLiftArguments w of new.items.defs key all names l) (append-nil done) (h.whole new.items.defs [] (record { more = []; grown = sym (append-nil new.items.defs) }) tt)
 
 -- the function of the next one is one of them
-pub one_among : (w : ComponentWorld) (old new : Root) (key : WorldKey) (all : Entries) (names : List (List ℕ)) (e : List ℕ × Function) (rest : Entries) (left : List (List ℕ)) (done : List Argument) →
-    ArgumentsSoFar w old new key all names (e ∷ rest) left done → (r : RequiredFunction) → Contains (main_function (at_key key e.0) ∷ []) r → Contains (functions_at key all) r
-one_among w old new key all names e rest left done h r c = h.among r (first_of (main_function (at_key key e.0)) (functions_at key rest) r c)
+pub one_among : (w : ComponentWorld) (of : User) (old new : Root) (key : WorldKey) (all : Entries) (names : List (List ℕ)) (e : List ℕ × Function) (rest : Entries) (left : List (List ℕ)) (done : List Argument) →
+    ArgumentsSoFar w of old new key all names (e ∷ rest) left done → (r : RequiredFunction) → Contains (function_of of (at_key key e.0) ∷ []) r → Contains (functions_at of key all) r
+one_among w of old new key all names e rest left done h r c = h.among r (first_of (function_of of (at_key key e.0)) (functions_at of key rest) r c)
   where
     first_of : (x : RequiredFunction) (xs : List RequiredFunction) (r : RequiredFunction) → Contains (x ∷ []) r → Contains (x ∷ xs) r
     first_of x xs r c = by (contains_cons x [] r c)

@@ -20,7 +20,7 @@ use Rattle.comp_worlds.specs.WorldContents.{exported_item, function_exported}
 use Rattle.comp_worlds.specs.declared.world.ComponentWorld.{ComponentWorld}
 use Rattle.comp_links.specs.Links.{lift_options}
 use Rattle.comp_links.specs.Lists.{RequiredFunction}
-use Rattle.comp_links.specs.Targets.{Main, Lifted}
+use Rattle.comp_links.specs.Targets.{UserModule as User, Lifted}
 use Rattle.comp_terms.specs.Planned.{type_of_function}
 use Rattle.comp_terms.specs.Rules.{Grows}
 use Rattle.comp_terms.specs.Terms.{CoreExport, TermOption, IsExported, IsFunctionType, IsLifting, IsOption}
@@ -33,25 +33,25 @@ use Rattle.core_options.proofs.Refusals.{among_more}
 use Rattle.interface_needs.proofs.Lists.{contains_none, contains_one}
 use Rattle.interface_needs.specs.RootNeeds.{interface_of_item}
 use Rattle.root_imports.specs.Imports.{IsNeededFunction}
-use Rattle.main_exports.specs.Exports.{main_function, IsMainFunction, IsEntryOf, IsTypedLift}
+use Rattle.main_exports.specs.Exports.{function_of, IsModuleFunction, IsEntryOf, IsTypedLift}
 
-pub record AddsLift (w : ComponentWorld) (old new : List Def) (f : FunctionKey) (function : Function) (index : ℕ) : Type 0 where
+pub record AddsLift (w : ComponentWorld) (of : User) (old new : List Def) (f : FunctionKey) (function : Function) (index : ℕ) : Type 0 where
   pub grows : Grows w old new []
-  pub lifted : IsTypedLift w new f function index
+  pub lifted : IsTypedLift w of new f function index
 
-pub adds_lift : (w : ComponentWorld) (old new : List Def) (core kind index : ℕ) (options : List CanonicalOption) (f : FunctionKey) (function : Function) → NameOptions w old options (lift_options w (main_function f)) →
-    IsEntryOf w old f core → IsFunctionType old kind (type_of_function w function) → function_exported w f.key f.function ≡ Some function →
+pub adds_lift : (w : ComponentWorld) (of : User) (old new : List Def) (core kind index : ℕ) (options : List CanonicalOption) (f : FunctionKey) (function : Function) → NameOptions w old options (lift_options w (function_of of f)) →
+    IsEntryOf w of old f core → IsFunctionType old kind (type_of_function w function) → function_exported w f.key f.function ≡ Some function →
     new ≡ old ++ defs.Item (items.Lift core options kind) ∷ [] →
     ((entry : CoreExport) (written : List TermOption) (type : FunctionTree) → entry.kind ≡ kinds.Func → IsExported old core entry → AllZip (IsOption old) options written → IsFunctionType old kind type → IsLifting new index entry written type) →
     ((type : FunctionTree) → IsFunctionType old kind type → slice_get (inventory new).functions index ≡ Some (record { origin = None; type = OfFunctions type })) →
-    AddsLift w old new f function index
-adds_lift w old new core kind index options f function fit entry typed exported appended lifts made = record {
+    AddsLift w of old new f function index
+adds_lift w of old new core kind index options f function fit entry typed exported appended lifts made = record {
   grows = Grows-by (defs.Item (items.Lift core options kind)) appended (subst (λ (k : ExportKind). core < items_in (kind_space k) old) entry.alias.function (in_range entry.alias.is.made), options_right w old options fit.terms fit.are, record { type = type_of_function w function; is = typed });
   lifted = record {
     lifted = record {
-      target = Lifted (record { of = Main; name = entry.name }) (lift_options w (main_function f));
+      target = Lifted (record { of = of; name = entry.name }) (lift_options w (function_of of f));
       wit = function;
-      said = ap (option_map (λ n. Lifted (record { of = Main; name = n }) (lift_options w (main_function f)))) entry.said;
+      said = ap (option_map (λ n. Lifted (record { of = of; name = n }) (lift_options w (function_of of f)))) entry.said;
       exported = exported;
       is = record {
         entry = entry.alias.exported;
@@ -65,9 +65,9 @@ adds_lift w old new core kind index options f function fit entry typed exported 
 }
 
 -- the function of a key is needed where its type is defined
-pub needed_function : (w : ComponentWorld) (interface : Option InterfaceId) (f : FunctionKey) (function : Function) → IsMainFunction w f function → interface_of_item (exported_item w f.key) ≡ interface → IsNeededFunction w interface function
-needed_function w None f function h of = inr (record { key = f.key; name = f.function; exported = h.exported; of = of })
-needed_function w (Some id) f function h of = record { key = f.key; name = f.function; exported = h.exported; of = of }
+pub needed_function : (w : ComponentWorld) (of : User) (interface : Option InterfaceId) (f : FunctionKey) (function : Function) → IsModuleFunction w of f function → interface_of_item (exported_item w f.key) ≡ interface → IsNeededFunction w interface function
+needed_function w of None f function h at = inr (record { key = f.key; name = f.function; exported = h.exported; of = at })
+needed_function w of (Some id) f function h at = record { key = f.key; name = f.function; exported = h.exported; of = at }
 
 -- a cause among no functions is one among any
 pub among_any : (w : ComponentWorld) (fs : List RequiredFunction) (e : StateFault) → IsCauseAmong w [] [] e → IsCauseAmong w [] fs e

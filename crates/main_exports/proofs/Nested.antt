@@ -30,6 +30,7 @@ use Rattle.nested_components.specs.Types.{type_given, exported_type}
 use Rattle.nested_components.specs.declared.type_import.TypeImport.{TypeImport}
 use Rattle.comp_worlds.specs.declared.world.ComponentWorld.{ComponentWorld}
 use Rattle.comp_links.specs.Lists.{resource_of}
+use Rattle.comp_links.specs.Targets.{UserModule as User}
 use Rattle.comp_terms.specs.Exports.{IsFunctionGiven, IsTypeGiven, IsImportGiven, PassesOn}
 use Rattle.interface_needs.proofs.Lists.{all_both}
 use Rattle.comp_terms.specs.Planned.{type_of_function}
@@ -142,7 +143,7 @@ module _ (origin : TypeId → Resource) (types : List TypeDef) where
 
 -- ---- the arguments are the lifts and the types
 
-module _ (w : ComponentWorld) (ds : List Def) (key : WorldKey) (all : List Argument) where
+module _ (w : ComponentWorld) (of : User) (ds : List Def) (key : WorldKey) (all : List Argument) where
   abbrev origin : TypeId → Resource
   origin = resource_of w
 
@@ -150,10 +151,10 @@ module _ (w : ComponentWorld) (ds : List Def) (key : WorldKey) (all : List Argum
   types = w.resolve.types
 
   found_as : (a : Argument) (sort : Sort) (name : List ℕ) → a.sort ≡ sort → a.name ≡ name → Finds all a → argument_named sort name all ≡ Some a
-  found_as a sort name of same h = ap₂ (λ s n. argument_named s n all) (sym of) (sym same) ∙ h
+  found_as a sort name is same h = ap₂ (λ s n. argument_named s n all) (sym is) (sym same) ∙ h
 
   -- the import of each function is given its lift
-  pub all_given : (taken : List (List ℕ)) (es : List (List ℕ × Function)) (names : List (List ℕ)) (as' : List Argument) → AreNamesAfter taken (functions_of es) names → AreLiftArguments w ds key es names as' → AllByRecursion (Finds all) as' →
+  pub all_given : (taken : List (List ℕ)) (es : List (List ℕ × Function)) (names : List (List ℕ)) (as' : List Argument) → AreNamesAfter taken (functions_of es) names → AreLiftArguments w of ds key es names as' → AllByRecursion (Finds all) as' →
       AllByRecursion (λ g. IsFunctionGiven ds all g.argument g.type) (nested_functions origin types (functions_of es) names)
   all_given taken [] [] [] n h k = tt
   all_given taken (e ∷ es) (name ∷ names) (a ∷ as') n h k = (
@@ -184,8 +185,8 @@ module _ (w : ComponentWorld) (ds : List Def) (key : WorldKey) (all : List Argum
   imports_given (ImportedType name tree ∷ xs) f t = (t.0, imports_given xs f t.1)
 
   -- the lift of each function is passed on
-  pub all_passed : (xs : List NestedExport) (es : List (List ℕ × Function)) (names : List (List ℕ)) (as' : List Argument) → AreFound origin types xs es names → AreLiftArguments w ds key es names as' → AllByRecursion (Finds all) as' →
-      AllByRecursion (PassesOn w ds all xs) (functions_at key es)
+  pub all_passed : (xs : List NestedExport) (es : List (List ℕ × Function)) (names : List (List ℕ)) (as' : List Argument) → AreFound origin types xs es names → AreLiftArguments w of ds key es names as' → AllByRecursion (Finds all) as' →
+      AllByRecursion (PassesOn w ds all xs) (functions_at of key es)
   all_passed xs [] [] [] f h k = tt
   all_passed xs (e ∷ es) (name ∷ names) (a ∷ as') f h k = (
     record { function = passed origin types e.1 name; argument = a; found = f.0; named = found_as a sorts.Func name h.0.sort h.0.named k.0; lifted = h.0.lifted.lifted },
@@ -197,13 +198,13 @@ module _ (w : ComponentWorld) (ds : List Def) (key : WorldKey) (all : List Argum
   all_passed xs (e ∷ es) (name ∷ names) [] f h k = absurd h
 
 -- the arguments are functions and types, and have the names of the imports
-pub lifts_sorted : (w : ComponentWorld) (ds : List Def) (key : WorldKey) (es : List (List ℕ × Function)) (names : List (List ℕ)) (as' : List Argument) → AreLiftArguments w ds key es names as' → AllByRecursion IsOfSort as'
-lifts_sorted w ds key [] [] [] h = tt
-lifts_sorted w ds key (e ∷ es) (name ∷ names) (a ∷ as') h = (inl h.0.sort, lifts_sorted w ds key es names as' h.1)
-lifts_sorted w ds key [] [] (a ∷ as') h = absurd h
-lifts_sorted w ds key [] (name ∷ names) as' h = absurd h
-lifts_sorted w ds key (e ∷ es) [] as' h = absurd h
-lifts_sorted w ds key (e ∷ es) (name ∷ names) [] h = absurd h
+pub lifts_sorted : (w : ComponentWorld) (of : User) (ds : List Def) (key : WorldKey) (es : List (List ℕ × Function)) (names : List (List ℕ)) (as' : List Argument) → AreLiftArguments w of ds key es names as' → AllByRecursion IsOfSort as'
+lifts_sorted w of ds key [] [] [] h = tt
+lifts_sorted w of ds key (e ∷ es) (name ∷ names) (a ∷ as') h = (inl h.0.sort, lifts_sorted w of ds key es names as' h.1)
+lifts_sorted w of ds key [] [] (a ∷ as') h = absurd h
+lifts_sorted w of ds key [] (name ∷ names) as' h = absurd h
+lifts_sorted w of ds key (e ∷ es) [] as' h = absurd h
+lifts_sorted w of ds key (e ∷ es) (name ∷ names) [] h = absurd h
 
 pub types_sorted : (w : ComponentWorld) (ds : List Def) (is : List TypeImport) (as' : List Argument) → AllZip (IsTypeArgument w ds) is as' → AllByRecursion IsOfSort as'
 types_sorted w ds [] [] h = tt
@@ -217,13 +218,13 @@ types_named w ds (i ∷ is) (a ∷ as') h = ap₂ (λ x xs. x ∷ xs) h.0.named 
 types_named w ds [] (a ∷ as') h = absurd h
 types_named w ds (i ∷ is) [] h = absurd h
 
-pub arguments_named : (w : ComponentWorld) (ds : List Def) (key : WorldKey) (es : List (List ℕ × Function)) (names : List (List ℕ)) (as' : List Argument) → AreLiftArguments w ds key es names as' → map (λ (a : Argument). a.name) as' ≡ names
-arguments_named w ds key [] [] [] h = refl
-arguments_named w ds key (e ∷ es) (name ∷ names) (a ∷ as') h = ap₂ (λ x xs. x ∷ xs) h.0.named (arguments_named w ds key es names as' h.1)
-arguments_named w ds key [] [] (a ∷ as') h = absurd h
-arguments_named w ds key [] (name ∷ names) as' h = absurd h
-arguments_named w ds key (e ∷ es) [] as' h = absurd h
-arguments_named w ds key (e ∷ es) (name ∷ names) [] h = absurd h
+pub arguments_named : (w : ComponentWorld) (of : User) (ds : List Def) (key : WorldKey) (es : List (List ℕ × Function)) (names : List (List ℕ)) (as' : List Argument) → AreLiftArguments w of ds key es names as' → map (λ (a : Argument). a.name) as' ≡ names
+arguments_named w of ds key [] [] [] h = refl
+arguments_named w of ds key (e ∷ es) (name ∷ names) (a ∷ as') h = ap₂ (λ x xs. x ∷ xs) h.0.named (arguments_named w of ds key es names as' h.1)
+arguments_named w of ds key [] [] (a ∷ as') h = absurd h
+arguments_named w of ds key [] (name ∷ names) as' h = absurd h
+arguments_named w of ds key (e ∷ es) [] as' h = absurd h
+arguments_named w of ds key (e ∷ es) (name ∷ names) [] h = absurd h
 
 -- ---- the names of imports and exports
 

@@ -1,40 +1,66 @@
--- What main's instance exports, as the link table names it.
+-- What the instance of a user module exports, as the link table names it.
 use Rattle.std.proofs.Common.{◌≡◌, ℕ, List, Option, Some, None, refl, sym, ap, ap₂, subst, IfSome}
-use Rattle.std.specs.Option.{option_map}
+use Rattle.std.specs.Option.{option_and_then, option_map}
 use Rattle.comp_bytes.specs.declared.def.Def.{Def}
+use Rattle.comp_roles.specs.Functions.{of_function}
+use Rattle.comp_roles.specs.declared.metadata.FunctionKey.{FunctionKey}
+use Rattle.standard_kinds.specs.declared.kinds.StringEncoding.{StringEncoding}
+use Rattle.world_values.specs.CoreExports.{post_returns}
+use Rattle.comp_worlds.specs.WorldContents.{core_name_in}
+use Rattle.comp_worlds.specs.Worlds.{IsWorld}
 use Rattle.comp_worlds.specs.declared.world.ComponentWorld.{ComponentWorld}
-use Rattle.comp_links.specs.Links.{export_of}
-use Rattle.comp_links.specs.Targets.{UserModule, Main, ExportRef}
+use Rattle.comp_worlds.specs.declared.world.ValidatedModule.{ValidatedModule}
+use Rattle.comp_links.specs.Links.{core_name, export_of, post_return_of}
+use Rattle.comp_links.specs.Roles.{export_encoding}
+use Rattle.comp_links.specs.Targets.{UserModule as User, ExportRef}
 use Rattle.comp_terms.specs.Terms.{IsInstanceOf}
-use Rattle.core_options.specs.MainOptions.{user_of_name, export_ref_of, IsInstanceExport, OffersFunction}
+use Rattle.core_options.specs.MainOptions.{user_of, user_of_name, module_named, export_ref_of, IsInstanceExport, OffersFunction}
 use Rattle.core_options.specs.declared.modules.InstanceExport.{InstanceExport}
-use Rattle.core_options.proofs.Offered.{main_module}
-use Rattle.main_exports.specs.Exports.{IsOwnExport, IsOwnExportIf}
-use Rattle.main_exports.specs.declared.sources.MainExports.{MainExports}
+use Rattle.core_options.proofs.Offered.{IsUserOf, listed_is_user}
+use Rattle.main_exports.specs.Exports.{exporter, function_of, IsOwnExport, IsOwnExportIf, IsUserInstance}
+use Rattle.main_exports.specs.declared.sources.ModuleExports.{ModuleExports}
+use Rattle.main_exports.specs.declared.sources.UserInstance.{UserInstance}
 
--- it is an export of main
-pub own_ref : (e : MainExports) (name : List ℕ) (x : InstanceExport) → IsOwnExport e name x → export_ref_of x ≡ export_of Main name
-own_ref e name x own = ap₂ (λ (of : UserModule) (text : List ℕ). record { of = of; name = text }) (ap user_of_name own.of) own.named
+-- it is an export of the module
+pub own_ref : (e : ModuleExports) (name : List ℕ) (x : InstanceExport) → IsOwnExport e name x → export_ref_of x ≡ export_of (exporter e) name
+own_ref e name x own = ap₂ (λ (of : User) (text : List ℕ). record { of = of; name = text }) (ap user_of_name own.of) own.named
 
-pub own_refs : (e : MainExports) (name : Option (List ℕ)) (x : Option InstanceExport) → IsOwnExportIf e name x → option_map export_ref_of x ≡ option_map (export_of Main) name
+pub own_refs : (e : ModuleExports) (name : Option (List ℕ)) (x : Option InstanceExport) → IsOwnExportIf e name x → option_map export_ref_of x ≡ option_map (export_of (exporter e)) name
 own_refs e (Some name) (Some x) own = ap (λ (r : ExportRef). Some r) (own_ref e name x own)
 own_refs e None None own = refl
 own_refs e (Some name) None own = absurd own
 own_refs e None (Some x) own = absurd own
 
 -- one that validation found is there
-pub own_instance : (w : ComponentWorld) (ds : List Def) (e : MainExports) → IsInstanceOf ds e.sources.instance 0 → (name : List ℕ) (x : InstanceExport) → IsOwnExport e name x → OffersFunction w.main name → IsInstanceExport w ds x
-own_instance w ds e made name x own offered = record {
-  number = 0;
-  exporting = main_module w;
-  made = subst (λ i. IsInstanceOf ds i 0) (sym own.instance) made;
-  listed = refl;
+pub own_instance : (w : ComponentWorld) (ds : List Def) (e : ModuleExports) → IsUserInstance w ds e.user → (name : List ℕ) (x : InstanceExport) → IsOwnExport e name x → OffersFunction e.user.found.now name → IsInstanceExport w ds x
+own_instance w ds e user name x own offered = record {
+  number = user.number;
+  exporting = module_named e.user.which e.user.found.now;
+  made = subst (λ i. IsInstanceOf ds i user.number) (sym own.instance) user.made;
+  listed = user.listed;
   same = sym (ap user_of_name own.of);
-  offered = subst (OffersFunction w.main) (sym own.named) offered;
+  offered = subst (OffersFunction e.user.found.now) (sym own.named) offered;
 }
 
-pub own_instances : (w : ComponentWorld) (ds : List Def) (e : MainExports) → IsInstanceOf ds e.sources.instance 0 → (name : Option (List ℕ)) (x : Option InstanceExport) → IsOwnExportIf e name x → IfSome name (OffersFunction w.main) → IfSome x (IsInstanceExport w ds)
-own_instances w ds e made (Some name) (Some x) own offered = own_instance w ds e made name x own offered
-own_instances w ds e made None None own offered = tt
-own_instances w ds e made (Some name) None own offered = absurd own
-own_instances w ds e made None (Some x) own offered = absurd own
+pub own_instances : (w : ComponentWorld) (ds : List Def) (e : ModuleExports) → IsUserInstance w ds e.user → (name : Option (List ℕ)) (x : Option InstanceExport) → IsOwnExportIf e name x → IfSome name (OffersFunction e.user.found.now) → IfSome x (IsInstanceExport w ds)
+own_instances w ds e user (Some name) (Some x) own offered = own_instance w ds e user name x own offered
+own_instances w ds e user None None own offered = tt
+own_instances w ds e user (Some name) None own offered = absurd own
+own_instances w ds e user None (Some x) own offered = absurd own
+
+-- ---- what the link table finds in the module
+
+module _ (w : ComponentWorld) (ds : List Def) (u : UserInstance) (h : IsUserInstance w ds u) where
+  -- what holds of user modules holds of it
+  pub is_user : IsWorld w → IsUserOf w u.found.now
+  is_user ok = listed_is_user w ok h.number (module_named u.which u.found.now) h.listed
+
+  -- the core export that implements a function, its post-return, and its string encoding
+  pub core_there : (f : FunctionKey) → core_name w (function_of (user_of u.which) f) ≡ core_name_in u.found.now.exports.exports f.key f.function
+  core_there f = ap (option_and_then (λ (m : ValidatedModule). core_name_in m.exports.exports f.key f.function)) h.named
+
+  pub post_return_there : (f : FunctionKey) → post_return_of w (function_of (user_of u.which) f) ≡ of_function f.key f.function (post_returns u.found.now.exports.exports)
+  post_return_there f = ap (option_and_then (λ (m : ValidatedModule). of_function f.key f.function (post_returns m.exports.exports))) h.named
+
+  pub encoding_there : (f : FunctionKey) → export_encoding w (user_of u.which) f.key f.function ≡ of_function f.key f.function u.found.now.metadata.export_encodings
+  encoding_there f = ap (option_and_then (λ (m : ValidatedModule). of_function f.key f.function m.metadata.export_encodings)) h.named

@@ -1,4 +1,4 @@
--- The tables of main's exports by the functions that they belong to. (The rules are this project's own.)
+-- The tables of a user module's exports by the functions that they belong to. (The rules are this project's own.)
 use Rattle.std.specs.Prelude.{◌≡◌}
 use Rattle.std.specs.Map.{lookup}
 use Rattle.comp_roles.specs.Functions.{is_same_function}

@@ -13,14 +13,14 @@ ghost use Rattle.core_options.specs.Causes.{IsCauseAmong, IsEncodedExport};
 ghost use Rattle.core_options.specs.MainOptions.{HasLiftOptions};
 ghost use Rattle.interface_needs.specs.RootNeeds.{IsUsableType};
 ghost use Rattle.root_imports.specs.Keeping.{RootKept};
-ghost use Rattle.main_exports.specs.Exports.{AreExports, functions_at, AreMainFunctions, IsTypeArgument, AreTypesUsable, IsNestedOf, AreArgumentsOf};
+ghost use Rattle.main_exports.specs.Exports.{AreExports, exporter, functions_at, AreModuleFunctions, IsTypeArgument, AreTypesUsable, IsNestedOf, AreArgumentsOf};
 ghost use Rattle.root_imports.specs.Met.{IsSupplied};
 ghost use Rattle.root_imports.specs.RootScopes.{AreTablesRight};
 ghost use Rattle.world_values.specs.Items.{functions_of};
 ghost use Rattle.wit_data.specs.Live.{named_types};
 ghost use Rattle.wit_data.specs.declared.worlds.WorldItem.TheVariants as world_items;
 
-use crate::sources::MainExports;
+use crate::sources::ModuleExports;
 use comp_bytes::{Argument, Sort};
 use comp_lists::{Keyed, Seq, Text};
 use comp_worlds::ComponentWorld;
@@ -76,7 +76,7 @@ fn type_arguments(
     Ok(arguments)
 }
 
-impl MainExports<'_> {
+impl ModuleExports<'_> {
     /// Lifts the functions of an interface: the arguments for the imports of its nested component, the lifts and then the types.
     pub(crate) fn interface_arguments(
         &self,
@@ -89,15 +89,15 @@ impl MainExports<'_> {
         requires exports { AreExports root.old.world.now self.now root.old }
         requires item { exported_item root.old.world.now key.now ≡ Some (world_items.Interface id) }
         requires supplied { IsSupplied root.old.world.now root.old.met id (length root.old.world.now.resolve.types) }
-        requires functions { AreMainFunctions root.old.world.now key.now functions.now }
+        requires functions { AreModuleFunctions root.old.world.now (exporter self.now) key.now functions.now }
         requires all { functions.now ≡ functions_of root.old.world.now.resolve id }
         requires nested { IsNestedOf root.old.world.now (named_types root.old.world.now.resolve id) functions.now nested.now }
         ensures kept { RootKept root.old.world.now root.old root.new }
         ensures grows { OnOk result (Grows root.old.world.now root.old.items.defs root.new.items.defs []) }
-        ensures given { IfOk result (λ arguments. AreArgumentsOf root.old.world.now root.new.items.defs key.now functions.now nested.now arguments) }
-        ensures has { OnOk result (AllByRecursion (HasLiftOptions root.old.world.now) (functions_at key.now functions.now)) }
-        ensures encoded { OnOk result (AllByRecursion (IsEncodedExport root.old.world.now) (functions_at key.now functions.now)) }
-        ensures cause { IfErr result (IsCauseAmong root.old.world.now [] (functions_at key.now functions.now)) }
+        ensures given { IfOk result (λ arguments. AreArgumentsOf root.old.world.now (exporter self.now) root.new.items.defs key.now functions.now nested.now arguments) }
+        ensures has { OnOk result (AllByRecursion (HasLiftOptions root.old.world.now) (functions_at (exporter self.now) key.now functions.now)) }
+        ensures encoded { OnOk result (AllByRecursion (IsEncodedExport root.old.world.now) (functions_at (exporter self.now) key.now functions.now)) }
+        ensures cause { IfErr result (IsCauseAmong root.old.world.now [] (functions_at (exporter self.now) key.now functions.now)) }
     {
         let names = nested.names.as_slice();
         let mut arguments = self.lift_arguments(root, key, id, functions, names)?;

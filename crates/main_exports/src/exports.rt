@@ -4,45 +4,40 @@
 //! Component model, explainer: component definitions, instance definitions, export definitions.
 #![tactic(auto, using(crate::proofs::Growth::growing))]
 
-ghost use Rattle.std.specs.Prelude.{◌≡◌, [], ◌∷◌, length, IfOk, IfErr, OnOk, Some, None, slice_get};
+ghost use Rattle.std.specs.Prelude.{◌≡◌, [], ◌∷◌, length, map, IfOk, IfErr, OnOk, Some, None, slice_get};
 ghost use Rattle.std.specs.List.{AllByRecursion, IsDistinct};
 ghost use Rattle.std.specs.Map.{keys_of};
 ghost use Rattle.std.specs.Str.{bytes_eq};
 ghost use Rattle.comp_imports.specs.Names.{naming_of};
 ghost use Rattle.comp_items.specs.Items.{Extends};
-ghost use Rattle.comp_links.specs.Lists.{required_functions, resource_of};
+ghost use Rattle.comp_links.specs.Lists.{required_keys, resource_of};
 ghost use Rattle.comp_links.specs.Naming.{name_of};
 ghost use Rattle.comp_terms.specs.Exports.{IsNestedRight, IsNestedFor, exports_in};
-ghost use Rattle.comp_terms.specs.Rules.{Exported, Grows, IsExportRight, exports_marked};
-ghost use Rattle.comp_terms.specs.Terms.{IsInstanceOf};
-ghost use Rattle.comp_worlds.specs.Encodable.{IsEncodable};
+ghost use Rattle.comp_terms.specs.Rules.{Exported, Grows, IsExportRight};
 ghost use Rattle.comp_worlds.specs.WorldContents.{exported_item};
 ghost use Rattle.comp_worlds.specs.Worlds.{IsRequired};
 ghost use Rattle.core_options.specs.Causes.{IsCause, IsCauseAmong, IsEncodedExport};
 ghost use Rattle.core_options.specs.MainOptions.{HasLiftOptions};
 ghost use Rattle.comp_trees.specs.Trees.{Resource};
 ghost use Rattle.root_imports.specs.Keeping.{RootKept, RootMoved};
-ghost use Rattle.main_exports.specs.Exports.{AreExports, AreExportsAtHand, IsExportAdded, ForgetsTypes, functions_of_key, key_marked, nested_mark, AreArgumentsFor, IsInstantiated, IsNestedOf};
+ghost use Rattle.main_exports.specs.Exports.{AreExports, AreExported, AreExportsAtHand, AreNextKeys, exporter, key_for, IsExportAdded, ForgetsTypes, functions_of_key, key_marked, nested_mark, AreArgumentsFor, IsInstantiated, IsNestedOf};
 ghost use Rattle.nested_components.specs.Types.{IsAtHome};
 ghost use Rattle.comp_inventories.specs.Inventories.{NestedInstance, given_by, inventory, scope_of};
-ghost use Rattle.comp_worlds.specs.ExportOrder.{AreExportsInOrder};
 ghost use Rattle.nested_terms.specs.Nested.{empty_scope, exports_after};
 ghost use Rattle.root_imports.specs.Interfaces.{ExportsListed};
 ghost use Rattle.root_imports.specs.Met.{IsSupplied};
-ghost use Rattle.root_imports.specs.RootScopes.{AreTablesRight, ArePassed};
 ghost use Rattle.wit_data.specs.declared.worlds.WorldItem.TheVariants as items;
 ghost use Rattle.wit_data.specs.Sound.{IsSound, HasFunction, HasInterface, HasKey};
 ghost use Rattle.wit_data.specs.declared.ids.TypeId.{TypeId};
 ghost use Rattle.wit_data.specs.Live.{named_types};
 ghost use Rattle.world_values.specs.Items.{functions_of};
 
-use crate::sources::MainExports;
-use crate::tables::{ExportTables, function_key};
+use crate::sources::ModuleExports;
+use crate::tables::function_key;
 use comp_bytes::{Argument, Item, Sort};
-use comp_imports::ImportNames;
 use comp_lists::{Keyed, Seq, Text};
-use comp_worlds::{ComponentWorld, CustomModule};
-use core_options::{OptionSources, StateFault, export_realloc_of, memory_name};
+use comp_worlds::ComponentWorld;
+use core_options::StateFault;
 use nested_components::{NestedComponent, nested_component};
 use root_imports::{RootScope, types_of};
 use std::alloc::{AllocError, Global};
@@ -97,7 +92,7 @@ fn interface_component(
     Ok(nested)
 }
 
-impl MainExports<'_> {
+impl ModuleExports<'_> {
     /// Exports an item under the name of its key, and returns the index of what is exported.
     fn export(
         &self,
@@ -130,14 +125,14 @@ impl MainExports<'_> {
         function: &Function,
     ) -> Result<(), StateFault>
         requires exports { AreExports root.old.world.now self.now root.old }
-        requires next { slice_get root.old.world.now.main_exports (exports_in root.old.items.defs) ≡ Some key.now }
+        requires next { slice_get (required_keys root.old.world.now) (exports_in root.old.items.defs) ≡ Some (key_for (exporter self.now) key.now) }
         requires item { exported_item root.old.world.now key.now ≡ Some (items.Function function.now) }
-        requires required { IsRequired root.old.world.now root.old.world.now.main key.now }
+        requires required { IsRequired root.old.world.now self.now.user.found.now key.now }
         ensures kept { RootKept root.old.world.now root.old root.new }
-        ensures grows { OnOk result (Grows root.old.world.now root.old.items.defs root.new.items.defs (key_marked (naming_of self.now.names) root.old.world.now key.now)) }
-        ensures has { OnOk result (AllByRecursion (HasLiftOptions root.old.world.now) (functions_of_key root.old.world.now key.now)) }
-        ensures encoded { OnOk result (AllByRecursion (IsEncodedExport root.old.world.now) (functions_of_key root.old.world.now key.now)) }
-        ensures cause { IfErr result (IsCauseAmong root.old.world.now [] (functions_of_key root.old.world.now key.now)) }
+        ensures grows { OnOk result (Grows root.old.world.now root.old.items.defs root.new.items.defs (key_marked (naming_of self.now.names) root.old.world.now (exporter self.now) key.now)) }
+        ensures has { OnOk result (AllByRecursion (HasLiftOptions root.old.world.now) (functions_of_key root.old.world.now (exporter self.now) key.now)) }
+        ensures encoded { OnOk result (AllByRecursion (IsEncodedExport root.old.world.now) (functions_of_key root.old.world.now (exporter self.now) key.now)) }
+        ensures cause { IfErr result (IsCauseAmong root.old.world.now [] (functions_of_key root.old.world.now (exporter self.now) key.now)) }
     {
         let required = function_key(root.items.allocator(), key, &function.name)?;
         let lifted = self.lift(root, None, &required, function)?;
@@ -187,16 +182,16 @@ impl MainExports<'_> {
         id: InterfaceId,
     ) -> Result<u32, StateFault>
         requires exports { AreExports root.old.world.now self.now root.old }
-        requires next { slice_get root.old.world.now.main_exports (exports_in root.old.items.defs) ≡ Some key.now }
+        requires next { slice_get (required_keys root.old.world.now) (exports_in root.old.items.defs) ≡ Some (key_for (exporter self.now) key.now) }
         requires item { exported_item root.old.world.now key.now ≡ Some (items.Interface id) }
-        requires required { IsRequired root.old.world.now root.old.world.now.main key.now }
+        requires required { IsRequired root.old.world.now self.now.user.found.now key.now }
         requires supplied { IsSupplied root.old.world.now root.old.met id (length root.old.world.now.resolve.types) }
         ensures kept { RootKept root.old.world.now root.old root.new }
-        ensures grows { OnOk result (Grows root.old.world.now root.old.items.defs root.new.items.defs (key_marked (naming_of self.now.names) root.old.world.now key.now)) }
+        ensures grows { OnOk result (Grows root.old.world.now root.old.items.defs root.new.items.defs (key_marked (naming_of self.now.names) root.old.world.now (exporter self.now) key.now)) }
         ensures exports { IfOk result (ExportsListed root.old.world.now root.new.items.defs id) }
-        ensures has { OnOk result (AllByRecursion (HasLiftOptions root.old.world.now) (functions_of_key root.old.world.now key.now)) }
-        ensures encoded { OnOk result (AllByRecursion (IsEncodedExport root.old.world.now) (functions_of_key root.old.world.now key.now)) }
-        ensures cause { IfErr result (IsCauseAmong root.old.world.now [] (functions_of_key root.old.world.now key.now)) }
+        ensures has { OnOk result (AllByRecursion (HasLiftOptions root.old.world.now) (functions_of_key root.old.world.now (exporter self.now) key.now)) }
+        ensures encoded { OnOk result (AllByRecursion (IsEncodedExport root.old.world.now) (functions_of_key root.old.world.now (exporter self.now) key.now)) }
+        ensures cause { IfErr result (IsCauseAmong root.old.world.now [] (functions_of_key root.old.world.now (exporter self.now) key.now)) }
     {
         let world = root.world;
         let functions = functions_of(world, id);
@@ -217,16 +212,16 @@ impl MainExports<'_> {
     ) -> Result<(), StateFault>
         requires exports { AreExports root.old.world.now self.now root.old }
         requires at_hand { AreExportsAtHand root.old.world.now root.old.met (exports_in root.old.items.defs) }
-        requires next { slice_get root.old.world.now.main_exports (exports_in root.old.items.defs) ≡ Some key.now }
+        requires next { slice_get (required_keys root.old.world.now) (exports_in root.old.items.defs) ≡ Some (key_for (exporter self.now) key.now) }
         requires item { exported_item root.old.world.now key.now ≡ Some (items.Interface id) }
-        requires required { IsRequired root.old.world.now root.old.world.now.main key.now }
+        requires required { IsRequired root.old.world.now self.now.user.found.now key.now }
         ensures moved { RootMoved root.old.world.now root.old root.new }
         ensures at_hand { AreExportsAtHand root.old.world.now root.new.met (exports_in root.new.items.defs) }
         ensures forgotten { OnOk result (ForgetsTypes root.old.world.now id root.new) }
-        ensures grows { OnOk result (Grows root.old.world.now root.old.items.defs root.new.items.defs (key_marked (naming_of self.now.names) root.old.world.now key.now)) }
-        ensures has { OnOk result (AllByRecursion (HasLiftOptions root.old.world.now) (functions_of_key root.old.world.now key.now)) }
-        ensures encoded { OnOk result (AllByRecursion (IsEncodedExport root.old.world.now) (functions_of_key root.old.world.now key.now)) }
-        ensures cause { IfErr result (IsCauseAmong root.old.world.now [] (functions_of_key root.old.world.now key.now)) }
+        ensures grows { OnOk result (Grows root.old.world.now root.old.items.defs root.new.items.defs (key_marked (naming_of self.now.names) root.old.world.now (exporter self.now) key.now)) }
+        ensures has { OnOk result (AllByRecursion (HasLiftOptions root.old.world.now) (functions_of_key root.old.world.now (exporter self.now) key.now)) }
+        ensures encoded { OnOk result (AllByRecursion (IsEncodedExport root.old.world.now) (functions_of_key root.old.world.now (exporter self.now) key.now)) }
+        ensures cause { IfErr result (IsCauseAmong root.old.world.now [] (functions_of_key root.old.world.now (exporter self.now) key.now)) }
     {
         let instance = self.export_instance(root, key, id)?;
         root.enter_export(id, instance)?;
@@ -242,14 +237,14 @@ impl MainExports<'_> {
     ) -> Result<(), StateFault>
         requires exports { AreExports root.old.world.now self.now root.old }
         requires at_hand { AreExportsAtHand root.old.world.now root.old.met (exports_in root.old.items.defs) }
-        requires next { slice_get root.old.world.now.main_exports (exports_in root.old.items.defs) ≡ Some key.now }
-        requires required { IsRequired root.old.world.now root.old.world.now.main key.now }
+        requires next { slice_get (required_keys root.old.world.now) (exports_in root.old.items.defs) ≡ Some (key_for (exporter self.now) key.now) }
+        requires required { IsRequired root.old.world.now self.now.user.found.now key.now }
         ensures moved { RootMoved root.old.world.now root.old root.new }
         ensures at_hand { AreExportsAtHand root.old.world.now root.new.met (exports_in root.new.items.defs) }
-        ensures grows { OnOk result (Grows root.old.world.now root.old.items.defs root.new.items.defs (key_marked (naming_of self.now.names) root.old.world.now key.now)) }
-        ensures has { OnOk result (AllByRecursion (HasLiftOptions root.old.world.now) (functions_of_key root.old.world.now key.now)) }
-        ensures encoded { OnOk result (AllByRecursion (IsEncodedExport root.old.world.now) (functions_of_key root.old.world.now key.now)) }
-        ensures cause { IfErr result (IsCauseAmong root.old.world.now [] (functions_of_key root.old.world.now key.now)) }
+        ensures grows { OnOk result (Grows root.old.world.now root.old.items.defs root.new.items.defs (key_marked (naming_of self.now.names) root.old.world.now (exporter self.now) key.now)) }
+        ensures has { OnOk result (AllByRecursion (HasLiftOptions root.old.world.now) (functions_of_key root.old.world.now (exporter self.now) key.now)) }
+        ensures encoded { OnOk result (AllByRecursion (IsEncodedExport root.old.world.now) (functions_of_key root.old.world.now (exporter self.now) key.now)) }
+        ensures cause { IfErr result (IsCauseAmong root.old.world.now [] (functions_of_key root.old.world.now (exporter self.now) key.now)) }
     {
         match root.world.items().exports.get(key).unwrap() {
             WorldItem::Function(function) => self.export_function(root, key, function),
@@ -258,57 +253,23 @@ impl MainExports<'_> {
         }
     }
 
-    /// Lifts and exports what is required of main, in order.
-    fn export_items(&self, root: &mut RootScope<'_, ComponentWorld>) -> Result<(), StateFault>
+    /// Lifts and exports what is required at these keys, in order.
+    pub(crate) fn export_keys(
+        &self,
+        root: &mut RootScope<'_, ComponentWorld>,
+        keys: &[WorldKey],
+    ) -> Result<(), StateFault>
         requires exports { AreExports root.old.world.now self.now root.old }
         requires at_hand { AreExportsAtHand root.old.world.now root.old.met (exports_in root.old.items.defs) }
-        requires none { exports_in root.old.items.defs ≡ 0 }
+        requires next { AreNextKeys root.old.world.now (exporter self.now) self.now.user.found.now (exports_in root.old.items.defs) keys.now }
         ensures moved { RootMoved root.old.world.now root.old root.new }
         ensures at_hand { AreExportsAtHand root.old.world.now root.new.met (exports_in root.new.items.defs) }
-        ensures grows { OnOk result (Grows root.old.world.now root.old.items.defs root.new.items.defs (exports_marked (naming_of self.now.names) root.old.world.now)) }
-        ensures encoded { OnOk result (AllByRecursion (IsEncodedExport root.old.world.now) (required_functions root.old.world.now)) }
-        ensures has { OnOk result (AllByRecursion (HasLiftOptions root.old.world.now) (required_functions root.old.world.now)) }
+        ensures exported { OnOk result (AreExported (naming_of self.now.names) root.old.world.now root.old.items.defs root.new.items.defs (map (key_for (exporter self.now)) keys.now)) }
         ensures cause { IfErr result (IsCause root.old.world.now) }
     {
-        let world = root.world;
-        for key in world.main_exports.as_slice() {
+        for key in keys {
             self.export_item(root, key)?;
         }
         Ok(())
     }
-}
-
-/// Lifts and exports what is required of main, in order. `instance` is main's, and `names` makes the names of interfaces. Refused as
-/// the lift of one of the functions is.
-pub fn export_all(
-    root: &mut RootScope<'_, ComponentWorld>,
-    instance: u32,
-    names: &ImportNames<'_>,
-) -> Result<(), StateFault>
-    requires valid { IsEncodable root.old.world.now }
-    requires made { IsInstanceOf root.old.items.defs instance 0 }
-    requires tables { AreTablesRight root.old.world.now root.old.met root.old.instances root.old.items.defs root.old.maps }
-    requires passed { ArePassed root.old.world.now root.old.met }
-    requires ordered { AreExportsInOrder root.old.world.now }
-    requires at_hand { AreExportsAtHand root.old.world.now root.old.met (exports_in root.old.items.defs) }
-    requires none { exports_in root.old.items.defs ≡ 0 }
-    ensures moved { RootMoved root.old.world.now root.old root.new }
-    ensures at_hand { AreExportsAtHand root.old.world.now root.new.met (exports_in root.new.items.defs) }
-    ensures grows { OnOk result (Grows root.old.world.now root.old.items.defs root.new.items.defs (exports_marked (naming_of names.now) root.old.world.now)) }
-    ensures encoded { OnOk result (AllByRecursion (IsEncodedExport root.old.world.now) (required_functions root.old.world.now)) }
-    ensures has { OnOk result (AllByRecursion (HasLiftOptions root.old.world.now) (required_functions root.old.world.now)) }
-    ensures cause { IfErr result (IsCause root.old.world.now) }
-{
-    let world = root.world;
-    let tables = ExportTables::of(root.items.allocator(), &world.main.exports.exports)?;
-    let main = MainExports {
-        tables,
-        sources: OptionSources {
-            instance,
-            memory: memory_name(world),
-            realloc: export_realloc_of(world, CustomModule::Main, &world.main, instance, instance),
-        },
-        names: *names,
-    };
-    main.export_items(root)
 }

@@ -7,17 +7,18 @@ ghost use Rattle.std.specs.Prelude.{◌≡◌, [], ◌∷◌, IfOk, IfErr, OnOk,
 ghost use Rattle.std.specs.List.{AllByRecursion};
 ghost use Rattle.comp_items.specs.Items.{Extends};
 ghost use Rattle.comp_terms.specs.Rules.{Grows};
-ghost use Rattle.comp_worlds.specs.WorldContents.{core_name_of, exported_item};
+ghost use Rattle.comp_links.specs.Links.{core_name};
+ghost use Rattle.comp_worlds.specs.WorldContents.{exported_item};
 ghost use Rattle.interface_needs.specs.RootNeeds.{interface_of_item};
 ghost use Rattle.wit_data.specs.declared.worlds.WorldItem.TheVariants as world_items;
 ghost use Rattle.core_options.specs.Causes.{IsCauseAmong, IsEncodedExport};
 ghost use Rattle.core_options.specs.MainOptions.{HasLiftOptions};
 ghost use Rattle.root_imports.specs.Keeping.{RootKept};
-ghost use Rattle.main_exports.specs.Exports.{AreExports, main_function, IsMainFunction, IsEntryOf, IsTypedLift, at_key, functions_at, AreMainFunctions, IsLiftArgument, AreLiftArguments};
+ghost use Rattle.main_exports.specs.Exports.{AreExports, exporter, function_of, IsModuleFunction, IsEntryOf, IsTypedLift, at_key, functions_at, AreModuleFunctions, IsLiftArgument, AreLiftArguments};
 ghost use Rattle.root_imports.specs.Met.{IsSupplied, IsSuppliedFor};
 ghost use Rattle.root_imports.specs.RootScopes.{IsRefusal};
 
-use crate::sources::MainExports;
+use crate::sources::ModuleExports;
 use crate::tables::function_key;
 use byte_encoding::BuildFault;
 use comp_bytes::{Argument, Sort};
@@ -27,7 +28,7 @@ use core_options::{StateFault, alias_of};
 use root_imports::RootScope;
 use wit_data::{Function, InterfaceId, WorldKey};
 
-impl MainExports<'_> {
+impl ModuleExports<'_> {
     /// The alias of the core export that implements a function.
     fn core_entry(
         &self,
@@ -35,11 +36,11 @@ impl MainExports<'_> {
         required: &FunctionKey,
     ) -> Result<u32, BuildFault>
         requires exports { AreExports root.old.world.now self.now root.old }
-        requires present { IsSome (core_name_of root.old.world.now required.now.key required.now.function) }
+        requires present { IsSome (core_name root.old.world.now (function_of (exporter self.now) required.now)) }
         ensures same { root.new ≡ record root.old { items = root.new.items } }
         ensures extends { Extends root.old.items root.new.items }
         ensures grows { OnOk result (Grows root.old.world.now root.old.items.defs root.new.items.defs []) }
-        ensures entry { IfOk result (λ core. IsEntryOf root.old.world.now root.new.items.defs required.now core) }
+        ensures entry { IfOk result (λ core. IsEntryOf root.old.world.now (exporter self.now) root.new.items.defs required.now core) }
         ensures cause { IfErr result IsRefusal }
     {
         let name = self.tables.implementation(required).unwrap();
@@ -49,8 +50,8 @@ impl MainExports<'_> {
 
     /// Lifts a required function from the core export that implements it: one of an interface, or one at the root.
     ///
-    /// `E7` where its type needs a memory and main exports none, `E8` where it needs a realloc and main exports none for it, `E9`
-    /// where it has no string encoding, and `E16` where a space would have more than 2^32 - 1 items.
+    /// `E7` where its type needs a memory and main exports none, `E8` where it needs a realloc and there is none for the module,
+    /// `E9` where it has no string encoding, and `E16` where a space would have more than 2^32 - 1 items.
     pub(crate) fn lift(
         &self,
         root: &mut RootScope<'_, ComponentWorld>,
@@ -59,15 +60,15 @@ impl MainExports<'_> {
         function: &Function,
     ) -> Result<u32, StateFault>
         requires exports { AreExports root.old.world.now self.now root.old }
-        requires required { IsMainFunction root.old.world.now required.now function.now }
+        requires required { IsModuleFunction root.old.world.now (exporter self.now) required.now function.now }
         requires of { interface_of_item (exported_item root.old.world.now required.now.key) ≡ interface }
         requires supplied { IsSuppliedFor root.old.world.now root.old.met interface }
         ensures kept { RootKept root.old.world.now root.old root.new }
         ensures grows { OnOk result (Grows root.old.world.now root.old.items.defs root.new.items.defs []) }
-        ensures lifted { IfOk result (λ index. IsTypedLift root.old.world.now root.new.items.defs required.now function.now index) }
-        ensures has { OnOk result (HasLiftOptions root.old.world.now (main_function required.now)) }
-        ensures encoded { OnOk result (IsEncodedExport root.old.world.now (main_function required.now)) }
-        ensures cause { IfErr result (IsCauseAmong root.old.world.now [] (main_function required.now ∷ [])) }
+        ensures lifted { IfOk result (λ index. IsTypedLift root.old.world.now (exporter self.now) root.new.items.defs required.now function.now index) }
+        ensures has { OnOk result (HasLiftOptions root.old.world.now (function_of (exporter self.now) required.now)) }
+        ensures encoded { OnOk result (IsEncodedExport root.old.world.now (function_of (exporter self.now) required.now)) }
+        ensures cause { IfErr result (IsCauseAmong root.old.world.now [] (function_of (exporter self.now) required.now ∷ [])) }
     {
         let ty = root.function_type(interface, function)?;
         let core = self.core_entry(root, required)?;
@@ -90,13 +91,13 @@ impl MainExports<'_> {
         requires exports { AreExports root.old.world.now self.now root.old }
         requires item { exported_item root.old.world.now key.now ≡ Some (world_items.Interface id) }
         requires supplied { IsSupplied root.old.world.now root.old.met id (length root.old.world.now.resolve.types) }
-        requires required { IsMainFunction root.old.world.now (at_key key.now name.now) function.now }
+        requires required { IsModuleFunction root.old.world.now (exporter self.now) (at_key key.now name.now) function.now }
         ensures kept { RootKept root.old.world.now root.old root.new }
         ensures grows { OnOk result (Grows root.old.world.now root.old.items.defs root.new.items.defs []) }
-        ensures lifted { IfOk result (λ a. IsLiftArgument root.old.world.now root.new.items.defs key.now (name.now, function.now) import.now a) }
-        ensures has { OnOk result (HasLiftOptions root.old.world.now (main_function (at_key key.now name.now))) }
-        ensures encoded { OnOk result (IsEncodedExport root.old.world.now (main_function (at_key key.now name.now))) }
-        ensures cause { IfErr result (IsCauseAmong root.old.world.now [] (main_function (at_key key.now name.now) ∷ [])) }
+        ensures lifted { IfOk result (λ a. IsLiftArgument root.old.world.now (exporter self.now) root.new.items.defs key.now (name.now, function.now) import.now a) }
+        ensures has { OnOk result (HasLiftOptions root.old.world.now (function_of (exporter self.now) (at_key key.now name.now))) }
+        ensures encoded { OnOk result (IsEncodedExport root.old.world.now (function_of (exporter self.now) (at_key key.now name.now))) }
+        ensures cause { IfErr result (IsCauseAmong root.old.world.now [] (function_of (exporter self.now) (at_key key.now name.now) ∷ [])) }
     {
         let alloc = root.items.allocator();
         let argument = import.clone(alloc)?;
@@ -121,14 +122,14 @@ impl MainExports<'_> {
         requires exports { AreExports root.old.world.now self.now root.old }
         requires item { exported_item root.old.world.now key.now ≡ Some (world_items.Interface id) }
         requires supplied { IsSupplied root.old.world.now root.old.met id (length root.old.world.now.resolve.types) }
-        requires functions { AreMainFunctions root.old.world.now key.now functions.now }
+        requires functions { AreModuleFunctions root.old.world.now (exporter self.now) key.now functions.now }
         requires imports { length imports.now ≡ length functions.now }
         ensures kept { RootKept root.old.world.now root.old root.new }
         ensures grows { OnOk result (Grows root.old.world.now root.old.items.defs root.new.items.defs []) }
-        ensures lifted { IfOk result (λ arguments. AreLiftArguments root.old.world.now root.new.items.defs key.now functions.now imports.now arguments) }
-        ensures has { OnOk result (AllByRecursion (HasLiftOptions root.old.world.now) (functions_at key.now functions.now)) }
-        ensures encoded { OnOk result (AllByRecursion (IsEncodedExport root.old.world.now) (functions_at key.now functions.now)) }
-        ensures cause { IfErr result (IsCauseAmong root.old.world.now [] (functions_at key.now functions.now)) }
+        ensures lifted { IfOk result (λ arguments. AreLiftArguments root.old.world.now (exporter self.now) root.new.items.defs key.now functions.now imports.now arguments) }
+        ensures has { OnOk result (AllByRecursion (HasLiftOptions root.old.world.now) (functions_at (exporter self.now) key.now functions.now)) }
+        ensures encoded { OnOk result (AllByRecursion (IsEncodedExport root.old.world.now) (functions_at (exporter self.now) key.now functions.now)) }
+        ensures cause { IfErr result (IsCauseAmong root.old.world.now [] (functions_at (exporter self.now) key.now functions.now)) }
     {
         let mut arguments = Seq::new(root.items.allocator());
         let mut rest = imports;

@@ -1,4 +1,4 @@
-//! The options of a lift: those that its type needs, with what they name among the exports of main, and its post-return.
+//! The options of a lift: those that its type needs, with main's memory and the realloc of its module, and its post-return.
 //!
 //! Component model, binary format: `canonopt`; Canonical ABI: `canon lift`, `realloc`, `string-encoding`, `post-return`.
 #![tactic(auto, using(crate::proofs::Growth::growing))]
@@ -7,14 +7,13 @@ ghost use Rattle.std.specs.Prelude.{◌≡◌, [], ◌∷◌, ◌++◌, IfOk, If
 ghost use Rattle.comp_items.specs.Items.{Extends};
 ghost use Rattle.comp_links.specs.Links.{needed_options, lift_options};
 ghost use Rattle.comp_links.specs.Roles.{export_encoding};
-ghost use Rattle.comp_links.specs.Targets.{Main};
 ghost use Rattle.comp_options.specs.OptionLists.{one_if};
 ghost use Rattle.core_options.specs.Causes.{IsCauseAmong, IsEncodedExport};
 ghost use Rattle.core_options.specs.MainOptions.{NameOptions, HasLiftOptions};
-ghost use Rattle.main_exports.specs.Exports.{AreExports, main_function, IsMainFunction};
+ghost use Rattle.main_exports.specs.Exports.{AreExports, exporter, function_of, IsModuleFunction};
 ghost use Rattle.comp_terms.specs.Rules.{Grows};
 
-use crate::sources::MainExports;
+use crate::sources::ModuleExports;
 use comp_bytes::CanonicalOption;
 use comp_lists::Seq;
 use comp_options::RequiredOptions;
@@ -22,26 +21,8 @@ use comp_worlds::{ComponentWorld, FunctionKey};
 use core_options::{StateFault, alias_if, options_for};
 use root_imports::RootScope;
 use standard_kinds::StringEncoding;
-use std::alloc::{AllocError, Global};
+use std::alloc::AllocError;
 use wit_data::{AbiVariant, Function};
-
-/// The string encoding with which a function is lifted. `E9` where it has none.
-fn lift_encoding(
-    alloc: Global,
-    world: &ComponentWorld,
-    required: &FunctionKey,
-) -> Result<StringEncoding, StateFault>
-    ensures ok { IfOk result (λ encoding. export_encoding world.now Main required.now.key required.now.function ≡ Some encoding) }
-    ensures cause { IfErr result (IsCauseAmong world.now [] (main_function required.now ∷ [])) }
-{
-    match world.main.metadata.export_encodings.get(required) {
-        Some(encoding) => Ok(*encoding),
-        None => {
-            let place = required.function.clone(alloc)?;
-            Err(StateFault::NoEncoding { place })
-        }
-    }
-}
 
 /// Appends the post-return, if there is one.
 fn push_post_return(
@@ -56,7 +37,26 @@ fn push_post_return(
     Ok(())
 }
 
-impl MainExports<'_> {
+impl ModuleExports<'_> {
+    /// The string encoding with which a function is lifted. `E9` where its module has none for it.
+    fn lift_encoding(
+        &self,
+        root: &RootScope<'_, ComponentWorld>,
+        required: &FunctionKey,
+    ) -> Result<StringEncoding, StateFault>
+        requires exports { AreExports root.now.world.now self.now root.now }
+        ensures ok { IfOk result (λ encoding. export_encoding root.now.world.now (exporter self.now) required.now.key required.now.function ≡ Some encoding) }
+        ensures cause { IfErr result (IsCauseAmong root.now.world.now [] (function_of (exporter self.now) required.now ∷ [])) }
+    {
+        match self.user.found.metadata.export_encodings.get(required) {
+            Some(encoding) => Ok(*encoding),
+            None => {
+                let place = required.function.clone(root.items.allocator())?;
+                Err(StateFault::NoEncoding { place })
+            }
+        }
+    }
+
     /// The options that the type of a function needs for its lift, in order.
     fn needed_options(
         &self,
@@ -65,17 +65,17 @@ impl MainExports<'_> {
         function: &Function,
     ) -> Result<Seq<CanonicalOption>, StateFault>
         requires exports { AreExports root.old.world.now self.now root.old }
-        requires required { IsMainFunction root.old.world.now required.now function.now }
+        requires required { IsModuleFunction root.old.world.now (exporter self.now) required.now function.now }
         ensures same { root.new ≡ record root.old { items = root.new.items } }
         ensures extends { Extends root.old.items root.new.items }
         ensures grows { OnOk result (Grows root.old.world.now root.old.items.defs root.new.items.defs []) }
-        ensures named { IfOk result (λ options. NameOptions root.old.world.now root.new.items.defs options (needed_options root.old.world.now (main_function required.now))) }
-        ensures has { OnOk result (HasLiftOptions root.old.world.now (main_function required.now)) }
-        ensures encoded { OnOk result (IsEncodedExport root.old.world.now (main_function required.now)) }
-        ensures cause { IfErr result (IsCauseAmong root.old.world.now [] (main_function required.now ∷ [])) }
+        ensures named { IfOk result (λ options. NameOptions root.old.world.now root.new.items.defs options (needed_options root.old.world.now (function_of (exporter self.now) required.now))) }
+        ensures has { OnOk result (HasLiftOptions root.old.world.now (function_of (exporter self.now) required.now)) }
+        ensures encoded { OnOk result (IsEncodedExport root.old.world.now (function_of (exporter self.now) required.now)) }
+        ensures cause { IfErr result (IsCauseAmong root.old.world.now [] (function_of (exporter self.now) required.now ∷ [])) }
     {
         let world = root.world;
-        let encoding = lift_encoding(root.items.allocator(), world, required)?;
+        let encoding = self.lift_encoding(root, required)?;
         let needed = RequiredOptions::for_export(&world.resolve, function, AbiVariant::GuestExport);
         let place = &required.function;
         let options = options_for(root, &self.sources, place, needed, encoding)?;
@@ -84,7 +84,7 @@ impl MainExports<'_> {
 
     /// The options with which a function is lifted: those that its type needs, and its post-return.
     ///
-    /// `E7` where it needs a memory and main exports none, `E8` where it needs a realloc and main exports none for it, `E9`
+    /// `E7` where it needs a memory and main exports none, `E8` where it needs a realloc and there is none for the module, `E9`
     /// where it has no string encoding.
     pub(crate) fn lift_options(
         &self,
@@ -93,14 +93,14 @@ impl MainExports<'_> {
         function: &Function,
     ) -> Result<Seq<CanonicalOption>, StateFault>
         requires exports { AreExports root.old.world.now self.now root.old }
-        requires required { IsMainFunction root.old.world.now required.now function.now }
+        requires required { IsModuleFunction root.old.world.now (exporter self.now) required.now function.now }
         ensures same { root.new ≡ record root.old { items = root.new.items } }
         ensures extends { Extends root.old.items root.new.items }
         ensures grows { OnOk result (Grows root.old.world.now root.old.items.defs root.new.items.defs []) }
-        ensures named { IfOk result (λ options. NameOptions root.old.world.now root.new.items.defs options (lift_options root.old.world.now (main_function required.now))) }
-        ensures has { OnOk result (HasLiftOptions root.old.world.now (main_function required.now)) }
-        ensures encoded { OnOk result (IsEncodedExport root.old.world.now (main_function required.now)) }
-        ensures cause { IfErr result (IsCauseAmong root.old.world.now [] (main_function required.now ∷ [])) }
+        ensures named { IfOk result (λ options. NameOptions root.old.world.now root.new.items.defs options (lift_options root.old.world.now (function_of (exporter self.now) required.now))) }
+        ensures has { OnOk result (HasLiftOptions root.old.world.now (function_of (exporter self.now) required.now)) }
+        ensures encoded { OnOk result (IsEncodedExport root.old.world.now (function_of (exporter self.now) required.now)) }
+        ensures cause { IfErr result (IsCauseAmong root.old.world.now [] (function_of (exporter self.now) required.now ∷ [])) }
     {
         let mut options = self.needed_options(root, required, function)?;
         let export = self.own_export_if(self.tables.post_return(required));

@@ -6,34 +6,47 @@ ghost use Rattle.main_exports.specs.Exports.{IsOwnExport, IsOwnExportIf};
 use crate::tables::ExportTables;
 use comp_imports::ImportNames;
 use comp_lists::Text;
-use comp_worlds::CustomModule;
+use comp_worlds::{CustomModule, ValidatedModule};
 use core_options::{InstanceExport, OptionSources};
 
-/// What required functions are lifted from.
+/// A user module that is instantiated.
+#[derive(Clone, Copy)]
+pub(crate) struct UserInstance<'a> {
+    /// How others name the module.
+    pub which: CustomModule<'a>,
+    /// What validation found of it.
+    pub found: &'a ValidatedModule,
+    /// Its instance.
+    pub instance: u32,
+}
+
+/// What the functions are lifted from that are required of one user module.
 #[derive(Drop)]
-pub(crate) struct MainExports<'a> {
-    /// The core exports of main, by the functions that they belong to.
+pub(crate) struct ModuleExports<'a> {
+    /// The module, and its instance.
+    pub user: UserInstance<'a>,
+    /// Its core exports, by the functions that they belong to.
     pub tables: ExportTables,
-    /// Main's instance, and its exports that options name.
+    /// Main's instance with its memory, and the realloc of calls of the module's exports.
     pub sources: OptionSources<'a>,
     /// How the names of interfaces are made.
     pub names: ImportNames<'a>,
 }
 
-impl MainExports<'_> {
-    /// The function that main's instance exports under this name.
-    pub(crate) fn own_export<'a>(&self, name: &'a Text) -> InstanceExport<'a>
+impl<'m> ModuleExports<'m> {
+    /// The function that the module's instance exports under this name.
+    pub(crate) fn own_export<'a>(&'a self, name: &'a Text) -> InstanceExport<'a>
         ensures { IsOwnExport self.now name.now result }
     {
         InstanceExport {
-            instance: self.sources.instance,
-            of: CustomModule::Main,
+            instance: self.user.instance,
+            of: self.user.which,
             name: name.as_str(),
         }
     }
 
     /// The same, if a name is given.
-    pub(crate) fn own_export_if<'a>(&self, name: Option<&'a Text>) -> Option<InstanceExport<'a>>
+    pub(crate) fn own_export_if<'a>(&'a self, name: Option<&'a Text>) -> Option<InstanceExport<'a>>
         ensures { IsOwnExportIf self.now (option_copied name.entry) result }
     {
         match name {

@@ -1,4 +1,4 @@
-//! The core exports of main by the functions that they belong to, looked up once for all functions.
+//! The core exports of a user module by the functions that they belong to, looked up once for all functions.
 //!
 //! Canonical ABI: `canon lift`, with its option `post-return`.
 
@@ -15,7 +15,7 @@ use comp_worlds::{Export, FunctionKey};
 use std::alloc::{AllocError, Global};
 use wit_data::WorldKey;
 
-/// The names of main's exports, by the functions that they implement, and by those whose post-return they are: the first, where
+/// The names of a module's exports, by the functions that they implement, and by those whose post-return they are: the first, where
 /// there are several for one function.
 #[derive(Drop)]
 pub(crate) struct ExportTables {

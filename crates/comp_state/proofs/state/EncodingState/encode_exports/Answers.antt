@@ -12,14 +12,14 @@ use Rattle.comp_state.specs.Encoding.{Encoding, naming_in}
 use Rattle.comp_state.proofs.Growth.{encoding-moved, imports_made, users_known, users_made}
 use Rattle.comp_state.proofs.state.EncodingState.encode_exports.Goals as goal
 
-pub unwrap-main-requires : goal.unwrap-main-requires
-unwrap-main-requires c = users_known c.self.invariant (ap (λ (e : Encoding). e.step) c.self.view_is ∙ c.requires.instantiated)
+pub unreachable-requires : goal.unreachable-requires
+unreachable-requires c = users_known c.self.invariant (ap (λ (e : Encoding). e.step) c.self.view_is ∙ c.requires.instantiated) c.in-None.is
 
 pub export_all-requires-clause-valid : goal.export_all-requires-clause-valid
 export_all-requires-clause-valid c = c.self.invariant.valid
 
 pub export_all-requires-clause-made : goal.export_all-requires-clause-made
-export_all-requires-clause-made c = users_made c.self.invariant (ap (λ (e : Encoding). e.step) c.self.view_is ∙ c.requires.instantiated) _ c.unwrap-main.ensures
+export_all-requires-clause-made c = users_made c.self.invariant (ap (λ (e : Encoding). e.step) c.self.view_is ∙ c.requires.instantiated) c.in-Some.users.now c.in-Some.is
 
 pub export_all-requires-clause-tables : goal.export_all-requires-clause-tables
 export_all-requires-clause-tables c = (imports_made c.self.invariant (ap (λ (e : Encoding). e.step) c.self.view_is ∙ c.requires.instantiated)).tables
