@@ -130,8 +130,8 @@ ids_at w keys = flat_map (λ key. map (λ t. t.1) (entries_at w key)) keys
 abbrev pub marks_at : ComponentWorld → List WorldKey → List Landmark
 marks_at w keys = map (λ t. ResourceDefined) (filter (is_own w) (ids_at w keys))
 
--- This module has to export the next of the keys: the resources that are listed at those before them are defined, and the interfaces there
--- are those whose types are in the tables.
+-- This module has to export the next of the keys: the resources that are listed at those before them are defined, and
+-- the interfaces there are those whose types are in the tables.
 pub record AreNextKeys (w : ComponentWorld) (met : MetTypes) (ds : List Def) (of : UserModule) (keys : List WorldKey) : Type 0 where
   pub before : List RequiredKey
   pub after : List RequiredKey
@@ -139,7 +139,8 @@ pub record AreNextKeys (w : ComponentWorld) (met : MetTypes) (ds : List Def) (of
   pub count : (inventory ds).resources ≡ length (provided_at w before)
   pub has : (other : InterfaceId) → has_types met other ≡ list_any (same_interface other) (interfaces_at w (map (λ r. r.key) before))
 
--- The types of the exported interfaces that these use are in the tables, or those interfaces are at earlier ones of some keys.
+-- The types of the exported interfaces that these use are in the tables, or those interfaces are at earlier ones of
+-- some keys.
 abbrev pub UsesEarlier : ComponentWorld → MetTypes → List WorldKey → List InterfaceId → Type 0
 UsesEarlier w met earlier ids = AllByRecursion (λ id. AllByRecursion (λ other. (has_types met other || list_any (same_interface other) (interfaces_at w earlier)) ≡ true) (used_exports w id)) ids
 

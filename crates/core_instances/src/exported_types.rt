@@ -1,5 +1,5 @@
-//! The types of exported interfaces. They are defined before the instances of user modules, those of each interface behind the types of
-//! the exported ones that it uses.
+//! The types of exported interfaces. They are defined before the instances of user modules, those of each interface
+//! behind the types of the exported ones that it uses.
 #![tactic(auto)]
 
 ghost use Rattle.std.specs.Prelude.{◌≡◌, ◌<◌, [], ◌∷◌, true, length, IfErr, OnOk, Some, None};
@@ -149,8 +149,8 @@ fn define_types_at(
     }
 }
 
-/// Defines the types of the interfaces that a user module has to export, in their order. `sources` has the module, and `keys` are those of
-/// the interfaces.
+/// Defines the types of the interfaces that a user module has to export, in their order. `sources` has the module, and
+/// `keys` are those of the interfaces.
 ///
 /// `E11` where one uses types of another exported interface that isn't exported before it.
 fn define_types_of_module(
@@ -205,7 +205,8 @@ fn adapter_sources<'a>(
     }
 }
 
-/// Defines the types of the interfaces that user modules have to export: those of main, and then those of the adapters in order.
+/// Defines the types of the interfaces that user modules have to export: those of main, and then those of the adapters
+/// in order.
 ///
 /// `E11` where one uses types of another exported interface that isn't exported before it.
 pub(crate) fn define_exported_types(

@@ -1,5 +1,5 @@
-//! Resources of exported interfaces, which the component defines. The destructor of one is a shim: the user module exports it that has to
-//! export the interface, and the instance of that module comes later.
+//! Resources of exported interfaces, which the component defines. The destructor of one is a shim: the user module
+//! exports it that has to export the interface, and the instance of that module comes later.
 //!
 //! Component model, explainer: type definitions.
 #![tactic(auto)]
@@ -104,8 +104,8 @@ fn destructor_shim(
     }
 }
 
-/// Defines the next resource of the component: one that an exported interface lists under a name, which is its debug name. `sources`
-/// has the user module that has to export the interface.
+/// Defines the next resource of the component: one that an exported interface lists under a name, which is its debug
+/// name. `sources` has the user module that has to export the interface.
 pub(crate) fn define_resource(
     root: &mut RootScope<'_, ComponentWorld>,
     sources: DestructorSources<'_>,
