@@ -2,7 +2,6 @@ use Rattle.std.proofs.Common.{◌≡◌, ◌∙◌, ℕ, List, [], ◌∷◌, ap
 use Rattle.comp_terms.specs.Rules.{Grows, ModuleIs}
 use Rattle.comp_terms.specs.UserBytes.{adapter_bytes}
 use Rattle.comp_worlds.specs.declared.world.WorldAdapter.{WorldAdapter}
-use Rattle.core_types.specs.Core.{IsCoreModule}
 use Rattle.root_imports.specs.Keeping.{Root}
 use Rattle.core_instances.proofs.AddedModules.{ModulesSoFar, modules_all, modules_start, modules_step, module_right}
 use Rattle.core_instances.proofs.modules.encode_core_modules.Goals as goal
