@@ -24,8 +24,8 @@ ghost use Rattle.wit_types.specs.Maps.{HasIndex};
 
 use byte_encoding::BuildFault;
 use comp_lists::Text;
-use comp_worlds::{ComponentWorld, CustomModule, MainOrAdapter, ValidatedModule};
-use main_instance::shim_alias;
+use comp_worlds::{ComponentWorld, CustomModule, ValidatedModule};
+use main_instance::{main_or_adapter, shim_alias};
 use root_imports::RootScope;
 use shim_plan::{ShimKind, Shims};
 use std::alloc::{AllocError, Global};
@@ -55,16 +55,6 @@ pub(crate) fn is_resource(resolve: &Resolve, id: TypeId) -> bool
         kind_of(resolve.types.as_slice(), id.index),
         TypeDefKind::Resource
     )
-}
-
-/// A user module, as kinds of shims name it.
-fn main_or_adapter(alloc: Global, which: CustomModule<'_>) -> Result<MainOrAdapter, AllocError>
-    ensures { IfOk result (λ named. named ≡ which_of (user_of which.entry)) }
-{
-    match which {
-        CustomModule::Main => Ok(MainOrAdapter::Main),
-        CustomModule::Adapter(name) => Ok(MainOrAdapter::Adapter(Text::from_str(alloc, name)?)),
-    }
 }
 
 /// The kind of the shim of a destructor that a user module exports under this name.

@@ -59,7 +59,7 @@ pub(crate) fn import_encoding(
 }
 
 /// A user module, as kinds of shims name it.
-fn main_or_adapter(alloc: Global, which: CustomModule<'_>) -> Result<MainOrAdapter, AllocError>
+pub fn main_or_adapter(alloc: Global, which: CustomModule<'_>) -> Result<MainOrAdapter, AllocError>
     ensures { IfOk result (λ module_name. module_name ≡ which_of (user_of which.entry)) }
 {
     match which {

@@ -16,5 +16,6 @@ mod instances;
 mod own_handles;
 mod shims;
 
+pub use calls::main_or_adapter;
 pub use instances::ImportSources;
 pub use shims::{encode_shim_instantiation, shim_alias};
