@@ -23,7 +23,7 @@ use Rattle.record_faults.specs.declared.fault.Failure.{Failure}
 use Rattle.record_faults.specs.declared.fault.Failure.TheVariants as failures
 use Rattle.record_faults.specs.declared.fault.Refusal.{Refusal}
 use Rattle.record_faults.specs.declared.fault.Refusal.TheVariants as refusals
-use Rattle.supported_worlds.specs.LeftOut.{items_of, unless, import_item_left_out, export_item_left_out, twice_left_out, names_left_out, order_left_out, resources_left_out, export_left_out, group_left_out, are_interfaces_apart, required_of, own_group_left_out, own_left_out, owned_left_out, world_left_out, module_left_out, adapters_left_out, modules_left_out, rest_left_out, named_left_out, left_out, unless_left_out, encoded}
+use Rattle.supported_worlds.specs.LeftOut.{items_of, unless, import_item_left_out, export_item_left_out, twice_left_out, names_left_out, order_left_out, resources_left_out, export_left_out, group_left_out, all_required, required_of, own_group_left_out, own_left_out, owned_left_out, world_left_out, module_left_out, adapters_left_out, modules_left_out, rest_left_out, named_left_out, left_out, unless_left_out, encoded}
 use Rattle.supported_worlds.specs.Distinct.{are_apart}
 use Rattle.supported_worlds.specs.Naming.{are_exports_named, AreExportsNamed}
 use Rattle.supported_worlds.specs.Placed.{places_of, is_world_placed, imported_numbers, are_in_place}
@@ -42,15 +42,6 @@ use Rattle.supported_worlds.proofs.Order.{passes}
 pub same_modules : (p : WorldParts) (w : World) (t : Places) (found : Option (List ℕ)) → ArePlaces p.resolve.types w.imports t → found ≡ modules_left_out p t.types t.interfaces.root → found ≡ modules_left_out p (places_of p.resolve.types w.imports) (length w.imports)
 same_modules p w t found h is = let i = h.interfaces in is ∙ ap₂ (modules_left_out p) h.types i.root
 
-pub is_twice : (required : List WorldKey) (w : World) (rest : Option (List ℕ)) (apart : Bool) → apart ≡ are_interfaces_apart w → apart ≡ false → Some (codes "interface") ≡ option_or (twice_left_out required w) rest
-is_twice required w rest apart is met = ap (λ b. option_or (unless (b && are_apart same_interface (required_of w.exports required)) (codes "interface")) rest) (sym (sym is ∙ met))
-
-pub required_twice : (required : List WorldKey) (w : World) (rest : Option (List ℕ)) → are_interfaces_apart w ≡ true → are_apart same_interface (required_of w.exports required) ≡ false → Some (codes "interface") ≡ option_or (twice_left_out required w) rest
-required_twice required w rest apart met = ap₂ (λ a b. option_or (unless (a && b) (codes "interface")) rest) (sym apart) (sym met)
-
-pub required_once : (required : List WorldKey) (w : World) (set : InterfaceSet) (found rest : Option (List ℕ)) → are_interfaces_apart w ≡ true → IsSetOf (required_of w.exports required) set → found ≡ rest → found ≡ option_or (twice_left_out required w) rest
-required_once required w set found rest apart h is = is ∙ ap₂ (λ a b. option_or (unless (a && b) (codes "interface")) rest) (sym apart) (sym h.apart)
-
 -- a role of an exported resource
 pub own_found : (p : WorldParts) (w : World) (set : InterfaceSet) (found rest : Option (List ℕ)) (what : List ℕ) → IsSetOf (required_of w.exports p.main_exports) set → found ≡ first_some (own_group_left_out p.resolve.types w.exports (keys_of set)) p.main.imports.modules → found ≡ Some what → Some what ≡ option_or (own_left_out p w) rest
 own_found p w set found rest what h is has = ap (λ o. option_or o rest) (sym has ∙ is ∙ ap (λ ks. first_some (own_group_left_out p.resolve.types w.exports ks) p.main.imports.modules) h.keys)
@@ -58,35 +49,13 @@ own_found p w set found rest what h is has = ap (λ o. option_or o rest) (sym ha
 pub own_passed : (p : WorldParts) (w : World) (set : InterfaceSet) (found own rest : Option (List ℕ)) → IsSetOf (required_of w.exports p.main_exports) set → own ≡ first_some (own_group_left_out p.resolve.types w.exports (keys_of set)) p.main.imports.modules → own ≡ None → found ≡ rest → found ≡ option_or (own_left_out p w) rest
 own_passed p w set found own rest h is none same = same ∙ ap (λ o. option_or o rest) (sym none ∙ is ∙ ap (λ ks. first_some (own_group_left_out p.resolve.types w.exports ks) p.main.imports.modules) h.keys)
 
--- the first of two lists that are apart together
-first_apart : (xs ys : List InterfaceId) → are_apart same_interface (xs ++ ys) ≡ true → are_apart same_interface xs ≡ true
-first_apart [] ys h = refl
-first_apart (x ∷ xs) ys h =
-    let b = both_true (not (list_any (same_interface x) (xs ++ ys))) (are_apart same_interface (xs ++ ys)) h in
-    ap₂ (λ a b. a && b) (none_first xs ys b.0) (first_apart xs ys b.1)
-  where
-    none_first : (xs ys : List InterfaceId) → not (list_any (same_interface x) (xs ++ ys)) ≡ true → not (list_any (same_interface x) xs) ≡ true
-    none_first [] ys h = refl
-    none_first (z ∷ zs) ys h = by (same_interface x z) h (none_first zs ys)
-      where
-        by : (b : Bool) → not (b || list_any (same_interface x) (zs ++ ys)) ≡ true → (not (list_any (same_interface x) (zs ++ ys)) ≡ true → not (list_any (same_interface x) zs) ≡ true) → not (b || list_any (same_interface x) zs) ≡ true
-        by true h rest = h
-        by false h rest = rest h
-
-pub second_apart : (xs ys : List InterfaceId) → are_apart same_interface (xs ++ ys) ≡ true → are_apart same_interface ys ≡ true
-second_apart [] ys h = h
-second_apart (x ∷ xs) ys h = second_apart xs ys (both_true (not (list_any (same_interface x) (xs ++ ys))) (are_apart same_interface (xs ++ ys)) h).1
-
-pub imports_apart : (w : World) → are_interfaces_apart w ≡ true → are_apart same_interface (interfaces_of w.imports) ≡ true
-imports_apart w h = first_apart (interfaces_of w.imports) (interfaces_of w.exports) h
-
 -- where no item is left out, the other parts decide
-pub rest_decides : (p : WorldParts) (w : World) (found : Option (List ℕ)) → w ≡ items_of p → None ≡ world_left_out p.resolve w → found ≡ option_or (twice_left_out p.main_exports w) (owned_left_out p w) → found ≡ left_out p
+pub rest_decides : (p : WorldParts) (w : World) (found : Option (List ℕ)) → w ≡ items_of p → None ≡ world_left_out p.resolve w → found ≡ option_or (twice_left_out (all_required p) w) (owned_left_out p w) → found ≡ left_out p
 unfolding left_out
 rest_decides p w found same none rest =
     rest
-    ∙ ap (λ o. option_or o (option_or (twice_left_out p.main_exports w) (owned_left_out p w))) none
-    ∙ ap (λ (w : World). option_or (world_left_out p.resolve w) (option_or (twice_left_out p.main_exports w) (owned_left_out p w))) same
+    ∙ ap (λ o. option_or o (option_or (twice_left_out (all_required p) w) (owned_left_out p w))) none
+    ∙ ap (λ (w : World). option_or (world_left_out p.resolve w) (option_or (twice_left_out (all_required p) w) (owned_left_out p w))) same
 
 -- ---- where nothing is reported
 
@@ -134,8 +103,7 @@ own_pass p ((name, instances.Whole which) ∷ groups) h = own_pass p groups h.1
 pub record IsEncoded (p : WorldParts) : Type 0 where
   pub imports : AllByRecursion (λ e. import_item_left_out p.resolve e ≡ None) (items_of p).imports
   pub exports : AllByRecursion (λ e. export_item_left_out p.resolve e ≡ None) (items_of p).exports
-  pub apart : are_interfaces_apart (items_of p) ≡ true
-  pub required_apart : are_apart same_interface (required_of (items_of p).exports p.main_exports) ≡ true
+  pub once : twice_left_out (all_required p) (items_of p) ≡ None
   pub own_groups : AllByRecursion (λ g. own_group_out p g ≡ None) p.main.imports.modules
   pub named : AreExportsNamed p.resolve (items_of p).exports
   pub order : is_world_placed p.resolve (items_of p) ≡ true
@@ -152,7 +120,7 @@ all_encoded p h =
     let root = length world.imports in
     let a = neither (world_left_out p.resolve world) _ h in
     let w = neither (first_some (import_item_left_out p.resolve) world.imports) _ a.0 in
-    let t = neither (twice_left_out p.main_exports world) (owned_left_out p world) a.1 in
+    let t = neither (twice_left_out (all_required p) world) (owned_left_out p world) a.1 in
     let s = neither (own_left_out p world) (named_left_out p world) t.1 in
     let n = neither (names_left_out p.resolve world) (rest_left_out p world) s.1 in
     let o = neither (order_left_out p.resolve world) _ n.1 in
@@ -162,8 +130,7 @@ all_encoded p h =
     record {
       imports = none_picked (import_item_left_out p.resolve) world.imports w.0;
       exports = none_picked (export_item_left_out p.resolve) world.exports w.1;
-      apart = (apart_of t.0).0;
-      required_apart = (apart_of t.0).1;
+      once = t.0;
       own_groups = none_picked (own_group_out p) p.main.imports.modules s.0;
       named = exports_named p.resolve world.exports (passes (are_exports_named p.resolve world.exports) (codes "interface") n.0);
       order = passes (is_world_placed p.resolve world) (codes "interface") o.0;
@@ -172,11 +139,6 @@ all_encoded p h =
       export_roles = none_picked (λ e. export_left_out p.resolve.types e.1) p.main.exports.exports m.1;
       alone = no_adapters p.adapters b.1;
     }
-  where
-    apart_of : twice_left_out p.main_exports (items_of p) ≡ None → (are_interfaces_apart (items_of p) ≡ true) × (are_apart same_interface (required_of (items_of p).exports p.main_exports) ≡ true)
-    apart_of h =
-        both_true (are_interfaces_apart (items_of p)) (are_apart same_interface (required_of (items_of p).exports p.main_exports))
-        (passes (are_interfaces_apart (items_of p) && are_apart same_interface (required_of (items_of p).exports p.main_exports)) (codes "interface") h)
 
 -- a function with no result for all elements has none for this one
 none_of : {X : Type 0} (reported : X → Option (List ℕ)) (xs : List X) (x : X) (what : List ℕ) → AllByRecursion (λ y. reported y ≡ None) xs → Contains xs x → reported x ≡ Some what → ⊥
@@ -185,7 +147,7 @@ none_of reported xs x what h m e = nothing what (sym e ∙ AllByRecursion-contai
 by_cases : (p : WorldParts) → IsEncoded p → (f : Refusal) → IsLeftOut p f → ⊥
 by_cases p h f (imported entry what m e) = none_of (import_item_left_out p.resolve) (items_of p).imports entry what h.imports m e
 by_cases p h f (exported entry what m e) = none_of (export_item_left_out p.resolve) (items_of p).exports entry what h.exports m e
-by_cases p h f (twice what e) = nothing what (sym e ∙ ap₂ (λ a b. unless (a && b) (codes "interface")) h.apart h.required_apart)
+by_cases p h f (twice what e) = nothing what (sym e ∙ h.once)
 by_cases p h f (names lack) = lack h.named
 by_cases p h f (order what e) = nothing what (sym e ∙ ap (λ b. unless b (codes "interface")) h.order)
 by_cases p h f (resources lack) = lack h.resources
@@ -265,7 +227,7 @@ module _ (p : WorldParts) (what : List ℕ) where
   after_own (inl a) = let t = one_picked (own_group_out p) p.main.imports.modules what a in of_own t.element t.there t.picks
   after_own (inr b) = after_twice (one_of (names_left_out p.resolve (items_of p)) (rest_left_out p (items_of p)) what b)
 
-  after_items : (twice_left_out p.main_exports (items_of p) ≡ Some what) ⊎ (owned_left_out p (items_of p) ≡ Some what) → IsLeftOut p (refusals.LeftOut what)
+  after_items : (twice_left_out (all_required p) (items_of p) ≡ Some what) ⊎ (owned_left_out p (items_of p) ≡ Some what) → IsLeftOut p (refusals.LeftOut what)
   after_items (inl a) = twice what a
   after_items (inr b) = after_own (one_of (own_left_out p (items_of p)) (named_left_out p (items_of p)) what b)
 
@@ -273,7 +235,7 @@ module _ (p : WorldParts) (what : List ℕ) where
   unfolding left_out
   reported e = elim (one_of (world_left_out p.resolve (items_of p)) _ what e) [
     | inl a ↦ of_world a
-    | inr b ↦ after_items (one_of (twice_left_out p.main_exports (items_of p)) (owned_left_out p (items_of p)) what b)
+    | inr b ↦ after_items (one_of (twice_left_out (all_required p) (items_of p)) (owned_left_out p (items_of p)) what b)
   ]
 
 -- ---- the whole

@@ -32,10 +32,10 @@ use Rattle.comp_roles.specs.declared.imports.ImportInstance.{ImportInstance}
 use Rattle.comp_roles.specs.declared.imports.ImportInstance.TheVariants as instances
 use Rattle.comp_roles.specs.declared.offered.ImportType.{ImportType}
 use Rattle.world_values.specs.Items.{no_items, functions_of, functions_in, function_in, function_of_item, root_function_at}
-use Rattle.world_values.specs.Mentions.{interface_in, interfaces_of}
+use Rattle.world_values.specs.Mentions.{interface_in, interfaces_of, same_interface}
 use Rattle.comp_worlds.specs.Typed.{post_return_type, type_of_import, type_of_export, FitsImport, FitsExport}
 use Rattle.comp_worlds.specs.WorldContents.{root_function, exported_item, core_name_in}
-use Rattle.comp_worlds.specs.Worlds.{IsWorld, IsUserModule, IsImportItem, IsExportItem, IsResource, IsImportRole, IsImportGroup, IsOwnResource, ExportsFunctionOf, IsExportRole, IsRequired}
+use Rattle.comp_worlds.specs.Worlds.{IsWorld, IsUserModule, IsImportItem, IsExportItem, IsResource, IsImportRole, IsImportGroup, IsOwnResource, IsForOwnKey, ExportsFunctionOf, IsExportRole, IsRequired}
 use Rattle.comp_worlds.specs.WorldTables.{whole_of}
 use Rattle.comp_worlds.specs.declared.world.WorldAdapter.{WorldAdapter}
 use Rattle.comp_worlds.specs.declared.world.WorldParts.{WorldParts}
@@ -43,8 +43,10 @@ use Rattle.comp_worlds.proofs.Roles.{role_right}
 use Rattle.record_core_types.specs.Asked.{imported_function, imported_interface, exported_function, exported_interface, function_of, exported_item as exported_there}
 use Rattle.record_core_types.specs.Guarantees.{IsCalled, IsLifted, IsKept}
 use Rattle.record_resolve.specs.Resolved.{IsNamed, AreListed}
+use Rattle.supported_worlds.specs.Distinct.{are_apart}
+use Rattle.std.proofs.lemmas.List.Elements.{Contains-append_left}
 use Rattle.supported_worlds.specs.Apart.{FieldsApart, AreApart}
-use Rattle.supported_worlds.specs.LeftOut.{items_of, import_item_left_out, export_item_left_out, export_left_out, required_of, unless}
+use Rattle.supported_worlds.specs.LeftOut.{items_of, import_item_left_out, export_item_left_out, export_left_out, all_required, required_of, unless}
 use Rattle.supported_worlds.specs.Causes.{role_left_out, own_role_out}
 use Rattle.supported_worlds.specs.Placed.{places_of, is_resource, is_droppable, is_resource_at, is_own_resource}
 use Rattle.supported_worlds.specs.Guarantees.{HasFoundImport, OffersExport, HasSoundParts}
@@ -53,7 +55,9 @@ use Rattle.supported_worlds.proofs.Lists.{nothing, at_front, after, none_picked}
 use Rattle.supported_worlds.proofs.InPlace.{both, resource_kind}
 use Rattle.supported_worlds.proofs.Order.{passes}
 use Rattle.supported_worlds.proofs.OwnRoles.{owned_type, required_at, required_key}
-use Rattle.supported_worlds.proofs.Reporting.{second_apart, group_out, own_group_out, IsEncoded}
+use Rattle.supported_worlds.proofs.Reporting.{group_out, own_group_out, own_pass, IsEncoded}
+use Rattle.supported_worlds.proofs.Fresh.{distinct}
+use Rattle.supported_worlds.proofs.Keys.{second_apart, are_once}
 
 abbrev Entries : Type 0
 Entries = List (WorldKey × WorldItem)
@@ -173,6 +177,10 @@ mapped_there : {A B : Type 0} (f : A → B) (o : Option A) → IsSome o → IsSo
 mapped_there f None h = h
 mapped_there f (Some x) h = refl
 
+none_apart : IsDistinct bytes_eq []
+unfolding IsDistinct
+none_apart = tt
+
 -- ---- the world
 
 module _ (p : WorldParts) (present : HasSoundParts p) (encoded : IsEncoded p) (apart : AreApart p) where
@@ -207,7 +215,18 @@ module _ (p : WorldParts) (present : HasSoundParts p) (encoded : IsEncoded p) (a
   has_function : (key : WorldKey) (id : InterfaceId) (name : List ℕ) → exported_interface p.resolve p.world key ≡ Some id → IsSome (function_of p.resolve id name) → ExportsFunctionOf (whole_of p) key id name
   has_function key id name is has = record { exported = exported_interface_is key id is; has = function_there name (functions_of p.resolve id) has }
 
-  -- a resource of an interface that main has to export
+  -- the exported interfaces are apart
+  exports_apart : are_apart same_interface (interfaces_of (items_of p).exports) ≡ true
+  exports_apart = let once = are_once (all_required p) (items_of p) encoded.once in second_apart (interfaces_of (items_of p).imports) (interfaces_of (items_of p).exports) once.interfaces
+
+  -- a resource of an interface that main has to export, and the key of that
+  own_key : (key : WorldKey) (id : TypeId) (what : List ℕ) → unless (is_own_resource p.resolve.types (items_of p).exports (required_of (items_of p).exports p.main_exports) key id) what ≡ None → Contains p.main_exports key
+  own_key key id what h =
+      let es = (items_of p).exports in
+      let required = required_of es p.main_exports in
+      let t = owned_type p.resolve.types es required key id.index (passes (is_own_resource p.resolve.types es required key id) what h) in
+      required_key es p.main_exports key t.interface exports_apart (required_at es required key t.interface t.at)
+
   own_resource : (key : WorldKey) (id : TypeId) (what : List ℕ) → unless (is_own_resource p.resolve.types (items_of p).exports (required_of (items_of p).exports p.main_exports) key id) what ≡ None → IsOwnResource (whole_of p) key id
   own_resource key id what h =
       let types = p.resolve.types in
@@ -220,7 +239,7 @@ module _ (p : WorldParts) (present : HasSoundParts p) (encoded : IsEncoded p) (a
         interface = t.interface;
         owner = t.owner;
         exported = there.exported;
-        required = required_key es p.main_exports key t.interface (second_apart (interfaces_of (items_of p).imports) (interfaces_of es) encoded.apart) there;
+        required = Contains-append_left p.main_exports (flat_map (λ a. a.1.required_exports) p.adapters) key (own_key key id what h);
       }
 
   import_role : (role : Import) → role_left_out p role ≡ None → own_role_out p role ≡ None → IsCalled p.resolve p.world role → IsImportRole (whole_of p) role
@@ -238,6 +257,12 @@ module _ (p : WorldParts) (present : HasSoundParts p) (encoded : IsEncoded p) (a
   import_role (imports.ExportedResourceRep key id) h own called = own_resource key id (codes "exported-rep") own
   import_role (imports.ExportedResourceNew key id) h own called = own_resource key id (codes "exported-new") own
   import_role role h own called = nothing _ h
+
+  for_own_key : (role : Import) → own_role_out p role ≡ None → IsForOwnKey p.main_exports role
+  for_own_key (imports.ExportedResourceDrop key id) h = own_key key id (codes "exported-drop") h
+  for_own_key (imports.ExportedResourceRep key id) h = own_key key id (codes "exported-rep") h
+  for_own_key (imports.ExportedResourceNew key id) h = own_key key id (codes "exported-new") h
+  for_own_key role h = tt
 
   field_roles : (name : List ℕ) (fields : List (List ℕ × Import)) → AllByRecursion (λ f. role_left_out p f.1 ≡ None) fields → AllByRecursion (λ f. own_role_out p f.1 ≡ None) fields
       → AllByRecursion (λ i. IsCalled p.resolve p.world i.role) (imports_from (name, instances.Names fields)) → AllByRecursion (λ f. IsImportRole (whole_of p) f.1) fields
@@ -330,9 +355,9 @@ module _ (p : WorldParts) (present : HasSoundParts p) (encoded : IsEncoded p) (a
         (own_are p.resolve (exported_there p.resolve p.world key) present.listed ∙ ap (functions_in p.resolve) (item_is key)) kept.present;
   }
 
-  all_required : (ks : List WorldKey) → AllByRecursion (IsKept p.resolve p.world p.main.exports.exports) ks → AllByRecursion (IsRequired (whole_of p) p.main) ks
-  all_required [] h = tt
-  all_required (k ∷ ks) h = (required k h.0, all_required ks h.1)
+  keys_kept : (ks : List WorldKey) → AllByRecursion (IsKept p.resolve p.world p.main.exports.exports) ks → AllByRecursion (IsRequired (whole_of p) p.main) ks
+  keys_kept [] h = tt
+  keys_kept (k ∷ ks) h = (required k h.0, keys_kept ks h.1)
 
   main_is : IsUserModule (whole_of p) p.main p.main_exports
   main_is =
@@ -342,10 +367,11 @@ module _ (p : WorldParts) (present : HasSoundParts p) (encoded : IsEncoded p) (a
         core = present.core;
         modules_apart = apart.groups.modules;
         import_roles = groups;
+        own_keys = AllByRecursion-weaker (λ i h. for_own_key i.role h) (flat_map imports_from p.main.imports.modules) (own_pass p p.main.imports.modules encoded.own_groups);
         imported = AllByRecursion-weaker (found_import groups) p.main.imported present.imported;
         export_roles = roles;
         exported = offered_exports p.main.exports.exports roles present.exported;
-        required = all_required p.main_exports present.kept;
+        required = keys_kept p.main_exports present.kept;
       }
 
   pub whole_is_world : IsWorld (whole_of p)
@@ -361,5 +387,6 @@ module _ (p : WorldParts) (present : HasSoundParts p) (encoded : IsEncoded p) (a
     exported_interfaces_apart = let n = encoded.named in n.apart;
     main = main_is;
     adapters = subst (λ (all : List (List ℕ × WorldAdapter)). AllByRecursion (λ a. IsUserModule (whole_of p) a.1.info a.1.required_exports) all) (sym encoded.alone) tt;
-    alone = encoded.alone;
+    adapters_apart = subst (λ (all : List (List ℕ × WorldAdapter)). IsDistinct bytes_eq (keys_of all)) (sym encoded.alone) none_apart;
+    keys_apart = let once = are_once (all_required p) (items_of p) encoded.once in distinct is_same_key (all_required p) once.keys_apart;
   }

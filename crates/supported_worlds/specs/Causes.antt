@@ -14,7 +14,7 @@ use Rattle.comp_worlds.specs.declared.world.WorldAdapter.{WorldAdapter}
 use Rattle.comp_worlds.specs.declared.world.WorldParts.{WorldParts}
 use Rattle.record_faults.specs.declared.fault.Refusal.{Refusal}
 use Rattle.record_faults.specs.declared.fault.Refusal.TheVariants as refusals
-use Rattle.supported_worlds.specs.LeftOut.{items_of, import_item_left_out, export_item_left_out, twice_left_out, order_left_out, import_left_out, export_left_out, own_role_left_out, required_of}
+use Rattle.supported_worlds.specs.LeftOut.{items_of, all_required, import_item_left_out, export_item_left_out, twice_left_out, order_left_out, import_left_out, export_left_out, own_role_left_out, required_of}
 use Rattle.supported_worlds.specs.Naming.{AreExportsNamed}
 use Rattle.supported_worlds.specs.Placed.{places_of}
 
@@ -30,10 +30,10 @@ pub data IsLeftOut (p : WorldParts) : Refusal → Type 0 where
   -- an import or an export of the world
   imported : (entry : WorldKey × WorldItem) (what : List ℕ) → Contains (items_of p).imports entry → import_item_left_out p.resolve entry ≡ Some what → IsLeftOut p (refusals.LeftOut what)
   exported : (entry : WorldKey × WorldItem) (what : List ℕ) → Contains (items_of p).exports entry → export_item_left_out p.resolve entry ≡ Some what → IsLeftOut p (refusals.LeftOut what)
-  -- the world, where an interface is imported or exported twice, or both, or main has to export one twice; the exported interfaces, where one has no name or that of another; the
+  -- the world, where an interface is imported or exported twice, or both, or something has to be exported twice; the exported interfaces, where one has no name or that of another; the
   -- items, where something is made of types of a later place, or an exported interface of types that are not at home there; and the
   -- imports, where their types are out of order or lack a resource of the root
-  twice : (what : List ℕ) → twice_left_out p.main_exports (items_of p) ≡ Some what → IsLeftOut p (refusals.LeftOut what)
+  twice : (what : List ℕ) → twice_left_out (all_required p) (items_of p) ≡ Some what → IsLeftOut p (refusals.LeftOut what)
   names : (AreExportsNamed p.resolve (items_of p).exports → ⊥) → IsLeftOut p (refusals.LeftOut (codes "interface"))
   order : (what : List ℕ) → order_left_out p.resolve (items_of p) ≡ Some what → IsLeftOut p (refusals.LeftOut what)
   resources : (ImportsResources (whole_of p) → ⊥) → IsLeftOut p (refusals.LeftOut (codes "type"))

@@ -4,7 +4,7 @@
 -- among them, core imports and exports with the role of such a function, core imports that drop a resource, or make or read a handle of
 -- one that main has to export, and core exports that are a post-return, a destructor, a memory or a realloc. All else is left out, and
 -- reported by the name of its kind. (The names are those of this project's record.)
-use Rattle.std.specs.Prelude.{ℕ, Bool, ◌&&◌, ◌++◌, List, [], ◌∷◌, length, codes, Option, Some, None, Result, Ok, Err, get_or, if◌then◌else◌}
+use Rattle.std.specs.Prelude.{ℕ, Bool, ◌++◌, List, [], ◌∷◌, length, codes, Option, Some, None, Result, Ok, Err, get_or, if◌then◌else◌}
 use Rattle.std.specs.List.{flat_map}
 use Rattle.std.specs.Map.{lookup}
 use Rattle.std.specs.Option.{option_or}
@@ -79,13 +79,21 @@ unless passes what = if passes then None else Some what
 abbrev pub are_interfaces_apart : World → Bool
 are_interfaces_apart w = are_apart same_interface (interfaces_of w.imports ++ interfaces_of w.exports)
 
--- the interfaces that main has to export, by their keys
+-- the interfaces among the exports that are required, by their keys
 abbrev pub required_of : Entries → List WorldKey → List InterfaceId
 required_of es required = flat_map (λ key. interface_among (lookup (is_same_key key) es)) required
 
--- the world, where an interface is imported or exported twice, or both, or main has to export one twice
+-- the keys that user modules have to export: those of main, then those of the adapters in order
+abbrev pub all_required : WorldParts → List WorldKey
+all_required p = p.main_exports ++ flat_map (λ a. a.1.required_exports) p.adapters
+
+-- the keys that have to be exported, where an interface or, among the others, a function at the root has to be exported twice
+abbrev pub required_left_out : Entries → List WorldKey → Option (List ℕ)
+required_left_out es required = option_or (unless (are_apart same_interface (required_of es required)) (codes "interface")) (unless (are_apart is_same_key required) (codes "world-func"))
+
+-- the world, where an interface is imported or exported twice, or both, or something has to be exported twice
 abbrev pub twice_left_out : List WorldKey → World → Option (List ℕ)
-twice_left_out required w = unless (are_interfaces_apart w && are_apart same_interface (required_of w.exports required)) (codes "interface")
+twice_left_out required w = option_or (unless (are_interfaces_apart w) (codes "interface")) (required_left_out w.exports required)
 
 -- the world's exports, where an interface among them has no name, or that of another
 abbrev pub names_left_out : Resolve → World → Option (List ℕ)
@@ -200,7 +208,7 @@ owned_left_out p w = option_or (own_left_out p w) (named_left_out p w)
 
 -- what of a world is not encoded yet: of its items first
 unfoldable pub left_out : WorldParts → Option (List ℕ)
-left_out p = option_or (world_left_out p.resolve (items_of p)) (option_or (twice_left_out p.main_exports (items_of p)) (owned_left_out p (items_of p)))
+left_out p = option_or (world_left_out p.resolve (items_of p)) (option_or (twice_left_out (all_required p) (items_of p)) (owned_left_out p (items_of p)))
 
 -- the refusal of what is left out
 abbrev pub refused : List ℕ → Failure

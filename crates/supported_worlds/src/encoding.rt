@@ -11,7 +11,7 @@ ghost use Rattle.record_faults.specs.declared.fault.Refusal.{Refusal as RefusalV
 ghost use Rattle.supported_worlds.specs.Apart.{AreApart, GroupsApart};
 ghost use Rattle.supported_worlds.specs.Causes.{IsLeftOut};
 ghost use Rattle.supported_worlds.specs.Distinct.{are_apart};
-ghost use Rattle.supported_worlds.specs.LeftOut.{items_of, are_interfaces_apart, required_of, twice_left_out, adapters_left_out, modules_left_out, after_order, rest_left_out, named_left_out, owned_left_out, left_out, refused, encoded};
+ghost use Rattle.supported_worlds.specs.LeftOut.{items_of, required_of, all_required, twice_left_out, adapters_left_out, modules_left_out, after_order, rest_left_out, named_left_out, owned_left_out, left_out, refused, encoded};
 ghost use Rattle.supported_worlds.specs.Sets.{IsSetOf};
 ghost use Rattle.world_values.specs.Mentions.{same_interface, interfaces_of};
 ghost use Rattle.supported_worlds.specs.Guarantees.{HasSoundParts};
@@ -25,7 +25,7 @@ use crate::placed::order_left_out;
 use crate::places::{Places, interface_places, with_types};
 use crate::resources::resources_left_out;
 use crate::roles::module_left_out;
-use crate::sets::{are_interfaces_apart, required_set};
+use crate::sets::{required_set, twice_left_out};
 use comp_lists::{Keyed, Text};
 use comp_worlds::{ComponentWorld, WorldAdapter, WorldParts};
 use record_faults::{Failure, Refusal};
@@ -163,7 +163,7 @@ fn in_places_left_out(
 
 /// The same, with the roles of exported resources, by the set of the interfaces that main has to export.
 #[tactic(auto, using(crate::proofs::Reporting::own_found, crate::proofs::Reporting::own_passed))]
-fn owned_left_out(
+fn own_roles_left_out(
     alloc: Global,
     parts: &WorldParts,
     world: &World,
@@ -183,30 +183,30 @@ fn owned_left_out(
     }
 }
 
-/// The same, of a world whose imported and exported interfaces are apart.
-#[tactic(auto, using(crate::proofs::Reporting::required_twice, crate::proofs::Reporting::required_once, crate::proofs::Reporting::imports_apart))]
-fn required_left_out(
+/// The same, of a world in which nothing is imported, exported or required twice.
+fn owned_left_out(
     alloc: Global,
     parts: &WorldParts,
     world: &World,
 ) -> Result<Option<&'static str>, AllocError>
     requires sound { IsSound parts.now.resolve }
     requires present { HasWorld parts.now.resolve world.now }
-    requires apart { are_interfaces_apart world.now ≡ true }
-    ensures reported { IfOk result (λ o. option_copied o ≡ option_or (twice_left_out parts.now.main_exports world.now) (owned_left_out parts.now world.now)) }
+    requires apart { are_apart same_interface (interfaces_of world.now.imports) ≡ true }
+    requires once { are_apart same_interface (required_of world.now.exports parts.now.main_exports) ≡ true }
+    ensures reported { IfOk result (λ o. option_copied o ≡ owned_left_out parts.now world.now) }
     ensures apart { IfOk result (λ o. option_copied o ≡ None → GroupsApart parts.now.main.imports.modules) }
 {
     match required_set(alloc, &world.exports, parts.main_exports.as_slice())? {
         Some(required) => {
-            let found = owned_left_out(alloc, parts, world, &required)?;
+            let found = own_roles_left_out(alloc, parts, world, &required)?;
             Ok(found)
         }
-        None => Ok(Some("interface")),
+        None => unreachable!(),
     }
 }
 
 /// What of a world is left out apart from its items.
-#[tactic(auto, using(crate::proofs::Reporting::is_twice))]
+#[tactic(auto, using(crate::proofs::Keys::imports_apart, crate::proofs::Keys::main_apart))]
 fn parts_left_out(
     alloc: Global,
     parts: &WorldParts,
@@ -214,13 +214,13 @@ fn parts_left_out(
 ) -> Result<Option<&'static str>, AllocError>
     requires sound { IsSound parts.now.resolve }
     requires present { HasWorld parts.now.resolve world.now }
-    ensures reported { IfOk result (λ o. option_copied o ≡ option_or (twice_left_out parts.now.main_exports world.now) (owned_left_out parts.now world.now)) }
+    ensures reported { IfOk result (λ o. option_copied o ≡ option_or (twice_left_out (all_required parts.now) world.now) (owned_left_out parts.now world.now)) }
     ensures apart { IfOk result (λ o. option_copied o ≡ None → GroupsApart parts.now.main.imports.modules) }
 {
-    if !are_interfaces_apart(alloc, world)? {
-        return Ok(Some("interface"));
+    match twice_left_out(alloc, parts, world)? {
+        Some(what) => Ok(Some(what)),
+        None => owned_left_out(alloc, parts, world),
     }
-    required_left_out(alloc, parts, world)
 }
 
 /// What of a world is not encoded yet; where nothing is left out, no key occurs twice.
