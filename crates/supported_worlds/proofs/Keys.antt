@@ -4,7 +4,7 @@ use Rattle.std.proofs.Common.{rules}
 use Rattle.std.specs.Cmp.Rules.{comparing}
 use Rattle.std.specs.Cmp.{IsEquivalence}
 use Rattle.std.specs.Prelude.{codes, is_none}
-use Rattle.std.specs.List.{flat_map, list_any}
+use Rattle.std.specs.List.{AllByRecursion, flat_map, list_any}
 use Rattle.std.specs.Map.{lookup}
 use Rattle.std.specs.Option.{option_or}
 use Rattle.std.proofs.lemmas.Grind.{flat_map-append}
@@ -22,6 +22,7 @@ use Rattle.comp_worlds.specs.declared.world.WorldParts.{WorldParts}
 use Rattle.supported_worlds.specs.Distinct.{are_apart, is_new, are_new}
 use Rattle.supported_worlds.specs.LeftOut.{unless, are_interfaces_apart, required_of, all_required, required_left_out, twice_left_out}
 use Rattle.supported_worlds.specs.Lent.{InterfaceSet}
+use Rattle.supported_worlds.specs.Once.{IsRequiredOnce}
 use Rattle.supported_worlds.specs.Sets.{IsSetOf}
 use Rattle.supported_worlds.proofs.Fresh.{added, start, step, stop}
 use Rattle.supported_worlds.proofs.InPlace.{both}
@@ -144,8 +145,18 @@ imports_apart keys w found is none = let once = are_once keys w (sym is ∙ none
 pub required_both : (es : Entries) (xs ys : List WorldKey) → required_of es (xs ++ ys) ≡ required_of es xs ++ required_of es ys
 required_both es xs ys = flat_map-append (λ key. interface_among (lookup (is_same_key key) es)) xs ys
 
-pub main_apart : (p : WorldParts) (w : World) (found : Option (List ℕ)) → found ≡ twice_left_out (all_required p) w → found ≡ None → are_apart same_interface (required_of w.exports p.main_exports) ≡ true
-main_apart p w found is none =
+each_apart : (es : Entries) (adapters : List (List ℕ × WorldAdapter)) → are_apart same_interface (required_of es (keys_of_adapters adapters)) ≡ true → AllByRecursion (λ a. are_apart same_interface (required_of es a.1.required_exports) ≡ true) adapters
+each_apart es [] h = tt
+each_apart es (a ∷ adapters) h =
+    let both : are_apart same_interface (required_of es a.1.required_exports ++ required_of es (keys_of_adapters adapters)) ≡ true = ap (are_apart same_interface) (sym (required_both es a.1.required_exports (keys_of_adapters adapters))) ∙ h in (
+      first_apart (required_of es a.1.required_exports) (required_of es (keys_of_adapters adapters)) both,
+      each_apart es adapters (second_apart (required_of es a.1.required_exports) (required_of es (keys_of_adapters adapters)) both),
+    )
+
+pub required_once : (p : WorldParts) (w : World) (found : Option (List ℕ)) → found ≡ twice_left_out (all_required p) w → found ≡ None → IsRequiredOnce p w
+required_once p w found is none =
     let once = are_once (all_required p) w (sym is ∙ none) in
-    first_apart (required_of w.exports p.main_exports) (required_of w.exports (keys_of_adapters p.adapters))
-    (ap (are_apart same_interface) (sym (required_both w.exports p.main_exports (keys_of_adapters p.adapters))) ∙ once.required)
+    let of_main = required_of w.exports p.main_exports in
+    let of_others = required_of w.exports (keys_of_adapters p.adapters) in
+    let both : are_apart same_interface (of_main ++ of_others) ≡ true = ap (are_apart same_interface) (sym (required_both w.exports p.main_exports (keys_of_adapters p.adapters))) ∙ once.required in
+    record { main = first_apart of_main of_others both; adapters = each_apart w.exports p.adapters (second_apart of_main of_others both) }
