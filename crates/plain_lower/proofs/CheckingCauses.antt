@@ -1,21 +1,13 @@
 -- Roles that were checked: what holds of them, and why they are refused.
 use Rattle.std.proofs.Common.{◌≡◌, ◌∙◌, ℕ, List, Result, Ok, Err, sym, ap, subst}
-use Rattle.std.specs.Prelude.{IfErr, IsOk}
+use Rattle.std.specs.Prelude.{◌≢◌, IfErr}
 use Rattle.std.specs.Result.{IsErrAnd}
-use Rattle.std.specs.List.{flat_map, AllByRecursion}
-use Rattle.std.proofs.lemmas.List.{append-nil}
 use Rattle.core_types.specs.Core.{IsCoreModule}
 use Rattle.wit_data.specs.declared.worlds.WorldKey.{WorldKey}
-use Rattle.comp_roles.specs.CoreImports.{CoreImport, imports_from}
 use Rattle.comp_roles.specs.declared.exports.Export.{Export}
 use Rattle.comp_roles.specs.declared.imports.ImportInstance.{ImportInstance}
-use Rattle.world_values.specs.Mentions.{HasRole}
 use Rattle.world_values.specs.declared.gathered.Part.{Part}
-use Rattle.comp_worlds.specs.declared.world.ComponentWorld.{ComponentWorld}
-use Rattle.comp_worlds.specs.declared.world.WorldParts.{WorldParts}
 use Rattle.core_sections.specs.declared.core_module.CoreModule.{CoreModule}
-use Rattle.supported_worlds.specs.Guarantees.{HasSoundParts}
-use Rattle.supported_worlds.specs.Causes.{IsLeftOut}
 use Rattle.record_faults.specs.declared.fault.Failure.{Failure}
 use Rattle.record_faults.specs.declared.fault.Failure.TheVariants as failures
 use Rattle.record_faults.specs.declared.fault.Refusal.{Refusal}
@@ -29,9 +21,10 @@ use Rattle.record_exports.specs.Causes.{ExportCause, RequiredCause}
 use Rattle.record_imports.specs.Importing.{imports_of}
 use Rattle.record_imports.specs.Causes.{ImportCause}
 use Rattle.plain_lower.specs.declared.checking.CheckedRoles.{CheckedRoles}
+use Rattle.plain_lower.specs.declared.modules.ModuleParts.{ModuleParts}
 use Rattle.plain_lower.specs.Preparing.{with_imports, checked_exports, checked_roles, parts_of}
-use Rattle.plain_lower.specs.Guarantees.{IsUsable, AreChecked}
-use Rattle.plain_lower.specs.Causes.{ExportsCause, unfit, missing, RolesCause, of_imports, of_exports, CoreCause, unmet, not_yet}
+use Rattle.plain_lower.specs.Guarantees.{IsUsable, AreChecked, user_module, IsSoundPart}
+use Rattle.plain_lower.specs.Causes.{ExportsCause, unfit, missing, RolesCause, of_imports, of_exports}
 use Rattle.plain_lower.proofs.FoundImports.{all_found}
 use Rattle.plain_lower.proofs.FoundExports.{all_offered}
 
@@ -60,16 +53,12 @@ are_read r main core m e =
     let d = bind_ok (required_of r c.0 main.required) (λ required. Ok (c.0, required)) b.0 c.2 in
     read_of r main core m a.0 c.0 d.0 b.0 a.1 c.1 (cc (d.2)) (cc (b.2))
 
--- what holds of the parts of main's world
-pub present : (r : Resolved) (main : Part Bindgen) (core : CoreModule) (m : CheckedRoles) (p : WorldParts) → IsUsable r → IsCoreModule main.bytes → AreChecked r m → checked_roles r main core ≡ Ok m
-    → p ≡ parts_of r main core m → HasSoundParts p
-present r main core m p u bytes h checked is = subst (λ (x : WorldParts). HasSoundParts x) (sym is) (record {
-  sound = u.sound;
-  present = u.present;
+-- what holds of a module of the world
+pub sound_part : (r : Resolved) (main : Part Bindgen) (core : CoreModule) (m : CheckedRoles) (p : ModuleParts) → IsUsable r → IsCoreModule main.bytes → AreChecked r m → checked_roles r main core ≡ Ok m
+    → p ≡ parts_of r main core m → IsSoundPart r (user_module p)
+sound_part r main core m p u bytes h checked is = subst (λ (x : ModuleParts). IsSoundPart r (user_module x)) (sym is) (record {
   core = bytes;
-  named = u.named;
-  listed = u.listed;
-  roles = subst (λ (is : List CoreImport). AllByRecursion (λ i. HasRole r.resolve i.role) is) (sym (append-nil (flat_map imports_from m.imports.modules))) h.roles;
+  roles = h.roles;
   called = h.called;
   lifted = h.lifted;
   imported = all_found r main core m u.present (let read = are_read r main core m checked in read.imports);
@@ -81,6 +70,10 @@ present r main core m p u bytes h checked is = subst (λ (x : WorldParts). HasSo
 pub handed_out : {A : Type 0} (P : Refusal → Type 0) (r : Result A Failure) (d : Failure) → IsErrAnd r (λ e. e ≡ d) → ((f : Refusal) → d ≡ failures.Refused f → P f) → IfErr r (λ e. (f : Refusal) → e ≡ failures.Refused f → P f)
 handed_out P (Ok x) d is h = tt
 handed_out P (Err e) d is h = subst (λ (x : Failure). (f : Refusal) → x ≡ failures.Refused f → P f) (sym is) h
+
+-- a step whose refusals have causes
+pub checked_out : {A : Type 0} {P : Refusal → Type 0} (r : Result A Failure) (d : Failure) → (d ≢ failures.Memory → r ≡ Err d) → ((f : Refusal) → r ≡ Err (failures.Refused f) → P f) → (f : Refusal) → d ≡ failures.Refused f → P f
+checked_out r d is h f same = h f (is (λ m. cc) ∙ ap Err same)
 
 same_ok : {A E : Type 0} (r : Result A E) (x y : A) → r ≡ Ok x → r ≡ Ok y → x ≡ y
 same_ok r x y a b = cc
@@ -96,20 +89,3 @@ pub no_met_cause : (r : Resolved) (main : Part Bindgen) (core : CoreModule) → 
     → (f : Refusal) → RolesCause r main core f → ⊥
 no_met_cause r main core imports exports f (of_imports q c) = imports f c
 no_met_cause r main core imports exports f (of_exports q c) = exports f c
-
-pub no_core_cause : (r : Resolved) (main : Part Bindgen) (core : CoreModule) (m : CheckedRoles) → checked_roles r main core ≡ Ok m → ((f : Refusal) → RolesCause r main core f → ⊥)
-    → ((f : Refusal) → IsLeftOut (parts_of r main core m) f → ⊥) → (f : Refusal) → CoreCause r main core f → ⊥
-no_core_cause r main core m is met_all all_there f (unmet q c) = met_all f c
-no_core_cause r main core m is met_all all_there f (not_yet other q e c) =
-    all_there f (subst (λ (x : CheckedRoles). IsLeftOut (parts_of r main core x) f) (same_ok (checked_roles r main core) other m e is) c)
-
--- ---- what the calls return
-
-pub all_caused : (r : Resolved) (main : Part Bindgen) (core : CoreModule) (m : CheckedRoles) (answer : Result ComponentWorld Failure) → checked_roles r main core ≡ Ok m
-    → IfErr answer (λ e. (f : Refusal) → e ≡ failures.Refused f → IsLeftOut (parts_of r main core m) f) → IfErr answer (λ e. (f : Refusal) → e ≡ failures.Refused f → CoreCause r main core f)
-all_caused r main core m (Ok w) is h = tt
-all_caused r main core m (Err e) is h = λ f k. not_yet m f is (h f k)
-
-pub all_refused : (r : Resolved) (main : Part Bindgen) (core : CoreModule) (m : CheckedRoles) (answer : Result ComponentWorld Failure) → checked_roles r main core ≡ Ok m → ((f : Refusal) → RolesCause r main core f → ⊥)
-    → (IsOk answer → (f : Refusal) → IsLeftOut (parts_of r main core m) f → ⊥) → IsOk answer → (f : Refusal) → CoreCause r main core f → ⊥
-all_refused r main core m answer is met_all h ok = no_core_cause r main core m is met_all (h ok)

@@ -1,6 +1,6 @@
 -- Main offers each core export that has a role with the type that the role requires, if that is known.
 use Rattle.std.proofs.Common.{◌≡◌, ◌∙◌, ◌<◌, ◌⊎◌, inl, inr, ℕ, Bool, true, false, cond, List, [], ◌∷◌, ◌++◌, Option, Some, None, Ok, length, refl, sym, ap, subst, append_assoc, append-nil, true≢false}
-use Rattle.std.specs.Prelude.{ok_or, is_some, option_map, if◌then◌else◌, ⊤}
+use Rattle.std.specs.Prelude.{get_or, ok_or, is_some, option_map, if◌then◌else◌, ⊤}
 use Rattle.std.specs.List.{AllByRecursion, flat_map}
 use Rattle.std.specs.Option.{option_to_list}
 use Rattle.std.specs.Str.{bytes_eq}
@@ -26,6 +26,7 @@ use Rattle.record_resolve.specs.declared.resolving.Resolved.{Resolved}
 use Rattle.record_role_targets.specs.Exports.{resolved_export}
 use Rattle.record_values.specs.declared.roles.ExportRole.{ExportRole}
 use Rattle.supported_worlds.specs.Guarantees.{OffersExport}
+use Rattle.world_values.specs.Items.{no_items}
 use Rattle.world_values.specs.declared.gathered.Part.{Part}
 use Rattle.plain_lower.specs.declared.checking.CheckedRoles.{CheckedRoles}
 use Rattle.plain_lower.specs.Preparing.{parts_of}
@@ -155,9 +156,9 @@ module _ (r : Resolved) (main : Part Bindgen) (core : CoreModule) (m : CheckedRo
   abbrev table : Roles
   table = main.own.roles.export_roles
 
-  is_offered : (x : List ℕ × Export) → IsFirst r table core core.exports x → OffersExport (parts_of r main core m) x
+  is_offered : (x : List ℕ × Export) → IsFirst r table core core.exports x → OffersExport r.resolve (get_or r.resolve.worlds 0 no_items) (parts_of r main core m).info x
   is_offered x h = record { offered = λ ty is. first_offered r table core core.exports x.0 h.item ty h.first (export_typed r.resolve present core x.1 h.item ty h.fits is) }
 
   -- of the exports whose roles these are
-  pub all_offered : exports_of r table core ≡ Ok m.exports → AllByRecursion (OffersExport (parts_of r main core m)) m.exports
+  pub all_offered : exports_of r table core ≡ Ok m.exports → AllByRecursion (OffersExport r.resolve (get_or r.resolve.worlds 0 no_items) (parts_of r main core m).info) m.exports
   all_offered is = AllByRecursion-weaker is_offered m.exports (are_first r table core m.exports is)

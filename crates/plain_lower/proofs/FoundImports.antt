@@ -1,6 +1,6 @@
 -- Each core import of main, with the type that was found, has a role, which requires this type.
 use Rattle.std.proofs.Common.{◌≡◌, ◌∙◌, ◌<◌, ℕ, Bool, true, false, cond, List, [], ◌∷◌, ◌++◌, Option, Some, Result, Ok, Err, length, refl, sym, ap, subst, true≢false}
-use Rattle.std.specs.Prelude.{ok_or, is_some, option_map, if◌then◌else◌}
+use Rattle.std.specs.Prelude.{get_or, ok_or, is_some, option_map, if◌then◌else◌}
 use Rattle.std.specs.List.{AllByRecursion, flat_map}
 use Rattle.std.specs.Option.{option_and_then, option_to_list}
 use Rattle.std.specs.Str.{bytes_eq}
@@ -29,6 +29,7 @@ use Rattle.record_merge.specs.declared.bindgen.Bindgen.{Bindgen}
 use Rattle.record_resolve.specs.declared.resolving.Resolved.{Resolved}
 use Rattle.record_values.specs.declared.roles.ImportRole.{ImportRole}
 use Rattle.supported_worlds.specs.Guarantees.{HasFoundImport}
+use Rattle.world_values.specs.Items.{no_items}
 use Rattle.world_values.specs.declared.gathered.Part.{Part}
 use Rattle.plain_lower.specs.declared.checking.CheckedRoles.{CheckedRoles}
 use Rattle.plain_lower.specs.Preparing.{parts_of}
@@ -190,7 +191,7 @@ module _ (r : Resolved) (main : Part Bindgen) (core : CoreModule) (m : CheckedRo
   table = main.own.roles.import_roles
 
   is_found : (gs : List Group) → instances_of gs ≡ m.imports.modules → (i : CoreImport) → (h : HasRole r table core gs i)
-      → HasFoundImport (parts_of r main core m) (record { module_name = i.«module»; field = i.field; ty = h.passes.type })
+      → HasFoundImport r.resolve (get_or r.resolve.worlds 0 no_items) (parts_of r main core m).info (record { module_name = i.«module»; field = i.field; ty = h.passes.type })
   is_found gs are i h = record {
     role = h.role;
     has_role = ap (λ (x : List (List ℕ × ImportInstance)). role_at x i.«module» i.field) (sym are) ∙ role_in gs i.«module» i.field ∙ h.there;
@@ -198,16 +199,16 @@ module _ (r : Resolved) (main : Part Bindgen) (core : CoreModule) (m : CheckedRo
   }
 
   each_found : (gs : List Group) → instances_of gs ≡ m.imports.modules → (is : List CoreImport) → AllByRecursion (HasRole r table core gs) is
-      → AllByRecursion (HasFoundImport (parts_of r main core m)) (flat_map (λ i. option_to_list (import_type core i)) is)
+      → AllByRecursion (HasFoundImport r.resolve (get_or r.resolve.worlds 0 no_items) (parts_of r main core m).info) (flat_map (λ i. option_to_list (import_type core i)) is)
   each_found gs are [] h = tt
   each_found gs are (i ∷ is) h =
       let here = h.0 in
       let rest : List ImportType = flat_map (λ i. option_to_list (import_type core i)) is in
-      subst (λ (o : Option ExternType). AllByRecursion (HasFoundImport (parts_of r main core m)) (option_to_list (option_map (λ t. record { module_name = i.«module»; field = i.field; ty = t }) o) ++ rest)) (sym here.passes.typed)
+      subst (λ (o : Option ExternType). AllByRecursion (HasFoundImport r.resolve (get_or r.resolve.worlds 0 no_items) (parts_of r main core m).info) (option_to_list (option_map (λ t. record { module_name = i.«module»; field = i.field; ty = t }) o) ++ rest)) (sym here.passes.typed)
       (is_found gs are i here, each_found gs are is h.1)
 
   -- of the imports whose roles these are
-  pub all_found : imports_of r table core ≡ Ok m.imports.modules → AllByRecursion (HasFoundImport (parts_of r main core m)) (imported core)
+  pub all_found : imports_of r table core ≡ Ok m.imports.modules → AllByRecursion (HasFoundImport r.resolve (get_or r.resolve.worlds 0 no_items) (parts_of r main core m).info) (imported core)
   all_found e =
       let made = are_made r table core m.imports.modules e in
       each_found made.groups made.are core.imports (each_has r table core core.imports [] made.groups made.grouped)

@@ -7,4 +7,6 @@ mod FoundImports
 mod FoundExports
 mod CheckingCauses
 mod Whole
-mod Modules
+mod Gathering
+mod Adding
+mod OtherModules

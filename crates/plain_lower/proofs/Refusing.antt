@@ -1,7 +1,9 @@
 -- When adapters are refused.
-use Rattle.std.proofs.Common.{◌≡◌, arith, ◌&&◌, ◌||◌, ℕ, Bool, true, false, List, [], ◌∷◌, Option, Some, None, Ok, Err, refl, sym, subst, true≢false}
-use Rattle.std.specs.Prelude.{◌≢◌, ⊤, Contains, is_some, not, codes, if◌then◌else◌}
-use Rattle.std.specs.List.{list_any}
+use Rattle.std.proofs.Common.{◌≡◌, arith, ◌&&◌, ◌||◌, ℕ, Bool, true, false, List, [], ◌∷◌, Option, Some, None, Result, Ok, Err, refl, sym, ap, ◌∙◌, subst, true≢false}
+use Rattle.std.specs.Prelude.{◌≢◌, ⊤, Contains, is_some, not, IsTrue, if◌then◌else◌}
+use Rattle.std.specs.List.{AllByRecursion, list_any}
+use Rattle.comp_lists.proofs.Lists.{AllByRecursion-contains}
+use Rattle.comp_roles.specs.declared.libraries.LibraryInfo.{LibraryInfo}
 use Rattle.std.proofs.lemmas.List.Elements.{Contains-append_right}
 use Rattle.world_values.specs.declared.gathered.Gathered.{Gathered}
 use Rattle.world_values.specs.declared.gathered.GatheredAdapter.{GatheredAdapter}
@@ -12,8 +14,9 @@ use Rattle.record_faults.specs.declared.fault.Refusal.{Refusal}
 use Rattle.record_faults.specs.declared.fault.Refusal.TheVariants as refusals
 use Rattle.record_faults.specs.Faults.{flat, flat_refusal}
 use Rattle.record_faults.proofs.Chains.{same_refusal, refused}
-use Rattle.plain_lower.specs.Preparing.{Adapters, is_plain, none_there, adapters_pass}
-use Rattle.plain_lower.specs.Causes.{PrepareCause, grows, adapter_left_out}
+use Rattle.plain_lower.specs.Others.{Adapters}
+use Rattle.plain_lower.specs.Preparing.{is_plain, adapters_pass}
+use Rattle.plain_lower.specs.Causes.{PrepareCause, grows}
 
 plain_there : (all : Adapters) → list_any is_plain all ≡ true → (a : List ℕ × GatheredAdapter Bindgen) × Contains all a × (is_plain a ≡ true)
 plain_there [] h = absurd (true≢false (sym h))
@@ -28,35 +31,42 @@ no_library : {X : Type 0} (o : Option X) → not (is_some o) ≡ true → o ≡ 
 no_library None h = refl
 no_library (Some x) h = absurd (true≢false (sym h))
 
-some_there : (g : Gathered Bindgen) (all : Adapters) (r : Refusal) → g.adapters ≡ all → none_there all ≡ refused r → PrepareCause g (flat_refusal r)
-some_there g [] r is e = absurd cc
-some_there g (a ∷ all) r is e =
-    subst (λ (x : Refusal). PrepareCause g (flat_refusal x)) (same_refusal (refusals.LeftOut (codes "adapter")) r (cc (e)))
-    (adapter_left_out a (subst (λ (xs : Adapters). Contains xs a) (sym is) (Contains-append_right [] (a ∷ all) a (0, omega arith, refl))))
+abbrev grown : Bool → Result ⊤ Failure
+grown b = if b then Err (failures.Refused refusals.MemoryGrow) else Ok tt
 
 adapters_refused : (g : Gathered Bindgen) (r : Refusal) → adapters_pass g.options.realloc_via_memory_grow g.adapters ≡ refused r → PrepareCause g (flat_refusal r)
 adapters_refused g r e = by g.options.realloc_via_memory_grow (list_any is_plain g.adapters) refl refl e
   where
-    by : (a b : Bool) → g.options.realloc_via_memory_grow ≡ a → list_any is_plain g.adapters ≡ b → (if a && b then Err (failures.Refused refusals.MemoryGrow) else none_there g.adapters) ≡ refused r
+    by : (a b : Bool) → g.options.realloc_via_memory_grow ≡ a → list_any is_plain g.adapters ≡ b → grown (a && b) ≡ refused r
         → PrepareCause g (flat_refusal r)
     by true true on there e =
         let a = plain_there g.adapters there in
         let adapter : GatheredAdapter Bindgen = a.0.1 in
         subst (λ (x : Refusal). PrepareCause g (flat_refusal x)) (same_refusal refusals.MemoryGrow r (cc (e)))
         (grows a.0 on a.1 (no_library adapter.library_info a.2))
-    by true false on there e = some_there g g.adapters r refl e
-    by false b on there e = some_there g g.adapters r refl e
+    by true false on there e = absurd cc
+    by false b on there e = absurd cc
 
-pub none_pass : (on : Bool) (all : Adapters) (x : ⊤) → adapters_pass on all ≡ Ok x → all ≡ []
-none_pass on [] x e = refl
-none_pass on (a ∷ all) x e = by (on && list_any is_plain (a ∷ all)) e
+-- where one that is there would grow the memory, they don't pass
+any_plain : (all : Adapters) (a : List ℕ × GatheredAdapter Bindgen) → AllByRecursion (λ x. is_plain x ≡ false) all → Contains all a → is_plain a ≡ false
+any_plain all a h there = AllByRecursion-contains (λ x. is_plain x ≡ false) all a h there
+
+none_plain : (all : Adapters) → list_any is_plain all ≡ false → AllByRecursion (λ x. is_plain x ≡ false) all
+none_plain [] h = tt
+none_plain (a ∷ all) h = by (is_plain a) refl h (none_plain all)
   where
-    by : (b : Bool) → (if b then Err (failures.Refused refusals.MemoryGrow) else none_there (a ∷ all)) ≡ Ok x → a ∷ all ≡ []
-    by true e = absurd cc
-    by false e = absurd cc
+    by : (b : Bool) → is_plain a ≡ b → (b || list_any is_plain all) ≡ false → (list_any is_plain all ≡ false → AllByRecursion (λ x. is_plain x ≡ false) all) → AllByRecursion (λ x. is_plain x ≡ false) (a ∷ all)
+    by true is h more = absurd (true≢false h)
+    by false is h more = (is, more h)
 
-pub no_adapter : (g : Gathered Bindgen) (a : List ℕ × GatheredAdapter Bindgen) → g.adapters ≡ [] → Contains g.adapters a → ⊥
-no_adapter g a is c = let h : Contains [] a = subst (λ (xs : Adapters). Contains xs a) is c in absurd (omega (arith, h.1))
+pub none_grows : (g : Gathered Bindgen) (t : ⊤) → adapters_pass g.options.realloc_via_memory_grow g.adapters ≡ Ok t → (a : List ℕ × GatheredAdapter Bindgen) → IsTrue g.options.realloc_via_memory_grow → Contains g.adapters a
+    → a.1.library_info ≡ None → ⊥
+none_grows g t e a on there none = by (list_any is_plain g.adapters) refl (ap (λ (b : Bool). grown (b && list_any is_plain g.adapters)) (sym on) ∙ e)
+  where
+    by : (b : Bool) → list_any is_plain g.adapters ≡ b → grown (true && b) ≡ Ok t → ⊥
+    by true is e = absurd cc
+    by false is e =
+        true≢false (sym (ap (λ (o : Option LibraryInfo). not (is_some o)) none) ∙ any_plain g.adapters a (none_plain g.adapters is) there)
 
 -- the refusal has its cause
 pub caused : (g : Gathered Bindgen) (e : Failure) → (e ≢ failures.Memory → adapters_pass g.options.realloc_via_memory_grow g.adapters ≡ Err e) → e ≢ failures.Memory → PrepareCause g (flat e)

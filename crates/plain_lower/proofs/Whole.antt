@@ -5,6 +5,9 @@ use Rattle.core_types.specs.Core.{IsCoreModule}
 use Rattle.world_values.specs.declared.gathered.Gathered.{Gathered}
 use Rattle.world_values.specs.declared.gathered.Part.{Part}
 use Rattle.comp_worlds.specs.declared.world.ComponentWorld.{ComponentWorld}
+use Rattle.comp_worlds.specs.declared.world.WorldParts.{WorldParts}
+use Rattle.supported_worlds.specs.Causes.{IsLeftOut}
+use Rattle.plain_lower.specs.declared.modules.ModuleParts.{ModuleParts}
 use Rattle.core_sections.specs.declared.core_module.CoreModule.{CoreModule}
 use Rattle.core_sections.specs.declared.fault.SectionFault.{SectionFault}
 use Rattle.core_sections.specs.declared.fault.SectionFault.TheVariants as section_faults
@@ -15,20 +18,19 @@ use Rattle.record_faults.specs.declared.fault.Failure.{Failure}
 use Rattle.record_faults.specs.declared.fault.Failure.TheVariants as failures
 use Rattle.record_faults.specs.declared.fault.Refusal.{Refusal}
 use Rattle.record_faults.specs.declared.fault.PlainFault.{PlainFault}
-use Rattle.record_faults.specs.Faults.{◌>>=◌, lifted, of_section, flat}
+use Rattle.record_faults.specs.Faults.{◌>>=◌, lifted, of_section, flat, flat_refusal}
 use Rattle.record_merge.specs.declared.bindgen.Bindgen.{Bindgen}
 use Rattle.record_resolve.specs.declared.resolving.Resolved.{Resolved}
-use Rattle.plain_lower.specs.Preparing.{adapters_pass, combined, preparing_if, preparing}
-use Rattle.plain_lower.specs.Causes.{CombinedCause, CoreCause, MainCause, unread, as_core, PrepareCause, grows, adapter_left_out, of_combined, of_main}
-use Rattle.plain_lower.proofs.Refusing.{none_pass, no_adapter}
+use Rattle.plain_lower.specs.Others.{Adapters}
+use Rattle.plain_lower.specs.declared.others.Importer.{Importer}
+use Rattle.plain_lower.specs.Preparing.{adapters_pass, combined, world_parts, preparing_if, preparing}
+use Rattle.plain_lower.specs.Causes.{CombinedCause, CoreCause, ModuleCause, unread, as_core, PartsCause, WorldCause, of_parts, not_yet, PrepareCause, grows, of_combined, of_world}
+use Rattle.plain_lower.proofs.Refusing.{none_grows}
 
 same_ok : {A E : Type 0} (r : Result A E) (x y : A) → r ≡ Ok x → r ≡ Ok y → x ≡ y
 same_ok r x y a b = cc
 
-same_some : {A : Type 0} (o : Option A) (x y : A) → o ≡ Some x → o ≡ Some y → x ≡ y
-same_some o x y a b = cc
-
--- ---- main
+-- ---- one module
 
 -- what is read as a core module begins as one
 pub begins : (bytes : List ℕ) (m : CoreModule) → module_of bytes ≡ Ok m → IsCoreModule bytes
@@ -40,62 +42,74 @@ begins bytes m e = by (pieces_of bytes) refl e
     by (Err f) is e = absurd cc
 
 -- a module that can't be read
-pub unread_caused : (r : Resolved) (main : Part Bindgen) (f : SectionFault) → (f ≢ section_faults.Memory → module_of main.bytes ≡ Err f) → of_section f ≢ failures.Memory → MainCause r main (flat (of_section f))
-unread_caused r main section_faults.Memory h other = absurd (other refl)
-unread_caused r main section_faults.NotModule h other = unread _ (ap (λ (x : Result CoreModule SectionFault). lifted x) (h (λ m. cc)))
-unread_caused r main (section_faults.Section place) h other = unread _ (ap (λ (x : Result CoreModule SectionFault). lifted x) (h (λ m. cc)))
-unread_caused r main section_faults.PackageBinary h other = unread _ (ap (λ (x : Result CoreModule SectionFault). lifted x) (h (λ m. cc)))
-
-pub core_caused : (r : Resolved) (main : Part Bindgen) (core : CoreModule) (e : Failure) → module_of main.bytes ≡ Ok core → ((f : Refusal) → e ≡ failures.Refused f → CoreCause r main core f) → e ≢ failures.Memory → MainCause r main (flat e)
-core_caused r main core failures.Memory is h other = absurd (other refl)
-core_caused r main core (failures.Refused f) is h other = as_core core f is (h f refl)
+pub unread_caused : (r : Resolved) (importer : Importer) (all : Adapters) (part : Part Bindgen) (f : SectionFault) → (f ≢ section_faults.Memory → module_of part.bytes ≡ Err f) → (q : Refusal) → of_section f ≡ failures.Refused q → ModuleCause r importer all part q
+unread_caused r importer all part section_faults.Memory h q e = absurd cc
+unread_caused r importer all part section_faults.NotModule h q e = unread q (ap (λ (x : Result CoreModule SectionFault). lifted x) (h (λ m. cc)) ∙ ap Err e)
+unread_caused r importer all part (section_faults.Section place) h q e = unread q (ap (λ (x : Result CoreModule SectionFault). lifted x) (h (λ m. cc)) ∙ ap Err e)
+unread_caused r importer all part section_faults.PackageBinary h q e = unread q (ap (λ (x : Result CoreModule SectionFault). lifted x) (h (λ m. cc)) ∙ ap Err e)
 
 no_both : {A E : Type 0} (r : Result A E) (x : A) (e : E) → r ≡ Ok x → r ≡ Err e → ⊥
 no_both r x e a b = absurd cc
 
-pub no_main_cause : (r : Resolved) (main : Part Bindgen) (core : CoreModule) → module_of main.bytes ≡ Ok core → ((f : Refusal) → CoreCause r main core f → ⊥) → (f : PlainFault) → MainCause r main f → ⊥
-no_main_cause r main core is h f (unread q e) = no_both (lifted (module_of main.bytes)) core _ (ap (λ (x : Result CoreModule SectionFault). lifted x) is) e
-no_main_cause r main core is h f (as_core other q e c) = h q (subst (λ (x : CoreModule). CoreCause r main x q) (same_ok (module_of main.bytes) other core e is) c)
+no_module_cause : (r : Resolved) (importer : Importer) (all : Adapters) (part : Part Bindgen) (core : CoreModule) → module_of part.bytes ≡ Ok core → ((f : Refusal) → CoreCause r importer all part core f → ⊥) → (f : Refusal) → ModuleCause r importer all part f → ⊥
+no_module_cause r importer all part core is h f (unread q e) = no_both (lifted (module_of part.bytes)) core _ (ap (λ (x : Result CoreModule SectionFault). lifted x) is) e
+no_module_cause r importer all part core is h f (as_core other q e c) = h f (subst (λ (x : CoreModule). CoreCause r importer all part x f) (same_ok (module_of part.bytes) other core e is) c)
+
+pub module_caused : (r : Resolved) (importer : Importer) (all : Adapters) (part : Part Bindgen) (core : CoreModule) (answer : Result ModuleParts Failure) → module_of part.bytes ≡ Ok core
+    → IfErr answer (λ e. (f : Refusal) → e ≡ failures.Refused f → CoreCause r importer all part core f) → IfErr answer (λ e. (f : Refusal) → e ≡ failures.Refused f → ModuleCause r importer all part f)
+module_caused r importer all part core (Ok p) is h = tt
+module_caused r importer all part core (Err e) is h = λ f k. as_core core f is (h f k)
+
+pub module_refused : (r : Resolved) (importer : Importer) (all : Adapters) (part : Part Bindgen) (core : CoreModule) (answer : Result ModuleParts Failure) → module_of part.bytes ≡ Ok core
+    → (IsOk answer → (f : Refusal) → CoreCause r importer all part core f → ⊥) → IsOk answer → (f : Refusal) → ModuleCause r importer all part f → ⊥
+module_refused r importer all part core answer is h ok = no_module_cause r importer all part core is (h ok)
+
+-- ---- the world of the modules
+
+no_world_cause : (r : Resolved) (main : Part Bindgen) (adapters : Adapters) (p : WorldParts) → world_parts r main adapters ≡ Ok p → ((f : Refusal) → PartsCause r main adapters f → ⊥) → ((f : Refusal) → IsLeftOut p f → ⊥)
+    → (f : Refusal) → WorldCause r main adapters f → ⊥
+no_world_cause r main adapters p is parts whole f (of_parts q c) = parts f c
+no_world_cause r main adapters p is parts whole f (not_yet other q e c) = whole f (subst (λ (x : WorldParts). IsLeftOut x f) (same_ok (world_parts r main adapters) other p e is) c)
+
+pub world_caused : (r : Resolved) (main : Part Bindgen) (adapters : Adapters) (p : WorldParts) (answer : Result ComponentWorld Failure) → world_parts r main adapters ≡ Ok p
+    → IfErr answer (λ e. (f : Refusal) → e ≡ failures.Refused f → IsLeftOut p f) → IfErr answer (λ e. (f : Refusal) → e ≡ failures.Refused f → WorldCause r main adapters f)
+world_caused r main adapters p (Ok w) is h = tt
+world_caused r main adapters p (Err e) is h = λ f k. not_yet p f is (h f k)
+
+pub world_refused : (r : Resolved) (main : Part Bindgen) (adapters : Adapters) (p : WorldParts) (answer : Result ComponentWorld Failure) → world_parts r main adapters ≡ Ok p → ((f : Refusal) → PartsCause r main adapters f → ⊥)
+    → (IsOk answer → (f : Refusal) → IsLeftOut p f → ⊥) → IsOk answer → (f : Refusal) → WorldCause r main adapters f → ⊥
+world_refused r main adapters p answer is parts h ok = no_world_cause r main adapters p is parts (h ok)
 
 -- ---- the whole
 
 pub is_prepared : (g : Gathered Bindgen) (r : Resolved) (w : ComponentWorld) (t : ⊤) → adapters_pass g.options.realloc_via_memory_grow g.adapters ≡ Ok t
-    → combined g.options.merge_imports_based_on_semver g.combined.wit ≡ Ok r → preparing_if r g.main ≡ Ok w → preparing g ≡ Ok w
+    → combined g.options.merge_imports_based_on_semver g.combined.wit ≡ Ok r → preparing_if r g.main g.adapters ≡ Ok w → preparing g ≡ Ok w
 unfolding preparing
 is_prepared g r w t a j p =
-    ap (λ (x : Result ⊤ Failure). x >>= λ _. combined g.options.merge_imports_based_on_semver g.combined.wit >>= λ r. preparing_if r g.main) a
-    ∙ ap (λ (x : Result Resolved Failure). x >>= λ r. preparing_if r g.main) j ∙ p
+    ap (λ (x : Result ⊤ Failure). x >>= λ _. combined g.options.merge_imports_based_on_semver g.combined.wit >>= λ r. preparing_if r g.main g.adapters) a
+    ∙ ap (λ (x : Result Resolved Failure). x >>= λ r. preparing_if r g.main g.adapters) j ∙ p
 
 pub no_cause : (g : Gathered Bindgen) (r : Resolved) (t : ⊤) → adapters_pass g.options.realloc_via_memory_grow g.adapters ≡ Ok t → combined g.options.merge_imports_based_on_semver g.combined.wit ≡ Ok r
     → ((f : PlainFault) → CombinedCause g.options.merge_imports_based_on_semver g.combined.wit f → ⊥)
-    → ((p : Part Bindgen) → g.main ≡ Some p → (f : PlainFault) → MainCause r p f → ⊥)
+    → ((p : Part Bindgen) → g.main ≡ Some p → (f : Refusal) → WorldCause r p g.adapters f → ⊥)
     → (f : PlainFault) → PrepareCause g f → ⊥
-no_cause g r t a j jn mn f (grows x on c none) = no_adapter g x (none_pass g.options.realloc_via_memory_grow g.adapters t a) c
-no_cause g r t a j jn mn f (adapter_left_out x c) = no_adapter g x (none_pass g.options.realloc_via_memory_grow g.adapters t a) c
+no_cause g r t a j jn mn f (grows x on c none) = none_grows g t a x on c none
 no_cause g r t a j jn mn f (of_combined fault c) = jn f c
-no_cause g r t a j jn mn f (of_main other main fault is main_is c) =
-    mn main main_is f (subst (λ (x : Resolved). MainCause x main f) (same_ok (combined g.options.merge_imports_based_on_semver g.combined.wit) other r is j) c)
+no_cause g r t a j jn mn f (of_world other main fault is main_is c) =
+    mn main main_is fault (subst (λ (x : Resolved). WorldCause x main g.adapters fault) (same_ok (combined g.options.merge_imports_based_on_semver g.combined.wit) other r is j) c)
 
 -- ---- what the calls return
-
-pub all_main_caused : (r : Resolved) (main : Part Bindgen) (core : CoreModule) (answer : Result ComponentWorld Failure) → module_of main.bytes ≡ Ok core
-    → IfErr answer (λ e. (f : Refusal) → e ≡ failures.Refused f → CoreCause r main core f) → IfErr answer (λ e. e ≢ failures.Memory → MainCause r main (flat e))
-all_main_caused r main core (Ok w) is h = tt
-all_main_caused r main core (Err e) is h = core_caused r main core e is h
-
-pub all_main_refused : (r : Resolved) (main : Part Bindgen) (core : CoreModule) (answer : Result ComponentWorld Failure) → module_of main.bytes ≡ Ok core
-    → (IsOk answer → (f : Refusal) → CoreCause r main core f → ⊥) → IsOk answer → (f : PlainFault) → MainCause r main f → ⊥
-all_main_refused r main core answer is h ok = no_main_cause r main core is (h ok)
 
 no_part : {A : Type 0} (o : Option A) → o ≡ None → IsSome o → ⊥
 no_part None is there = absurd cc
 no_part (Some x) is there = absurd cc
 
 pub all_caused : (g : Gathered Bindgen) (r : Resolved) (answer : Result ComponentWorld Failure) → combined g.options.merge_imports_based_on_semver g.combined.wit ≡ Ok r → IsSome g.main
-    → IfErr answer (λ e. e ≢ failures.Memory → (p : Part Bindgen) → g.main ≡ Some p → MainCause r p (flat e)) → IfErr answer (λ e. e ≢ failures.Memory → PrepareCause g (flat e))
+    → IfErr answer (λ e. (f : Refusal) → e ≡ failures.Refused f → (p : Part Bindgen) → g.main ≡ Some p → WorldCause r p g.adapters f) → IfErr answer (λ e. e ≢ failures.Memory → PrepareCause g (flat e))
 all_caused g r (Ok w) is there h = tt
-all_caused g r (Err e) is there h = λ other. by g.main refl (h other)
+all_caused g r (Err failures.Memory) is there h = λ other. absurd (other refl)
+all_caused g r (Err (failures.Refused f)) is there h = λ other. by g.main refl (h f refl)
   where
-    by : (o : Option (Part Bindgen)) → g.main ≡ o → ((p : Part Bindgen) → g.main ≡ Some p → MainCause r p (flat e)) → PrepareCause g (flat e)
+    by : (o : Option (Part Bindgen)) → g.main ≡ o → ((p : Part Bindgen) → g.main ≡ Some p → WorldCause r p g.adapters f) → PrepareCause g (flat_refusal f)
     by None none k = absurd (no_part g.main none there)
-    by (Some p) some k = of_main r p (flat e) is some (k p some)
+    by (Some p) some k = of_world r p f is some (k p some)

@@ -3,9 +3,15 @@
 use Rattle.std.specs.Prelude.{◌≡◌, ℕ, Bool, true, List, [], ◌++◌, Some, None, Ok, Err, Contains, IsTrue, codes}
 use Rattle.std.specs.List.{AllZip}
 use Rattle.comp_roles.specs.declared.exports.Export.{Export}
+use Rattle.comp_roles.specs.declared.libraries.LibraryInfo.{LibraryInfo}
+use Rattle.core_sections.specs.declared.entries.CoreImport.{CoreImport}
+use Rattle.record_imports.specs.Meaning.{role_of}
+use Rattle.record_values.specs.declared.roles.ImportRole.{ImportRole}
+use Rattle.record_faults.specs.declared.fault.Refusal.TheVariants as refusals
 use Rattle.world_values.specs.declared.gathered.Gathered.{Gathered}
 use Rattle.world_values.specs.declared.gathered.GatheredAdapter.{GatheredAdapter}
 use Rattle.world_values.specs.declared.gathered.Part.{Part}
+use Rattle.comp_worlds.specs.declared.world.WorldParts.{WorldParts}
 use Rattle.core_sections.specs.Sections.{Piece, preamble}
 use Rattle.core_sections.specs.Stripping.{removed, is_package}
 use Rattle.core_sections.specs.Grammar.{IsModule, IsCutAt}
@@ -34,8 +40,10 @@ use Rattle.record_exports.specs.Exporting.{exports_of}
 use Rattle.record_exports.specs.Causes.{ExportCause, RequiredCause}
 use Rattle.supported_worlds.specs.Causes.{IsLeftOut}
 use Rattle.plain_lower.specs.ModuleRecords.{records_in}
-use Rattle.plain_lower.specs.declared.checking.CheckedRoles.{CheckedRoles}
-use Rattle.plain_lower.specs.Preparing.{combined, checked_roles, parts_of}
+use Rattle.plain_lower.specs.Others.{Adapters, importer_of, other_kind}
+use Rattle.plain_lower.specs.Preparing.{combined, world_parts}
+use Rattle.plain_lower.specs.declared.others.Importer.{Importer}
+use Rattle.plain_lower.specs.declared.others.Importer.TheVariants as importers
 
 -- ---- decoding
 
@@ -91,42 +99,63 @@ pub data CombinedCause (merging : Bool) (w : Wit) : PlainFault → Type 0 where
   -- the resolve is not whole
   not_whole : (s : MergedVersions) (r : Resolved) → merged_versions merging w ≡ Ok s → resolved s.wit ≡ Ok r → (IsWhole r → ⊥) → CombinedCause merging w (faults.Record [])
 
--- ---- preparing: main
+-- ---- preparing: the modules
 
 -- why a module's core exports are refused with this resolve
-pub data ExportsCause (r : Resolved) (main : Part Bindgen) (core : CoreModule) : Refusal → Type 0 where
+pub data ExportsCause (r : Resolved) (part : Part Bindgen) (core : CoreModule) : Refusal → Type 0 where
   -- they don't fit their roles
-  unfit : (f : Refusal) → ExportCause r main.own.roles.export_roles core f → ExportsCause r main core f
+  unfit : (f : Refusal) → ExportCause r part.own.roles.export_roles core f → ExportsCause r part core f
   -- one that is required of the module is missing
-  missing : (exported : List (List ℕ × Export)) (f : Refusal) → exports_of r main.own.roles.export_roles core ≡ Ok exported → RequiredCause r exported main.required f → ExportsCause r main core f
+  missing : (exported : List (List ℕ × Export)) (f : Refusal) → exports_of r part.own.roles.export_roles core ≡ Ok exported → RequiredCause r exported part.required f → ExportsCause r part core f
 
 -- why its roles are refused
-pub data RolesCause (r : Resolved) (main : Part Bindgen) (core : CoreModule) : Refusal → Type 0 where
-  of_imports : (f : Refusal) → ImportCause r main.own.roles.import_roles core f → RolesCause r main core f
-  of_exports : (f : Refusal) → ExportsCause r main core f → RolesCause r main core f
+pub data RolesCause (r : Resolved) (part : Part Bindgen) (core : CoreModule) : Refusal → Type 0 where
+  of_imports : (f : Refusal) → ImportCause r part.own.roles.import_roles core f → RolesCause r part core f
+  of_exports : (f : Refusal) → ExportsCause r part core f → RolesCause r part core f
 
--- why there is no world of main as this core module
-pub data CoreCause (r : Resolved) (main : Part Bindgen) (core : CoreModule) : Refusal → Type 0 where
+-- why a module is refused as this core module: main, an adapter or a library, where these adapters are there
+pub data CoreCause (r : Resolved) (importer : Importer) (all : Adapters) (part : Part Bindgen) (core : CoreModule) : Refusal → Type 0 where
+  -- an import has a role that is main's memory, or an export of another module
+  of_other : (i : CoreImport) (role : ImportRole) (what : List ℕ) → Contains core.imports i → role_of part.own.roles.import_roles i ≡ Some role → other_kind importer all role ≡ Some what
+      → CoreCause r importer all part core (refusals.LeftOut what)
   -- its roles are refused
-  unmet : (f : Refusal) → RolesCause r main core f → CoreCause r main core f
-  -- something of its world is not encoded yet
-  not_yet : (m : CheckedRoles) (f : Refusal) → checked_roles r main core ≡ Ok m → IsLeftOut (parts_of r main core m) f → CoreCause r main core f
+  unmet : (f : Refusal) → RolesCause r part core f → CoreCause r importer all part core f
 
--- why there is no world of main
-pub data MainCause (r : Resolved) (main : Part Bindgen) : PlainFault → Type 0 where
+-- why it is refused
+pub data ModuleCause (r : Resolved) (importer : Importer) (all : Adapters) (part : Part Bindgen) : Refusal → Type 0 where
   -- its sections can't be read as those of a core module, and this is the fault
-  unread : (f : Refusal) → lifted (module_of main.bytes) ≡ Err (failures.Refused f) → MainCause r main (flat_refusal f)
+  unread : (f : Refusal) → lifted (module_of part.bytes) ≡ Err (failures.Refused f) → ModuleCause r importer all part f
   -- they can be read
-  as_core : (core : CoreModule) (f : Refusal) → module_of main.bytes ≡ Ok core → CoreCause r main core f → MainCause r main (flat_refusal f)
+  as_core : (core : CoreModule) (f : Refusal) → module_of part.bytes ≡ Ok core → CoreCause r importer all part core f → ModuleCause r importer all part f
+
+-- why an adapter is refused
+pub data AdapterCause (r : Resolved) (all : Adapters) (a : GatheredAdapter Bindgen) : Refusal → Type 0 where
+  -- it is a library with arguments
+  with_arguments : (info : LibraryInfo) → a.library_info ≡ Some info → (info.arguments ≡ [] → ⊥) → AdapterCause r all a (refusals.LeftOut (codes "library"))
+  of_module : (f : Refusal) → ModuleCause r (importer_of a.library_info) all a.part f → AdapterCause r all a f
+
+-- why adapters are refused: one of them is
+pub data AdaptersCause (r : Resolved) (all : Adapters) : Refusal → Type 0 where
+  of_adapter : (a : List ℕ × GatheredAdapter Bindgen) (f : Refusal) → Contains all a → AdapterCause r all a.1 f → AdaptersCause r all f
+
+-- why there are no parts of a world of main and these adapters
+pub data PartsCause (r : Resolved) (main : Part Bindgen) (adapters : Adapters) : Refusal → Type 0 where
+  of_main : (f : Refusal) → ModuleCause r importers.Main adapters main f → PartsCause r main adapters f
+  of_adapters : (f : Refusal) → AdaptersCause r adapters f → PartsCause r main adapters f
+
+-- why there is no world of them
+pub data WorldCause (r : Resolved) (main : Part Bindgen) (adapters : Adapters) : Refusal → Type 0 where
+  -- a module is refused
+  of_parts : (f : Refusal) → PartsCause r main adapters f → WorldCause r main adapters f
+  -- something of the world is not encoded yet
+  not_yet : (p : WorldParts) (f : Refusal) → world_parts r main adapters ≡ Ok p → IsLeftOut p f → WorldCause r main adapters f
 
 -- ---- preparing
 
 pub data PrepareCause (g : Gathered Bindgen) : PlainFault → Type 0 where
   -- reallocs are to grow the memory, and there is an adapter that is not a library
   grows : (a : List ℕ × GatheredAdapter Bindgen) → IsTrue g.options.realloc_via_memory_grow → Contains g.adapters a → a.1.library_info ≡ None → PrepareCause g faults.MemoryGrow
-  -- no world with an adapter is encoded yet
-  adapter_left_out : (a : List ℕ × GatheredAdapter Bindgen) → Contains g.adapters a → PrepareCause g (faults.LeftOut (codes "adapter"))
   -- the world of all modules is refused
   of_combined : (f : PlainFault) → CombinedCause g.options.merge_imports_based_on_semver g.combined.wit f → PrepareCause g f
-  -- main is refused with this resolve
-  of_main : (r : Resolved) (main : Part Bindgen) (f : PlainFault) → combined g.options.merge_imports_based_on_semver g.combined.wit ≡ Ok r → g.main ≡ Some main → MainCause r main f → PrepareCause g f
+  -- main or an adapter is refused with this resolve, or their world
+  of_world : (r : Resolved) (main : Part Bindgen) (f : Refusal) → combined g.options.merge_imports_based_on_semver g.combined.wit ≡ Ok r → g.main ≡ Some main → WorldCause r main g.adapters f → PrepareCause g (flat_refusal f)

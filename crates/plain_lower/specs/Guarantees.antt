@@ -11,6 +11,9 @@ use Rattle.record_resolve.specs.declared.resolving.Resolved.{Resolved}
 use Rattle.record_resolve.specs.Resolved.{resolved, AreNamed, AreListed, IsWhole}
 use Rattle.record_resolve.specs.OtherNames.{also_named}
 use Rattle.record_core_types.specs.Guarantees.{IsCalled, IsLifted, IsKept}
+use Rattle.supported_worlds.specs.Guarantees.{IsSoundModule}
+use Rattle.supported_worlds.specs.Modules.{UserModule}
+use Rattle.plain_lower.specs.declared.modules.ModuleParts.{ModuleParts}
 use Rattle.plain_lower.specs.declared.checking.CheckedRoles.{CheckedRoles}
 
 abbrev pub world_id : WorldId
@@ -30,9 +33,16 @@ pub record IsCombined (s : MergedVersions) (r : Resolved) : Type 0 where
   pub is_whole : IsWhole plain
   pub is : r ≡ also_named s.renames plain
 
--- the world has what main's roles name, and what is required of its exports
+-- the world has what a module's roles name, and what is required of its exports
 pub record AreChecked (r : Resolved) (m : CheckedRoles) : Type 0 where
   pub roles : AllByRecursion (λ i. HasRole r.resolve i.role) (flat_map imports_from m.imports.modules)
   pub called : AllByRecursion (λ i. IsCalled r.resolve world_id i.role) (flat_map imports_from m.imports.modules)
   pub lifted : AllByRecursion (λ e. IsLifted r.resolve world_id e.1) m.exports
   pub kept : AllByRecursion (IsKept r.resolve world_id m.exports) m.required
+
+-- a module of the world of a resolve
+abbrev pub user_module : ModuleParts → UserModule
+user_module m = record { info = m.info; keys = m.required }
+
+abbrev pub IsSoundPart : Resolved → UserModule → Type 0
+IsSoundPart r m = IsSoundModule r.resolve world_id (get_or r.resolve.worlds 0 no_items) m

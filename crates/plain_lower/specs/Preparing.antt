@@ -1,9 +1,9 @@
 -- The validated world of what was gathered.
 --
 -- Compatible versions of imported interfaces are merged, where merging is requested; the names in the world of all modules
--- are resolved; the roles of main's core imports and exports are checked against the resolve; and the world is made of
--- these, as far as it is encoded yet. (The record is this project's own.)
-use Rattle.std.specs.Prelude.{ℕ, ◌&&◌, Bool, List, [], ◌∷◌, Option, Some, None, Result, Ok, Err, is_some, not, codes, ⊤, if◌then◌else◌}
+-- are resolved; the roles of the core imports and exports of main, and then of each adapter, are checked against the resolve; and
+-- the world is made of these, as far as it is encoded yet. (The record is this project's own.)
+use Rattle.std.specs.Prelude.{ℕ, ◌&&◌, Bool, List, [], ◌∷◌, ◌++◌, Option, Some, None, Result, Ok, Err, is_some, not, ⊤, if◌then◌else◌}
 use Rattle.std.specs.List.{list_any}
 use Rattle.wit_data.specs.declared.worlds.WorldKey.{WorldKey}
 use Rattle.comp_roles.specs.declared.exports.Export.{Export}
@@ -13,6 +13,7 @@ use Rattle.world_values.specs.declared.gathered.Gathered.{Gathered}
 use Rattle.world_values.specs.declared.gathered.GatheredAdapter.{GatheredAdapter}
 use Rattle.comp_worlds.specs.declared.world.ComponentWorld.{ComponentWorld}
 use Rattle.wit_data.specs.declared.resolve.Resolve.{Resolve}
+use Rattle.comp_worlds.specs.declared.world.WorldAdapter.{WorldAdapter}
 use Rattle.comp_worlds.specs.declared.world.WorldParts.{WorldParts}
 use Rattle.core_sections.specs.declared.core_module.CoreModule.{CoreModule}
 use Rattle.core_sections.specs.Entries.{module_of}
@@ -28,8 +29,12 @@ use Rattle.record_resolve.specs.Resolved.{resolved}
 use Rattle.record_resolve.specs.OtherNames.{also_named}
 use Rattle.record_role_targets.specs.Metadata.{resolved_metadata}
 use Rattle.record_core_types.specs.Offered.{imported, offered}
+use Rattle.plain_lower.specs.Others.{Adapters, importer_of, arguments_pass, others_pass}
+use Rattle.plain_lower.specs.declared.others.Importer.{Importer}
+use Rattle.plain_lower.specs.declared.others.Importer.TheVariants as importers
 use Rattle.plain_lower.specs.declared.checking.CheckedRoles.{CheckedRoles}
-use Rattle.plain_lower.specs.declared.preparing.Own.{Own}
+use Rattle.plain_lower.specs.declared.modules.ModuleParts.{ModuleParts}
+use Rattle.plain_lower.specs.declared.modules.Own.{Own}
 use Rattle.record_imports.specs.Importing.{imports_of}
 use Rattle.record_exports.specs.Exporting.{exports_of}
 use Rattle.record_exports.specs.Requiring.{required_of}
@@ -41,20 +46,9 @@ use Rattle.supported_worlds.specs.LeftOut.{encoded}
 abbrev pub is_plain : List ℕ × GatheredAdapter Bindgen → Bool
 is_plain a = not (is_some a.1.library_info)
 
-abbrev pub Adapters : Type 0
-Adapters = List (List ℕ × GatheredAdapter Bindgen)
-
-abbrev pub left_out : List ℕ → Failure
-left_out what = failures.Refused (refusals.LeftOut what)
-
--- no world with adapters is encoded yet
-abbrev pub none_there : Adapters → Result ⊤ Failure
-none_there [] = Ok tt
-none_there (a ∷ more) = Err (left_out (codes "adapter"))
-
 -- A realloc that grows the memory is only for libraries, since an adapter shares main's memory.
 abbrev pub adapters_pass : Bool → Adapters → Result ⊤ Failure
-adapters_pass grows all = if grows && list_any is_plain all then Err (failures.Refused refusals.MemoryGrow) else none_there all
+adapters_pass grows all = if grows && list_any is_plain all then Err (failures.Refused refusals.MemoryGrow) else Ok tt
 
 -- ---- the world of all modules
 
@@ -66,13 +60,13 @@ combined merging w = do
   r ← read (resolved s.wit)
   Ok (also_named s.renames r)
 
--- ---- main
+-- ---- one module
 
--- the roles of main's core exports, and the keys of those that are required of it
+-- the roles of a module's core exports, and the keys of those that are required of it
 unfoldable pub checked_exports : Resolved → Part Bindgen → CoreModule → Result (List (List ℕ × Export) × List WorldKey) Failure
-checked_exports r main core = do
-  exported ← exports_of r main.own.roles.export_roles core
-  required ← required_of r exported main.required
+checked_exports r part core = do
+  exported ← exports_of r part.own.roles.export_roles core
+  required ← required_of r exported part.required
   Ok (exported, required)
 
 abbrev pub with_imports : List (List ℕ × ImportInstance) → List (List ℕ × Export) × List WorldKey → CheckedRoles
@@ -80,21 +74,19 @@ with_imports imported exported = record { imports = record { modules = imported 
 
 -- these, and the roles of its core imports
 unfoldable pub checked_roles : Resolved → Part Bindgen → CoreModule → Result CheckedRoles Failure
-checked_roles r main core = do
-  imported ← imports_of r main.own.roles.import_roles core
-  exported ← checked_exports r main core
+checked_roles r part core = do
+  imported ← imports_of r part.own.roles.import_roles core
+  exported ← checked_exports r part core
   Ok (with_imports imported exported)
 
--- what main has besides its roles
+-- what a module has besides its roles
 abbrev pub own_of : Resolved → Part Bindgen → CoreModule → Own
-own_of r main core = record { bytes = main.bytes; imported = imported core; offered = offered core; metadata = resolved_metadata r main.own.roles }
+own_of r part core = record { bytes = part.bytes; imported = imported core; offered = offered core; metadata = resolved_metadata r part.own.roles }
 
--- a world of main alone, with its roles and what it has besides
-abbrev pub with_own : Resolve → Own → CheckedRoles → Bool → WorldParts
-with_own resolve own m slot_1 = record {
-  resolve = resolve;
-  world = record { index = 0 };
-  main = record {
+-- a module of a world, with its roles and what it has besides, and the keys of what is required of it
+abbrev pub with_own : Own → CheckedRoles → ModuleParts
+with_own own m = record {
+  info = record {
     bytes = own.bytes;
     imports = m.imports;
     exports = record { exports = m.exports };
@@ -102,25 +94,66 @@ with_own resolve own m slot_1 = record {
     offered = own.offered;
     metadata = own.metadata;
   };
-  main_exports = m.required;
-  adapters = [];
+  required = m.required;
+}
+
+abbrev pub parts_of : Resolved → Part Bindgen → CoreModule → CheckedRoles → ModuleParts
+parts_of r part core m = with_own (own_of r part core) m
+
+-- the module of a part
+unfoldable pub core_parts : Resolved → Importer → Adapters → Part Bindgen → CoreModule → Result ModuleParts Failure
+core_parts r importer all part core = do
+  _ ← others_pass importer all part.own.roles.import_roles core.imports
+  m ← checked_roles r part core
+  Ok (parts_of r part core m)
+
+unfoldable pub module_parts : Resolved → Importer → Adapters → Part Bindgen → Result ModuleParts Failure
+module_parts r importer all part = lifted (module_of part.bytes) >>= λ core. core_parts r importer all part core
+
+-- ---- all modules
+
+-- an adapter of a world, under its name, and a library where it was gathered as one
+abbrev pub adapter_of : GatheredAdapter Bindgen → ModuleParts → WorldAdapter
+adapter_of a m = record { info = m.info; required_exports = m.required; library_info = a.library_info }
+
+abbrev pub adapter_in : List ℕ × GatheredAdapter Bindgen → ModuleParts → List ℕ × WorldAdapter
+adapter_in a m = (a.0, adapter_of a.1 m)
+
+-- the module of an adapter
+unfoldable pub adapter_parts : Resolved → Adapters → GatheredAdapter Bindgen → Result ModuleParts Failure
+adapter_parts r all a = arguments_pass a.library_info >>= λ _. module_parts r (importer_of a.library_info) all a.part
+
+-- those of all adapters, after others, in order
+abbrev pub adapters_after : Resolved → Adapters → List (List ℕ × WorldAdapter) → Adapters → Result (List (List ℕ × WorldAdapter)) Failure
+adapters_after r all done [] = Ok done
+adapters_after r all done (a ∷ more) = adapter_parts r all a.1 >>= λ m. adapters_after r all (done ++ adapter_in a m ∷ []) more
+
+-- a world of main and of adapters
+abbrev pub world_with : Resolve → ModuleParts → List (List ℕ × WorldAdapter) → Bool → WorldParts
+world_with resolve main adapters slot_1 = record {
+  resolve = resolve;
+  world = record { index = 0 };
+  main = main.info;
+  main_exports = main.required;
+  adapters = adapters;
   can_use_context_slot_1 = slot_1;
 }
 
-abbrev pub parts_of : Resolved → Part Bindgen → CoreModule → CheckedRoles → WorldParts
-parts_of r main core m = with_own r.resolve (own_of r main core) m main.own.roles.context_slot_1
+-- main first, and then the adapters
+unfoldable pub world_parts : Resolved → Part Bindgen → Adapters → Result WorldParts Failure
+world_parts r main adapters = do
+  m ← module_parts r importers.Main adapters main
+  made ← adapters_after r adapters [] adapters
+  Ok (world_with r.resolve m made main.own.roles.context_slot_1)
 
--- the world of main alone
-unfoldable pub preparing_core : Resolved → Part Bindgen → CoreModule → Result ComponentWorld Failure
-preparing_core r main core = checked_roles r main core >>= λ m. encoded (parts_of r main core m)
-
-unfoldable pub preparing_main : Resolved → Part Bindgen → Result ComponentWorld Failure
-preparing_main r main = lifted (module_of main.bytes) >>= λ core. preparing_core r main core
+-- their world, where all of it is encoded yet
+abbrev pub preparing_modules : Resolved → Part Bindgen → Adapters → Result ComponentWorld Failure
+preparing_modules r main adapters = world_parts r main adapters >>= encoded
 
 -- no bytes at all are not a module
-abbrev pub preparing_if : Resolved → Option (Part Bindgen) → Result ComponentWorld Failure
-preparing_if r None = Err (failures.Refused refusals.NotModule)
-preparing_if r (Some main) = preparing_main r main
+abbrev pub preparing_if : Resolved → Option (Part Bindgen) → Adapters → Result ComponentWorld Failure
+preparing_if r None adapters = Err (failures.Refused refusals.NotModule)
+preparing_if r (Some main) adapters = preparing_modules r main adapters
 
 -- ---- the whole
 
@@ -128,4 +161,4 @@ unfoldable pub preparing : Gathered Bindgen → Result ComponentWorld Failure
 preparing g = do
   _ ← adapters_pass g.options.realloc_via_memory_grow g.adapters
   r ← combined g.options.merge_imports_based_on_semver g.combined.wit
-  preparing_if r g.main
+  preparing_if r g.main g.adapters

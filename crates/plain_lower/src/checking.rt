@@ -1,4 +1,4 @@
-//! The roles of main's core imports and exports.
+//! The roles of a module's core imports and exports.
 
 ghost use Rattle.std.specs.Prelude.{◌≡◌, IfOk, IfErr, IsOk};
 ghost use Rattle.std.specs.List.{AllByRecursion};
@@ -24,7 +24,7 @@ use std::alloc::Global;
 use wit_data::WorldKey;
 use world_values::Part;
 
-/// The roles of main's core imports and exports, and the keys of the exports that are required of it.
+/// The roles of a module's core imports and exports, and the keys of the exports that are required of it.
 #[derive(Drop)]
 pub(crate) struct CheckedRoles {
     pub imports: ImportMap,
@@ -32,25 +32,25 @@ pub(crate) struct CheckedRoles {
     pub required: Seq<WorldKey>,
 }
 
-/// The core exports and the keys of those that are required of main.
+/// The core exports and the keys of those that are required of the module.
 type CheckedExports = (Keyed<Text, Export>, Seq<WorldKey>);
 
 #[tactic(auto, unfolding(crate::specs::Preparing::checked_exports))]
 fn check_exports(
     alloc: Global,
     resolved: &Resolved,
-    main: &Part<Bindgen>,
+    part: &Part<Bindgen>,
     core: &CoreModule,
 ) -> Result<CheckedExports, Failure>
     requires { IsSound resolved.now.resolve }
-    ensures exact { Gives (λ m. m) result (checked_exports resolved.now main.now core.now) }
+    ensures exact { Gives (λ m. m) result (checked_exports resolved.now part.now core.now) }
     ensures lifted { IfOk result (λ m. AllByRecursion (λ e. IsLifted resolved.now.resolve world_id e.1) m.0) }
     ensures kept { IfOk result (λ m. AllByRecursion (IsKept resolved.now.resolve world_id m.0) m.1) }
-    ensures cause { IfErr result (λ e. (f : Refusal) → e ≡ failures.Refused f → ExportsCause resolved.now main.now core.now f) }
-    ensures refused { IsOk result → (f : Refusal) → ¬ ExportsCause resolved.now main.now core.now f }
+    ensures cause { IfErr result (λ e. (f : Refusal) → e ≡ failures.Refused f → ExportsCause resolved.now part.now core.now f) }
+    ensures refused { IsOk result → (f : Refusal) → ¬ ExportsCause resolved.now part.now core.now f }
 {
-    let exports = read_exports(alloc, resolved, &main.own.roles.export_roles, core)?;
-    match require_all(alloc, resolved, &exports, main.required.as_slice()) {
+    let exports = read_exports(alloc, resolved, &part.own.roles.export_roles, core)?;
+    match require_all(alloc, resolved, &exports, part.required.as_slice()) {
         Ok(required) => Ok((exports, required)),
         Err(failure) => {
             drop(exports);
@@ -75,17 +75,17 @@ fn with_imports(imports: ImportMap, exports: CheckedExports) -> CheckedRoles
 pub(crate) fn check_roles(
     alloc: Global,
     resolved: &Resolved,
-    main: &Part<Bindgen>,
+    part: &Part<Bindgen>,
     core: &CoreModule,
 ) -> Result<CheckedRoles, Failure>
     requires { IsSound resolved.now.resolve }
-    ensures exact { Gives (λ m. m) result (checked_roles resolved.now main.now core.now) }
+    ensures exact { Gives (λ m. m) result (checked_roles resolved.now part.now core.now) }
     ensures all_present { IfOk result (AreChecked resolved.now) }
-    ensures cause { IfErr result (λ e. (f : Refusal) → e ≡ failures.Refused f → RolesCause resolved.now main.now core.now f) }
-    ensures refused { IsOk result → (f : Refusal) → ¬ RolesCause resolved.now main.now core.now f }
+    ensures cause { IfErr result (λ e. (f : Refusal) → e ≡ failures.Refused f → RolesCause resolved.now part.now core.now f) }
+    ensures refused { IsOk result → (f : Refusal) → ¬ RolesCause resolved.now part.now core.now f }
 {
-    let imports = read_imports(alloc, resolved, &main.own.roles.import_roles, core)?;
-    match check_exports(alloc, resolved, main, core) {
+    let imports = read_imports(alloc, resolved, &part.own.roles.import_roles, core)?;
+    match check_exports(alloc, resolved, part, core) {
         Ok(exports) => Ok(with_imports(imports, exports)),
         Err(failure) => {
             drop(imports);

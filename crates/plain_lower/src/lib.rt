@@ -5,13 +5,13 @@
 //! definitions of `specs/`. A record is read by `records` and the crates below it, and records are
 //! merged by `record_merge`. A world is prepared in steps, each a crate of its own: `record_versions`
 //! merges compatible versions, `record_resolve` resolves names, `record_imports` and `record_exports`
-//! check the roles of main against its core types, and `supported_worlds` refuses what is not encoded
-//! yet. `Preparing` puts them together, and `Causes` says when each fault is right, in words that don't
-//! follow the code. Nothing here knows JSON.
+//! check the roles of main, and then of each adapter in order, against their core types, and
+//! `supported_worlds` refuses what is not encoded yet. `Preparing` puts them together, and `Causes` says when
+//! each fault is right, and of which module, in words that don't follow the code. Nothing here knows JSON.
 //!
-//! In reading order: `decoding` (records of a module, and what several modules say); `adapters`,
-//! `combined` (the world of all modules), `checking` (main's roles), `preparing` (the validated world);
-//! `lower` (the layer).
+//! In reading order: `decoding` (records of a module, and what several modules say); `combined` (the world
+//! of all modules), `others` (what is left out before), `checking` (a module's roles), `modules` (a module of the world), `adapters`,
+//! `preparing` (the validated world); `lower` (the layer).
 #![tactic(auto)]
 
 mod adapters;
@@ -19,6 +19,8 @@ mod checking;
 mod combined;
 mod decoding;
 mod lower;
+mod modules;
+mod others;
 mod preparing;
 
 pub use lower::PlainLower;

@@ -6,6 +6,7 @@ mod Gathered
 mod InPlace
 mod InterfacePlaces
 mod Interfaces
+mod Keys
 mod Lending
 mod Lists
 mod Order

@@ -1,92 +1,62 @@
 -- When a world is refused: something of it is reported exactly where a cause holds.
-use Rattle.std.proofs.Common.{◌≡◌, ◌≢◌, ◌⊎◌, inl, inr, ℕ, Bool, true, false, true≢false, not, ◌&&◌, ◌||◌, List, [], ◌∷◌, ◌++◌, Option, Some, None, Ok, Err, refl, sym, ap, ap₂, subst, ◌∙◌}
+use Rattle.std.proofs.lemmas.Bool.{eqb-true}
+use Rattle.std.proofs.Common.{arith, ◌≡◌, ◌≢◌, ◌⊎◌, inl, inr, ℕ, Bool, true, false, true≢false, List, [], ◌∷◌, ◌++◌, map, ◌==◌, Option, Some, None, Ok, Err, refl, sym, ap, ap₂, subst, ◌∙◌}
 use Rattle.std.specs.Prelude.{Contains, length, codes}
-use Rattle.std.specs.List.{AllByRecursion, flat_map, list_any}
+use Rattle.std.specs.List.{AllByRecursion, flat_map}
 use Rattle.std.specs.Map.{keys_of}
 use Rattle.std.specs.Option.{option_or}
-use Rattle.wit_data.specs.declared.ids.InterfaceId.{InterfaceId}
+use Rattle.wit_data.specs.declared.types.TypeDef.{TypeDef}
 use Rattle.wit_data.specs.declared.worlds.WorldKey.{WorldKey}
-use Rattle.comp_lists.proofs.Lists.{AllByRecursion-contains, Contains-map}
+use Rattle.comp_lists.proofs.Lists.{AllByRecursion-contains, AllByRecursion-weaker, Contains-map}
 use Rattle.wit_data.specs.declared.worlds.World.{World}
-use Rattle.world_values.specs.Mentions.{same_interface, interfaces_of}
 use Rattle.comp_roles.specs.CoreImports.{CoreImport, imports_from}
 use Rattle.comp_roles.specs.Lookups.{first_some}
 use Rattle.comp_roles.specs.declared.imports.Import.{Import}
 use Rattle.comp_roles.specs.declared.imports.ImportInstance.{ImportInstance}
 use Rattle.comp_roles.specs.declared.imports.ImportInstance.TheVariants as instances
-use Rattle.comp_worlds.specs.Encodable.{ImportsResources}
+use Rattle.comp_roles.specs.declared.libraries.LibraryArgument.{LibraryArgument}
+use Rattle.comp_roles.specs.declared.libraries.LibraryInfo.{LibraryInfo}
+use Rattle.comp_worlds.specs.Encodable.{Entries, ImportsResources}
+use Rattle.comp_worlds.specs.Uses.{imports_of}
 use Rattle.comp_worlds.specs.WorldTables.{whole_of}
 use Rattle.comp_worlds.specs.declared.world.ComponentWorld.{ComponentWorld}
+use Rattle.comp_worlds.specs.declared.world.ValidatedModule.{ValidatedModule}
 use Rattle.comp_worlds.specs.declared.world.WorldAdapter.{WorldAdapter}
 use Rattle.comp_worlds.specs.declared.world.WorldParts.{WorldParts}
 use Rattle.record_faults.specs.declared.fault.Failure.{Failure}
 use Rattle.record_faults.specs.declared.fault.Failure.TheVariants as failures
 use Rattle.record_faults.specs.declared.fault.Refusal.{Refusal}
 use Rattle.record_faults.specs.declared.fault.Refusal.TheVariants as refusals
-use Rattle.supported_worlds.specs.LeftOut.{items_of, unless, import_item_left_out, export_item_left_out, twice_left_out, names_left_out, order_left_out, resources_left_out, export_left_out, group_left_out, are_interfaces_apart, required_of, own_group_left_out, own_left_out, owned_left_out, world_left_out, module_left_out, adapters_left_out, modules_left_out, rest_left_out, named_left_out, left_out, unless_left_out, encoded}
-use Rattle.supported_worlds.specs.Distinct.{are_apart}
+use Rattle.supported_worlds.specs.LeftOut.{items_of, unless, import_item_left_out, export_item_left_out, twice_left_out, names_left_out, order_left_out, resources_left_out, export_left_out, group_left_out, all_required, required_of, own_group_left_out, own_left_out, world_left_out, roles_left_out, module_left_out, library_left_out, adapter_left_out, modules_left_out, rest_left_out, named_left_out, left_out, unless_left_out, encoded}
+use Rattle.supported_worlds.specs.Modules.{UserModule, main_of, module_of, user_modules}
 use Rattle.supported_worlds.specs.Naming.{are_exports_named, AreExportsNamed}
 use Rattle.supported_worlds.specs.Placed.{places_of, is_world_placed, imported_numbers, are_in_place}
 use Rattle.supported_worlds.specs.PlaceTables.{ArePlaces}
 use Rattle.supported_worlds.specs.declared.places.Places.{Places}
-use Rattle.supported_worlds.specs.Causes.{role_left_out, own_role_out, IsLeftOut, own_role, imported, exported, twice, names, order, resources, import_role, export_role, whole_module, adapter}
+use Rattle.supported_worlds.specs.Causes.{role_left_out, own_role_out, IsLeftOut, own_role, imported, exported, twice, names, order, resources, import_role, export_role, whole_module, arguments}
 use Rattle.supported_worlds.proofs.ExportNames.{exports_named, names_pass}
-use Rattle.supported_worlds.proofs.Lists.{nothing, at_front, not_there, in_flat_map, neither, one_of, none_picked, one_picked}
+use Rattle.supported_worlds.proofs.Lists.{nothing, at_front, after, in_flat_map, neither, one_of, none_picked, one_picked}
 use Rattle.supported_worlds.specs.Lent.{InterfaceSet}
 use Rattle.supported_worlds.specs.Sets.{IsSetOf}
-use Rattle.supported_worlds.proofs.InPlace.{both as both_true, imports_resources, in_place}
+use Rattle.supported_worlds.proofs.InPlace.{imports_resources, in_place}
 use Rattle.supported_worlds.proofs.Order.{passes}
 
 -- ---- tables and tests
 
-pub same_modules : (p : WorldParts) (w : World) (t : Places) (found : Option (List ℕ)) → ArePlaces p.resolve.types w.imports t → found ≡ modules_left_out p t.types t.interfaces.root → found ≡ modules_left_out p (places_of p.resolve.types w.imports) (length w.imports)
-same_modules p w t found h is = let i = h.interfaces in is ∙ ap₂ (modules_left_out p) h.types i.root
-
-pub is_twice : (required : List WorldKey) (w : World) (rest : Option (List ℕ)) (apart : Bool) → apart ≡ are_interfaces_apart w → apart ≡ false → Some (codes "interface") ≡ option_or (twice_left_out required w) rest
-is_twice required w rest apart is met = ap (λ b. option_or (unless (b && are_apart same_interface (required_of w.exports required)) (codes "interface")) rest) (sym (sym is ∙ met))
-
-pub required_twice : (required : List WorldKey) (w : World) (rest : Option (List ℕ)) → are_interfaces_apart w ≡ true → are_apart same_interface (required_of w.exports required) ≡ false → Some (codes "interface") ≡ option_or (twice_left_out required w) rest
-required_twice required w rest apart met = ap₂ (λ a b. option_or (unless (a && b) (codes "interface")) rest) (sym apart) (sym met)
-
-pub required_once : (required : List WorldKey) (w : World) (set : InterfaceSet) (found rest : Option (List ℕ)) → are_interfaces_apart w ≡ true → IsSetOf (required_of w.exports required) set → found ≡ rest → found ≡ option_or (twice_left_out required w) rest
-required_once required w set found rest apart h is = is ∙ ap₂ (λ a b. option_or (unless (a && b) (codes "interface")) rest) (sym apart) (sym h.apart)
+pub same_modules : (p : WorldParts) (w : World) (t : Places) (found : Option (List ℕ)) → ArePlaces p.resolve.types w.imports t → found ≡ modules_left_out p w t.types t.interfaces.root → found ≡ modules_left_out p w (places_of p.resolve.types w.imports) (length w.imports)
+same_modules p w t found h is = let i = h.interfaces in is ∙ ap₂ (modules_left_out p w) h.types i.root
 
 -- a role of an exported resource
-pub own_found : (p : WorldParts) (w : World) (set : InterfaceSet) (found rest : Option (List ℕ)) (what : List ℕ) → IsSetOf (required_of w.exports p.main_exports) set → found ≡ first_some (own_group_left_out p.resolve.types w.exports (keys_of set)) p.main.imports.modules → found ≡ Some what → Some what ≡ option_or (own_left_out p w) rest
-own_found p w set found rest what h is has = ap (λ o. option_or o rest) (sym has ∙ is ∙ ap (λ ks. first_some (own_group_left_out p.resolve.types w.exports ks) p.main.imports.modules) h.keys)
-
-pub own_passed : (p : WorldParts) (w : World) (set : InterfaceSet) (found own rest : Option (List ℕ)) → IsSetOf (required_of w.exports p.main_exports) set → own ≡ first_some (own_group_left_out p.resolve.types w.exports (keys_of set)) p.main.imports.modules → own ≡ None → found ≡ rest → found ≡ option_or (own_left_out p w) rest
-own_passed p w set found own rest h is none same = same ∙ ap (λ o. option_or o rest) (sym none ∙ is ∙ ap (λ ks. first_some (own_group_left_out p.resolve.types w.exports ks) p.main.imports.modules) h.keys)
-
--- the first of two lists that are apart together
-first_apart : (xs ys : List InterfaceId) → are_apart same_interface (xs ++ ys) ≡ true → are_apart same_interface xs ≡ true
-first_apart [] ys h = refl
-first_apart (x ∷ xs) ys h =
-    let b = both_true (not (list_any (same_interface x) (xs ++ ys))) (are_apart same_interface (xs ++ ys)) h in
-    ap₂ (λ a b. a && b) (none_first xs ys b.0) (first_apart xs ys b.1)
-  where
-    none_first : (xs ys : List InterfaceId) → not (list_any (same_interface x) (xs ++ ys)) ≡ true → not (list_any (same_interface x) xs) ≡ true
-    none_first [] ys h = refl
-    none_first (z ∷ zs) ys h = by (same_interface x z) h (none_first zs ys)
-      where
-        by : (b : Bool) → not (b || list_any (same_interface x) (zs ++ ys)) ≡ true → (not (list_any (same_interface x) (zs ++ ys)) ≡ true → not (list_any (same_interface x) zs) ≡ true) → not (b || list_any (same_interface x) zs) ≡ true
-        by true h rest = h
-        by false h rest = rest h
-
-pub second_apart : (xs ys : List InterfaceId) → are_apart same_interface (xs ++ ys) ≡ true → are_apart same_interface ys ≡ true
-second_apart [] ys h = h
-second_apart (x ∷ xs) ys h = second_apart xs ys (both_true (not (list_any (same_interface x) (xs ++ ys))) (are_apart same_interface (xs ++ ys)) h).1
-
-pub imports_apart : (w : World) → are_interfaces_apart w ≡ true → are_apart same_interface (interfaces_of w.imports) ≡ true
-imports_apart w h = first_apart (interfaces_of w.imports) (interfaces_of w.exports) h
+pub own_found : (types : List TypeDef) (es : Entries) (keys : List WorldKey) (m : ValidatedModule) (set : InterfaceSet) (found : Option (List ℕ)) → IsSetOf (required_of es keys) set → found ≡ first_some (own_group_left_out types es (keys_of set)) m.imports.modules → found ≡ own_left_out types es keys m
+own_found types es keys m set found h is = is ∙ ap (λ ids. first_some (own_group_left_out types es ids) m.imports.modules) h.keys
 
 -- where no item is left out, the other parts decide
-pub rest_decides : (p : WorldParts) (w : World) (found : Option (List ℕ)) → w ≡ items_of p → None ≡ world_left_out p.resolve w → found ≡ option_or (twice_left_out p.main_exports w) (owned_left_out p w) → found ≡ left_out p
+pub rest_decides : (p : WorldParts) (w : World) (found : Option (List ℕ)) → w ≡ items_of p → None ≡ world_left_out p.resolve w → found ≡ option_or (twice_left_out (all_required p) w) (named_left_out p w) → found ≡ left_out p
 unfolding left_out
 rest_decides p w found same none rest =
     rest
-    ∙ ap (λ o. option_or o (option_or (twice_left_out p.main_exports w) (owned_left_out p w))) none
-    ∙ ap (λ (w : World). option_or (world_left_out p.resolve w) (option_or (twice_left_out p.main_exports w) (owned_left_out p w))) same
+    ∙ ap (λ o. option_or o (option_or (twice_left_out (all_required p) w) (named_left_out p w))) none
+    ∙ ap (λ (w : World). option_or (world_left_out p.resolve w) (option_or (twice_left_out (all_required p) w) (named_left_out p w))) same
 
 -- ---- where nothing is reported
 
@@ -102,9 +72,9 @@ both P (x ∷ xs) ys h k = (h.0, both P xs ys h.1 k)
 abbrev pub group_out : WorldParts → List ℕ × ImportInstance → Option (List ℕ)
 group_out p group = group_left_out p.resolve.types (places_of p.resolve.types (items_of p).imports) (length (items_of p).imports) group
 
--- by its exported resources
-abbrev pub own_group_out : WorldParts → List ℕ × ImportInstance → Option (List ℕ)
-own_group_out p group = own_group_left_out p.resolve.types (items_of p).exports (required_of (items_of p).exports p.main_exports) group
+-- by its exported resources, and the keys that the module has to export
+abbrev pub own_group_out : WorldParts → List WorldKey → List ℕ × ImportInstance → Option (List ℕ)
+own_group_out p keys group = own_group_left_out p.resolve.types (items_of p).exports (required_of (items_of p).exports keys) group
 
 -- each import of the groups is encoded
 pub imports_pass : (p : WorldParts) (groups : List (List ℕ × ImportInstance)) → AllByRecursion (λ g. group_out p g ≡ None) groups → AllByRecursion (λ i. role_left_out p i.role ≡ None) (flat_map imports_from groups)
@@ -114,35 +84,63 @@ imports_pass p ((name, instances.Names fields) ∷ groups) h =
     (fields_pass p name fields (none_picked (λ f. role_left_out p f.1) fields h.0)) (imports_pass p groups h.1)
 imports_pass p ((name, instances.Whole which) ∷ groups) h = nothing (codes "library") h.0
 
-pub no_adapters : (adapters : List (List ℕ × WorldAdapter)) → adapters_left_out adapters ≡ None → adapters ≡ []
-no_adapters [] h = refl
-no_adapters (a ∷ more) h = nothing (codes "adapter") h
-
 -- and so is each of an exported resource
-pub own_pass : (p : WorldParts) (groups : List (List ℕ × ImportInstance)) → AllByRecursion (λ g. own_group_out p g ≡ None) groups → AllByRecursion (λ i. own_role_out p i.role ≡ None) (flat_map imports_from groups)
-own_pass p [] h = tt
-own_pass p ((name, instances.Names fields) ∷ groups) h =
-    both (λ i. own_role_out p i.role ≡ None) (imports_from (name, instances.Names fields)) (flat_map imports_from groups)
-    (own_fields_pass fields (none_picked (λ f. own_role_out p f.1) fields h.0)) (own_pass p groups h.1)
+pub own_pass : (p : WorldParts) (keys : List WorldKey) (groups : List (List ℕ × ImportInstance)) → AllByRecursion (λ g. own_group_out p keys g ≡ None) groups → AllByRecursion (λ i. own_role_out p keys i.role ≡ None) (flat_map imports_from groups)
+own_pass p keys [] h = tt
+own_pass p keys ((name, instances.Names fields) ∷ groups) h =
+    both (λ i. own_role_out p keys i.role ≡ None) (imports_from (name, instances.Names fields)) (flat_map imports_from groups)
+    (own_fields_pass fields (none_picked (λ f. own_role_out p keys f.1) fields h.0)) (own_pass p keys groups h.1)
   where
-    own_fields_pass : (fields : List (List ℕ × Import)) → AllByRecursion (λ f. own_role_out p f.1 ≡ None) fields → AllByRecursion (λ i. own_role_out p i.role ≡ None) (imports_from (name, instances.Names fields))
+    own_fields_pass : (fields : List (List ℕ × Import)) → AllByRecursion (λ f. own_role_out p keys f.1 ≡ None) fields → AllByRecursion (λ i. own_role_out p keys i.role ≡ None) (imports_from (name, instances.Names fields))
     own_fields_pass [] h = tt
     own_fields_pass (f ∷ fields) h = (h.0, own_fields_pass fields h.1)
-own_pass p ((name, instances.Whole which) ∷ groups) h = own_pass p groups h.1
+own_pass p keys ((name, instances.Whole which) ∷ groups) h = own_pass p keys groups h.1
+
+-- nothing of a module is left out
+pub record IsModuleEncoded (p : WorldParts) (m : UserModule) : Type 0 where
+  pub own_groups : AllByRecursion (λ g. own_group_out p m.keys g ≡ None) m.info.imports.modules
+  pub groups : AllByRecursion (λ g. group_out p g ≡ None) m.info.imports.modules
+  pub export_roles : AllByRecursion (λ e. export_left_out p.resolve.types e.1 ≡ None) m.info.exports.exports
+
+pub record IsAdapterEncoded (p : WorldParts) (a : List ℕ × WorldAdapter) : Type 0 where
+  pub library : library_left_out a.1.library_info ≡ None
+  pub roles : IsModuleEncoded p (module_of a)
 
 -- nothing of a world is left out
 pub record IsEncoded (p : WorldParts) : Type 0 where
   pub imports : AllByRecursion (λ e. import_item_left_out p.resolve e ≡ None) (items_of p).imports
   pub exports : AllByRecursion (λ e. export_item_left_out p.resolve e ≡ None) (items_of p).exports
-  pub apart : are_interfaces_apart (items_of p) ≡ true
-  pub required_apart : are_apart same_interface (required_of (items_of p).exports p.main_exports) ≡ true
-  pub own_groups : AllByRecursion (λ g. own_group_out p g ≡ None) p.main.imports.modules
+  pub once : twice_left_out (all_required p) (items_of p) ≡ None
   pub named : AreExportsNamed p.resolve (items_of p).exports
   pub order : is_world_placed p.resolve (items_of p) ≡ true
   pub resources : ImportsResources (whole_of p)
-  pub groups : AllByRecursion (λ g. group_out p g ≡ None) p.main.imports.modules
-  pub export_roles : AllByRecursion (λ e. export_left_out p.resolve.types e.1 ≡ None) p.main.exports.exports
-  pub alone : p.adapters ≡ []
+  pub main : IsModuleEncoded p (main_of p)
+  pub adapters : AllByRecursion (IsAdapterEncoded p) p.adapters
+
+-- what is left out of a module of a world, and of an adapter
+abbrev module_out : WorldParts → UserModule → Option (List ℕ)
+module_out p m = module_left_out p.resolve.types (items_of p).exports (places_of p.resolve.types (items_of p).imports) (length (items_of p).imports) m.keys m.info
+
+abbrev roles_out : WorldParts → ValidatedModule → Option (List ℕ)
+roles_out p m = roles_left_out p.resolve.types (places_of p.resolve.types (items_of p).imports) (length (items_of p).imports) m
+
+abbrev adapter_out : WorldParts → List ℕ × WorldAdapter → Option (List ℕ)
+adapter_out p a = adapter_left_out p.resolve.types (items_of p).exports (places_of p.resolve.types (items_of p).imports) (length (items_of p).imports) a
+
+module_encoded : (p : WorldParts) (m : UserModule) → module_out p m ≡ None → IsModuleEncoded p m
+module_encoded p m h =
+    let s = neither (own_left_out p.resolve.types (items_of p).exports m.keys m.info) (roles_out p m.info) h in
+    let r = neither (first_some (group_out p) m.info.imports.modules) (first_some (λ e. export_left_out p.resolve.types e.1) m.info.exports.exports) s.1 in
+    record {
+      own_groups = none_picked (own_group_out p m.keys) m.info.imports.modules s.0;
+      groups = none_picked (group_out p) m.info.imports.modules r.0;
+      export_roles = none_picked (λ e. export_left_out p.resolve.types e.1) m.info.exports.exports r.1;
+    }
+
+adapter_encoded : (p : WorldParts) (a : List ℕ × WorldAdapter) → adapter_out p a ≡ None → IsAdapterEncoded p a
+adapter_encoded p a h =
+    let s = neither (library_left_out a.1.library_info) (module_out p (module_of a)) h in
+    record { library = s.0; roles = module_encoded p (module_of a) s.1 }
 
 pub all_encoded : (p : WorldParts) → left_out p ≡ None → IsEncoded p
 unfolding left_out
@@ -152,31 +150,40 @@ all_encoded p h =
     let root = length world.imports in
     let a = neither (world_left_out p.resolve world) _ h in
     let w = neither (first_some (import_item_left_out p.resolve) world.imports) _ a.0 in
-    let t = neither (twice_left_out p.main_exports world) (owned_left_out p world) a.1 in
-    let s = neither (own_left_out p world) (named_left_out p world) t.1 in
-    let n = neither (names_left_out p.resolve world) (rest_left_out p world) s.1 in
+    let t = neither (twice_left_out (all_required p) world) (named_left_out p world) a.1 in
+    let n = neither (names_left_out p.resolve world) (rest_left_out p world) t.1 in
     let o = neither (order_left_out p.resolve world) _ n.1 in
-    let r = neither (resources_left_out p.resolve.types world.imports) (modules_left_out p places root) o.1 in
-    let b = neither (module_left_out p.resolve.types places root p.main) (adapters_left_out p.adapters) r.1 in
-    let m = neither (first_some (group_out p) p.main.imports.modules) _ b.0 in
+    let r = neither (resources_left_out p.resolve.types world.imports) (modules_left_out p world places root) o.1 in
+    let b = neither (module_out p (main_of p)) (first_some (adapter_out p) p.adapters) r.1 in
     record {
       imports = none_picked (import_item_left_out p.resolve) world.imports w.0;
       exports = none_picked (export_item_left_out p.resolve) world.exports w.1;
-      apart = (apart_of t.0).0;
-      required_apart = (apart_of t.0).1;
-      own_groups = none_picked (own_group_out p) p.main.imports.modules s.0;
+      once = t.0;
       named = exports_named p.resolve world.exports (passes (are_exports_named p.resolve world.exports) (codes "interface") n.0);
       order = passes (is_world_placed p.resolve world) (codes "interface") o.0;
       resources = imports_resources (whole_of p) (passes (are_in_place p.resolve.types 0 (imported_numbers world.imports)) (codes "type") r.0);
-      groups = none_picked (group_out p) p.main.imports.modules m.0;
-      export_roles = none_picked (λ e. export_left_out p.resolve.types e.1) p.main.exports.exports m.1;
-      alone = no_adapters p.adapters b.1;
+      main = module_encoded p (main_of p) b.0;
+      adapters = AllByRecursion-weaker (adapter_encoded p) p.adapters (none_picked (adapter_out p) p.adapters b.1);
     }
+
+-- so it is of each user module
+mapped : {A B : Type 0} (P : B → Type 0) (f : A → B) (xs : List A) → AllByRecursion (λ x. P (f x)) xs → AllByRecursion P (map f xs)
+mapped P f [] h = tt
+mapped P f (x ∷ xs) h = (h.0, mapped P f xs h.1)
+
+each_encoded : (p : WorldParts) → IsEncoded p → (m : UserModule) → Contains (user_modules p) m → IsModuleEncoded p m
+each_encoded p h m there =
+    AllByRecursion-contains (IsModuleEncoded p) (user_modules p) m
+    (h.main, mapped (IsModuleEncoded p) module_of p.adapters (AllByRecursion-weaker (λ a (e : IsAdapterEncoded p a). e.roles) p.adapters h.adapters)) there
+
+-- the arguments of a library
+no_arguments : (info : LibraryInfo) (b : Bool) → (length info.arguments == 0) ≡ b → unless b (codes "library") ≡ None → info.arguments ≡ []
+no_arguments info true is e = none_there info.arguments is
   where
-    apart_of : twice_left_out p.main_exports (items_of p) ≡ None → (are_interfaces_apart (items_of p) ≡ true) × (are_apart same_interface (required_of (items_of p).exports p.main_exports) ≡ true)
-    apart_of h =
-        both_true (are_interfaces_apart (items_of p)) (are_apart same_interface (required_of (items_of p).exports p.main_exports))
-        (passes (are_interfaces_apart (items_of p) && are_apart same_interface (required_of (items_of p).exports p.main_exports)) (codes "interface") h)
+    none_there : {X : Type 0} (xs : List X) → (length xs == 0) ≡ true → xs ≡ []
+    none_there [] h = refl
+    none_there (x ∷ xs) h = let l = eqb-true (length (x ∷ xs)) 0 h in absurd (omega (arith, l))
+no_arguments info false is e = nothing (codes "library") e
 
 -- a function with no result for all elements has none for this one
 none_of : {X : Type 0} (reported : X → Option (List ℕ)) (xs : List X) (x : X) (what : List ℕ) → AllByRecursion (λ y. reported y ≡ None) xs → Contains xs x → reported x ≡ Some what → ⊥
@@ -185,34 +192,29 @@ none_of reported xs x what h m e = nothing what (sym e ∙ AllByRecursion-contai
 by_cases : (p : WorldParts) → IsEncoded p → (f : Refusal) → IsLeftOut p f → ⊥
 by_cases p h f (imported entry what m e) = none_of (import_item_left_out p.resolve) (items_of p).imports entry what h.imports m e
 by_cases p h f (exported entry what m e) = none_of (export_item_left_out p.resolve) (items_of p).exports entry what h.exports m e
-by_cases p h f (twice what e) = nothing what (sym e ∙ ap₂ (λ a b. unless (a && b) (codes "interface")) h.apart h.required_apart)
+by_cases p h f (twice what e) = nothing what (sym e ∙ h.once)
 by_cases p h f (names lack) = lack h.named
 by_cases p h f (order what e) = nothing what (sym e ∙ ap (λ b. unless b (codes "interface")) h.order)
 by_cases p h f (resources lack) = lack h.resources
-by_cases p h f (import_role import what m e) =
-    none_of (λ i. role_left_out p i.role) (flat_map imports_from p.main.imports.modules) import what (imports_pass p p.main.imports.modules h.groups) m e
-by_cases p h f (own_role import what m e) =
-    none_of (λ i. own_role_out p i.role) (flat_map imports_from p.main.imports.modules) import what (own_pass p p.main.imports.modules h.own_groups) m e
-by_cases p h f (export_role entry what m e) = none_of (λ x. export_left_out p.resolve.types x.1) p.main.exports.exports entry what h.export_roles m e
-by_cases p h f (whole_module name which m) = none_of (group_out p) p.main.imports.modules (name, instances.Whole which) (codes "library") h.groups m refl
-by_cases p h f (adapter entry m) = not_there entry (subst (λ (as_list : List (List ℕ × WorldAdapter)). Contains as_list entry) h.alone m)
+by_cases p h f (import_role m import what there c e) =
+    let encoded = each_encoded p h m there in
+    none_of (λ i. role_left_out p i.role) (imports_of m.info) import what (imports_pass p m.info.imports.modules encoded.groups) c e
+by_cases p h f (own_role m import what there c e) =
+    let encoded = each_encoded p h m there in
+    none_of (λ i. own_role_out p m.keys i.role) (imports_of m.info) import what (own_pass p m.keys m.info.imports.modules encoded.own_groups) c e
+by_cases p h f (export_role m entry what there c e) =
+    let encoded = each_encoded p h m there in
+    none_of (λ x. export_left_out p.resolve.types x.1) m.info.exports.exports entry what encoded.export_roles c e
+by_cases p h f (whole_module m name which there c) =
+    let encoded = each_encoded p h m there in
+    none_of (group_out p) m.info.imports.modules (name, instances.Whole which) (codes "library") encoded.groups c refl
+by_cases p h f (arguments entry info c is some) =
+    let encoded = AllByRecursion-contains (IsAdapterEncoded p) p.adapters entry h.adapters c in
+    some (no_arguments info (length info.arguments == 0) refl (ap library_left_out (sym is) ∙ encoded.library))
 
 -- ---- where something is reported
 
 module _ (p : WorldParts) (what : List ℕ) where
-  of_group : (group : List ℕ × ImportInstance) → Contains p.main.imports.modules group → group_out p group ≡ Some what → IsLeftOut p (refusals.LeftOut what)
-  of_group (name, instances.Names fields) m e =
-      let t = one_picked (λ f. role_left_out p f.1) fields what e in
-      let import : CoreImport = record { module_name = name; field = t.element.0; role = t.element.1 } in
-      let there = Contains-map (λ f. record { module_name = name; field = f.0; role = f.1 }) fields t.element t.there in
-      import_role import what (in_flat_map imports_from p.main.imports.modules (name, instances.Names fields) import m.0 m.1 m.2 there) t.picks
-  of_group (name, instances.Whole which) m e = subst (λ (w : List ℕ). IsLeftOut p (refusals.LeftOut w)) (cc (e)) (whole_module name which m)
-
-  of_adapters : (adapters : List (List ℕ × WorldAdapter)) → p.adapters ≡ adapters → adapters_left_out adapters ≡ Some what → IsLeftOut p (refusals.LeftOut what)
-  of_adapters [] is e = nothing what (sym e)
-  of_adapters (a ∷ more) is e =
-      subst (λ (w : List ℕ). IsLeftOut p (refusals.LeftOut w)) (cc (e)) (adapter a (subst (λ (xs : List (List ℕ × WorldAdapter)). Contains xs a) (sym is) (at_front a more)))
-
   of_world : world_left_out p.resolve (items_of p) ≡ Some what → IsLeftOut p (refusals.LeftOut what)
   of_world e = elim (one_of (first_some (import_item_left_out p.resolve) (items_of p).imports) (first_some (export_item_left_out p.resolve) (items_of p).exports) what e) [
     | inl a ↦ let t = one_picked (import_item_left_out p.resolve) (items_of p).imports what a in imported t.element what t.there t.picks
@@ -227,53 +229,79 @@ module _ (p : WorldParts) (what : List ℕ) where
   of_resources true is e = nothing what (sym e)
   of_resources false is e = subst (λ (w : List ℕ). IsLeftOut p (refusals.LeftOut w)) (cc (e)) (resources (λ h. true≢false (sym (in_place (whole_of p) h) ∙ is)))
 
-  of_module : module_left_out p.resolve.types (places_of p.resolve.types (items_of p).imports) (length (items_of p).imports) p.main ≡ Some what → IsLeftOut p (refusals.LeftOut what)
-  of_module e = elim (one_of (first_some (group_out p) p.main.imports.modules) (first_some (λ x. export_left_out p.resolve.types x.1) p.main.exports.exports) what e) [
-    | inl a ↦ let t = one_picked (group_out p) p.main.imports.modules what a in of_group t.element t.there t.picks
-    | inr b ↦ let t = one_picked (λ x. export_left_out p.resolve.types x.1) p.main.exports.exports what b in export_role t.element what t.there t.picks
+  -- of a user module
+  module _ (m : UserModule) (there : Contains (user_modules p) m) where
+    of_group : (group : List ℕ × ImportInstance) → Contains m.info.imports.modules group → group_out p group ≡ Some what → IsLeftOut p (refusals.LeftOut what)
+    of_group (name, instances.Names fields) c e =
+        let t = one_picked (λ f. role_left_out p f.1) fields what e in
+        let import : CoreImport = record { module_name = name; field = t.element.0; role = t.element.1 } in
+        let inside = Contains-map (λ f. record { module_name = name; field = f.0; role = f.1 }) fields t.element t.there in
+        import_role m import what there (in_flat_map imports_from m.info.imports.modules (name, instances.Names fields) import c.0 c.1 c.2 inside) t.picks
+    of_group (name, instances.Whole which) c e = subst (λ (w : List ℕ). IsLeftOut p (refusals.LeftOut w)) (cc (e)) (whole_module m name which there c)
+
+    of_own : (group : List ℕ × ImportInstance) → Contains m.info.imports.modules group → own_group_out p m.keys group ≡ Some what → IsLeftOut p (refusals.LeftOut what)
+    of_own (name, instances.Names fields) c e =
+        let t = one_picked (λ f. own_role_out p m.keys f.1) fields what e in
+        let import : CoreImport = record { module_name = name; field = t.element.0; role = t.element.1 } in
+        let inside = Contains-map (λ f. record { module_name = name; field = f.0; role = f.1 }) fields t.element t.there in
+        own_role m import what there (in_flat_map imports_from m.info.imports.modules (name, instances.Names fields) import c.0 c.1 c.2 inside) t.picks
+    of_own (name, instances.Whole which) c e = nothing what (sym e)
+
+    of_roles : roles_out p m.info ≡ Some what → IsLeftOut p (refusals.LeftOut what)
+    of_roles e = elim (one_of (first_some (group_out p) m.info.imports.modules) (first_some (λ x. export_left_out p.resolve.types x.1) m.info.exports.exports) what e) [
+      | inl a ↦ let t = one_picked (group_out p) m.info.imports.modules what a in of_group t.element t.there t.picks
+      | inr b ↦ let t = one_picked (λ x. export_left_out p.resolve.types x.1) m.info.exports.exports what b in export_role m t.element what there t.there t.picks
+    ]
+
+    of_module : module_out p m ≡ Some what → IsLeftOut p (refusals.LeftOut what)
+    of_module e = elim (one_of (own_left_out p.resolve.types (items_of p).exports m.keys m.info) (roles_out p m.info) what e) [
+      | inl a ↦ let t = one_picked (own_group_out p m.keys) m.info.imports.modules what a in of_own t.element t.there t.picks
+      | inr b ↦ of_roles b
+    ]
+
+  of_library : (a : List ℕ × WorldAdapter) → Contains p.adapters a → (info : Option LibraryInfo) → a.1.library_info ≡ info → library_left_out info ≡ Some what → IsLeftOut p (refusals.LeftOut what)
+  of_library a c None is e = nothing what (sym e)
+  of_library a c (Some info) is e = by (length info.arguments == 0) refl e
+    where
+      by : (b : Bool) → (length info.arguments == 0) ≡ b → unless b (codes "library") ≡ Some what → IsLeftOut p (refusals.LeftOut what)
+      by true none g = nothing what (sym g)
+      by false some g = subst (λ (w : List ℕ). IsLeftOut p (refusals.LeftOut w)) (cc (g)) (arguments a info c is (λ same. true≢false (ap (λ (xs : List LibraryArgument). length xs == 0) (sym same) ∙ some)))
+
+  of_adapter : (a : List ℕ × WorldAdapter) → Contains p.adapters a → adapter_out p a ≡ Some what → IsLeftOut p (refusals.LeftOut what)
+  of_adapter a c e = elim (one_of (library_left_out a.1.library_info) (module_out p (module_of a)) what e) [
+    | inl l ↦ of_library a c a.1.library_info refl l
+    | inr m ↦ of_module (module_of a) (after (main_of p) (map module_of p.adapters) (module_of a) (Contains-map module_of p.adapters a c)) m
   ]
 
-  of_modules : modules_left_out p (places_of p.resolve.types (items_of p).imports) (length (items_of p).imports) ≡ Some what → IsLeftOut p (refusals.LeftOut what)
-  of_modules e = elim (one_of (module_left_out p.resolve.types (places_of p.resolve.types (items_of p).imports) (length (items_of p).imports) p.main) (adapters_left_out p.adapters) what e) [
-    | inl a ↦ of_module a
-    | inr b ↦ of_adapters p.adapters refl b
+  of_modules : modules_left_out p (items_of p) (places_of p.resolve.types (items_of p).imports) (length (items_of p).imports) ≡ Some what → IsLeftOut p (refusals.LeftOut what)
+  of_modules e = elim (one_of (module_out p (main_of p)) (first_some (adapter_out p) p.adapters) what e) [
+    | inl a ↦ of_module (main_of p) (at_front (main_of p) (map module_of p.adapters)) a
+    | inr b ↦ let t = one_picked (adapter_out p) p.adapters what b in of_adapter t.element t.there t.picks
   ]
 
-  after_order : (resources_left_out p.resolve.types (items_of p).imports ≡ Some what) ⊎ (modules_left_out p (places_of p.resolve.types (items_of p).imports) (length (items_of p).imports) ≡ Some what) → IsLeftOut p (refusals.LeftOut what)
+  after_order : (resources_left_out p.resolve.types (items_of p).imports ≡ Some what) ⊎ (modules_left_out p (items_of p) (places_of p.resolve.types (items_of p).imports) (length (items_of p).imports) ≡ Some what) → IsLeftOut p (refusals.LeftOut what)
   after_order (inl a) = of_resources (are_in_place p.resolve.types 0 (imported_numbers (items_of p).imports)) refl a
   after_order (inr b) = of_modules b
 
   of_rest : rest_left_out p (items_of p) ≡ Some what → IsLeftOut p (refusals.LeftOut what)
   of_rest e = elim (one_of (order_left_out p.resolve (items_of p)) _ what e) [
     | inl a ↦ order what a
-    | inr b ↦ after_order (one_of (resources_left_out p.resolve.types (items_of p).imports) (modules_left_out p (places_of p.resolve.types (items_of p).imports) (length (items_of p).imports)) what b)
+    | inr b ↦ after_order (one_of (resources_left_out p.resolve.types (items_of p).imports) (modules_left_out p (items_of p) (places_of p.resolve.types (items_of p).imports) (length (items_of p).imports)) what b)
   ]
 
   after_twice : (names_left_out p.resolve (items_of p) ≡ Some what) ⊎ (rest_left_out p (items_of p) ≡ Some what) → IsLeftOut p (refusals.LeftOut what)
   after_twice (inl a) = of_names (are_exports_named p.resolve (items_of p).exports) refl a
   after_twice (inr b) = of_rest b
 
-  of_own : (group : List ℕ × ImportInstance) → Contains p.main.imports.modules group → own_group_out p group ≡ Some what → IsLeftOut p (refusals.LeftOut what)
-  of_own (name, instances.Names fields) m e =
-      let t = one_picked (λ f. own_role_out p f.1) fields what e in
-      let import : CoreImport = record { module_name = name; field = t.element.0; role = t.element.1 } in
-      let there = Contains-map (λ f. record { module_name = name; field = f.0; role = f.1 }) fields t.element t.there in
-      own_role import what (in_flat_map imports_from p.main.imports.modules (name, instances.Names fields) import m.0 m.1 m.2 there) t.picks
-  of_own (name, instances.Whole which) m e = nothing what (sym e)
-
-  after_own : (own_left_out p (items_of p) ≡ Some what) ⊎ (named_left_out p (items_of p) ≡ Some what) → IsLeftOut p (refusals.LeftOut what)
-  after_own (inl a) = let t = one_picked (own_group_out p) p.main.imports.modules what a in of_own t.element t.there t.picks
-  after_own (inr b) = after_twice (one_of (names_left_out p.resolve (items_of p)) (rest_left_out p (items_of p)) what b)
-
-  after_items : (twice_left_out p.main_exports (items_of p) ≡ Some what) ⊎ (owned_left_out p (items_of p) ≡ Some what) → IsLeftOut p (refusals.LeftOut what)
+  after_items : (twice_left_out (all_required p) (items_of p) ≡ Some what) ⊎ (named_left_out p (items_of p) ≡ Some what) → IsLeftOut p (refusals.LeftOut what)
   after_items (inl a) = twice what a
-  after_items (inr b) = after_own (one_of (own_left_out p (items_of p)) (named_left_out p (items_of p)) what b)
+  after_items (inr b) = after_twice (one_of (names_left_out p.resolve (items_of p)) (rest_left_out p (items_of p)) what b)
 
   reported : left_out p ≡ Some what → IsLeftOut p (refusals.LeftOut what)
   unfolding left_out
   reported e = elim (one_of (world_left_out p.resolve (items_of p)) _ what e) [
     | inl a ↦ of_world a
-    | inr b ↦ after_items (one_of (twice_left_out p.main_exports (items_of p)) (owned_left_out p (items_of p)) what b)
+    | inr b ↦ after_items (one_of (twice_left_out (all_required p) (items_of p)) (named_left_out p (items_of p)) what b)
   ]
 
 -- ---- the whole

@@ -32,28 +32,35 @@ use Rattle.comp_roles.specs.declared.imports.ImportInstance.{ImportInstance}
 use Rattle.comp_roles.specs.declared.imports.ImportInstance.TheVariants as instances
 use Rattle.comp_roles.specs.declared.offered.ImportType.{ImportType}
 use Rattle.world_values.specs.Items.{no_items, functions_of, functions_in, function_in, function_of_item, root_function_at}
-use Rattle.world_values.specs.Mentions.{interface_in, interfaces_of}
+use Rattle.world_values.specs.Mentions.{interface_in, interfaces_of, same_interface}
 use Rattle.comp_worlds.specs.Typed.{post_return_type, type_of_import, type_of_export, FitsImport, FitsExport}
-use Rattle.comp_worlds.specs.WorldContents.{root_function, exported_item, core_name_in}
-use Rattle.comp_worlds.specs.Worlds.{IsWorld, IsUserModule, IsImportItem, IsExportItem, IsResource, IsImportRole, IsImportGroup, IsOwnResource, ExportsFunctionOf, IsExportRole, IsRequired}
+use Rattle.comp_worlds.specs.WorldContents.{root_function, exported_item, core_name_in, keys_required}
+use Rattle.comp_worlds.specs.Worlds.{IsWorld, IsUserModule, IsImportItem, IsExportItem, IsResource, IsImportRole, IsImportGroup, IsOwnResource, IsForOwnKey, ExportsFunctionOf, IsExportRole, IsRequired}
+use Rattle.comp_worlds.specs.Uses.{imports_of}
 use Rattle.comp_worlds.specs.WorldTables.{whole_of}
+use Rattle.comp_worlds.specs.declared.world.ValidatedModule.{ValidatedModule}
 use Rattle.comp_worlds.specs.declared.world.WorldAdapter.{WorldAdapter}
 use Rattle.comp_worlds.specs.declared.world.WorldParts.{WorldParts}
 use Rattle.comp_worlds.proofs.Roles.{role_right}
 use Rattle.record_core_types.specs.Asked.{imported_function, imported_interface, exported_function, exported_interface, function_of, exported_item as exported_there}
 use Rattle.record_core_types.specs.Guarantees.{IsCalled, IsLifted, IsKept}
 use Rattle.record_resolve.specs.Resolved.{IsNamed, AreListed}
-use Rattle.supported_worlds.specs.Apart.{FieldsApart, AreApart}
-use Rattle.supported_worlds.specs.LeftOut.{items_of, import_item_left_out, export_item_left_out, export_left_out, required_of, unless}
+use Rattle.supported_worlds.specs.Distinct.{are_apart}
+use Rattle.std.proofs.lemmas.List.Elements.{Contains-append_left, Contains-append_right}
+use Rattle.supported_worlds.specs.Apart.{FieldsApart, GroupsApart, ModulesApart, AreApart}
+use Rattle.supported_worlds.specs.LeftOut.{items_of, import_item_left_out, export_item_left_out, export_left_out, all_required, required_of, unless}
+use Rattle.supported_worlds.specs.Modules.{UserModule, main_of, module_of}
 use Rattle.supported_worlds.specs.Causes.{role_left_out, own_role_out}
 use Rattle.supported_worlds.specs.Placed.{places_of, is_resource, is_droppable, is_resource_at, is_own_resource}
-use Rattle.supported_worlds.specs.Guarantees.{HasFoundImport, OffersExport, HasSoundParts}
+use Rattle.supported_worlds.specs.Guarantees.{HasFoundImport, OffersExport, IsSoundModule, HasSoundParts}
 use Rattle.supported_worlds.proofs.Interfaces.{synchronous, synchronous_interface, own_are, other_key, one_found, entry_there, name_there as function_there, found_there}
 use Rattle.supported_worlds.proofs.Lists.{nothing, at_front, after, none_picked}
 use Rattle.supported_worlds.proofs.InPlace.{both, resource_kind}
 use Rattle.supported_worlds.proofs.Order.{passes}
 use Rattle.supported_worlds.proofs.OwnRoles.{owned_type, required_at, required_key}
-use Rattle.supported_worlds.proofs.Reporting.{second_apart, group_out, own_group_out, IsEncoded}
+use Rattle.supported_worlds.proofs.Reporting.{group_out, own_group_out, own_pass, IsModuleEncoded, IsAdapterEncoded, IsEncoded}
+use Rattle.supported_worlds.proofs.Fresh.{distinct}
+use Rattle.supported_worlds.proofs.Keys.{second_apart, are_once}
 
 abbrev Entries : Type 0
 Entries = List (WorldKey × WorldItem)
@@ -173,6 +180,10 @@ mapped_there : {A B : Type 0} (f : A → B) (o : Option A) → IsSome o → IsSo
 mapped_there f None h = h
 mapped_there f (Some x) h = refl
 
+-- the keys of a module are among those of all modules
+abbrev AreKnown : WorldParts → List WorldKey → Type 0
+AreKnown p owed = (key : WorldKey) → Contains owed key → Contains (keys_required (whole_of p)) key
+
 -- ---- the world
 
 module _ (p : WorldParts) (present : HasSoundParts p) (encoded : IsEncoded p) (apart : AreApart p) where
@@ -207,12 +218,23 @@ module _ (p : WorldParts) (present : HasSoundParts p) (encoded : IsEncoded p) (a
   has_function : (key : WorldKey) (id : InterfaceId) (name : List ℕ) → exported_interface p.resolve p.world key ≡ Some id → IsSome (function_of p.resolve id name) → ExportsFunctionOf (whole_of p) key id name
   has_function key id name is has = record { exported = exported_interface_is key id is; has = function_there name (functions_of p.resolve id) has }
 
-  -- a resource of an interface that main has to export
-  own_resource : (key : WorldKey) (id : TypeId) (what : List ℕ) → unless (is_own_resource p.resolve.types (items_of p).exports (required_of (items_of p).exports p.main_exports) key id) what ≡ None → IsOwnResource (whole_of p) key id
-  own_resource key id what h =
+  -- the exported interfaces are apart
+  exports_apart : are_apart same_interface (interfaces_of (items_of p).exports) ≡ true
+  exports_apart = let once = are_once (all_required p) (items_of p) encoded.once in second_apart (interfaces_of (items_of p).imports) (interfaces_of (items_of p).exports) once.interfaces
+
+  -- a resource of an interface that a module has to export, and the key of that
+  own_key : (owed : List WorldKey) (key : WorldKey) (id : TypeId) (what : List ℕ) → unless (is_own_resource p.resolve.types (items_of p).exports (required_of (items_of p).exports owed) key id) what ≡ None → Contains owed key
+  own_key owed key id what h =
+      let es = (items_of p).exports in
+      let required = required_of es owed in
+      let t = owned_type p.resolve.types es required key id.index (passes (is_own_resource p.resolve.types es required key id) what h) in
+      required_key es owed key t.interface exports_apart (required_at es required key t.interface t.at)
+
+  own_resource : (owed : List WorldKey) → AreKnown p owed → (key : WorldKey) (id : TypeId) (what : List ℕ) → unless (is_own_resource p.resolve.types (items_of p).exports (required_of (items_of p).exports owed) key id) what ≡ None → IsOwnResource (whole_of p) key id
+  own_resource owed known key id what h =
       let types = p.resolve.types in
       let es = (items_of p).exports in
-      let required = required_of es p.main_exports in
+      let required = required_of es owed in
       let t = owned_type types es required key id.index (passes (is_own_resource types es required key id) what h) in
       let there = required_at es required key t.interface t.at in
       record {
@@ -220,41 +242,47 @@ module _ (p : WorldParts) (present : HasSoundParts p) (encoded : IsEncoded p) (a
         interface = t.interface;
         owner = t.owner;
         exported = there.exported;
-        required = required_key es p.main_exports key t.interface (second_apart (interfaces_of (items_of p).imports) (interfaces_of es) encoded.apart) there;
+        required = known key (own_key owed key id what h);
       }
 
-  import_role : (role : Import) → role_left_out p role ≡ None → own_role_out p role ≡ None → IsCalled p.resolve p.world role → IsImportRole (whole_of p) role
-  import_role (imports.WorldFunc (keys.Name text) name GuestImport) h own called =
+  import_role : (owed : List WorldKey) → AreKnown p owed → (role : Import) → role_left_out p role ≡ None → own_role_out p owed role ≡ None → IsCalled p.resolve p.world role → IsImportRole (whole_of p) role
+  import_role owed known (imports.WorldFunc (keys.Name text) name GuestImport) h own called =
       (name_there text (items_of p).imports (subst (λ (o : Option Function). IsSome o) (imported_is (keys.Name text)) called.1), called.0, refl)
-  import_role (imports.WorldFunc (keys.Interface id) name GuestImportAsync) h own called = nothing _ h
-  import_role (imports.InterfaceFunc key id name GuestImport) h own called =
+  import_role owed known (imports.WorldFunc (keys.Interface id) name GuestImportAsync) h own called = nothing _ h
+  import_role owed known (imports.InterfaceFunc key id name GuestImport) h own called =
       (entry_there key id (items_of p).imports (sym (interface_is key) ∙ called.0), function_there name (functions_of p.resolve id) called.1, refl)
-  import_role (imports.ImportedResourceDrop key interface id) h own called =
+  import_role owed known (imports.ImportedResourceDrop key interface id) h own called =
       let places = places_of p.resolve.types (items_of p).imports in
       let root = length (items_of p).imports in
       let b = both (option_map_or is_resource (slice_get p.resolve.types id.index) false) (nat_le (get_or places id.index 0) root) (passes (is_droppable p.resolve.types places root id) (codes "imported-drop") h) in
       dropped p.resolve.types id.index b.0
-  import_role (imports.ExportedResourceDrop key id) h own called = own_resource key id (codes "exported-drop") own
-  import_role (imports.ExportedResourceRep key id) h own called = own_resource key id (codes "exported-rep") own
-  import_role (imports.ExportedResourceNew key id) h own called = own_resource key id (codes "exported-new") own
-  import_role role h own called = nothing _ h
+  import_role owed known (imports.ExportedResourceDrop key id) h own called = own_resource owed known key id (codes "exported-drop") own
+  import_role owed known (imports.ExportedResourceRep key id) h own called = own_resource owed known key id (codes "exported-rep") own
+  import_role owed known (imports.ExportedResourceNew key id) h own called = own_resource owed known key id (codes "exported-new") own
+  import_role owed known role h own called = nothing _ h
 
-  field_roles : (name : List ℕ) (fields : List (List ℕ × Import)) → AllByRecursion (λ f. role_left_out p f.1 ≡ None) fields → AllByRecursion (λ f. own_role_out p f.1 ≡ None) fields
+  for_own_key : (owed : List WorldKey) (role : Import) → own_role_out p owed role ≡ None → IsForOwnKey owed role
+  for_own_key owed (imports.ExportedResourceDrop key id) h = own_key owed key id (codes "exported-drop") h
+  for_own_key owed (imports.ExportedResourceRep key id) h = own_key owed key id (codes "exported-rep") h
+  for_own_key owed (imports.ExportedResourceNew key id) h = own_key owed key id (codes "exported-new") h
+  for_own_key owed role h = tt
+
+  field_roles : (owed : List WorldKey) → AreKnown p owed → (name : List ℕ) (fields : List (List ℕ × Import)) → AllByRecursion (λ f. role_left_out p f.1 ≡ None) fields → AllByRecursion (λ f. own_role_out p owed f.1 ≡ None) fields
       → AllByRecursion (λ i. IsCalled p.resolve p.world i.role) (imports_from (name, instances.Names fields)) → AllByRecursion (λ f. IsImportRole (whole_of p) f.1) fields
-  field_roles name [] h own called = tt
-  field_roles name (f ∷ fields) h own called = (import_role f.1 h.0 own.0 called.0, field_roles name fields h.1 own.1 called.1)
+  field_roles owed known name [] h own called = tt
+  field_roles owed known name (f ∷ fields) h own called = (import_role owed known f.1 h.0 own.0 called.0, field_roles owed known name fields h.1 own.1 called.1)
 
-  import_group : (group : List ℕ × ImportInstance) → group_out p group ≡ None → own_group_out p group ≡ None → FieldsApart group.1 → AllByRecursion (λ i. IsCalled p.resolve p.world i.role) (imports_from group)
+  import_group : (owed : List WorldKey) → AreKnown p owed → (group : List ℕ × ImportInstance) → group_out p group ≡ None → own_group_out p owed group ≡ None → FieldsApart group.1 → AllByRecursion (λ i. IsCalled p.resolve p.world i.role) (imports_from group)
       → IsImportGroup (whole_of p) group
-  import_group (name, instances.Names fields) h own alone called = (alone, field_roles name fields (none_picked (λ f. role_left_out p f.1) fields h) (none_picked (λ f. own_role_out p f.1) fields own) called)
-  import_group (name, instances.Whole which) h own alone called = nothing _ h
+  import_group owed known (name, instances.Names fields) h own alone called = (alone, field_roles owed known name fields (none_picked (λ f. role_left_out p f.1) fields h) (none_picked (λ f. own_role_out p owed f.1) fields own) called)
+  import_group owed known (name, instances.Whole which) h own alone called = nothing _ h
 
-  import_groups : (groups : List (List ℕ × ImportInstance)) → AllByRecursion (λ g. group_out p g ≡ None) groups → AllByRecursion (λ g. own_group_out p g ≡ None) groups → AllByRecursion (λ g. FieldsApart g.1) groups
+  import_groups : (owed : List WorldKey) → AreKnown p owed → (groups : List (List ℕ × ImportInstance)) → AllByRecursion (λ g. group_out p g ≡ None) groups → AllByRecursion (λ g. own_group_out p owed g ≡ None) groups → AllByRecursion (λ g. FieldsApart g.1) groups
       → AllByRecursion (λ i. IsCalled p.resolve p.world i.role) (flat_map imports_from groups) → AllByRecursion (IsImportGroup (whole_of p)) groups
-  import_groups [] h own alone called = tt
-  import_groups (g ∷ groups) h own alone called = (
-    import_group g h.0 own.0 alone.0 (AllByRecursion-front (λ i. IsCalled p.resolve p.world i.role) (imports_from g) (flat_map imports_from groups) called),
-    import_groups groups h.1 own.1 alone.1 (AllByRecursion-back (λ i. IsCalled p.resolve p.world i.role) (imports_from g) (flat_map imports_from groups) called),
+  import_groups owed known [] h own alone called = tt
+  import_groups owed known (g ∷ groups) h own alone called = (
+    import_group owed known g h.0 own.0 alone.0 (AllByRecursion-front (λ i. IsCalled p.resolve p.world i.role) (imports_from g) (flat_map imports_from groups) called),
+    import_groups owed known groups h.1 own.1 alone.1 (AllByRecursion-back (λ i. IsCalled p.resolve p.world i.role) (imports_from g) (flat_map imports_from groups) called),
   )
 
   export_role : (role : Export) → export_left_out p.resolve.types role ≡ None → IsLifted p.resolve p.world role → IsExportRole (whole_of p) role
@@ -289,9 +317,9 @@ module _ (p : WorldParts) (present : HasSoundParts p) (encoded : IsEncoded p) (a
   import_typed (imports.ExportedResourceNew key id) h = refl
   import_typed role h = absurd h
 
-  found_import : AllByRecursion (IsImportGroup (whole_of p)) p.main.imports.modules → (i : ImportType) → HasFoundImport p i → FitsImport p.resolve (items_of p) p.main i
-  found_import groups i h =
-      let right = role_right (whole_of p) p.main.imports.modules i.module_name i.field h.role groups h.has_role in
+  found_import : (m : ValidatedModule) → AllByRecursion (IsImportGroup (whole_of p)) m.imports.modules → (i : ImportType) → HasFoundImport p.resolve (items_of p) m i → FitsImport p.resolve (items_of p) m i
+  found_import m groups i h =
+      let right = role_right (whole_of p) m.imports.modules i.module_name i.field h.role groups h.has_role in
       let typed = some_of (type_of_import p.resolve (items_of p) h.role) (import_typed h.role right) in
       record { role = h.role; has_role = h.has_role; fits = typed.1 ∙ ap Some (h.fits typed.0 typed.1) }
 
@@ -316,37 +344,52 @@ module _ (p : WorldParts) (present : HasSoundParts p) (encoded : IsEncoded p) (a
   export_typed exports.ReallocForAdapter h = refl
   export_typed role h = absurd h
 
-  offered_exports : (all : List (List ℕ × Export)) → AllByRecursion (λ e. IsExportRole (whole_of p) e.1) all → AllByRecursion (OffersExport p) all
-      → AllByRecursion (FitsExport p.resolve (items_of p) p.main) all
-  offered_exports [] right h = tt
-  offered_exports (e ∷ all) right h =
+  offered_exports : (m : ValidatedModule) (all : List (List ℕ × Export)) → AllByRecursion (λ e. IsExportRole (whole_of p) e.1) all → AllByRecursion (OffersExport p.resolve (items_of p) m) all
+      → AllByRecursion (FitsExport p.resolve (items_of p) m) all
+  offered_exports m [] right h = tt
+  offered_exports m (e ∷ all) right h =
       let typed = some_of (type_of_export p.resolve (items_of p) e.1) (export_typed e.1 right.0) in
-      let here = h.0 in (record { type = typed.0; offered = here.offered typed.0 typed.1; fits = typed.1 }, offered_exports all right.1 h.1)
+      let here = h.0 in (record { type = typed.0; offered = here.offered typed.0 typed.1; fits = typed.1 }, offered_exports m all right.1 h.1)
 
-  required : (key : WorldKey) → IsKept p.resolve p.world p.main.exports.exports key → IsRequired (whole_of p) p.main key
-  required key kept = record {
+  required : (m : ValidatedModule) (key : WorldKey) → IsKept p.resolve p.world m.exports.exports key → IsRequired (whole_of p) m key
+  required m key kept = record {
     exported = kept.exported;
-    present = subst (λ (names : List (List ℕ)). AllByRecursion (λ name. IsSome (core_name_in p.main.exports.exports key name)) names)
+    present = subst (λ (names : List (List ℕ)). AllByRecursion (λ name. IsSome (core_name_in m.exports.exports key name)) names)
         (own_are p.resolve (exported_there p.resolve p.world key) present.listed ∙ ap (functions_in p.resolve) (item_is key)) kept.present;
   }
 
-  all_required : (ks : List WorldKey) → AllByRecursion (IsKept p.resolve p.world p.main.exports.exports) ks → AllByRecursion (IsRequired (whole_of p) p.main) ks
-  all_required [] h = tt
-  all_required (k ∷ ks) h = (required k h.0, all_required ks h.1)
+  keys_kept : (m : ValidatedModule) (ks : List WorldKey) → AllByRecursion (IsKept p.resolve p.world m.exports.exports) ks → AllByRecursion (IsRequired (whole_of p) m) ks
+  keys_kept m [] h = tt
+  keys_kept m (k ∷ ks) h = (required m k h.0, keys_kept m ks h.1)
+
+  module_is : (m : UserModule) → IsSoundModule p.resolve p.world (items_of p) m → IsModuleEncoded p m → GroupsApart m.info.imports.modules → AreKnown p m.keys → IsUserModule (whole_of p) m.info m.keys
+  module_is m ok is alone known =
+      let groups = import_groups m.keys known m.info.imports.modules is.groups is.own_groups alone.fields ok.called in
+      let roles = export_roles m.info.exports.exports is.export_roles ok.lifted in
+      record {
+        core = ok.core;
+        modules_apart = alone.modules;
+        import_roles = groups;
+        own_keys = AllByRecursion-weaker (λ i h. for_own_key m.keys i.role h) (imports_of m.info) (own_pass p m.keys m.info.imports.modules is.own_groups);
+        imported = AllByRecursion-weaker (found_import m.info groups) m.info.imported ok.imported;
+        export_roles = roles;
+        exported = offered_exports m.info m.info.exports.exports roles ok.exported;
+        required = keys_kept m.info m.keys ok.kept;
+      }
 
   main_is : IsUserModule (whole_of p) p.main p.main_exports
   main_is =
-      let groups = import_groups p.main.imports.modules encoded.groups encoded.own_groups apart.groups.fields present.called in
-      let roles = export_roles p.main.exports.exports encoded.export_roles present.lifted in
-      record {
-        core = present.core;
-        modules_apart = apart.groups.modules;
-        import_roles = groups;
-        imported = AllByRecursion-weaker (found_import groups) p.main.imported present.imported;
-        export_roles = roles;
-        exported = offered_exports p.main.exports.exports roles present.exported;
-        required = all_required p.main_exports present.kept;
-      }
+      let alone = apart.modules.main in
+      module_is (main_of p) present.main encoded.main alone (λ key there. Contains-append_left p.main_exports (flat_map (λ a. a.1.required_exports) p.adapters) key there)
+
+  adapters_are : (all : List (List ℕ × WorldAdapter)) → AllByRecursion (λ a. IsSoundModule p.resolve p.world (items_of p) (module_of a)) all → AllByRecursion (IsAdapterEncoded p) all
+      → AllByRecursion (λ a. GroupsApart a.1.info.imports.modules) all → AreKnown p (flat_map (λ a. a.1.required_exports) all) → AllByRecursion (λ a. IsUserModule (whole_of p) a.1.info a.1.required_exports) all
+  adapters_are [] ok is alone known = tt
+  adapters_are (a ∷ all) ok is alone known =
+      let here = is.0 in (
+        module_is (module_of a) ok.0 here.roles alone.0 (λ key there. known key (Contains-append_left a.1.required_exports (flat_map (λ a. a.1.required_exports) all) key there)),
+        adapters_are all ok.1 is.1 alone.1 (λ key there. known key (Contains-append_right a.1.required_exports (flat_map (λ a. a.1.required_exports) all) key there)),
+      )
 
   pub whole_is_world : IsWorld (whole_of p)
   whole_is_world = record {
@@ -360,6 +403,9 @@ module _ (p : WorldParts) (present : HasSoundParts p) (encoded : IsEncoded p) (a
     exports_named = let n = encoded.named in n.each;
     exported_interfaces_apart = let n = encoded.named in n.apart;
     main = main_is;
-    adapters = subst (λ (all : List (List ℕ × WorldAdapter)). AllByRecursion (λ a. IsUserModule (whole_of p) a.1.info a.1.required_exports) all) (sym encoded.alone) tt;
-    alone = encoded.alone;
+    adapters =
+        let others = apart.modules.adapters in
+        adapters_are p.adapters present.adapters encoded.adapters others.groups (λ key there. Contains-append_right p.main_exports (flat_map (λ a. a.1.required_exports) p.adapters) key there);
+    adapters_apart = let others = apart.modules.adapters in others.names;
+    keys_apart = let once = are_once (all_required p) (items_of p) encoded.once in distinct is_same_key (all_required p) once.keys_apart;
   }

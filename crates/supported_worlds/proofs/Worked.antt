@@ -26,10 +26,11 @@ use Rattle.wit_data.specs.Values.{values_from}
 use Rattle.comp_roles.specs.declared.exports.Export.TheVariants as exports
 use Rattle.comp_roles.specs.declared.imports.Import.TheVariants as imports
 use Rattle.comp_roles.specs.declared.imports.ImportInstance.TheVariants as instances
+use Rattle.comp_roles.specs.declared.libraries.Instance.TheVariants as arguments
 use Rattle.comp_roles.specs.declared.libraries.Item.{Item}
 use Rattle.comp_roles.specs.declared.libraries.MainOrAdapter.TheVariants as modules
 use Rattle.supported_worlds.specs.Kinds.{import_kind}
-use Rattle.supported_worlds.specs.LeftOut.{import_item_left_out, interface_left_out, world_left_out, twice_left_out, names_left_out, order_left_out, resources_left_out, import_left_out, export_left_out, group_left_out, own_role_left_out}
+use Rattle.supported_worlds.specs.LeftOut.{import_item_left_out, interface_left_out, world_left_out, twice_left_out, names_left_out, order_left_out, resources_left_out, import_left_out, export_left_out, group_left_out, own_role_left_out, library_left_out}
 use Rattle.supported_worlds.specs.Placed.{places_of}
 
 abbrev a_type : TypeId
@@ -366,12 +367,19 @@ imported_and_exported_is_reported = refl
 twice_exported_is_reported : twice_left_out [] (importing_and_exporting [] (an_interface ∷ another_interface ∷ an_interface ∷ [])) ≡ Some (codes "interface")
 twice_exported_is_reported = refl
 
--- or that main has to export twice
+-- or that has to be exported twice
 twice_required_is_reported : twice_left_out (keys.Interface an_interface ∷ keys.Interface an_interface ∷ []) (importing_and_exporting [] (an_interface ∷ [])) ≡ Some (codes "interface")
 twice_required_is_reported = refl
 
 once_required_is_apart : twice_left_out (keys.Interface an_interface ∷ f ∷ []) (importing_and_exporting (another_interface ∷ []) (an_interface ∷ [])) ≡ None
 once_required_is_apart = refl
+
+-- so is a function at the root that has to be
+function_required_twice_is_reported : twice_left_out (f ∷ keys.Interface an_interface ∷ f ∷ []) (importing_and_exporting [] (an_interface ∷ [])) ≡ Some (codes "world-func")
+function_required_twice_is_reported = refl
+
+interface_comes_before_a_function : twice_left_out (f ∷ keys.Interface an_interface ∷ f ∷ keys.Interface an_interface ∷ []) (importing_and_exporting [] (an_interface ∷ [])) ≡ Some (codes "interface")
+interface_comes_before_a_function = refl
 
 -- ---- resources
 
@@ -498,3 +506,13 @@ whole_is_a_library = refl
 -- an export of another module has its own kind and no other
 item_is_of_a_library : (item : Item) → import_kind (imports.Item item) ≡ codes "library"
 item_is_of_a_library item = refl
+
+-- a library is encoded where it has no arguments
+adapter_is_no_library : library_left_out None ≡ None
+adapter_is_no_library = refl
+
+library_without_arguments_is_encoded : library_left_out (Some (record { arguments = [] })) ≡ None
+library_without_arguments_is_encoded = refl
+
+argument_is_reported : library_left_out (Some (record { arguments = record { name = codes "m"; instance = arguments.MainOrAdapter modules.Main } ∷ [] })) ≡ Some (codes "library")
+argument_is_reported = refl

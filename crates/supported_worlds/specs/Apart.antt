@@ -7,6 +7,7 @@ use Rattle.wit_data.specs.Keys.{is_same_key}
 use Rattle.wit_data.specs.declared.worlds.World.{World}
 use Rattle.comp_roles.specs.declared.imports.ImportInstance.{ImportInstance}
 use Rattle.comp_roles.specs.declared.imports.ImportInstance.TheVariants as instances
+use Rattle.comp_worlds.specs.declared.world.WorldAdapter.{WorldAdapter}
 use Rattle.comp_worlds.specs.declared.world.WorldParts.{WorldParts}
 use Rattle.supported_worlds.specs.LeftOut.{items_of}
 
@@ -25,6 +26,16 @@ pub record GroupsApart (groups : List (List ℕ × ImportInstance)) : Type 0 whe
   pub modules : IsDistinct bytes_eq (keys_of groups)
   pub fields : AllByRecursion (λ g. FieldsApart g.1) groups
 
+-- the adapters, by their names, and the imports of each
+pub record AdaptersApart (adapters : List (List ℕ × WorldAdapter)) : Type 0 where
+  pub names : IsDistinct bytes_eq (keys_of adapters)
+  pub groups : AllByRecursion (λ a. GroupsApart a.1.info.imports.modules) adapters
+
+-- the imports of main, and the adapters
+pub record ModulesApart (p : WorldParts) : Type 0 where
+  pub main : GroupsApart p.main.imports.modules
+  pub adapters : AdaptersApart p.adapters
+
 pub record AreApart (p : WorldParts) : Type 0 where
   pub items : ItemsApart (items_of p)
-  pub groups : GroupsApart p.main.imports.modules
+  pub modules : ModulesApart p

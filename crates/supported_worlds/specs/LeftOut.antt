@@ -2,9 +2,10 @@
 -- types and of synchronous functions, exported interfaces of types of their own and of synchronous functions made of these and of
 -- named types of interfaces that are imported or exported, types that it imports, in their order and with all resources of the root
 -- among them, core imports and exports with the role of such a function, core imports that drop a resource, or make or read a handle of
--- one that main has to export, and core exports that are a post-return, a destructor, a memory or a realloc. All else is left out, and
--- reported by the name of its kind. (The names are those of this project's record.)
-use Rattle.std.specs.Prelude.{ℕ, Bool, ◌&&◌, ◌++◌, List, [], ◌∷◌, length, codes, Option, Some, None, Result, Ok, Err, get_or, if◌then◌else◌}
+-- one that their module has to export, and core exports that are a post-return, a destructor, a memory or a realloc; of main and of
+-- adapters, and of libraries without arguments. All else is left out, and reported by the name of its kind. (The names are those of
+-- this project's record.)
+use Rattle.std.specs.Prelude.{ℕ, Bool, ◌++◌, ◌==◌, List, length, codes, Option, Some, None, Result, Ok, Err, get_or, if◌then◌else◌}
 use Rattle.std.specs.List.{flat_map}
 use Rattle.std.specs.Map.{lookup}
 use Rattle.std.specs.Option.{option_or}
@@ -27,6 +28,7 @@ use Rattle.comp_roles.specs.declared.imports.Import.{Import}
 use Rattle.comp_roles.specs.declared.imports.Import.TheVariants as imports
 use Rattle.comp_roles.specs.declared.imports.ImportInstance.{ImportInstance}
 use Rattle.comp_roles.specs.declared.imports.ImportInstance.TheVariants as instances
+use Rattle.comp_roles.specs.declared.libraries.LibraryInfo.{LibraryInfo}
 use Rattle.world_values.specs.Items.{no_items, functions_of}
 use Rattle.world_values.specs.Mentions.{same_interface, interfaces_of}
 use Rattle.comp_worlds.specs.Encodable.{Entries}
@@ -79,13 +81,21 @@ unless passes what = if passes then None else Some what
 abbrev pub are_interfaces_apart : World → Bool
 are_interfaces_apart w = are_apart same_interface (interfaces_of w.imports ++ interfaces_of w.exports)
 
--- the interfaces that main has to export, by their keys
+-- the interfaces among the exports that are required, by their keys
 abbrev pub required_of : Entries → List WorldKey → List InterfaceId
 required_of es required = flat_map (λ key. interface_among (lookup (is_same_key key) es)) required
 
--- the world, where an interface is imported or exported twice, or both, or main has to export one twice
+-- the keys that user modules have to export: those of main, then those of the adapters in order
+abbrev pub all_required : WorldParts → List WorldKey
+all_required p = p.main_exports ++ flat_map (λ a. a.1.required_exports) p.adapters
+
+-- the keys that have to be exported, where an interface or, among the others, a function at the root has to be exported twice
+abbrev pub required_left_out : Entries → List WorldKey → Option (List ℕ)
+required_left_out es required = option_or (unless (are_apart same_interface (required_of es required)) (codes "interface")) (unless (are_apart is_same_key required) (codes "world-func"))
+
+-- the world, where an interface is imported or exported twice, or both, or something has to be exported twice
 abbrev pub twice_left_out : List WorldKey → World → Option (List ℕ)
-twice_left_out required w = unless (are_interfaces_apart w && are_apart same_interface (required_of w.exports required)) (codes "interface")
+twice_left_out required w = option_or (unless (are_interfaces_apart w) (codes "interface")) (required_left_out w.exports required)
 
 -- the world's exports, where an interface among them has no name, or that of another
 abbrev pub names_left_out : Resolve → World → Option (List ℕ)
@@ -102,7 +112,7 @@ resources_left_out types entries = unless (are_in_place types 0 (imported_number
 
 -- ---- roles
 
--- an import of main, unless it is a function at the root or of an interface that is called synchronously, or drops a resource, by the
+-- an import of a module, unless it is a function at the root or of an interface that is called synchronously, or drops a resource, by the
 -- places of the types, and that of the root; or has a role that an exported resource may have
 abbrev pub import_left_out : List TypeDef → List ℕ → ℕ → Import → Option (List ℕ)
 import_left_out types places root (imports.WorldFunc (keys.Name text) name GuestImport) = None
@@ -115,14 +125,14 @@ import_left_out types places root (imports.ExportedResourceRep key id) = None
 import_left_out types places root (imports.ExportedResourceNew key id) = None
 import_left_out types places root role = Some (import_kind role)
 
--- such a role, unless it is of a resource of an interface that main has to export at the key
+-- such a role, unless it is of a resource of an interface that the module has to export at the key
 abbrev pub own_role_left_out : List TypeDef → Entries → List InterfaceId → Import → Option (List ℕ)
 own_role_left_out types es required (imports.ExportedResourceDrop key id) = unless (is_own_resource types es required key id) (codes "exported-drop")
 own_role_left_out types es required (imports.ExportedResourceRep key id) = unless (is_own_resource types es required key id) (codes "exported-rep")
 own_role_left_out types es required (imports.ExportedResourceNew key id) = unless (is_own_resource types es required key id) (codes "exported-new")
 own_role_left_out types es required role = None
 
--- an export of main, unless it is a function at the root or of an interface that is called synchronously, the post-return of one,
+-- an export of a module, unless it is a function at the root or of an interface that is called synchronously, the post-return of one,
 -- the destructor of a resource, a memory, or a realloc
 abbrev pub export_left_out : List TypeDef → Export → Option (List ℕ)
 export_left_out types (exports.WorldFunc (keys.Name text) name GuestExport) = None
@@ -156,8 +166,29 @@ own_instance_left_out types es required (instances.Whole which) = None
 abbrev pub own_group_left_out : List TypeDef → Entries → List InterfaceId → List ℕ × ImportInstance → Option (List ℕ)
 own_group_left_out types es required group = own_instance_left_out types es required group.1
 
-abbrev pub own_left_out : WorldParts → World → Option (List ℕ)
-own_left_out p w = first_some (own_group_left_out p.resolve.types w.exports (required_of w.exports p.main_exports)) p.main.imports.modules
+-- those of a module, by the keys that it has to export
+abbrev pub own_left_out : List TypeDef → Entries → List WorldKey → ValidatedModule → Option (List ℕ)
+own_left_out types es keys m = first_some (own_group_left_out types es (required_of es keys)) m.imports.modules
+
+-- ---- modules
+
+-- the first import or export of a module that is left out, apart from the roles of exported resources
+abbrev pub roles_left_out : List TypeDef → List ℕ → ℕ → ValidatedModule → Option (List ℕ)
+roles_left_out types places root m =
+    option_or (first_some (group_left_out types places root) m.imports.modules) (first_some (λ e. export_left_out types e.1) m.exports.exports)
+
+-- what of a module is left out that has to export these keys: the roles of exported resources first
+abbrev pub module_left_out : List TypeDef → Entries → List ℕ → ℕ → List WorldKey → ValidatedModule → Option (List ℕ)
+module_left_out types es places root keys m = option_or (own_left_out types es keys m) (roles_left_out types places root m)
+
+-- a library, where it has arguments
+abbrev pub library_left_out : Option LibraryInfo → Option (List ℕ)
+library_left_out None = None
+library_left_out (Some info) = unless (length info.arguments == 0) (codes "library")
+
+-- what of an adapter is left out: its arguments first
+abbrev pub adapter_left_out : List TypeDef → Entries → List ℕ → ℕ → List ℕ × WorldAdapter → Option (List ℕ)
+adapter_left_out types es places root a = option_or (library_left_out a.1.library_info) (module_left_out types es places root a.1.required_exports a.1.info)
 
 -- ---- the whole
 
@@ -169,23 +200,14 @@ items_of p = get_or p.resolve.worlds p.world.index no_items
 abbrev pub world_left_out : Resolve → World → Option (List ℕ)
 world_left_out r w = option_or (first_some (import_item_left_out r) w.imports) (first_some (export_item_left_out r) w.exports)
 
--- the first import or export of a module that is left out
-abbrev pub module_left_out : List TypeDef → List ℕ → ℕ → ValidatedModule → Option (List ℕ)
-module_left_out types places root m =
-    option_or (first_some (group_left_out types places root) m.imports.modules) (first_some (λ e. export_left_out types e.1) m.exports.exports)
-
--- an adapter, if there is one
-abbrev pub adapters_left_out : List (List ℕ × WorldAdapter) → Option (List ℕ)
-adapters_left_out [] = None
-adapters_left_out (a ∷ more) = Some (codes "adapter")
-
--- what of the modules is left out: of main first, then of the adapters
-abbrev pub modules_left_out : WorldParts → List ℕ → ℕ → Option (List ℕ)
-modules_left_out p places root = option_or (module_left_out p.resolve.types places root p.main) (adapters_left_out p.adapters)
+-- what of the modules is left out: of main first, then of the adapters in order
+abbrev pub modules_left_out : WorldParts → World → List ℕ → ℕ → Option (List ℕ)
+modules_left_out p w places root =
+    option_or (module_left_out p.resolve.types w.exports places root p.main_exports p.main) (first_some (adapter_left_out p.resolve.types w.exports places root) p.adapters)
 
 -- what is left out of a world whose interfaces are apart: the order of its items first, then its resources, then its modules
 abbrev pub after_order : WorldParts → World → Option (List ℕ)
-after_order p w = option_or (resources_left_out p.resolve.types w.imports) (modules_left_out p (places_of p.resolve.types w.imports) (length w.imports))
+after_order p w = option_or (resources_left_out p.resolve.types w.imports) (modules_left_out p w (places_of p.resolve.types w.imports) (length w.imports))
 
 abbrev pub rest_left_out : WorldParts → World → Option (List ℕ)
 rest_left_out p w = option_or (order_left_out p.resolve w) (after_order p w)
@@ -194,13 +216,9 @@ rest_left_out p w = option_or (order_left_out p.resolve w) (after_order p w)
 abbrev pub named_left_out : WorldParts → World → Option (List ℕ)
 named_left_out p w = option_or (names_left_out p.resolve w) (rest_left_out p w)
 
--- the same, of one with roles of exported resources
-abbrev pub owned_left_out : WorldParts → World → Option (List ℕ)
-owned_left_out p w = option_or (own_left_out p w) (named_left_out p w)
-
 -- what of a world is not encoded yet: of its items first
 unfoldable pub left_out : WorldParts → Option (List ℕ)
-left_out p = option_or (world_left_out p.resolve (items_of p)) (option_or (twice_left_out p.main_exports (items_of p)) (owned_left_out p (items_of p)))
+left_out p = option_or (world_left_out p.resolve (items_of p)) (option_or (twice_left_out (all_required p) (items_of p)) (named_left_out p (items_of p)))
 
 -- the refusal of what is left out
 abbrev pub refused : List ℕ → Failure

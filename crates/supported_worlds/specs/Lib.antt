@@ -5,7 +5,9 @@ pub mod Sets
 pub mod Homes
 pub mod Placed
 pub mod Naming
+pub mod Modules
 pub mod LeftOut
+pub mod Once
 pub mod Places
 pub mod PlaceTables
 pub mod Guarantees

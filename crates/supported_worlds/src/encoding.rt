@@ -8,29 +8,28 @@ ghost use Rattle.comp_worlds.specs.WorldTables.{HasTables};
 ghost use Rattle.record_faults.specs.Faults.{Gives};
 ghost use Rattle.record_faults.specs.declared.fault.Failure.TheVariants as failures;
 ghost use Rattle.record_faults.specs.declared.fault.Refusal.{Refusal as RefusalValue};
-ghost use Rattle.supported_worlds.specs.Apart.{AreApart, GroupsApart};
+ghost use Rattle.supported_worlds.specs.Apart.{AreApart, ModulesApart};
 ghost use Rattle.supported_worlds.specs.Causes.{IsLeftOut};
 ghost use Rattle.supported_worlds.specs.Distinct.{are_apart};
-ghost use Rattle.supported_worlds.specs.LeftOut.{items_of, are_interfaces_apart, required_of, twice_left_out, adapters_left_out, modules_left_out, after_order, rest_left_out, named_left_out, owned_left_out, left_out, refused, encoded};
-ghost use Rattle.supported_worlds.specs.Sets.{IsSetOf};
+ghost use Rattle.supported_worlds.specs.LeftOut.{items_of, all_required, twice_left_out, modules_left_out, after_order, rest_left_out, named_left_out, left_out, refused, encoded};
+ghost use Rattle.supported_worlds.specs.Once.{IsRequiredOnce};
 ghost use Rattle.world_values.specs.Mentions.{same_interface, interfaces_of};
 ghost use Rattle.supported_worlds.specs.Guarantees.{HasSoundParts};
 ghost use Rattle.supported_worlds.specs.Placed.{places_of};
 ghost use Rattle.supported_worlds.specs.PlaceTables.{ArePlaces};
 
 use crate::items::world_left_out;
+use crate::modules::{adapters_left_out, module_left_out};
 use crate::naming::names_left_out;
-use crate::owned::own_left_out;
 use crate::placed::order_left_out;
 use crate::places::{Places, interface_places, with_types};
 use crate::resources::resources_left_out;
-use crate::roles::module_left_out;
-use crate::sets::{are_interfaces_apart, required_set};
-use comp_lists::{Keyed, Text};
-use comp_worlds::{ComponentWorld, WorldAdapter, WorldParts};
+use crate::sets::twice_left_out;
+use comp_lists::Text;
+use comp_worlds::{ComponentWorld, WorldParts};
 use record_faults::{Failure, Refusal};
 use std::alloc::{AllocError, Global};
-use wit_data::{InterfaceId, World};
+use wit_data::World;
 use world_tables::world_of_parts;
 
 /// The refusal of what is not encoded yet.
@@ -40,17 +39,6 @@ fn refused(alloc: Global, what: &str) -> Failure
     match Text::from_str(alloc, what) {
         Ok(what) => Failure::Refused(Refusal::LeftOut { what }),
         Err(_) => Failure::Memory,
-    }
-}
-
-/// No world with an adapter is encoded yet.
-fn adapters_left_out(adapters: &Keyed<Text, WorldAdapter>) -> Option<&'static str>
-    ensures { option_copied result ≡ adapters_left_out adapters.now }
-{
-    let mut entries = adapters.iter();
-    match entries.next() {
-        Some(_) => Some("adapter"),
-        None => None,
     }
 }
 
@@ -65,42 +53,63 @@ fn items_of(parts: &WorldParts) -> &World
     &parts.resolve.worlds.as_slice()[parts.world.index]
 }
 
-/// What of the modules is not encoded yet, by the places of types; where nothing is left out, no import of main occurs twice.
-fn placed_left_out(parts: &WorldParts, places: &Places) -> Option<&'static str>
-    ensures reported { option_copied result ≡ modules_left_out parts.now places.now.types places.now.interfaces.root }
-    ensures apart { option_copied result ≡ None → GroupsApart parts.now.main.imports.modules }
+/// What of the modules is not encoded yet, by the places of types; where nothing is left out, no import of a module occurs twice.
+#[tactic(auto, using(crate::proofs::Walking::modules_apart))]
+fn placed_left_out(
+    alloc: Global,
+    parts: &WorldParts,
+    world: &World,
+    places: &Places,
+) -> Result<Option<&'static str>, AllocError>
+    requires once { IsRequiredOnce parts.now world.now }
+    ensures reported { IfOk result (λ o. option_copied o ≡ modules_left_out parts.now world.now places.now.types places.now.interfaces.root) }
+    ensures apart { IfOk result (λ o. option_copied o ≡ None → ModulesApart parts.now) }
 {
-    match module_left_out(parts.resolve.types.as_slice(), places, &parts.main) {
-        Some(what) => Some(what),
-        None => adapters_left_out(&parts.adapters),
+    let types = parts.resolve.types.as_slice();
+    let keys = parts.main_exports.as_slice();
+    match module_left_out(alloc, types, &world.exports, places, keys, &parts.main)? {
+        Some(what) => Ok(Some(what)),
+        None => adapters_left_out(alloc, types, &world.exports, places, &parts.adapters),
     }
 }
 
 /// The same, by the places of the world's types.
 #[tactic(auto, using(crate::proofs::Reporting::same_modules))]
-fn modules_left_out(parts: &WorldParts, world: &World, places: &Places) -> Option<&'static str>
-    requires { ArePlaces parts.now.resolve.types world.now.imports places.now }
-    ensures reported { option_copied result ≡ modules_left_out parts.now (places_of parts.now.resolve.types world.now.imports) (length world.now.imports) }
-    ensures apart { option_copied result ≡ None → GroupsApart parts.now.main.imports.modules }
+fn modules_left_out(
+    alloc: Global,
+    parts: &WorldParts,
+    world: &World,
+    places: &Places,
+) -> Result<Option<&'static str>, AllocError>
+    requires places { ArePlaces parts.now.resolve.types world.now.imports places.now }
+    requires once { IsRequiredOnce parts.now world.now }
+    ensures reported { IfOk result (λ o. option_copied o ≡ modules_left_out parts.now world.now (places_of parts.now.resolve.types world.now.imports) (length world.now.imports)) }
+    ensures apart { IfOk result (λ o. option_copied o ≡ None → ModulesApart parts.now) }
 {
-    let found = placed_left_out(parts, places);
-    found
+    let found = placed_left_out(alloc, parts, world, places)?;
+    Ok(found)
 }
 
 /// What is left out of the resources of a world and of its modules.
-fn after_order(parts: &WorldParts, world: &World, places: &Places) -> Option<&'static str>
+fn after_order(
+    alloc: Global,
+    parts: &WorldParts,
+    world: &World,
+    places: &Places,
+) -> Result<Option<&'static str>, AllocError>
     requires present { HasWorld parts.now.resolve world.now }
     requires places { ArePlaces parts.now.resolve.types world.now.imports places.now }
-    ensures reported { option_copied result ≡ after_order parts.now world.now }
-    ensures apart { option_copied result ≡ None → GroupsApart parts.now.main.imports.modules }
+    requires once { IsRequiredOnce parts.now world.now }
+    ensures reported { IfOk result (λ o. option_copied o ≡ after_order parts.now world.now) }
+    ensures apart { IfOk result (λ o. option_copied o ≡ None → ModulesApart parts.now) }
 {
     match resources_left_out(&parts.resolve, &world.imports) {
-        Some(what) => Some(what),
-        None => modules_left_out(parts, world, places),
+        Some(what) => Ok(Some(what)),
+        None => modules_left_out(alloc, parts, world, places),
     }
 }
 
-/// What is left out of a world whose interfaces are apart, apart from its items and their names.
+/// What is left out of a world in which nothing occurs twice, apart from its items and their names.
 fn rest_left_out(
     alloc: Global,
     parts: &WorldParts,
@@ -110,12 +119,13 @@ fn rest_left_out(
     requires sound { IsSound parts.now.resolve }
     requires present { HasWorld parts.now.resolve world.now }
     requires places { ArePlaces parts.now.resolve.types world.now.imports places.now }
+    requires once { IsRequiredOnce parts.now world.now }
     ensures reported { IfOk result (λ o. option_copied o ≡ rest_left_out parts.now world.now) }
-    ensures apart { IfOk result (λ o. option_copied o ≡ None → GroupsApart parts.now.main.imports.modules) }
+    ensures apart { IfOk result (λ o. option_copied o ≡ None → ModulesApart parts.now) }
 {
     match order_left_out(alloc, &parts.resolve, places, world)? {
         Some(what) => Ok(Some(what)),
-        None => Ok(after_order(parts, world, places)),
+        None => after_order(alloc, parts, world, places),
     }
 }
 
@@ -129,8 +139,9 @@ fn named_left_out(
     requires sound { IsSound parts.now.resolve }
     requires present { HasWorld parts.now.resolve world.now }
     requires places { ArePlaces parts.now.resolve.types world.now.imports places.now }
+    requires once { IsRequiredOnce parts.now world.now }
     ensures reported { IfOk result (λ o. option_copied o ≡ named_left_out parts.now world.now) }
-    ensures apart { IfOk result (λ o. option_copied o ≡ None → GroupsApart parts.now.main.imports.modules) }
+    ensures apart { IfOk result (λ o. option_copied o ≡ None → ModulesApart parts.now) }
 {
     match names_left_out(alloc, &parts.resolve, world)? {
         Some(what) => Ok(Some(what)),
@@ -148,8 +159,9 @@ fn in_places_left_out(
     requires sound { IsSound parts.now.resolve }
     requires present { HasWorld parts.now.resolve world.now }
     requires apart { are_apart same_interface (interfaces_of world.now.imports) ≡ true }
+    requires once { IsRequiredOnce parts.now world.now }
     ensures reported { IfOk result (λ o. option_copied o ≡ named_left_out parts.now world.now) }
-    ensures apart { IfOk result (λ o. option_copied o ≡ None → GroupsApart parts.now.main.imports.modules) }
+    ensures apart { IfOk result (λ o. option_copied o ≡ None → ModulesApart parts.now) }
 {
     match interface_places(alloc, &world.imports)? {
         Some(interfaces) => {
@@ -161,52 +173,8 @@ fn in_places_left_out(
     }
 }
 
-/// The same, with the roles of exported resources, by the set of the interfaces that main has to export.
-#[tactic(auto, using(crate::proofs::Reporting::own_found, crate::proofs::Reporting::own_passed))]
-fn owned_left_out(
-    alloc: Global,
-    parts: &WorldParts,
-    world: &World,
-    required: &Keyed<InterfaceId, ()>,
-) -> Result<Option<&'static str>, AllocError>
-    requires sound { IsSound parts.now.resolve }
-    requires present { HasWorld parts.now.resolve world.now }
-    requires apart { are_apart same_interface (interfaces_of world.now.imports) ≡ true }
-    requires required { IsSetOf (required_of world.now.exports parts.now.main_exports) required.now }
-    ensures reported { IfOk result (λ o. option_copied o ≡ owned_left_out parts.now world.now) }
-    ensures apart { IfOk result (λ o. option_copied o ≡ None → GroupsApart parts.now.main.imports.modules) }
-{
-    let types = parts.resolve.types.as_slice();
-    match own_left_out(types, &world.exports, required, &parts.main.imports.modules) {
-        Some(what) => Ok(Some(what)),
-        None => in_places_left_out(alloc, parts, world),
-    }
-}
-
-/// The same, of a world whose imported and exported interfaces are apart.
-#[tactic(auto, using(crate::proofs::Reporting::required_twice, crate::proofs::Reporting::required_once, crate::proofs::Reporting::imports_apart))]
-fn required_left_out(
-    alloc: Global,
-    parts: &WorldParts,
-    world: &World,
-) -> Result<Option<&'static str>, AllocError>
-    requires sound { IsSound parts.now.resolve }
-    requires present { HasWorld parts.now.resolve world.now }
-    requires apart { are_interfaces_apart world.now ≡ true }
-    ensures reported { IfOk result (λ o. option_copied o ≡ option_or (twice_left_out parts.now.main_exports world.now) (owned_left_out parts.now world.now)) }
-    ensures apart { IfOk result (λ o. option_copied o ≡ None → GroupsApart parts.now.main.imports.modules) }
-{
-    match required_set(alloc, &world.exports, parts.main_exports.as_slice())? {
-        Some(required) => {
-            let found = owned_left_out(alloc, parts, world, &required)?;
-            Ok(found)
-        }
-        None => Ok(Some("interface")),
-    }
-}
-
 /// What of a world is left out apart from its items.
-#[tactic(auto, using(crate::proofs::Reporting::is_twice))]
+#[tactic(auto, using(crate::proofs::Keys::imports_apart))]
 fn parts_left_out(
     alloc: Global,
     parts: &WorldParts,
@@ -214,13 +182,13 @@ fn parts_left_out(
 ) -> Result<Option<&'static str>, AllocError>
     requires sound { IsSound parts.now.resolve }
     requires present { HasWorld parts.now.resolve world.now }
-    ensures reported { IfOk result (λ o. option_copied o ≡ option_or (twice_left_out parts.now.main_exports world.now) (owned_left_out parts.now world.now)) }
-    ensures apart { IfOk result (λ o. option_copied o ≡ None → GroupsApart parts.now.main.imports.modules) }
+    ensures reported { IfOk result (λ o. option_copied o ≡ option_or (twice_left_out (all_required parts.now) world.now) (named_left_out parts.now world.now)) }
+    ensures apart { IfOk result (λ o. option_copied o ≡ None → ModulesApart parts.now) }
 {
-    if !are_interfaces_apart(alloc, world)? {
-        return Ok(Some("interface"));
+    match twice_left_out(alloc, parts, world)? {
+        Some(what) => Ok(Some(what)),
+        None => in_places_left_out(alloc, parts, world),
     }
-    required_left_out(alloc, parts, world)
 }
 
 /// What of a world is not encoded yet; where nothing is left out, no key occurs twice.
@@ -240,7 +208,7 @@ fn left_out(alloc: Global, parts: &WorldParts) -> Result<Option<&'static str>, A
 }
 
 /// The world of these parts, unless something of it is left out.
-#[tactic(auto, unfolding(crate::specs::LeftOut::encoded), using(crate::proofs::Encodable::is_encodable, comp_worlds::proofs::WholeTables::whole_has_tables))]
+#[tactic(auto, unfolding(crate::specs::LeftOut::encoded), using(crate::proofs::Encodable::all_roles, crate::proofs::Encodable::is_encodable, comp_worlds::proofs::WholeTables::whole_has_tables))]
 fn unless_left_out(alloc: Global, parts: WorldParts) -> Result<ComponentWorld, Failure>
     requires { HasSoundParts parts }
     ensures exact { Gives (λ w. w) result (encoded parts) }
@@ -267,12 +235,13 @@ fn unless_left_out(alloc: Global, parts: WorldParts) -> Result<ComponentWorld, F
 ///
 /// It refuses with `LeftOut` and the kind of something of the world that is not encoded yet: `async`
 /// for an asynchronous function, imported, exported, or of an interface; `type` for an exported type;
-/// `interface` where an interface is imported or exported twice, or both, where main has to export one
+/// `interface` where an interface is imported or exported twice, or both, where one has to be exported
 /// twice, where an exported one has no name or that of another, or uses a named type of the world or a type
 /// of another interface that the world neither imports nor exports, where a type or a function is made of
 /// types that come later in the order of the imports, or where an interface and its types don't name each
 /// other or are out of order; `type` where the imported types are out of order or lack a resource; the kind
-/// of a role of main's imports or exports, `library`, or `adapter`.
+/// of a role of a module's imports or exports; `world-func` where a function at the root has to be exported
+/// twice; or `library` for a library with arguments, and where a whole module provides what one imports.
 /// A synchronous function at the root or of an imported interface is encoded whatever its types are. The
 /// only other refusal is out of memory. On top of `world_of_parts` it takes time linear in the number of
 /// items, of interfaces' types and functions, of the parameters of functions, of types and their parts,

@@ -1,20 +1,23 @@
-//! Which roles of main's imports that are of resources of exported interfaces are not encoded yet.
+//! Which roles of a user module's imports that are of resources of exported interfaces are not encoded yet.
 
-ghost use Rattle.std.specs.Prelude.{◌≡◌, false, codes};
+ghost use Rattle.std.specs.Prelude.{◌≡◌, true, false, codes, IfOk};
 ghost use Rattle.std.specs.List.{list_any};
 ghost use Rattle.std.specs.Map.{keys_of};
 ghost use Rattle.std.specs.Option.{option_copied, option_map_or};
 ghost use Rattle.comp_roles.specs.Lookups.{first_some};
 ghost use Rattle.world_values.specs.Mentions.{same_interface};
 ghost use Rattle.comp_worlds.specs.WorldContents.{interface_of_owner};
-ghost use Rattle.supported_worlds.specs.LeftOut.{unless, own_role_left_out, own_instance_left_out, own_group_left_out};
+ghost use Rattle.supported_worlds.specs.LeftOut.{unless, required_of, own_role_left_out, own_instance_left_out, own_group_left_out, own_left_out};
+ghost use Rattle.supported_worlds.specs.Distinct.{are_apart};
 ghost use Rattle.supported_worlds.specs.Placed.{is_required_at, is_own_at, is_own_resource};
 
 use crate::placed::interface_of_owner;
 use crate::resources::is_resource;
-use crate::sets::exported_at;
+use crate::sets::{exported_at, required_set};
 use comp_lists::{Keyed, Text};
 use comp_roles::{Import, ImportInstance};
+use comp_worlds::ValidatedModule;
+use std::alloc::{AllocError, Global};
 use wit_data::{InterfaceId, TypeDef, TypeId, TypeOwner, WorldItem, WorldKey};
 
 /// Whether an interface is in a set.
@@ -26,7 +29,7 @@ fn is_required(required: &Keyed<InterfaceId, ()>, id: InterfaceId) -> bool
     there
 }
 
-/// Whether an interface is exported at a key, and main has to export it.
+/// Whether an interface is exported at a key, and the module has to export it.
 fn is_required_at(
     exports: &Keyed<WorldKey, WorldItem>,
     required: &Keyed<InterfaceId, ()>,
@@ -83,7 +86,7 @@ fn is_own_resource(
     }
 }
 
-/// A role of a resource, unless that is one of an interface that main has to export.
+/// A role of a resource, unless that is one of an interface that the module has to export.
 fn unless_own(
     types: &[TypeDef],
     exports: &Keyed<WorldKey, WorldItem>,
@@ -154,9 +157,9 @@ fn own_instance_left_out(
     }
 }
 
-/// The first role of main's imports that is of a resource of an exported interface, unless that is one of an interface that main has
-/// to export at the role's key.
-pub(crate) fn own_left_out(
+/// The first role of these imports that is of a resource of an exported interface, unless that is one of an interface that the module
+/// has to export at the role's key.
+fn groups_left_out(
     types: &[TypeDef],
     exports: &Keyed<WorldKey, WorldItem>,
     required: &Keyed<InterfaceId, ()>,
@@ -170,4 +173,26 @@ pub(crate) fn own_left_out(
         }
     }
     None
+}
+
+/// The first role of a module's imports that is of a resource of an exported interface, unless that is one of an interface at one of the
+/// keys that the module has to export.
+#[tactic(auto, using(crate::proofs::Reporting::own_found))]
+pub(crate) fn own_left_out(
+    alloc: Global,
+    types: &[TypeDef],
+    exports: &Keyed<WorldKey, WorldItem>,
+    keys: &[WorldKey],
+    info: &ValidatedModule,
+) -> Result<Option<&'static str>, AllocError>
+    requires once { are_apart same_interface (required_of exports.now keys.now) ≡ true }
+    ensures { IfOk result (λ o. option_copied o ≡ own_left_out types.now exports.now keys.now info.now) }
+{
+    match required_set(alloc, exports, keys)? {
+        Some(required) => {
+            let found = groups_left_out(types, exports, &required, &info.imports.modules);
+            Ok(found)
+        }
+        None => unreachable!(),
+    }
 }

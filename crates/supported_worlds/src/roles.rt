@@ -1,4 +1,4 @@
-//! What of main's imports and exports is not encoded yet.
+//! What of a user module's imports and exports is not encoded yet, by their roles.
 
 ghost use Rattle.std.specs.Prelude.{◌≡◌, None, codes};
 ghost use Rattle.std.specs.List.{IsDistinct};
@@ -7,7 +7,7 @@ ghost use Rattle.std.specs.Option.{option_copied};
 ghost use Rattle.std.specs.Str.{bytes_eq};
 ghost use Rattle.comp_roles.specs.Lookups.{first_some};
 ghost use Rattle.supported_worlds.specs.Apart.{FieldsApart, GroupsApart};
-ghost use Rattle.supported_worlds.specs.LeftOut.{unless, import_left_out, export_left_out, instance_left_out, group_left_out, module_left_out};
+ghost use Rattle.supported_worlds.specs.LeftOut.{unless, import_left_out, export_left_out, instance_left_out, group_left_out, roles_left_out};
 ghost use Rattle.supported_worlds.specs.Placed.{is_droppable, is_resource_at};
 
 use crate::kinds::{export_kind, import_kind};
@@ -138,17 +138,17 @@ fn exports_left_out(types: &[TypeDef], exports: &Keyed<Text, Export>) -> Option<
     None
 }
 
-/// What of a module's imports and exports is left out; where nothing is, no import occurs twice.
-pub(crate) fn module_left_out(
+/// What of a module's imports and exports is left out, by their roles; where nothing is, no import occurs twice.
+pub(crate) fn roles_left_out(
     types: &[TypeDef],
     places: &Places,
-    main: &ValidatedModule,
+    info: &ValidatedModule,
 ) -> Option<&'static str>
-    ensures reported { option_copied result ≡ module_left_out types.now places.now.types places.now.interfaces.root main.now }
-    ensures apart { option_copied result ≡ None → GroupsApart main.now.imports.modules }
+    ensures reported { option_copied result ≡ roles_left_out types.now places.now.types places.now.interfaces.root info.now }
+    ensures apart { option_copied result ≡ None → GroupsApart info.now.imports.modules }
 {
-    match groups_left_out(types, places, &main.imports.modules) {
+    match groups_left_out(types, places, &info.imports.modules) {
         Some(what) => Some(what),
-        None => exports_left_out(types, &main.exports.exports),
+        None => exports_left_out(types, &info.exports.exports),
     }
 }

@@ -1,16 +1,19 @@
-//! Whether no interface is imported or exported twice, and which interfaces main has to export.
+//! Whether no interface is imported or exported twice, which interfaces user modules have to export, and whether something has
+//! to be exported twice.
 
-ghost use Rattle.std.specs.Prelude.{◌≡◌, ◌++◌, IfOk, OnOk};
+ghost use Rattle.std.specs.Prelude.{◌≡◌, ◌++◌, IfOk, OnOk, codes};
+ghost use Rattle.std.specs.List.{flat_map};
 ghost use Rattle.std.specs.Map.{lookup};
-ghost use Rattle.std.specs.Option.{option_and_then};
+ghost use Rattle.std.specs.Option.{option_and_then, option_copied};
 ghost use Rattle.comp_lists.specs.Tables.{with_first};
 ghost use Rattle.wit_data.specs.Keys.{is_same_key};
 ghost use Rattle.world_values.specs.Mentions.{same_interface, interface_in, interfaces_of};
-ghost use Rattle.supported_worlds.specs.Distinct.{is_new};
-ghost use Rattle.supported_worlds.specs.LeftOut.{are_interfaces_apart, required_of};
+ghost use Rattle.supported_worlds.specs.Distinct.{are_apart, is_new};
+ghost use Rattle.supported_worlds.specs.LeftOut.{unless, are_interfaces_apart, required_of, all_required, required_left_out, twice_left_out};
 ghost use Rattle.supported_worlds.specs.Sets.{IsApartSet};
 
-use comp_lists::Keyed;
+use comp_lists::{Keyed, Seq, Text, TryClone};
+use comp_worlds::{WorldAdapter, WorldParts};
 use std::alloc::{AllocError, Global};
 use wit_data::{InterfaceId, World, WorldItem, WorldKey};
 
@@ -74,7 +77,7 @@ fn world_interfaces(alloc: Global, world: &World) -> Result<Vec<InterfaceId>, Al
 
 /// Whether no interface is imported or exported twice, nor both. The time is linear in the number of the world's imports and exports.
 #[tactic(auto, using(crate::proofs::Gathered::is_apart, crate::proofs::Gathered::is_twice))]
-pub(crate) fn are_interfaces_apart(alloc: Global, world: &World) -> Result<bool, AllocError>
+fn are_interfaces_apart(alloc: Global, world: &World) -> Result<bool, AllocError>
     ensures { IfOk result (λ apart. apart ≡ are_interfaces_apart world.now) }
 {
     let line = world_interfaces(alloc, world)?;
@@ -117,7 +120,7 @@ fn required_of(
     Ok(line)
 }
 
-/// The set of the interfaces that main has to export, by their keys, unless it has to export one twice.
+/// The set of the interfaces that are exported at these keys, unless one occurs twice.
 pub(crate) fn required_set(
     alloc: Global,
     exports: &Keyed<WorldKey, WorldItem>,
@@ -128,4 +131,94 @@ pub(crate) fn required_set(
     let line = required_of(alloc, exports, keys)?;
     let set = apart_set(alloc, line.as_slice())?;
     Ok(set)
+}
+
+// ---- keys
+
+/// Adds a key, unless it is there. Whether it was not.
+fn put_key(set: &mut Keyed<WorldKey, ()>, key: WorldKey) -> Result<bool, AllocError>
+    ensures fresh { IfOk result (λ fresh. fresh ≡ is_new is_same_key set.old key) }
+    ensures put { OnOk result (set.new ≡ with_first is_same_key set.old key tt) }
+{
+    let fresh = !set.contains_key(&key);
+    set.insert_if_absent(key, ())?;
+    Ok(fresh)
+}
+
+/// Whether no key occurs twice.
+#[tactic(auto, using(crate::proofs::Keys::keys_start, crate::proofs::Keys::keys_step, crate::proofs::Keys::keys_stop, crate::proofs::Keys::keys_end))]
+fn are_keys_apart(alloc: Global, keys: &[WorldKey]) -> Result<bool, AllocError>
+    ensures { IfOk result (λ apart. apart ≡ are_apart is_same_key keys.now) }
+{
+    let mut set = Keyed::new(alloc);
+    for n in 0..keys.len() {
+        let key = keys[n].try_clone(alloc)?;
+        if !put_key(&mut set, key)? {
+            return Ok(false);
+        }
+    }
+    Ok(true)
+}
+
+/// What is left out of keys that occur twice.
+fn keys_left_out(alloc: Global, keys: &[WorldKey]) -> Result<Option<&'static str>, AllocError>
+    ensures { IfOk result (λ o. option_copied o ≡ unless (are_apart is_same_key keys.now) (codes "world-func")) }
+{
+    if are_keys_apart(alloc, keys)? {
+        Ok(None)
+    } else {
+        Ok(Some("world-func"))
+    }
+}
+
+/// What is left out of the keys that have to be exported: an interface or a function among them that has to be exported twice.
+#[tactic(auto, using(crate::proofs::Keys::once_found, crate::proofs::Keys::twice_found))]
+fn required_left_out(
+    alloc: Global,
+    exports: &Keyed<WorldKey, WorldItem>,
+    keys: &[WorldKey],
+) -> Result<Option<&'static str>, AllocError>
+    ensures { IfOk result (λ o. option_copied o ≡ required_left_out exports.now keys.now) }
+{
+    match required_set(alloc, exports, keys)? {
+        Some(_) => {
+            let found = keys_left_out(alloc, keys)?;
+            Ok(found)
+        }
+        None => Ok(Some("interface")),
+    }
+}
+
+/// The keys that main has to export, and then those of the adapters in order.
+#[tactic(auto, using(crate::proofs::Keys::all_start, crate::proofs::Keys::all_step, crate::proofs::Keys::all_end))]
+fn all_required(
+    alloc: Global,
+    main: &Seq<WorldKey>,
+    adapters: &Keyed<Text, WorldAdapter>,
+) -> Result<Seq<WorldKey>, AllocError>
+    ensures { IfOk result (λ keys. keys ≡ main.now ++ flat_map (λ a. a.1.required_exports) adapters.now) }
+{
+    let mut keys = main.clone(alloc)?;
+    for (_, adapter) in adapters.iter() {
+        let more = adapter.required_exports.clone(alloc)?;
+        keys.append(more)?;
+    }
+    Ok(keys)
+}
+
+/// What is left out of a world where something is imported, exported or required twice.
+#[tactic(auto, using(crate::proofs::Keys::interface_twice, crate::proofs::Keys::interfaces_once))]
+pub(crate) fn twice_left_out(
+    alloc: Global,
+    parts: &WorldParts,
+    world: &World,
+) -> Result<Option<&'static str>, AllocError>
+    ensures { IfOk result (λ o. option_copied o ≡ twice_left_out (all_required parts.now) world.now) }
+{
+    if !are_interfaces_apart(alloc, world)? {
+        return Ok(Some("interface"));
+    }
+    let keys = all_required(alloc, &parts.main_exports, &parts.adapters)?;
+    let found = required_left_out(alloc, &world.exports, keys.as_slice())?;
+    Ok(found)
 }

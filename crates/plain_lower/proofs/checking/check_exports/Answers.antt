@@ -7,7 +7,7 @@ use Rattle.plain_lower.proofs.checking.check_exports.Goals as goal
 
 pub returns-in_err-exports-clause-cause : goal.returns-in_err-exports-clause-cause
 returns-in_err-exports-clause-cause c =
-    handed_out (λ f. ExportsCause c.args.resolved.now c.args.main.now c.args.core.now f) c.from_residual.result c.in_err-exports.field-0.0 c.from_residual.ensures.1
+    handed_out (λ f. ExportsCause c.args.resolved.now c.args.part.now c.args.core.now f) c.from_residual.result c.in_err-exports.field-0.0 c.from_residual.ensures.1
     (λ f e. unfit f (c.in_err-exports.ensures.cause f e))
 
 pub returns-in-Err-clause-cause : goal.returns-in-Err-clause-cause

@@ -2,7 +2,7 @@ use Rattle.std.proofs.Common.{◌≡◌}
 use Rattle.std.specs.Map.{keys_of}
 use Rattle.comp_roles.specs.Lookups.{first_some}
 use Rattle.supported_worlds.specs.LeftOut.{own_group_left_out}
-use Rattle.supported_worlds.proofs.owned.own_left_out.Given as goal
+use Rattle.supported_worlds.proofs.owned.groups_left_out.Given as goal
 
 abbrev pub invariant-loop-instance : goal.invariant-loop-instance
 invariant-loop-instance l =
