@@ -34,13 +34,14 @@ fi
 # is_right WORD..: whether what a run of these words left is what it should leave
 is_right() {
     case $1 in
-    new) cmp -s "$made" "$top/examples/component.wasm" && [ ! -s "$folder/out" ] ;;
+    new) cmp -s "$made" "$want" && [ ! -s "$folder/out" ] ;;
     defs) [ "$(wc -l <"$folder/out")" -eq 10 ] && [ "$(sed -n 9p "$folder/out")" = 'func 2 = export "g" func 1' ] ;;
     esac
 }
 
-# what a run of a module that is refused ends with; nothing where it does its work
+# what a run of a module that is refused ends with; nothing where it does its work, and the component that it then makes
 ends=
+want=$top/examples/component.wasm
 
 # is_done STATUS WORD..: whether a run did its work, or ended as it does where no allocation is refused
 is_done() {
@@ -85,9 +86,11 @@ refuse_each 'error: E1 Memory' new "$made" "$main" --validate
 sed -n '1s/.* <- //p' "$top/crates/record_cases/data/roles.txt" | xxd -r -p >"$folder/roles.wasm"
 ends='error: E3 Lower: P8 LeftOut what="async"'
 refuse_each 'error: E1 Memory' new "$made" "$folder/roles.wasm"
-# A module and two adapters.
+# A module and two adapters, with the component that an independent encoder makes of them.
 printf '\0asm\001\0\0\0' >"$folder/empty.wasm"
+echo 0061736d0d000100070501400001000a06010001660100012c0061736d01000000010401600000020b010524726f6f740166000003020100070501016700010a040102000b01290061736d01000000001f046e616d650018177769742d636f6d706f6e656e743a616461707465723a6101290061736d01000000001f046e616d650018177769742d636f6d706f6e656e743a616461707465723a62080501010000000218040101016600000000010524726f6f74120000010000020006070100000101016708060100000100000b070100016701010000760e636f6d706f6e656e742d6e616d650109000002000166010167013b00110300046d61696e01177769742d636f6d706f6e656e743a616461707465723a6102177769742d636f6d706f6e656e743a616461707465723a620116001204000524726f6f7401046d61696e02016103016201050101010167 | xxd -r -p >"$folder/adapters_want"
 ends=
+want=$folder/adapters_want
 refuse_each 'error: E1 Memory' new "$made" "$main" --adapt a="$folder/empty.wasm" --adapt b="$folder/empty.wasm"
 # (`E1` where the program's own words could not be read: which were they?)
 refuse_each 'error: [CE]1 Memory' defs "$top/examples/component.wasm"
