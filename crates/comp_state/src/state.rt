@@ -165,7 +165,11 @@ impl EncodingState<'_> {
         ensures lowered { OnOk result (AllByRecursion (HasLowerOptions self.old.world) (user_imports self.old.world)) }
         ensures cause { IfErr result (IsCause self.old.world) }
     {
-        let users = encode_core_instantiation(&mut self.root, &self.functions, self.names.debug_names)?;
+        let users = encode_core_instantiation(
+            &mut self.root,
+            &self.functions,
+            self.names.debug_names,
+        )?;
         self.users = Some(users);
         self.step = Step::Instantiated;
         Ok(())
