@@ -1,4 +1,4 @@
-//! Runs with adapters. No world with an adapter is encoded yet; that is refused last, once all files were read and taken.
+//! Runs with adapters: which files are read, in which order, and what a run ends with.
 
 use crate::modules::{CUT, EMPTY, MAIN};
 use crate::store::Files;
@@ -9,9 +9,6 @@ use std::test::Fail;
 
 /// The line for arguments that are not those of the program.
 const USAGE: &str = "usage: component_new new OUT MAIN [options] | defs FILE\n";
-
-/// The line where all was taken.
-const LEFT_OUT: &str = "error: E3 Lower: P8 LeftOut what=\"adapter\"\n";
 
 /// The store of these runs.
 fn store_of(alloc: Global) -> Result<Files, AllocError> {
@@ -29,7 +26,7 @@ fn store_of(alloc: Global) -> Result<Files, AllocError> {
     Ok(store)
 }
 
-/// An event as a text: the name of a file that was read, or of one that was not, behind a `!`. Nothing is put in these runs.
+/// An event as a text: the name of a file that was read, or of one that was not, behind a `!`, or `put`.
 fn event_text(alloc: Global, event: &Event) -> Result<String, AllocError> {
     match event {
         Event::Read { name, .. } => format!(in alloc; "{}", name.as_str()),
@@ -91,11 +88,11 @@ fn adapters_are_read_in_order(rt: HostRuntime) -> Result<(), Fail> {
     let runs: [(&[&str], &str); 8] = [
         (
             &["main.wasm", "--adapt", "a=a.wasm", "--adapt", "b=b.wasm"],
-            "main.wasm a.wasm b.wasm",
+            "main.wasm a.wasm b.wasm put",
         ),
         (
             &["main.wasm", "--adapt", "b=b.wasm", "--adapt", "a=a.wasm"],
-            "main.wasm b.wasm a.wasm",
+            "main.wasm b.wasm a.wasm put",
         ),
         (
             &[
@@ -105,17 +102,17 @@ fn adapters_are_read_in_order(rt: HostRuntime) -> Result<(), Fail> {
                 "a=a.wasm",
                 "--no-names",
             ],
-            "main.wasm a.wasm",
+            "main.wasm a.wasm put",
         ),
-        (&["main.wasm", "--adapt", "a=b=c"], "main.wasm b=c"),
-        (&["main.wasm", "--adapt", "=a.wasm"], "main.wasm a.wasm"),
+        (&["main.wasm", "--adapt", "a=b=c"], "main.wasm b=c put"),
+        (&["main.wasm", "--adapt", "=a.wasm"], "main.wasm a.wasm put"),
         (
             &["main.wasm", "--adapt", "--validate=a.wasm"],
-            "main.wasm a.wasm",
+            "main.wasm a.wasm put",
         ),
         (
             &["main.wasm", "--adapt", "main=a.wasm", "--adapt", "é=a.wasm"],
-            "main.wasm a.wasm a.wasm",
+            "main.wasm a.wasm a.wasm put",
         ),
         (
             &[
@@ -127,11 +124,11 @@ fn adapters_are_read_in_order(rt: HostRuntime) -> Result<(), Fail> {
                 "--adapt",
                 "c=b.wasm",
             ],
-            "main.wasm a.wasm b.wasm b.wasm",
+            "main.wasm a.wasm b.wasm b.wasm put",
         ),
     ];
     for (words, log) in runs {
-        assert!(rt; ends(alloc, words, 1, log, LEFT_OUT)?);
+        assert!(rt; ends(alloc, words, 0, log, "")?);
     }
     Ok(())
 }
