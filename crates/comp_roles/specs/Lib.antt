@@ -5,3 +5,4 @@ pub mod FunctionExports
 pub mod Reallocs
 pub mod Borrowed
 pub mod CoreTypes
+pub mod Matching

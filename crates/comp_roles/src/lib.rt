@@ -8,7 +8,7 @@
 //! In reading order: `libraries` (the arguments of
 //! libraries), `payloads` (streams and futures), `imports` and `exports` (the roles of imports and exports of a
 //! core module, and look-ups in them), `roles` (the roles that exports are looked up by),
-//! `metadata` (the encodings of functions), `offered` (the types of core imports and exports).
+//! `metadata` (the encodings of functions), `offered` (the types of core imports and exports, and which match).
 //!
 //! `specs/CoreImports.antt` has a core module's imports one by one, `specs/Functions.antt` the functions that
 //! a module names.
@@ -26,5 +26,5 @@ pub use exports::{Export, ExportMap};
 pub use imports::{Import, ImportInstance, ImportMap, NamedImport};
 pub use libraries::{Instance, Item, LibraryArgument, LibraryInfo, MainOrAdapter};
 pub use metadata::{FunctionKey, ModuleMetadata};
-pub use offered::{ExternType, ImportType};
+pub use offered::{ExternType, ImportType, has_numbers};
 pub use payloads::{PayloadFuncKind, PayloadInfo, PayloadType};

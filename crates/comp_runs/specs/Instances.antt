@@ -30,6 +30,7 @@ use Rattle.core_runs.specs.Instances.{Given, FunctionAt, TableAt, MemoryAt, Glob
 use Rattle.core_runs.specs.Sections.{parts_of}
 use Rattle.comp_trees.specs.Trees.{Origin, is_known, is_known_function, FunctionTree}
 use Rattle.comp_trees.specs.DefinedTrees.{TypeTree, OfValues, OfFunctions, function_tree, defined_tree}
+use Rattle.comp_roles.specs.Matching.{kind_of}
 use Rattle.comp_roles.specs.declared.offered.ExternType.{ExternType}
 use Rattle.comp_roles.specs.declared.offered.ExternType.TheVariants as externs
 use Rattle.comp_roles.specs.declared.offered.ImportType.{ImportType}
@@ -69,13 +70,7 @@ external_at space address = None
 abbrev pub external : Thing → Option Given
 external t = external_at t.space t.address
 
--- the kind of an item of a type, and the type as an entry of an import section has it, over a list of types
-abbrev pub type_kind : ExternType → ExportKind
-type_kind (externs.Func type) = kinds.Func
-type_kind (externs.Table type) = kinds.Table
-type_kind (externs.Memory type) = kinds.Memory
-type_kind (externs.Global type) = kinds.Global
-
+-- a type as an entry of an import section has it, over a list of types
 abbrev pub types_of : ExternType → List FuncType
 types_of (externs.Func type) = type ∷ []
 types_of _ = []
@@ -91,7 +86,7 @@ abbrev pub matching : Machine → ExternType → Thing → Option Thing
 matching m type t = option_and_then (λ given. if matches (types_of type) m.store.code m.now (entity_of type) given then Some t else None) (external t)
 
 abbrev pub given_to : Machine → Arguments → ImportType → Option Thing
-given_to m arguments i = option_and_then (matching m i.ty) (argument_for arguments (type_kind i.ty) i.module_name i.field)
+given_to m arguments i = option_and_then (matching m i.ty) (argument_for arguments (kind_of i.ty) i.module_name i.field)
 
 -- the index space of an item of a type, and the address of the next one
 abbrev pub type_space : ExternType → Space

@@ -3,6 +3,7 @@ pub mod Lowerings
 pub mod Uses
 pub mod Imported
 pub mod WorldContents
+pub mod Offered
 pub mod Typed
 pub mod Worlds
 pub mod Encodable

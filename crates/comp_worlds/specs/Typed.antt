@@ -20,6 +20,9 @@ use Rattle.comp_roles.specs.declared.offered.ExternType.{ExternType}
 use Rattle.comp_roles.specs.declared.offered.ExternType.TheVariants as externs
 use Rattle.comp_roles.specs.declared.offered.ImportType.{ImportType}
 use Rattle.world_values.specs.Items.{functions_of, root_function_at, function_of_item}
+use Rattle.comp_worlds.specs.Offered.{OffersMatching}
+use Rattle.comp_worlds.specs.WorldContents.{items_of}
+use Rattle.comp_worlds.specs.declared.world.ComponentWorld.{ComponentWorld}
 use Rattle.comp_worlds.specs.declared.world.ValidatedModule.{ValidatedModule}
 
 -- the type of `resource.drop`: a handle is a number
@@ -42,7 +45,8 @@ destructor_type = externs.Func (function_type (I32 ∷ []) [])
 abbrev pub post_return_type : Resolve → Function → ExternType
 post_return_type r f = externs.Func (function_type (map value_type (signature GuestExport r.types f).results) [])
 
--- the type that the role of an import, or of an export, requires, as far as such roles are encoded
+-- the type that the role of an import, or of an export, requires, as far as such roles are encoded; an export of main is given where
+-- it matches the import
 abbrev pub type_of_import : Resolve → World → Import → Option ExternType
 type_of_import r items (imports.WorldFunc key function abi) = option_map (called_type r abi) (root_function_at items.imports key)
 type_of_import r items (imports.InterfaceFunc key id function abi) = option_map (called_type r abi) (found function (functions_of r id))
@@ -50,6 +54,8 @@ type_of_import r items (imports.ImportedResourceDrop key interface id) = Some dr
 type_of_import r items (imports.ExportedResourceDrop key id) = Some drop_type
 type_of_import r items (imports.ExportedResourceRep key id) = Some handle_type
 type_of_import r items (imports.ExportedResourceNew key id) = Some handle_type
+type_of_import r items (imports.MainModuleMemory type) = Some (externs.Memory type)
+type_of_import r items (imports.AdapterExport adapter name type) = Some (externs.Func type)
 type_of_import r items role = None
 
 abbrev pub type_of_export : Resolve → World → Export → Option ExternType
@@ -65,11 +71,16 @@ type_of_export r items exports.GeneralPurposeExportRealloc = Some realloc_type
 type_of_export r items exports.ReallocForAdapter = Some realloc_type
 type_of_export r items role = None
 
--- an import that validation found has a role, which requires its type
-pub record FitsImport (r : Resolve) (items : World) (m : ValidatedModule) (i : ImportType) : Type 0 where
+-- an import of this type fits a role
+abbrev pub FitsRole : ComponentWorld → Import → ExternType → Type 0
+FitsRole w (imports.MainModuleExport name kind) type = OffersMatching w.main name type
+FitsRole w role type = type_of_import w.resolve (items_of w) role ≡ Some type
+
+-- an import that validation found has a role, which it fits
+pub record FitsImport (w : ComponentWorld) (m : ValidatedModule) (i : ImportType) : Type 0 where
   pub role : Import
   pub has_role : role_at m.imports.modules i.module_name i.field ≡ Some role
-  pub fits : type_of_import r items role ≡ Some i.ty
+  pub fits : FitsRole w role i.ty
 
 -- an export that has a role is one that validation found, of the type that its role requires
 pub record FitsExport (r : Resolve) (items : World) (m : ValidatedModule) (e : List ℕ × Export) : Type 0 where

@@ -30,6 +30,7 @@ use Rattle.comp_roles.specs.declared.exports.Export.TheVariants as exports
 use Rattle.comp_worlds.specs.declared.world.ComponentWorld.{ComponentWorld}
 use Rattle.comp_worlds.specs.declared.world.ValidatedModule.{ValidatedModule}
 use Rattle.world_values.specs.Items.{functions_of, functions_in}
+use Rattle.comp_worlds.specs.Offered.{OffersItem, AdapterOffers, MemoryMatches}
 use Rattle.comp_worlds.specs.Typed.{FitsImport, FitsExport}
 use Rattle.comp_worlds.specs.Uses.{imports_of}
 use Rattle.comp_worlds.specs.WorldContents.{items_of, imported_functions, exported_functions, exported_item, core_name_in, interface_at, keys_required}
@@ -85,7 +86,8 @@ pub record IsOwnResource (w : ComponentWorld) (key : WorldKey) (id : TypeId) : T
   pub required : Contains (keys_required w) key
 
 -- the role of an import is a function that the world imports, at its root or in an interface, called in the right form, the drop of a
--- resource, or `resource.drop`, `resource.rep` or `resource.new` of a resource of an exported interface
+-- resource, `resource.drop`, `resource.rep` or `resource.new` of a resource of an exported interface, main's memory, or what main or an
+-- adapter offers
 abbrev pub IsImportRole : ComponentWorld → Import → Type 0
 IsImportRole w (imports.WorldFunc (keys.Name text) function abi) = Contains (imported_functions w) text × (function ≡ text) × (abi ≡ GuestImport)
 IsImportRole w (imports.InterfaceFunc key id function abi) = Contains (items_of w).imports (key, items.Interface id) × Contains (map (λ e. e.0) (functions_of w.resolve id)) function × (abi ≡ GuestImport)
@@ -93,6 +95,9 @@ IsImportRole w (imports.ImportedResourceDrop key interface id) = IsResource w.re
 IsImportRole w (imports.ExportedResourceDrop key id) = IsOwnResource w key id
 IsImportRole w (imports.ExportedResourceRep key id) = IsOwnResource w key id
 IsImportRole w (imports.ExportedResourceNew key id) = IsOwnResource w key id
+IsImportRole w (imports.MainModuleMemory type) = MemoryMatches w type
+IsImportRole w (imports.MainModuleExport name kind) = OffersItem w.main name kind
+IsImportRole w (imports.AdapterExport adapter name type) = AdapterOffers w adapter name type
 IsImportRole w role = ⊥
 
 -- a function of the handles of an exported resource is for the module that has to export its interface
@@ -101,6 +106,12 @@ IsForOwnKey keys (imports.ExportedResourceDrop key id) = Contains keys key
 IsForOwnKey keys (imports.ExportedResourceRep key id) = Contains keys key
 IsForOwnKey keys (imports.ExportedResourceNew key id) = Contains keys key
 IsForOwnKey keys role = Unit {0}
+
+-- main imports nothing of its own, so that it can be instantiated first
+abbrev pub IsNotOfMain : Import → Type 0
+IsNotOfMain (imports.MainModuleMemory type) = ⊥
+IsNotOfMain (imports.MainModuleExport name kind) = ⊥
+IsNotOfMain role = Unit {0}
 
 -- the roles of the imports from one module
 abbrev pub IsImportGroup : ComponentWorld → List ℕ × ImportInstance → Type 0
@@ -139,7 +150,7 @@ pub record IsUserModule (w : ComponentWorld) (m : ValidatedModule) (keys : List 
   pub modules_apart : IsDistinct bytes_eq (map (λ g. g.0) m.imports.modules)
   pub import_roles : AllByRecursion (IsImportGroup w) m.imports.modules
   pub own_keys : AllByRecursion (λ i. IsForOwnKey keys i.role) (imports_of m)
-  pub imported : AllByRecursion (FitsImport w.resolve (items_of w) m) m.imported
+  pub imported : AllByRecursion (FitsImport w m) m.imported
   pub export_roles : AllByRecursion (λ e. IsExportRole w e.1) m.exports.exports
   pub exported : AllByRecursion (FitsExport w.resolve (items_of w) m) m.exports.exports
   pub required : AllByRecursion (IsRequired w m) keys
@@ -156,6 +167,7 @@ pub record IsWorld (w : ComponentWorld) : Type 0 where
   pub exports_named : AllByRecursion (IsExportNamed w.resolve) (items_of w).exports
   pub exported_interfaces_apart : IsDistinct bytes_eq (flat_map (interface_text w.resolve) (items_of w).exports)
   pub main : IsUserModule w w.main w.main_exports
+  pub main_first : AllByRecursion (λ i. IsNotOfMain i.role) (imports_of w.main)
   pub adapters : AllByRecursion (λ a. IsUserModule w a.1.info a.1.required_exports) w.adapters
   -- adapters have names of their own, and no key has to be exported twice
   pub adapters_apart : IsDistinct bytes_eq (keys_of w.adapters)

@@ -1,7 +1,6 @@
 -- The shims of functions that adapters export and other modules import (this project's own; core standard, structure: function
 -- types).
-use Rattle.std.specs.Prelude.{ℕ, Bool, true, false, ◌&&◌, List, [], ◌∷◌, ◌++◌, map, Option, Some, None, if◌then◌else◌, codes}
-use Rattle.std.specs.List.{list_all}
+use Rattle.std.specs.Prelude.{ℕ, List, [], ◌∷◌, ◌++◌, map, Option, Some, None, if◌then◌else◌, codes}
 use Rattle.core_types.specs.declared.types.FuncType.{FuncType}
 use Rattle.core_types.specs.declared.types.ValType.{ValType}
 use Rattle.core_types.specs.declared.types.ValType.TheVariants as core
@@ -9,6 +8,7 @@ use Rattle.wit_data.specs.declared.signatures.WasmSignature.{WasmSignature}
 use Rattle.wit_data.specs.declared.signatures.WasmType.{WasmType}
 use Rattle.wit_data.specs.declared.signatures.WasmType.TheVariants.{I32, I64, F32, F64}
 use Rattle.comp_roles.specs.CoreImports.{CoreImport}
+use Rattle.comp_roles.specs.Matching.{has_numbers}
 use Rattle.comp_roles.specs.declared.imports.Import.{Import}
 use Rattle.comp_roles.specs.declared.imports.Import.TheVariants as imports
 use Rattle.shim_plan.specs.declared.adapted.AdaptedFunction.{AdaptedFunction}
@@ -30,10 +30,6 @@ adapted_of (imports.AdapterExport adapter func type) = Some (record { adapter = 
 adapted_of role = None
 
 -- the types of numbers. (That of a reference is not used.)
-abbrev pub is_number : ValType → Bool
-is_number (core.Ref ref) = false
-is_number type = true
-
 abbrev pub number_type : ValType → WasmType
 number_type core.I64 = I64
 number_type core.F32 = F32
@@ -43,7 +39,7 @@ number_type type = I32
 -- the core signature of a function of numbers. One that takes or returns references has none
 abbrev pub adapted_sig : FuncType → Option WasmSignature
 adapted_sig type =
-    if list_all is_number type.params && list_all is_number type.results then Some (record { params = map number_type type.params; results = map number_type type.results; indirect_params = false; retptr = false }) else None
+    if has_numbers type then Some (record { params = map number_type type.params; results = map number_type type.results; indirect_params = false; retptr = false }) else None
 
 abbrev pub adapted_name : CoreImport → List ℕ
 adapted_name i = codes "adapt-" ++ i.module_name ++ codes "-" ++ i.field

@@ -1,7 +1,6 @@
 //! The shims of functions that adapters export.
 
 ghost use Rattle.std.specs.Prelude.{◌≡◌, [], ◌∷◌, ◌++◌, None, map, IfOk, IfSome, OnOk};
-ghost use Rattle.std.specs.List.{list_all};
 ghost use Rattle.std.specs.Option.{option_map};
 ghost use Rattle.comp_roles.specs.Borrowed.{core_import};
 ghost use Rattle.shim_plan.specs.Adapted as specs;
@@ -11,7 +10,7 @@ use crate::kinds::ShimKind;
 use crate::needs::{NeededShim, append};
 use comp_lists::{Seq, Text};
 use comp_options::RequiredOptions;
-use comp_roles::{Import, NamedImport};
+use comp_roles::{Import, NamedImport, has_numbers};
 use core_types::{FuncType, ValType};
 use std::alloc::{AllocError, Global};
 use wit_data::{WasmSignature, WasmType};
@@ -35,16 +34,6 @@ pub(crate) fn adapted_of(role: &Import) -> Option<AdaptedFunction<'_>>
     }
 }
 
-/// Whether values of a type are numbers.
-fn is_number(ty: &ValType) -> bool
-    ensures { result ≡ specs.is_number ty.now }
-{
-    match ty {
-        ValType::I32 | ValType::I64 | ValType::F32 | ValType::F64 => true,
-        ValType::Ref(_) => false,
-    }
-}
-
 /// The type of numbers; of another type, any.
 fn number_type(ty: &ValType) -> WasmType
     ensures { result ≡ specs.number_type ty.now }
@@ -55,18 +44,6 @@ fn number_type(ty: &ValType) -> WasmType
         ValType::F32 => WasmType::F32,
         ValType::F64 => WasmType::F64,
     }
-}
-
-/// Whether values of all these types are numbers.
-fn are_numbers(types: &[ValType]) -> bool
-    ensures { result ≡ list_all specs.is_number types.now }
-{
-    for ty in types {
-        if !is_number(ty) {
-            return false;
-        }
-    }
-    true
 }
 
 /// The types of numbers, in order.
@@ -84,7 +61,7 @@ fn number_types(alloc: Global, types: &[ValType]) -> Result<Seq<WasmType>, Alloc
 fn adapted_sig(alloc: Global, ty: &FuncType) -> Result<Option<WasmSignature>, AllocError>
     ensures { IfOk result (λ sig. sig ≡ specs.adapted_sig ty.now) }
 {
-    if are_numbers(ty.params.as_slice()) && are_numbers(ty.results.as_slice()) {
+    if has_numbers(ty) {
         let params = number_types(alloc, ty.params.as_slice())?;
         let results = number_types(alloc, ty.results.as_slice())?;
         Ok(Some(WasmSignature {
