@@ -12,15 +12,18 @@ use Rattle.std.specs.Prelude.{codes}
 use Rattle.comp_links.specs.Modules.{UserImport, user_imports}
 use Rattle.comp_worlds.specs.declared.world.ComponentWorld.{ComponentWorld}
 use Rattle.core_instances.specs.Instances.{instances_marked, AddsInstances}
-use Rattle.core_options.specs.Causes.{IsEncoded, IsEncodedExport, LacksEncoding, LacksMemory, LacksRealloc, NeedsLowering, NeedsLift, ExportsLater}
+use Rattle.core_options.specs.Causes.{IsEncoded, IsEncodedExport, LacksEncoding, LacksMemory, LacksRealloc, NeedsLowering, NeedsLift, ImportsMemory, ExportsLater}
 use Rattle.comp_worlds.specs.ExportOrder.{exported_before, used_exports}
 use Rattle.world_values.specs.Mentions.{same_interface}
 use Rattle.std.specs.List.{list_any}
+use Rattle.std.specs.Option.{option_map}
+use Rattle.core_types.specs.declared.types.MemoryType.{MemoryType}
+use Rattle.comp_roles.specs.Lookups.{first_memory}
 use Rattle.core_options.specs.MainOptions.{memory_name, HasLowerOptions, HasLiftOptions}
 use Rattle.comp_links.specs.Lists.{required_functions}
 use Rattle.comp_links.specs.Links.{lower_realloc, lift_realloc}
 use Rattle.comp_terms.specs.Generated.{GeneratedBytes, MayBeGenerated}
-use Rattle.comp_links.specs.Roles.{import_encoding, IsEncodedImport, export_encoding}
+use Rattle.comp_links.specs.Roles.{import_encoding, IsSuppliedImport, export_encoding}
 use Rattle.comp_inventories.specs.Inventories.{inventory}
 use Rattle.comp_terms.specs.Terms.{imports_in}
 use Rattle.comp_terms.specs.Rules.{Grows, RightAfter, Landmark, bytes_marked, landmarks, imports_marked, exports_marked, expected, IsUnnamed, IsBuilt}
@@ -75,16 +78,23 @@ lacks_none (Some x) h e = true≢false (ap is_some e)
 -- where everything has an encoding, nothing lacks one
 pub encoded_lacks : (w : ComponentWorld) → IsEncoded w → (place : List ℕ) → LacksEncoding w place → ⊥
 encoded_lacks w h place (inl l) =
-    lacks_none (import_encoding w l.given.of l.given.core.role) (AllByRecursion-contains (λ (i : UserImport). IsEncodedImport w i.of i.core.role) (user_imports w) l.given h.imports l.present l.needs) l.none
+    lacks_none (import_encoding w l.given.of l.given.core.role) ((AllByRecursion-contains (λ (i : UserImport). IsSuppliedImport w i.of i.core.role) (user_imports w) l.given h.imports l.present).encoding l.needs) l.none
 encoded_lacks w h place (inr l) = lacks_none (export_encoding w l.required.of l.required.key l.required.function) (AllByRecursion-contains (IsEncodedExport w) (required_functions w) l.required h.exports l.present) l.none
 
 -- where main has what lowerings and lifts need, nothing is missing
 pub encoded_memory : (w : ComponentWorld) → IsEncoded w → (place : List ℕ) → LacksMemory w (user_imports w) (required_functions w) place → ⊥
 encoded_memory w h place l = lacks_none (memory_name w) (offered l.needed) l.none
   where
-    offered : NeedsLowering w 1 (user_imports w) place ⊎ NeedsLift w 1 (required_functions w) place → IsSome (memory_name w)
+    named : (o : Option (List ℕ × MemoryType)) → IsSome o → IsSome (option_map (λ (m : List ℕ × MemoryType). m.0) o)
+    named None h = h
+    named (Some m) h = refl
+
+    offered : NeedsLowering w 1 (user_imports w) place ⊎ NeedsLift w 1 (required_functions w) place ⊎ ImportsMemory (user_imports w) place → IsSome (memory_name w)
     offered (inl n) = let has = AllByRecursion-contains (HasLowerOptions w) (user_imports w) n.given h.lowered n.present in has.memory n.needed
-    offered (inr n) = let has = AllByRecursion-contains (HasLiftOptions w) (required_functions w) n.required h.lifted n.present in has.memory n.needed
+    offered (inr (inr n)) =
+        let has = AllByRecursion-contains (λ (i : UserImport). IsSuppliedImport w i.of i.core.role) (user_imports w) n.given h.imports n.present in
+        named (first_memory w.main.exports.exports) (has.memory n.is)
+    offered (inr (inl n)) = let has = AllByRecursion-contains (HasLiftOptions w) (required_functions w) n.required h.lifted n.present in has.memory n.needed
 
 pub encoded_realloc : (w : ComponentWorld) → IsEncoded w → (place : List ℕ) → LacksRealloc w (user_imports w) (required_functions w) place → ⊥
 encoded_realloc w h place (inl l) =

@@ -66,7 +66,7 @@ given_within earlier (a ∷ as') h = (argument_within earlier a.sort a.index h.0
 
 entries_within : (earlier : List Def) (es : List CoreInlineExport) → AllByRecursion (IsEntry earlier) es → AllByRecursion (Within earlier) (flat_map (λ e. own (kind_space e.kind) e.index ∷ []) es)
 entries_within earlier [] h = tt
-entries_within earlier (e ∷ es) h = (subst (λ k. e.index < items_in (kind_space k) earlier) (sym h.0.kind) h.0.scoped, entries_within earlier es h.1)
+entries_within earlier (e ∷ es) h = (h.0.scoped, entries_within earlier es h.1)
 
 -- options name items of the list
 options_within : (earlier : List Def) (os : List CanonicalOption) (rest : List Reference) → AllByRecursion (IsOptionRight earlier) os → AllByRecursion (Within earlier) rest → AllByRecursion (Within earlier) (options_references os ++ rest)

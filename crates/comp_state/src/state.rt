@@ -7,7 +7,7 @@ ghost use Rattle.comp_builder.specs.Built.{nothing_built};
 ghost use Rattle.comp_items.specs.Items.{Extends};
 ghost use Rattle.comp_links.specs.Lists.{required_functions};
 ghost use Rattle.comp_links.specs.Modules.{UserImport, user_imports};
-ghost use Rattle.comp_links.specs.Roles.{IsEncodedImport};
+ghost use Rattle.comp_links.specs.Roles.{IsSuppliedImport};
 ghost use Rattle.comp_state.specs.Encoding.{naming_in};
 ghost use Rattle.comp_worlds.specs.ExportOrder.{AreExportsInOrder};
 ghost use Rattle.comp_state.specs.declared.state.Step.TheVariants.{Started, Imported, Instantiated};
@@ -161,7 +161,7 @@ impl EncodingState<'_> {
         ensures extends { Extends self.old.built self.new.built }
         ensures ordered { OnOk result (AreExportsInOrder self.old.world) }
         ensures added { OnOk result (AddsInstances self.old.world self.old.built.defs self.new.built.defs) }
-        ensures encoded { OnOk result (AllByRecursion (λ (i : UserImport). IsEncodedImport self.old.world i.of i.core.role) (user_imports self.old.world)) }
+        ensures encoded { OnOk result (AllByRecursion (λ (i : UserImport). IsSuppliedImport self.old.world i.of i.core.role) (user_imports self.old.world)) }
         ensures lowered { OnOk result (AllByRecursion (HasLowerOptions self.old.world) (user_imports self.old.world)) }
         ensures cause { IfErr result (IsCause self.old.world) }
     {

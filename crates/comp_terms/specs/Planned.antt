@@ -27,7 +27,7 @@ use Rattle.comp_links.specs.Targets as targets
 use Rattle.comp_links.specs.Modules.{IsModule, function_imported}
 use Rattle.comp_links.specs.Lists.{IsOriginOf, resource_of}
 use Rattle.comp_links.specs.Links.{link_of}
-use Rattle.comp_links.specs.Roles.{IsEncodedImport}
+use Rattle.comp_links.specs.Roles.{IsSuppliedImport}
 use Rattle.shim_plan.specs.declared.shims.Shim.{Shim}
 use Rattle.world_shims.specs.WorldShims.{shims_of}
 use Rattle.comp_terms.specs.Generated.{shims_number, Purpose, target_of, HasPurpose}
@@ -68,6 +68,7 @@ pub record IsTypeOf (w : ComponentWorld) (function : WorldFunction) (type : Func
 abbrev pub IsTermFor : ComponentWorld → Target → Term → Type 0
 IsTermFor w (targets.Lowered function options) (terms.Lowering origin type written) = IsOriginOf w function origin × IsTypeOf w function type × AllZip (IsOptionFor w) written options
 IsTermFor w (targets.ExportOf export_ref) (terms.Exported e) = IsExportFor w e export_ref
+IsTermFor w targets.MainMemory (terms.Exported e) = IsMemoryFor w e
 IsTermFor w (targets.OfResource function id) (terms.OfResource same resource) = (same ≡ function) × (resource ≡ resource_of w id)
 IsTermFor w (targets.Lifted entry options) (terms.Lifting e written type) = IsExportFor w e entry × AllZip (IsOptionFor w) written options
 IsTermFor w target term = ⊥
@@ -106,7 +107,7 @@ pub record IsLiftFor (w : ComponentWorld) (ds : List Def) (index : ℕ) (target 
 pub record IsEntryFor (w : ComponentWorld) (of : UserModule) (ds : List Def) (e : CoreInlineExport) (field : List ℕ × Import) : Type 0 where
   pub named : e.name ≡ field.0
   pub serves : IsGivenFor w ds (kind_space e.kind) e.index (link_of w of field.1)
-  pub encoded : IsEncodedImport w of field.1
+  pub supplied : IsSuppliedImport w of field.1
 
 -- the core instance is an inline instance with an entry for each field, in order
 pub record IsInlineInstanceFor (w : ComponentWorld) (of : UserModule) (ds : List Def) (index : ℕ) (fields : List (List ℕ × Import)) : Type 0 where

@@ -5,7 +5,7 @@ use Rattle.std.specs.Prelude.{◌≡◌, ◌<◌, ◌⊎◌, ℕ, Bool, codes, L
 use Rattle.std.specs.Fmt.{decimal}
 use Rattle.std.specs.List.{AllByRecursion, AllZip, IsDistinct, flat_map, filter_map, list_any, range_with_len}
 use Rattle.std.specs.Str.{bytes_eq}
-use Rattle.comp_bytes.specs.Spaces.{items_in}
+use Rattle.comp_bytes.specs.Spaces.{items_in, kind_space}
 use Rattle.comp_bytes.specs.ScopeNames.{member_export, item_export}
 use Rattle.comp_bytes.specs.declared.space.Space.{Space}
 use Rattle.comp_bytes.specs.declared.space.Space.TheVariants as spaces
@@ -156,12 +156,11 @@ pub record AliasesShim (w : ComponentWorld) (earlier : List Def) (kind : ExportK
   pub named : name ≡ decimal place
   pub function : kind ≡ kinds.Func
 
--- an entry of an inline instance is a core function
+-- an entry of an inline instance names an earlier item
 pub record IsEntry (earlier : List Def) (e : CoreInlineExport) : Type 0 where
-  pub kind : e.kind ≡ kinds.Func
-  pub scoped : e.index < items_in spaces.CoreFunc earlier
+  pub scoped : e.index < items_in (kind_space e.kind) earlier
 
--- the entries of an inline instance are core functions, under distinct names
+-- the entries of an inline instance name earlier items, under distinct names
 pub record AreEntries (earlier : List Def) (entries : List CoreInlineExport) : Type 0 where
   pub each : AllByRecursion (IsEntry earlier) entries
   pub apart : IsDistinct bytes_eq (map (λ e. e.name) entries)

@@ -13,7 +13,7 @@ use Rattle.comp_worlds.specs.declared.world.ComponentWorld.{ComponentWorld}
 use Rattle.comp_links.specs.Links.{lower_needs, lower_realloc}
 use Rattle.comp_links.specs.Modules.{UserImport, user_imports}
 use Rattle.comp_links.specs.Targets.{UserModule}
-use Rattle.comp_links.specs.Roles.{import_encoding, IsEncodedImport}
+use Rattle.comp_links.specs.Roles.{import_encoding, IsSuppliedImport}
 use Rattle.shim_plan.specs.Plans.{shim_of}
 use Rattle.shim_plan.specs.declared.kinds.ShimKind.{ShimKind}
 use Rattle.shim_targets.specs.ShimTargets.{kind_of_import, StandsFor, StandsForOne}
@@ -60,7 +60,7 @@ module _ (w : ComponentWorld) (ok : IsEncodable w) (has : AllByRecursion (HasShi
             subst (λ (p : UserModule × Import). IsSome (lower_realloc w p.0)) same (offered.realloc (subst (λ (p : UserModule × Import). IsTrue (needs (lower_needs w p.1) 2)) (sym same) h));
       }
 
-  one : (of : UserModule) (name field : List ℕ) (role : Import) → Contains (user_imports w) (record { of = of; core = record { module_name = name; field = field; role = role } }) → IsEncodedImport w of role → (b : Bool) → needs (lower_needs w role) 1 ≡ b →
+  one : (of : UserModule) (name field : List ℕ) (role : Import) → Contains (user_imports w) (record { of = of; core = record { module_name = name; field = field; role = role } }) → IsSuppliedImport w of role → (b : Bool) → needs (lower_needs w role) 1 ≡ b →
       HasLowerOptions w (record { of = of; core = record { module_name = name; field = field; role = role } })
   one of name field role there encoded false e = without (record { of = of; core = record { module_name = name; field = field; role = role } }) there e
   one of name field (imports.WorldFunc key function abi) there encoded true e =
@@ -73,7 +73,7 @@ module _ (w : ComponentWorld) (ok : IsEncodable w) (has : AllByRecursion (HasShi
       through i there e n.0 n.1 _ refl
   one of name field role there encoded true e = absurd (true≢false (sym e))
 
-pub all_lowered : (w : ComponentWorld) → IsEncodable w → AllByRecursion (HasShimOptions w) (shims_of w) → AllByRecursion (λ (i : UserImport). IsEncodedImport w i.of i.core.role) (user_imports w) → AllByRecursion (HasLowerOptions w) (user_imports w)
+pub all_lowered : (w : ComponentWorld) → IsEncodable w → AllByRecursion (HasShimOptions w) (shims_of w) → AllByRecursion (λ (i : UserImport). IsSuppliedImport w i.of i.core.role) (user_imports w) → AllByRecursion (HasLowerOptions w) (user_imports w)
 all_lowered w ok has encoded =
     all_of_each (HasLowerOptions w) (user_imports w)
-    (λ i there. one w ok has i.of i.core.module_name i.core.field i.core.role there (AllByRecursion-contains (λ (i : UserImport). IsEncodedImport w i.of i.core.role) (user_imports w) i encoded there) (needs (lower_needs w i.core.role) 1) refl)
+    (λ i there. one w ok has i.of i.core.module_name i.core.field i.core.role there (AllByRecursion-contains (λ (i : UserImport). IsSuppliedImport w i.of i.core.role) (user_imports w) i encoded there) (needs (lower_needs w i.core.role) 1) refl)

@@ -25,7 +25,7 @@ use Rattle.comp_worlds.specs.declared.world.ValidatedModule.{ValidatedModule}
 use Rattle.comp_worlds.specs.declared.world.WorldAdapter.{WorldAdapter}
 use Rattle.comp_worlds.specs.Lookups.{module_name}
 use Rattle.comp_links.specs.Modules.{WorldModule, adapter_module, user_modules, module_found, UserImport, imports_of_module, user_imports}
-use Rattle.comp_links.specs.Roles.{IsEncodedImport}
+use Rattle.comp_links.specs.Roles.{IsSuppliedImport}
 use Rattle.comp_links.specs.Targets.{UserModule as User, Main, Adapter}
 use Rattle.comp_terms.specs.Rules.{Grows, Landmark, InstanceOf, users_marked}
 use Rattle.comp_terms.specs.Terms.{IsInstanceOf}
@@ -267,27 +267,27 @@ instances_found w ds u main apart h = record { main = main; adapters = each }
         }
 
 -- each of their imports that needs a string encoding has one
-one_encoded : (w : ComponentWorld) (m : WorldModule) → IsEncodedUser w m.of m.found → AllByRecursion (λ (i : UserImport). IsEncodedImport w i.of i.core.role) (imports_of_module m)
+one_encoded : (w : ComponentWorld) (m : WorldModule) → IsEncodedUser w m.of m.found → AllByRecursion (λ (i : UserImport). IsSuppliedImport w i.of i.core.role) (imports_of_module m)
 one_encoded w m h = mapped (imports_of m.found) h
   where
-    mapped : (is : List CoreImport) → AllByRecursion (λ (i : CoreImport). IsEncodedImport w m.of i.role) is → AllByRecursion (λ (i : UserImport). IsEncodedImport w i.of i.core.role) (map (λ i. record { of = m.of; core = i }) is)
+    mapped : (is : List CoreImport) → AllByRecursion (λ (i : CoreImport). IsSuppliedImport w m.of i.role) is → AllByRecursion (λ (i : UserImport). IsSuppliedImport w i.of i.core.role) (map (λ i. record { of = m.of; core = i }) is)
     mapped [] h = tt
     mapped (i ∷ is) h = (h.0, mapped is h.1)
 
-pub user_encoded : (w : ComponentWorld) (of : User) (is : List CoreImport) → AllByRecursion (λ (i : UserImport). IsEncodedImport w i.of i.core.role) (map (λ (i : CoreImport). record { of = of; core = i }) is) → AllByRecursion (λ (i : CoreImport). IsEncodedImport w of i.role) is
+pub user_encoded : (w : ComponentWorld) (of : User) (is : List CoreImport) → AllByRecursion (λ (i : UserImport). IsSuppliedImport w i.of i.core.role) (map (λ (i : CoreImport). record { of = of; core = i }) is) → AllByRecursion (λ (i : CoreImport). IsSuppliedImport w of i.role) is
 user_encoded w of [] h = tt
 user_encoded w of (i ∷ is) h = (h.0, user_encoded w of is h.1)
 
-adapters_encoded : (w : ComponentWorld) (adapters : Adapters) → AreEncodedAdapters w adapters → AllByRecursion (λ (i : UserImport). IsEncodedImport w i.of i.core.role) (flat_map imports_of_module (map adapter_module adapters))
+adapters_encoded : (w : ComponentWorld) (adapters : Adapters) → AreEncodedAdapters w adapters → AllByRecursion (λ (i : UserImport). IsSuppliedImport w i.of i.core.role) (flat_map imports_of_module (map adapter_module adapters))
 adapters_encoded w [] h = tt
 adapters_encoded w (a ∷ adapters) h =
-    all_both (λ (i : UserImport). IsEncodedImport w i.of i.core.role) (imports_of_module (adapter_module a)) (flat_map imports_of_module (map adapter_module adapters))
+    all_both (λ (i : UserImport). IsSuppliedImport w i.of i.core.role) (imports_of_module (adapter_module a)) (flat_map imports_of_module (map adapter_module adapters))
     (one_encoded w (adapter_module a) h.0) (adapters_encoded w adapters h.1)
 
-pub all_encoded : (w : ComponentWorld) → IsEncodedUser w Main w.main → AreEncodedAdapters w w.adapters → AllByRecursion (λ (i : UserImport). IsEncodedImport w i.of i.core.role) (user_imports w)
+pub all_encoded : (w : ComponentWorld) → IsEncodedUser w Main w.main → AreEncodedAdapters w w.adapters → AllByRecursion (λ (i : UserImport). IsSuppliedImport w i.of i.core.role) (user_imports w)
 all_encoded w main adapters =
     let m : WorldModule = record { of = Main; found = w.main } in
-    all_both (λ (i : UserImport). IsEncodedImport w i.of i.core.role) (imports_of_module m) (flat_map imports_of_module (map adapter_module w.adapters)) (one_encoded w m main) (adapters_encoded w w.adapters adapters)
+    all_both (λ (i : UserImport). IsSuppliedImport w i.of i.core.role) (imports_of_module m) (flat_map imports_of_module (map adapter_module w.adapters)) (one_encoded w m main) (adapters_encoded w w.adapters adapters)
 
 -- the landmarks of main's instance, and of the others
 pub users_joined : (w : ComponentWorld) → InstanceOf 0 ∷ map InstanceOf (range_with_len 1 (length w.adapters)) ≡ map InstanceOf (range_with_len 0 (length (user_modules w)))

@@ -22,7 +22,7 @@ use Rattle.comp_links.specs.Lists.{type_of_world}
 use Rattle.interface_needs.specs.RootNeeds.{interface_of_item}
 use Rattle.comp_worlds.specs.declared.world.ComponentWorld.{ComponentWorld}
 use Rattle.comp_links.specs.Modules.{user_modules}
-use Rattle.comp_links.specs.Roles.{IsEncodedImport}
+use Rattle.comp_links.specs.Roles.{IsSuppliedImport}
 use Rattle.comp_links.specs.Targets.{UserModule as User, Adapter}
 use Rattle.comp_worlds.specs.Uses.{imports_of}
 use Rattle.comp_worlds.specs.Lookups.{module_name}
@@ -81,7 +81,7 @@ pub record IsSameUser (u v : UserModule) : Type 0 where
 
 -- the imports of a user module that need a string encoding have one
 abbrev pub IsEncodedUser : ComponentWorld → User → ValidatedModule → Type 0
-IsEncodedUser w of m = AllByRecursion (λ i. IsEncodedImport w of i.role) (imports_of m)
+IsEncodedUser w of m = AllByRecursion (λ i. IsSuppliedImport w of i.role) (imports_of m)
 
 -- those of the adapters
 abbrev pub AreEncodedAdapters : ComponentWorld → List (List ℕ × WorldAdapter) → Type 0

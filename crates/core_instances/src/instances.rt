@@ -5,7 +5,7 @@ ghost use Rattle.std.specs.Prelude.{◌≡◌, IfOk, IfErr, OnOk};
 ghost use Rattle.std.specs.Option.{option_copied};
 ghost use Rattle.std.specs.List.{AllByRecursion};
 ghost use Rattle.root_imports.specs.Keeping.{RootMoved};
-ghost use Rattle.comp_links.specs.Roles.{IsEncodedImport};
+ghost use Rattle.comp_links.specs.Roles.{IsSuppliedImport};
 ghost use Rattle.comp_links.specs.Modules.{UserImport, user_imports};
 ghost use Rattle.comp_worlds.specs.ExportOrder.{AreExportsInOrder};
 ghost use Rattle.root_imports.specs.Met.{AreExportsMet};
@@ -62,7 +62,7 @@ pub fn encode_core_instantiation(
     ensures ordered { OnOk result (AreExportsInOrder root.old.world.now) }
     ensures met { OnOk result (AreExportsMet root.old.world.now root.new.met) }
     ensures made { IfOk result (AreUserInstances root.old.world.now root.new.items.defs) }
-    ensures encoded { OnOk result (AllByRecursion (λ (i : UserImport). IsEncodedImport root.old.world.now i.of i.core.role) (user_imports root.old.world.now)) }
+    ensures encoded { OnOk result (AllByRecursion (λ (i : UserImport). IsSuppliedImport root.old.world.now i.of i.core.role) (user_imports root.old.world.now)) }
     ensures lowered { OnOk result (AllByRecursion (HasLowerOptions root.old.world.now) (user_imports root.old.world.now)) }
     ensures cause { IfErr result (IsCause root.old.world.now) }
 {

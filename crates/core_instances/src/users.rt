@@ -7,7 +7,7 @@ ghost use Rattle.comp_bytes.specs.Spaces.{items_in};
 ghost use Rattle.comp_bytes.specs.declared.space.Space.TheVariants as spaces;
 ghost use Rattle.comp_items.specs.Items.{Extends};
 ghost use Rattle.comp_links.specs.Modules.{UserImport, user_imports};
-ghost use Rattle.comp_links.specs.Roles.{IsEncodedImport};
+ghost use Rattle.comp_links.specs.Roles.{IsSuppliedImport};
 ghost use Rattle.comp_links.specs.Targets.{Main};
 ghost use Rattle.comp_terms.specs.Rules.{Grows, InstanceOf, users_marked};
 ghost use Rattle.comp_terms.specs.Terms.{IsInstanceOf};
@@ -161,7 +161,7 @@ pub(crate) fn instantiate_users(
     ensures extends { Extends root.old.items root.new.items }
     ensures grows { OnOk result (Grows root.old.world.now root.old.items.defs root.new.items.defs (users_marked root.old.world.now)) }
     ensures made { IfOk result (AreUserInstances root.old.world.now root.new.items.defs) }
-    ensures encoded { OnOk result (AllByRecursion (λ (i : UserImport). IsEncodedImport root.old.world.now i.of i.core.role) (user_imports root.old.world.now)) }
+    ensures encoded { OnOk result (AllByRecursion (λ (i : UserImport). IsSuppliedImport root.old.world.now i.of i.core.role) (user_imports root.old.world.now)) }
     ensures cause { IfErr result (IsCause root.old.world.now) }
 {
     let main = instantiate_main(root, sources)?;

@@ -1,13 +1,13 @@
 -- The cause of a fault among some imports and exports is one among more of them.
-use Rattle.std.proofs.Common.{◌≡◌, ◌∙◌, ◌⊎◌, ℕ, subst, Option, List, [], ◌∷◌, None, Contains, IsTrue, inl, inr, refl, arith}
-use Rattle.comp_links.specs.Roles.{needs_encoding, import_encoding, export_encoding, field_path}
+use Rattle.std.proofs.Common.{◌≡◌, ◌∙◌, ◌⊎◌, ℕ, true, subst, Option, List, [], ◌∷◌, None, Contains, IsTrue, inl, inr, refl, arith}
+use Rattle.comp_links.specs.Roles.{needs_encoding, import_encoding, is_main_memory, export_encoding, field_path}
 use Rattle.comp_worlds.specs.declared.world.ComponentWorld.{ComponentWorld}
 use Rattle.comp_options.specs.Options.{needs}
 use Rattle.comp_links.specs.Links.{lower_needs, lower_realloc, lift_needs, lift_realloc}
 use Rattle.comp_links.specs.Lists.{RequiredFunction}
 use Rattle.comp_links.specs.Modules.{UserImport}
 use Rattle.comp_links.specs.Targets.{ExportRef}
-use Rattle.core_options.specs.Causes.{indirect_name, IsOptionRefusal, IsCauseAmong, NeedsLowering, NeedsLift, LacksImportEncoding, LacksExportEncoding}
+use Rattle.core_options.specs.Causes.{indirect_name, IsOptionRefusal, IsMemoryRefusal, IsCauseAmong, NeedsLowering, NeedsLift, ImportsMemory, LacksImportEncoding, LacksExportEncoding}
 use Rattle.core_options.specs.declared.fault.StateFault.{StateFault}
 use Rattle.core_options.specs.declared.fault.StateFault.TheVariants as faults
 
@@ -18,9 +18,10 @@ lift_more : (w : ComponentWorld) (bit : ℕ) (few more : List RequiredFunction) 
 lift_more w bit few more exports place l = record { required = l.required; present = exports l.required l.present; needed = l.needed; at = l.at }
 
 either_more : (w : ComponentWorld) (bit : ℕ) (some all : List UserImport) (few more : List RequiredFunction) → ((i : UserImport) → Contains some i → Contains all i) → ((r : RequiredFunction) → Contains few r → Contains more r) → (place : List ℕ) →
-    NeedsLowering w bit some place ⊎ NeedsLift w bit few place → NeedsLowering w bit all place ⊎ NeedsLift w bit more place
+    NeedsLowering w bit some place ⊎ NeedsLift w bit few place ⊎ ImportsMemory some place → NeedsLowering w bit all place ⊎ NeedsLift w bit more place ⊎ ImportsMemory all place
 either_more w bit some all few more imports exports place (inl l) = inl (lowering_more w bit some all imports place l)
-either_more w bit some all few more imports exports place (inr l) = inr (lift_more w bit few more exports place l)
+either_more w bit some all few more imports exports place (inr (inl l)) = inr (inl (lift_more w bit few more exports place l))
+either_more w bit some all few more imports exports place (inr (inr l)) = inr (inr (record { given = l.given; present = imports l.given l.present; is = l.is; at = l.at }))
 
 pub among_more : (w : ComponentWorld) (some all : List UserImport) (few more : List RequiredFunction) → ((i : UserImport) → Contains some i → Contains all i) →
     ((r : RequiredFunction) → Contains few r → Contains more r) → (e : StateFault) → IsCauseAmong w some few e → IsCauseAmong w all more e
@@ -64,10 +65,19 @@ pub one_export_refused : (w : ComponentWorld) (r : RequiredFunction) (set : ℕ)
 one_export_refused w r set place needed named faults.Memory h = tt
 one_export_refused w r set place needed named (faults.TooMany excess) h = h
 one_export_refused w r set place needed named (faults.NoMemory of) h = record {
-  needed = inr (record { required = r; present = (0, omega arith, refl); needed = subst (λ n. IsTrue (needs n 1)) needed h.0; at = h.2 ∙ named });
+  needed = inr (inl (record { required = r; present = (0, omega arith, refl); needed = subst (λ n. IsTrue (needs n 1)) needed h.0; at = h.2 ∙ named }));
   none = h.1;
 }
 one_export_refused w r set place needed named (faults.NoRealloc of) h =
     inr (record { needed = record { required = r; present = (0, omega arith, refl); needed = subst (λ n. IsTrue (needs n 2)) needed h.0; at = h.2 ∙ named }; none = h.1 })
 one_export_refused w r set place needed named (faults.NoEncoding of) h = absurd h
 one_export_refused w r set place needed named (faults.LaterExport interface used) h = absurd h
+
+-- an import of main's memory that is refused
+pub memory_import_refused : (w : ComponentWorld) (i : UserImport) (path : List ℕ) → is_main_memory i.core.role ≡ true → path ≡ field_path i.core.module_name i.core.field → (e : StateFault) → IsMemoryRefusal w path e → IsCauseAmong w (i ∷ []) [] e
+memory_import_refused w i path is named faults.Memory h = tt
+memory_import_refused w i path is named (faults.TooMany excess) h = h
+memory_import_refused w i path is named (faults.NoMemory place) h = record { needed = inr (inr (record { given = i; present = (0, omega arith, refl); is = is; at = h.1 ∙ named })); none = h.0 }
+memory_import_refused w i path is named (faults.NoRealloc place) h = absurd h
+memory_import_refused w i path is named (faults.NoEncoding place) h = absurd h
+memory_import_refused w i path is named (faults.LaterExport interface used) h = absurd h

@@ -1,6 +1,7 @@
--- When the encoding of a world is refused: out of memory, where a function has no string encoding, no memory or no realloc
+-- When the encoding of a world is refused: out of memory, where a function has no string encoding, no memory or no realloc, or an import
+-- of main's memory finds none
 -- (Canonical ABI: `string-encoding`, `memory`, `realloc`), where an interface is exported before one that it uses, and where a count passes 32 bits (core standard, binary format: vectors).
-use Rattle.std.specs.Prelude.{◌≡◌, ◌≤◌, ◌^◌, ◌⊎◌, ◌++◌, ℕ, codes, List, Option, Some, None, Contains, IsSome, IsTrue}
+use Rattle.std.specs.Prelude.{◌≡◌, ◌≤◌, ◌^◌, ◌⊎◌, ◌++◌, ℕ, true, codes, List, Option, Some, None, Contains, IsSome, IsTrue}
 use Rattle.std.specs.List.{AllByRecursion}
 use Rattle.comp_roles.specs.CoreImports.{CoreImport}
 use Rattle.comp_worlds.specs.ExportOrder.{AreExportsInOrder, IsLaterExport}
@@ -23,7 +24,7 @@ use Rattle.comp_links.specs.Modules.{UserImport, user_imports}
 use Rattle.comp_links.specs.Lists.{RequiredFunction, required_functions}
 use Rattle.comp_links.specs.Links.{lower_needs, lower_realloc, lift_needs, lift_realloc}
 use Rattle.core_options.specs.MainOptions.{memory_name, HasLowerOptions, HasLiftOptions}
-use Rattle.comp_links.specs.Roles.{needs_encoding, import_encoding, IsEncodedImport, export_encoding, field_path}
+use Rattle.comp_links.specs.Roles.{needs_encoding, import_encoding, is_main_memory, IsSuppliedImport, export_encoding, field_path}
 
 -- a fault of the builder, as one of the state
 abbrev pub of_build : BuildFault → StateFault
@@ -68,9 +69,16 @@ pub record NeedsLift (w : ComponentWorld) (bit : ℕ) (functions : List Required
   pub needed : IsTrue (needs (lift_needs w required.key required.function) bit)
   pub at : place ≡ required.function
 
--- a function is lowered or lifted with a memory, and main exports none
+-- one of these core imports is main's memory
+pub record ImportsMemory (imports : List UserImport) (place : List ℕ) : Type 0 where
+  pub given : UserImport
+  pub present : Contains imports given
+  pub is : is_main_memory given.core.role ≡ true
+  pub at : place ≡ field_path given.core.module_name given.core.field
+
+-- a function is lowered or lifted with a memory, or a module imports main's, and main exports none
 pub record LacksMemory (w : ComponentWorld) (imports : List UserImport) (functions : List RequiredFunction) (place : List ℕ) : Type 0 where
-  pub needed : NeedsLowering w 1 imports place ⊎ NeedsLift w 1 functions place
+  pub needed : NeedsLowering w 1 imports place ⊎ NeedsLift w 1 functions place ⊎ ImportsMemory imports place
   pub none : memory_name w ≡ None
 
 -- a function is lowered, or lifted, with a realloc, and there is none for the module
@@ -124,6 +132,13 @@ IsOptionRefusal w set realloc name (faults.NoRealloc place) = IsTrue (needs set 
 IsOptionRefusal w set realloc name (faults.NoEncoding place) = ⊥
 IsOptionRefusal w set realloc name (faults.LaterExport interface used) = ⊥
 
+-- the cause of a fault where main's memory is looked up for the import of this path
+abbrev pub IsMemoryRefusal : ComponentWorld → List ℕ → StateFault → Type 0
+IsMemoryRefusal w path faults.Memory = Unit {0}
+IsMemoryRefusal w path (faults.TooMany excess) = 2 ^ 32 ≤ excess
+IsMemoryRefusal w path (faults.NoMemory place) = (memory_name w ≡ None) × (place ≡ path)
+IsMemoryRefusal w path fault = ⊥
+
 -- a core import of the world, or a required function, has no string encoding
 abbrev pub LacksEncoding : ComponentWorld → List ℕ → Type 0
 LacksEncoding w place = LacksImportEncoding w (user_imports w) place ⊎ LacksExportEncoding w (required_functions w) place
@@ -136,10 +151,10 @@ IsCause w = IsCauseAmong w (user_imports w) (required_functions w)
 abbrev pub IsEncodedExport : ComponentWorld → RequiredFunction → Type 0
 IsEncodedExport w r = IsSome (export_encoding w r.of r.key r.function)
 
--- each core import that needs a string encoding, and each required function, has one, there is what lowerings and lifts need, and
--- interfaces are exported behind those that they use
+-- each core import has the string encoding or the memory that it needs, each required function has a string encoding, there is what
+-- lowerings and lifts need, and interfaces are exported behind those that they use
 pub record IsEncoded (w : ComponentWorld) : Type 0 where
-  pub imports : AllByRecursion (λ i. IsEncodedImport w i.of i.core.role) (user_imports w)
+  pub imports : AllByRecursion (λ i. IsSuppliedImport w i.of i.core.role) (user_imports w)
   pub exports : AllByRecursion (IsEncodedExport w) (required_functions w)
   pub lowered : AllByRecursion (HasLowerOptions w) (user_imports w)
   pub lifted : AllByRecursion (HasLiftOptions w) (required_functions w)

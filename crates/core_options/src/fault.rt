@@ -15,8 +15,8 @@ pub enum StateFault {
     /// An allocation failed.
     #[error("E1 Memory")]
     Memory,
-    /// A function is lowered or lifted with a memory, and main exports none. `place` is the name of the import's shim, or that
-    /// of the function that is lifted.
+    /// A function is lowered or lifted with a memory, or a module imports main's memory, and main exports none. `place` is the name
+    /// of the import's shim, that of the function that is lifted, or `module::field` of the import of the memory.
     #[error("E7 NoMemory place={place}")]
     NoMemory { place: Text },
     /// A function is lowered or lifted with a realloc, and there is none for calls of its module. `place` is as for the memory.

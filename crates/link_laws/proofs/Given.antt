@@ -12,6 +12,7 @@ use Rattle.comp_lists.proofs.Lists.{AllZip-at, AllZip-weaker, there}
 use Rattle.comp_bytes.specs.Spaces.{kind_space, is_space, space_of, items_in}
 use Rattle.comp_bytes.specs.ItemIndices.{in_space, IsAt}
 use Rattle.core_types.specs.declared.types.FuncType.{FuncType}
+use Rattle.core_types.specs.declared.types.MemoryType.{MemoryType}
 use Rattle.core_runs.specs.Store.{Func, Now, signature_of}
 use Rattle.comp_bytes.specs.declared.space.Space.{Space}
 use Rattle.comp_bytes.specs.declared.space.Space.TheVariants as spaces
@@ -33,9 +34,9 @@ use Rattle.comp_runs.specs.Store.{Thing, Export, HeldOption, HeldEncoding, HeldM
 use Rattle.comp_roles.specs.declared.offered.ExternType.{ExternType}
 use Rattle.comp_roles.specs.declared.offered.ExternType.TheVariants as externs
 use Rattle.wit_data.specs.declared.ids.TypeId.{TypeId}
-use Rattle.comp_links.specs.Targets.{WorldFunction, ExportRef, TargetOption, Lowered, ExportOf, OfResource, ResourceFunction, New, Rep, Drop, Lifted, Target}
+use Rattle.comp_links.specs.Targets.{UserModule, WorldFunction, ExportRef, TargetOption, Lowered, ExportOf, MainMemory, OfResource, ResourceFunction, New, Rep, Drop, Lifted, Target}
 use Rattle.comp_links.specs.Targets as targets
-use Rattle.comp_links.specs.Modules.{WorldModule, user_modules}
+use Rattle.comp_links.specs.Modules.{WorldModule, user_modules, IsModule}
 use Rattle.comp_links.specs.Lists.{IsOriginOf, resource_of}
 use Rattle.shim_plan.specs.declared.shims.Shim.{Shim}
 use Rattle.world_shims.specs.WorldShims.{shims_of, type_of_shim}
@@ -56,7 +57,7 @@ use Rattle.instance_laws.specs.InstanceEntries.{IsInstanceType, IsInstanceEntry}
 use Rattle.instance_laws.proofs.Held.{trees_of_held, held_of_entries, IsTypeThere, type_there as held_at, item_of_functions}
 use Rattle.link_laws.proofs.Zips.{AllZip-filter, AllZip-back, mapped_some, filter-both, found-zip, found-each}
 use Rattle.link_laws.proofs.Plain.{named_main}
-use Rattle.link_laws.proofs.Stores.{IsOpaqueOf, IsUserItem, IsUserExport, IsUserInstance, ShimsAt, AreModuleExports, IsModuleInstance, NamesUser, IsLoweredItem, IsTypeAt, IsResourceItem, IsLiftedItem, IsAliasedItem, DefIs, Means, makes, IsTypeEntry, entry_of, IsFunctionEntry, IsInstanceThing, IsLoweredFor, IsFunctionOf, IsFunctionExported, IsServedAs, IsShimGivenAt, IsShimGiven, MayHaveShims, AreShims, IsFirstMemory, IsHeldOption, IsOptionHeld, IsCoreExportAt, IsLiftedFrom, Agrees}
+use Rattle.link_laws.proofs.Stores.{IsOpaqueOf, IsUserItem, IsUserExport, IsUserInstance, ShimsAt, AreModuleExports, IsModuleInstance, NamesUser, IsLoweredItem, IsTypeAt, IsResourceItem, IsLiftedItem, IsAliasedItem, DefIs, Means, makes, IsTypeEntry, entry_of, IsFunctionEntry, IsInstanceThing, IsLoweredFor, IsFunctionOf, IsFunctionExported, IsMemoryExported, IsServedAs, IsServedIn, main_module, IsShimGivenAt, IsShimGiven, MayHaveShims, AreShims, IsFirstMemory, IsHeldOption, IsOptionHeld, IsCoreExportAt, IsLiftedFrom, Agrees}
 
 makes-space : (space : Space) (d : Def) → is_space space (space_of d) ≡ true → makes d ≡ true
 makes-space space d e = by (space_of d) e
@@ -115,6 +116,10 @@ type_of_function_kind : (type : ExternType) → IsOfKind kinds.Func type → (t 
 type_of_function_kind (externs.Func t) h = (t, refl)
 type_of_function_kind type h = absurd h
 
+type_of_memory_kind : (type : ExternType) → IsOfKind kinds.Memory type → (t : MemoryType) × (type ≡ externs.Memory t)
+type_of_memory_kind (externs.Memory t) h = (t, refl)
+type_of_memory_kind type h = absurd h
+
 pub space_of_kind : (kind : ExportKind) (type : ExternType) → IsOfKind kind type → type_space type ≡ kind_space kind
 space_of_kind kinds.Func (externs.Func t) h = refl
 space_of_kind kinds.Memory (externs.Memory t) h = refl
@@ -137,9 +142,6 @@ memory_named name (x ∷ es) e h memory = by (bytes_eq name x.name) (export_in s
     by true false n i rest k =
         let is : export_in spaces.CoreMemory x ≡ true = ap (λ (y : Export). export_in spaces.CoreMemory y) (same_Some x e k) ∙ ap (λ space. is_space spaces.CoreMemory (Some space)) memory in
         absurd (true≢false (sym is ∙ i))
-
-pub at_some : (e : Export) → e.space ≡ spaces.CoreFunc → of_kind kinds.Func e ≡ Some (record { space = e.space; address = e.address })
-at_some e h = rw h refl
 
 -- ---- instances of modules by their numbers
 
@@ -198,7 +200,26 @@ pub record IsFunctionTyped (s : Store) (address : ℕ) (type : FuncType) : Type 
   pub present : slice_get s.code.functions address ≡ Some function
   pub typed : signature_of function ≡ type
 
--- a core function is of one kind
+-- a memory is of one kind, and so is a core function
+pub memory_kind : (kind : ExportKind) → kind_space kind ≡ spaces.CoreMemory → kind ≡ kinds.Memory
+memory_kind kinds.Memory e = refl
+memory_kind kinds.Func e = cc
+memory_kind kinds.Table e = cc
+memory_kind kinds.Global e = cc
+
+-- tables and globals have no rule yet
+not_table : (kind : ExportKind) → kind_space kind ≡ spaces.CoreTable → (type : ExternType) → IsOfKind kind type → ⊥
+not_table kinds.Table e type h = h
+not_table kinds.Func e type h = cc
+not_table kinds.Memory e type h = cc
+not_table kinds.Global e type h = cc
+
+not_global : (kind : ExportKind) → kind_space kind ≡ spaces.CoreGlobal → (type : ExternType) → IsOfKind kind type → ⊥
+not_global kinds.Global e type h = h
+not_global kinds.Func e type h = cc
+not_global kinds.Memory e type h = cc
+not_global kinds.Table e type h = cc
+
 pub func_kind : (kind : ExportKind) → kind_space kind ≡ spaces.CoreFunc → kind ≡ kinds.Func
 func_kind kinds.Func e = refl
 func_kind kinds.Table e = cc
@@ -397,27 +418,58 @@ module _ {w : ComponentWorld} {earlier : List Def} {c : Scope} {s : Store} (a : 
         },
       )
 
+  -- an alias of a memory that a user module exports is that memory
+  memory_aliased : {index : ℕ} {e : CoreExport} {export_ref : ExportRef} → e.kind ≡ kinds.Memory → IsExportFor w e export_ref → IsExported earlier index e →
+      (x : ℕ) × (address_at spaces.CoreMemory index c.items ≡ Some x) × IsMemoryExported w s x export_ref
+  memory_aliased {index} {e} {export_ref} memory asked h =
+      let from : WorldModule = asked.of.world_module in
+      let x : IsCoreExportAt from c.items s index e = exported_there from asked.of.listed h in
+      let type : (t : MemoryType) × (x.type ≡ externs.Memory t) = type_of_memory_kind x.type (subst (λ kind. IsOfKind kind x.type) memory x.of_kind) in
+      let space : x.export.space ≡ spaces.CoreMemory = x.space ∙ (space_of_kind e.kind x.type x.of_kind ∙ ap kind_space memory) in
+      let exported : Export = record { space = spaces.CoreMemory; name = export_ref.name; address = x.address } in
+      let whole : x.export ≡ exported =
+      by_parts x.export spaces.CoreMemory export_ref.name space (x.named ∙ asked.named) ∙ ap (λ n. record { space = spaces.CoreMemory; name = export_ref.name; address = n }) x.is in
+      let there : export_named export_ref.name x.of.instance.exports ≡ Some exported =
+      ap (λ n. export_named n x.of.instance.exports) (sym asked.named) ∙ (x.found ∙ ap (λ (y : Export). Some y) whole) in
+      let present : slice_get s.code.memories x.export.address ≡ Some type.0 = subst (IsUserItem s x.user x.export) type.1 x.item in (
+        x.address,
+        subst (λ kind. address_at (kind_space kind) index c.items ≡ Some x.address) memory x.at,
+        record {
+          number = e.of;
+          of = asked.of;
+          user = x.user;
+          instance = x.of;
+          exported = memory_named export_ref.name x.of.instance.exports exported there refl;
+          type = type.0;
+          is = subst (λ n. slice_get s.code.memories n ≡ Some type.0) x.is present;
+          offered = ap (λ n. found n from.found.offered) (sym asked.named) ∙ x.offered ∙ ap (λ (t : ExternType). Some t) type.1;
+        },
+      )
+
   -- an alias of the first memory that main exports is that memory
   memory_exported : {index : ℕ} {e : CoreExport} → e.kind ≡ kinds.Memory → IsMemoryFor w e → IsExported earlier index e →
       (x : ℕ) × (address_at spaces.CoreMemory index c.items ≡ Some x) × IsFirstMemory w s x
   memory_exported {index} {e} memory asked h =
-      let x : IsCoreExportAt asked.of.world_module c.items s index e = exported_there asked.of.world_module asked.of.listed h in
-      let space : x.export.space ≡ spaces.CoreMemory = x.space ∙ (space_of_kind e.kind x.type x.of_kind ∙ ap kind_space memory) in
-      let whole : x.export ≡ record { space = spaces.CoreMemory; name = e.name; address = x.address } =
-      by_parts x.export spaces.CoreMemory e.name space x.named ∙ ap (λ n. record { space = spaces.CoreMemory; name = e.name; address = n }) x.is in (
-        x.address,
-        subst (λ kind. address_at (kind_space kind) index c.items ≡ Some x.address) memory x.at,
+      let named : IsExportFor w e (record { of = targets.Main; name = e.name }) = record { of = asked.of; named = refl } in
+      let x : (x : ℕ) × (address_at spaces.CoreMemory index c.items ≡ Some x) × IsMemoryExported w s x (record { of = targets.Main; name = e.name }) = memory_aliased memory named h in
+      let m = x.2 in
+      let is_main : (m.number ≡ 0) × (main_module w ≡ m.of.world_module) = named_main w m.number m.of in (
+        x.0,
+        x.1,
         record {
           name = e.name;
           type = asked.type;
           first = asked.first;
           is = record {
-            user = x.user;
-            instance = x.of.instance;
-            present = x.of.present;
-            of = x.of.of ∙ (named_main w e.of asked.of).0;
-            exported = memory_named e.name x.of.instance.exports (record { space = spaces.CoreMemory; name = e.name; address = x.address }) (x.found ∙ ap (λ (y : Export). Some y) whole) refl;
+            user = m.user;
+            instance = m.instance.instance;
+            present = m.instance.present;
+            of = m.instance.of ∙ is_main.0;
+            exported = m.exported;
           };
+          held = m.type;
+          present = m.is;
+          offered = ap (λ (o : WorldModule). found e.name o.found.offered) is_main.1 ∙ m.offered;
         },
       )
 
@@ -562,6 +614,64 @@ module _ {w : ComponentWorld} {earlier : List Def} {c : Scope} {s : Store} (a : 
   target_there index (ExportOf export_ref) h = export_there index export_ref h.term h.is h.asked
   target_there index (Lifted entry options) h = absurd (no_lift index entry options h.term h.is h.asked)
   target_there index target h = absurd h.asked
+
+  -- the memory that a target names has an address
+  exported_memory_there : (index : ℕ) (export_ref : ExportRef) (term : Term) → Is earlier spaces.CoreMemory index term → IsTermFor w (ExportOf export_ref) term →
+      (x : ℕ) × (address_at spaces.CoreMemory index c.items ≡ Some x) × IsMemoryExported w s x export_ref
+  exported_memory_there index export_ref (terms.Exported e) is asked = memory_aliased (memory_kind e.kind (sym is.0)) asked is.1
+  exported_memory_there index export_ref term is asked = absurd asked
+
+  main_memory_there : (index : ℕ) (term : Term) → Is earlier spaces.CoreMemory index term → IsTermFor w MainMemory term → (x : ℕ) × (address_at spaces.CoreMemory index c.items ≡ Some x) × IsFirstMemory w s x
+  main_memory_there index (terms.Exported e) is asked = memory_exported (memory_kind e.kind (sym is.0)) asked is.1
+  main_memory_there index term is asked = absurd asked
+
+  -- a memory is none of the functions that other targets name
+  no_memory_lowered : (index : ℕ) (function : WorldFunction) (options : List TargetOption) (term : Term) → Is earlier spaces.CoreMemory index term → IsTermFor w (Lowered function options) term → ⊥
+  no_memory_lowered index function options (terms.Lowering origin type written) is asked = is
+  no_memory_lowered index function options term is asked = asked
+
+  no_memory_of_resource : (index : ℕ) (function : ResourceFunction) (id : TypeId) (term : Term) → Is earlier spaces.CoreMemory index term → IsTermFor w (OfResource function id) term → ⊥
+  no_memory_of_resource index function id (terms.OfResource same resource) is asked = is
+  no_memory_of_resource index function id term is asked = asked
+
+  no_memory_lift : (index : ℕ) (entry : ExportRef) (options : List TargetOption) (term : Term) → Is earlier spaces.CoreMemory index term → IsTermFor w (Lifted entry options) term → ⊥
+  no_memory_lift index entry options (terms.Lifting e written type) is asked = is
+  no_memory_lift index entry options term is asked = asked
+
+  memory_target_there : (index : ℕ) (target : Target) → IsItemFor w earlier spaces.CoreMemory index target → (x : ℕ) × (address_at spaces.CoreMemory index c.items ≡ Some x) × IsServedIn w s spaces.CoreMemory x target
+  memory_target_there index (ExportOf export_ref) h = exported_memory_there index export_ref h.term h.is h.asked
+  memory_target_there index MainMemory h = main_memory_there index h.term h.is h.asked
+  memory_target_there index (Lowered function options) h = absurd (no_memory_lowered index function options h.term h.is h.asked)
+  memory_target_there index (OfResource function id) h = absurd (no_memory_of_resource index function id h.term h.is h.asked)
+  memory_target_there index (Lifted entry options) h = absurd (no_memory_lift index entry options h.term h.is h.asked)
+  memory_target_there index target h = absurd h.asked
+
+  -- the kind of what an alias of a user module names is one that has a rule
+  aliased_kind : {index : ℕ} {e : CoreExport} {of : UserModule} → IsModule w e.of of → IsExported earlier index e → (type : ExternType) × IsOfKind e.kind type
+  aliased_kind m h = let x = exported_there m.world_module m.listed h in (x.type, x.of_kind)
+
+  no_table : (index : ℕ) (target : Target) (term : Term) → Is earlier spaces.CoreTable index term → IsTermFor w target term → ⊥
+  no_table index (ExportOf export_ref) (terms.Exported e) is asked = let k = aliased_kind asked.of is.1 in not_table e.kind (sym is.0) k.0 k.1
+  no_table index MainMemory (terms.Exported e) is asked = let k = aliased_kind asked.of is.1 in not_table e.kind (sym is.0) k.0 k.1
+  no_table index (Lowered function options) (terms.Lowering origin type written) is asked = is
+  no_table index (OfResource function id) (terms.OfResource same resource) is asked = is
+  no_table index (Lifted entry options) (terms.Lifting e written type) is asked = is
+  no_table index target term is asked = asked
+
+  no_global : (index : ℕ) (target : Target) (term : Term) → Is earlier spaces.CoreGlobal index term → IsTermFor w target term → ⊥
+  no_global index (ExportOf export_ref) (terms.Exported e) is asked = let k = aliased_kind asked.of is.1 in not_global e.kind (sym is.0) k.0 k.1
+  no_global index MainMemory (terms.Exported e) is asked = let k = aliased_kind asked.of is.1 in not_global e.kind (sym is.0) k.0 k.1
+  no_global index (Lowered function options) (terms.Lowering origin type written) is asked = is
+  no_global index (OfResource function id) (terms.OfResource same resource) is asked = is
+  no_global index (Lifted entry options) (terms.Lifting e written type) is asked = is
+  no_global index target term is asked = asked
+
+  -- the item that a target names has an address, in the space of its kind
+  pub item_there : (kind : ExportKind) (index : ℕ) (target : Target) → IsItemFor w earlier (kind_space kind) index target → (x : ℕ) × (address_at (kind_space kind) index c.items ≡ Some x) × IsServedIn w s (kind_space kind) x target
+  item_there kinds.Func index target h = target_there index target h
+  item_there kinds.Memory index target h = memory_target_there index target h
+  item_there kinds.Table index target h = absurd (no_table index target h.term h.is h.asked)
+  item_there kinds.Global index target h = absurd (no_global index target h.term h.is h.asked)
 
   -- so has a shim for what the target names
   pub shim_there : {space : Space} {index : ℕ} {target : Target} (h : IsShimFor w earlier space index target) → (x : ℕ) × (address_at spaces.CoreFunc index c.items ≡ Some x) × IsShimGiven w a.shims x target

@@ -8,19 +8,24 @@ use Rattle.comp_lists.proofs.Lists.{AllZip-weaker}
 use Rattle.comp_bytes.specs.Spaces.{kind_space}
 use Rattle.core_types.specs.declared.types.FuncType.{FuncType}
 use Rattle.core_runs.specs.Store.{Opaque}
+use Rattle.comp_bytes.specs.declared.space.Space.{Space}
 use Rattle.comp_bytes.specs.declared.space.Space.TheVariants as spaces
 use Rattle.standard_kinds.specs.declared.kinds.ExportKind.{ExportKind}
-use Rattle.standard_kinds.specs.declared.kinds.ExportKind.TheVariants as kinds
 use Rattle.comp_bytes.specs.declared.def.CoreArgument.{CoreArgument}
 use Rattle.comp_bytes.specs.declared.def.CoreInlineExport.{CoreInlineExport}
 use Rattle.comp_bytes.specs.declared.def.Def.{Def}
 use Rattle.wit_data.specs.declared.worlds.WorldKey.TheVariants as keys
 use Rattle.wit_data.specs.declared.functions.AbiVariant.TheVariants.{GuestImport}
+use Rattle.wit_data.specs.declared.functions.Function.{Function}
+use Rattle.wit_data.specs.declared.ids.InterfaceId.{InterfaceId}
+use Rattle.wit_data.specs.Signatures.{signature}
 use Rattle.comp_trees.specs.Trees.{Resource}
 use Rattle.world_values.specs.Items.{functions_of, root_function_at}
 use Rattle.comp_roles.specs.CoreImports.{fields_of}
-use Rattle.comp_roles.specs.CoreTypes.{called_type}
-use Rattle.comp_worlds.specs.Typed.{drop_type, handle_type, type_of_import}
+use Rattle.comp_roles.specs.CoreTypes.{called_type, core_type}
+use Rattle.comp_roles.specs.Matching.{matches}
+use Rattle.comp_worlds.proofs.Matched.{matched_function}
+use Rattle.comp_worlds.specs.Typed.{drop_type, handle_type, type_of_import, FitsRole}
 use Rattle.comp_worlds.specs.WorldContents.{items_of}
 use Rattle.comp_worlds.specs.Worlds.{IsWorld, IsImportRole, IsImportGroup}
 use Rattle.comp_roles.specs.declared.imports.Import.{Import}
@@ -33,28 +38,28 @@ use Rattle.comp_roles.specs.declared.offered.ExternType.{ExternType}
 use Rattle.comp_roles.specs.declared.offered.ExternType.TheVariants as externs
 use Rattle.comp_roles.specs.declared.offered.ImportType.{ImportType}
 use Rattle.wit_data.specs.declared.ids.TypeId.{TypeId}
-use Rattle.comp_links.specs.Targets.{UserModule, ExportRef, WorldFunction, TargetOption, Target, OfRoot, OfInterface, Lowered, OfResource, ResourceFunction, New, Rep, Drop}
+use Rattle.comp_links.specs.Targets.{UserModule, Main, Adapter, ExportRef, WorldFunction, TargetOption, Target, OfRoot, OfInterface, Lowered, ExportOf, OfResource, ResourceFunction, New, Rep, Drop}
 use Rattle.comp_links.specs.Modules.{WorldModule}
 use Rattle.comp_links.specs.Lists.{resource_of}
-use Rattle.comp_links.specs.Links.{lower_options, link_of, link_in, link_at}
+use Rattle.comp_links.specs.Links.{lower_options, link_of, link_in, link_at, module_of}
 use Rattle.shim_plan.specs.declared.kinds.ShimKind.{ShimKind}
 use Rattle.shim_plan.specs.declared.kinds.ShimKind.TheVariants as shim_kinds
 use Rattle.shim_plan.specs.declared.shims.Shim.{Shim}
 use Rattle.world_shims.specs.WorldShims.{type_of_shim}
-use Rattle.comp_terms.specs.Generated.{role_of_kind, export_of_kind, Purpose, OfImport, OfExport, target_of, HasPurpose}
-use Rattle.comp_terms.specs.Terms.{Term, Is, intrinsic_of}
-use Rattle.comp_terms.specs.Terms as terms
-use Rattle.comp_terms.specs.Planned.{IsTermFor, IsItemFor, IsGivenFor, IsEntryFor, IsArgumentFor}
+use Rattle.comp_terms.specs.Generated.{interface_imported, role_of_kind, export_of_kind, IsShimOf, Purpose, OfImport, OfExport, target_of, HasPurpose}
+use Rattle.comp_terms.specs.Terms.{intrinsic_of}
+use Rattle.comp_terms.specs.Planned.{IsItemFor, IsShimFor, IsGivenFor, IsEntryFor, IsArgumentFor}
 use Rattle.comp_runs.specs.Machine.{Scope, Machine, address_at, all_some}
-use Rattle.comp_runs.specs.Instances.{matching, given_to}
+use Rattle.comp_runs.specs.Instances.{given_to}
 use Rattle.comp_runs.specs.Signatures.{core_signature}
 use Rattle.comp_runs.specs.Running.{core_argument}
-use Rattle.link_laws.proofs.Zips.{all_some-zip, found-zip}
+use Rattle.link_laws.proofs.Zips.{all_some-zip, found-zip, mapped_some}
 use Rattle.comp_worlds.proofs.Roles.{bound_some}
-use Rattle.link_laws.proofs.Plain.{IsFunctionImport, lowered_type, same_signature-refl, function_type_in, fields_right}
-use Rattle.comp_links.proofs.Named.{one_module}
-use Rattle.link_laws.proofs.Given.{thing_there, target_there, shim_there, shim_typed, IsFunctionTyped, func_kind, at_some}
-use Rattle.link_laws.proofs.Stores.{IsOpaqueOf, IsNamedEntry, IsInlineInstance, ShimsAt, IsFunctionOf, IsServedAs, resource_core, IsShimGiven, Serves, IsPlanned, Agrees}
+use Rattle.link_laws.proofs.Plain.{IsGivenImport, lowered_type, function_type_in, fields_right}
+use Rattle.comp_links.proofs.Named.{one_module, listed_there}
+use Rattle.link_laws.proofs.Given.{thing_there, item_there, shim_there, shim_typed, IsFunctionTyped}
+use Rattle.link_laws.proofs.Offering.{offered_matches, HasType, export_typed, main_memory_typed, finds_given}
+use Rattle.link_laws.proofs.Stores.{IsOpaqueOf, IsNamedEntry, IsInlineInstance, ShimsAt, IsFunctionOf, IsServedAs, IsServedIn, resource_core, IsShimGiven, Serves, IsPlanned, Agrees}
 
 -- ---- the core types of what is given
 
@@ -65,30 +70,80 @@ resource_opaque s address function resource type fits h =
     let item : CoreItem = IntrinsicOf (intrinsic_of function h.of) in
     (item, subst (λ t. IsOpaqueOf s address t item) (ap (function_type_in type) (same_Some (externs.Func (resource_core function)) (externs.Func type) fits)) h.is)
 
--- what serves a role is opaque, and has the core type that the role requires
-pub served_opaque : (w : ComponentWorld) (s : Store) (of : UserModule) (address : ℕ) (role : Import) (type : FuncType) → IsImportRole w role → type_of_import w.resolve (items_of w) role ≡ Some (externs.Func type) →
-    IsServedAs w s address (link_of w of role) → (item : CoreItem) × IsOpaqueOf s address type item
-served_opaque w s of address (imports.WorldFunc (keys.Name text) function abi) type right fits h =
-    let asked : called_type w.resolve GuestImport h.typed.wit ≡ externs.Func type =
-    same_Some (called_type w.resolve GuestImport h.typed.wit) (externs.Func type)
-    (sym (ap (option_map (called_type w.resolve GuestImport)) h.typed.imported) ∙ (ap (λ abi. option_map (called_type w.resolve abi) (root_function_at (items_of w).imports (keys.Name text))) (sym right.2) ∙ fits)) in
-    let typed : externs.Func (core_signature h.type []) ≡ externs.Func type = lowered_type w h.type h.typed.wit h.typed.typed ∙ asked in
-    (Lowering h.lowered.of h.held, subst (λ t. IsOpaqueOf s address t (Lowering h.lowered.of h.held)) (ap (function_type_in type) typed) h.lowered.is)
-served_opaque w s of address (imports.InterfaceFunc key id function abi) type right fits h =
-    let asked : called_type w.resolve GuestImport h.typed.wit ≡ externs.Func type =
-    same_Some (called_type w.resolve GuestImport h.typed.wit) (externs.Func type)
-    (sym (ap (option_map (called_type w.resolve GuestImport)) h.typed.imported) ∙ (ap (λ abi. option_map (called_type w.resolve abi) (found function (functions_of w.resolve id))) (sym right.2) ∙ fits)) in
-    let typed : externs.Func (core_signature h.type []) ≡ externs.Func type = lowered_type w h.type h.typed.wit h.typed.typed ∙ asked in
-    (Lowering h.lowered.of h.held, subst (λ t. IsOpaqueOf s address t (Lowering h.lowered.of h.held)) (ap (function_type_in type) typed) h.lowered.is)
-served_opaque w s of address (imports.ImportedResourceDrop key interface id) type right fits h = resource_opaque s address Drop (resource_of w id) type fits h
-served_opaque w s of address (imports.ExportedResourceDrop key id) type right fits h = resource_opaque s address Drop (resource_of w id) type fits h
-served_opaque w s of address (imports.ExportedResourceRep key id) type right fits h = resource_opaque s address Rep (resource_of w id) type fits h
-served_opaque w s of address (imports.ExportedResourceNew key id) type right fits h = resource_opaque s address New (resource_of w id) type fits h
-served_opaque w s of address role type right fits h = absurd right
+module _ (w : ComponentWorld) (ok : IsWorld w) (s : Store) (of : UserModule) where
+  -- what serves a role is opaque, and has the core type that the role requires
+  pub served_opaque : (address : ℕ) (role : Import) (type : FuncType) → IsImportRole w role → type_of_import w.resolve (items_of w) role ≡ Some (externs.Func type) →
+      IsServedAs w s address (link_of w of role) → (item : CoreItem) × IsOpaqueOf s address type item
+  served_opaque address (imports.WorldFunc (keys.Name text) function abi) type right fits h =
+      let asked : called_type w.resolve GuestImport h.typed.wit ≡ externs.Func type =
+      same_Some (called_type w.resolve GuestImport h.typed.wit) (externs.Func type)
+      (sym (ap (option_map (called_type w.resolve GuestImport)) h.typed.imported) ∙ (ap (λ abi. option_map (called_type w.resolve abi) (root_function_at (items_of w).imports (keys.Name text))) (sym right.2) ∙ fits)) in
+      let typed : externs.Func (core_signature h.type []) ≡ externs.Func type = lowered_type w h.type h.typed.wit h.typed.typed ∙ asked in
+      (Lowering h.lowered.of h.held, subst (λ t. IsOpaqueOf s address t (Lowering h.lowered.of h.held)) (ap (function_type_in type) typed) h.lowered.is)
+  served_opaque address (imports.InterfaceFunc key id function abi) type right fits h =
+      let asked : called_type w.resolve GuestImport h.typed.wit ≡ externs.Func type =
+      same_Some (called_type w.resolve GuestImport h.typed.wit) (externs.Func type)
+      (sym (ap (option_map (called_type w.resolve GuestImport)) h.typed.imported) ∙ (ap (λ abi. option_map (called_type w.resolve abi) (found function (functions_of w.resolve id))) (sym right.2) ∙ fits)) in
+      let typed : externs.Func (core_signature h.type []) ≡ externs.Func type = lowered_type w h.type h.typed.wit h.typed.typed ∙ asked in
+      (Lowering h.lowered.of h.held, subst (λ t. IsOpaqueOf s address t (Lowering h.lowered.of h.held)) (ap (function_type_in type) typed) h.lowered.is)
+  served_opaque address (imports.ImportedResourceDrop key interface id) type right fits h = resource_opaque s address Drop (resource_of w id) type fits h
+  served_opaque address (imports.ExportedResourceDrop key id) type right fits h = resource_opaque s address Drop (resource_of w id) type fits h
+  served_opaque address (imports.ExportedResourceRep key id) type right fits h = resource_opaque s address Rep (resource_of w id) type fits h
+  served_opaque address (imports.ExportedResourceNew key id) type right fits h = resource_opaque s address New (resource_of w id) type fits h
+  served_opaque address (imports.MainModuleMemory memory) type right fits h = absurd h
+  served_opaque address (imports.MainModuleExport name kind) type right fits h = absurd (none-some (externs.Func type) fits)
+  served_opaque address (imports.AdapterExport adapter name function) type right fits h =
+      let e : ExportRef = record { of = Adapter adapter; name = name } in
+      let from : WorldModule = h.of.world_module in
+      let matching : matches (externs.Func type) (externs.Func h.type) ≡ true =
+      offered_matches w ok of (imports.AdapterExport adapter name function) e right refl from (listed_there (user_modules w) h.number from h.of.listed) h.of.same (externs.Func h.type) h.offered (externs.Func type) fits in
+      let typed : externs.Func type ≡ externs.Func h.type = matched_function (externs.Func type) h.type matching in
+      (ExportedBy h.user name, subst (λ t. IsOpaqueOf s address t (ExportedBy h.user name)) (ap (function_type_in type) (sym typed)) h.is)
+  served_opaque address role type right fits h = absurd right
+
+  opaque_typed : (address : ℕ) (type : FuncType) → (item : CoreItem) × IsOpaqueOf s address type item → IsFunctionTyped s address type
+  opaque_typed address type o = record { function = Opaque o.1.what type; present = o.1.present; typed = refl }
+
+  -- what has a core type of functions is a function
+  function_typed : (space : Space) (address : ℕ) (role : Import) (type : FuncType) → IsImportRole w role → type_of_import w.resolve (items_of w) role ≡ Some (externs.Func type) → (IsServedIn w s spaces.CoreMemory address (link_of w of role) → ⊥) →
+      IsServedIn w s space address (link_of w of role) → HasType s space address (externs.Func type)
+  function_typed spaces.CoreFunc address role type right fits no_memory h = opaque_typed address type (served_opaque address role type right fits h)
+  function_typed spaces.CoreMemory address role type right fits no_memory h = absurd (no_memory h)
+  function_typed space address role type right fits no_memory h = absurd h
+
+  -- what serves a role matches an import that fits the role
+  pub role_typed : (space : Space) (address : ℕ) (role : Import) (type : ExternType) → IsImportRole w role → FitsRole w role type → IsServedIn w s space address (link_of w of role) → HasType s space address type
+  role_typed space address (imports.WorldFunc (keys.Name text) function abi) type right fits h =
+      let x : (f : Function) × (root_function_at (items_of w).imports (keys.Name text) ≡ Some f) × (called_type w.resolve abi f ≡ type) =
+      mapped_some (called_type w.resolve abi) (root_function_at (items_of w).imports (keys.Name text)) type fits in
+      let core : FuncType = core_type (signature abi w.resolve.types x.0) in
+      subst (HasType s space address) x.2 (function_typed space address (imports.WorldFunc (keys.Name text) function abi) core right (fits ∙ ap (λ (t : ExternType). Some t) (sym x.2)) (λ no. no) h)
+  role_typed space address (imports.InterfaceFunc key id function abi) type right fits h =
+      let x : (f : Function) × (found function (functions_of w.resolve id) ≡ Some f) × (called_type w.resolve abi f ≡ type) =
+      mapped_some (called_type w.resolve abi) (found function (functions_of w.resolve id)) type fits in
+      let core : FuncType = core_type (signature abi w.resolve.types x.0) in
+      subst (HasType s space address) x.2 (function_typed space address (imports.InterfaceFunc key id function abi) core right (fits ∙ ap (λ (t : ExternType). Some t) (sym x.2)) (λ no. no) h)
+  role_typed space address (imports.ImportedResourceDrop key interface id) type right fits h =
+      subst (HasType s space address) (same_Some drop_type type fits) (function_typed space address (imports.ImportedResourceDrop key interface id) (resource_core Drop) right refl (λ no. no) h)
+  role_typed space address (imports.ExportedResourceDrop key id) type right fits h =
+      subst (HasType s space address) (same_Some drop_type type fits) (function_typed space address (imports.ExportedResourceDrop key id) (resource_core Drop) right refl (λ no. no) h)
+  role_typed space address (imports.ExportedResourceRep key id) type right fits h =
+      subst (HasType s space address) (same_Some handle_type type fits) (function_typed space address (imports.ExportedResourceRep key id) (resource_core Rep) right refl (λ no. no) h)
+  role_typed space address (imports.ExportedResourceNew key id) type right fits h =
+      subst (HasType s space address) (same_Some handle_type type fits) (function_typed space address (imports.ExportedResourceNew key id) (resource_core New) right refl (λ no. no) h)
+  role_typed space address (imports.MainModuleMemory memory) type right fits h =
+      subst (HasType s space address) (same_Some (externs.Memory memory) type fits) (main_memory_typed w ok s space address memory right h)
+  role_typed space address (imports.MainModuleExport name kind) type right fits h =
+      let e : ExportRef = record { of = Main; name = name } in
+      export_typed w ok s space address e type (λ m listed same t offered. offered_matches w ok of (imports.MainModuleExport name kind) e right refl m listed same t offered type fits) h
+  role_typed space address (imports.AdapterExport adapter name function) type right fits h =
+      let e : ExportRef = record { of = Adapter adapter; name = name } in
+      export_typed w ok s space address e type (λ m listed same t offered. offered_matches w ok of (imports.AdapterExport adapter name function) e right refl m listed same t offered type fits) h
+  role_typed space address role type right fits h = absurd right
 
 -- what a shim hands on to is opaque, and has the shim's core type
 pub purpose_opaque : (w : ComponentWorld) → IsWorld w → (s : Store) (address : ℕ) (shim : Shim) (p : Purpose) → HasPurpose w shim p → IsServedAs w s address (target_of w p) → (item : CoreItem) × IsOpaqueOf s address (type_of_shim shim) item
-purpose_opaque w ok s address shim (OfImport of role) stands h = served_opaque w s of address role (type_of_shim shim) stands.right stands.typed h
+purpose_opaque w ok s address shim (OfImport of role) stands h = served_opaque w ok s of address role (type_of_shim shim) stands.right stands.typed h
 purpose_opaque w ok s address shim (OfExport e) stands h =
     let exporting : h.of.world_module ≡ stands.exporting = one_module w ok h.number h.of.world_module stands.exporting h.of.listed stands.listed (h.of.same ∙ sym stands.same) in
     let offered : found e.name stands.exporting.found.offered ≡ Some (externs.Func h.type) = subst (λ (o : WorldModule). found e.name o.found.offered ≡ Some (externs.Func h.type)) exporting h.offered in
@@ -108,71 +163,93 @@ one_purpose w shim (OfImport of role) (OfExport e) h k = absurd (one_kind w shim
 one_purpose w shim (OfExport e) (OfImport of role) h k = absurd (one_kind w shim.kind (of, role) e k.of_kind h.of_kind)
 one_purpose w shim (OfExport e) (OfExport other) h k = ap OfExport (same_Some e other (sym h.of_kind ∙ k.of_kind))
 
--- the core type that the imports have which are to be given what a target names
+-- ---- shims for what imports are given
+
+-- the role of a call of a function of the world
+abbrev IsCall : Import → Type 0
+IsCall (imports.WorldFunc (keys.Name text) function abi) = Unit {0}
+IsCall (imports.InterfaceFunc key id function abi) = Unit {0}
+IsCall role = ⊥
+
+-- a shim stands for calls alone, as an import
+shim_calls : (w : ComponentWorld) (shim : Shim) (from : UserModule) (other : Import) → IsShimOf w shim from other → IsCall other
+shim_calls w shim from other h = by shim.kind h.of_kind
+  where
+    by : (kind : ShimKind) → role_of_kind w kind ≡ Some (from, other) → IsCall other
+    by (shim_kinds.IndirectLowering None f which encoding) k =
+        subst IsCall (ap (λ (x : UserModule × Import). x.1) (same_Some (module_of which, imports.WorldFunc (keys.Name f.name) f.name f.abi) (from, other) k)) tt
+    by (shim_kinds.IndirectLowering (Some key) f which encoding) k = among (interface_imported w key) k
+      where
+        among : (o : Option InterfaceId) → option_map (λ id. (module_of which, imports.InterfaceFunc key id f.name f.abi)) o ≡ Some (from, other) → IsCall other
+        among None k = absurd (none-some (from, other) k)
+        among (Some id) k = subst IsCall (ap (λ (x : UserModule × Import). x.1) (same_Some (module_of which, imports.InterfaceFunc key id f.name f.abi) (from, other) k)) tt
+    by kind k = absurd (none-some (from, other) k)
+
+-- a call is lowered
+record IsLoweredTarget (target : Target) : Type 0 where
+  function : WorldFunction
+  options : List TargetOption
+  is : target ≡ Lowered function options
+
+call_lowered : (w : ComponentWorld) (from : UserModule) (other : Import) → IsCall other → IsLoweredTarget (link_of w from other)
+call_lowered w from (imports.WorldFunc (keys.Name text) function abi) call = record { function = OfRoot text; options = lower_options w from (imports.WorldFunc (keys.Name text) function abi); is = refl }
+call_lowered w from (imports.InterfaceFunc key id function abi) call = record { function = OfInterface id function; options = lower_options w from (imports.InterfaceFunc key id function abi); is = refl }
+call_lowered w from other call = absurd call
+
+-- so what is given the same is called too
+lowered_call : (w : ComponentWorld) (of : UserModule) (role : Import) → IsImportRole w role → (function : WorldFunction) (options : List TargetOption) → link_of w of role ≡ Lowered function options → IsCall role
+lowered_call w of (imports.WorldFunc (keys.Name text) function abi) right f options is = tt
+lowered_call w of (imports.InterfaceFunc key id function abi) right f options is = tt
+lowered_call w of (imports.ImportedResourceDrop key interface id) right f options is = cc
+lowered_call w of (imports.ExportedResourceDrop key id) right f options is = cc
+lowered_call w of (imports.ExportedResourceRep key id) right f options is = cc
+lowered_call w of (imports.ExportedResourceNew key id) right f options is = cc
+lowered_call w of (imports.MainModuleMemory memory) right f options is = cc
+lowered_call w of (imports.MainModuleExport name kind) right f options is = cc
+lowered_call w of (imports.AdapterExport adapter name function) right f options is = cc
+lowered_call w of role right f options is = absurd right
+
+-- the core type of calls of what a target names
 abbrev type_of_target : ComponentWorld → Target → Option ExternType
 type_of_target w (Lowered (OfRoot text) options) = option_map (called_type w.resolve GuestImport) (root_function_at (items_of w).imports (keys.Name text))
 type_of_target w (Lowered (OfInterface id function) options) = option_map (called_type w.resolve GuestImport) (found function (functions_of w.resolve id))
-type_of_target w (OfResource Drop id) = Some drop_type
-type_of_target w (OfResource Rep id) = Some handle_type
-type_of_target w (OfResource New id) = Some handle_type
 type_of_target w target = None
 
-target_typed : (w : ComponentWorld) (of : UserModule) (role : Import) → IsImportRole w role → type_of_import w.resolve (items_of w) role ≡ type_of_target w (link_of w of role)
-target_typed w of (imports.WorldFunc (keys.Name text) function abi) right = ap (λ abi. option_map (called_type w.resolve abi) (root_function_at (items_of w).imports (keys.Name text))) right.2
-target_typed w of (imports.InterfaceFunc key id function abi) right = ap (λ abi. option_map (called_type w.resolve abi) (found function (functions_of w.resolve id))) right.2
-target_typed w of (imports.ImportedResourceDrop key interface id) right = refl
-target_typed w of (imports.ExportedResourceDrop key id) right = refl
-target_typed w of (imports.ExportedResourceRep key id) right = refl
-target_typed w of (imports.ExportedResourceNew key id) right = refl
-target_typed w of role right = absurd right
+call_typed : (w : ComponentWorld) (of : UserModule) (role : Import) → IsImportRole w role → IsCall role → type_of_import w.resolve (items_of w) role ≡ type_of_target w (link_of w of role)
+call_typed w of (imports.WorldFunc (keys.Name text) function abi) right call = ap (λ abi. option_map (called_type w.resolve abi) (root_function_at (items_of w).imports (keys.Name text))) right.2
+call_typed w of (imports.InterfaceFunc key id function abi) right call = ap (λ abi. option_map (called_type w.resolve abi) (found function (functions_of w.resolve id))) right.2
+call_typed w of role right call = absurd call
 
--- so a shim has the core type of an import for whose target it stands
-shim_fits : (w : ComponentWorld) (shim : Shim) (p : Purpose) → HasPurpose w shim p → (of : UserModule) (role : Import) → IsImportRole w role → target_of w p ≡ link_of w of role → (type : FuncType) →
-    type_of_import w.resolve (items_of w) role ≡ Some (externs.Func type) → type_of_shim shim ≡ type
-shim_fits w shim (OfImport from other) stands of role right same type fits =
-    let one : type_of_import w.resolve (items_of w) other ≡ type_of_import w.resolve (items_of w) role = target_typed w from other stands.right ∙ (ap (type_of_target w) same ∙ sym (target_typed w of role right)) in
-    ap (function_type_in type) (same_Some (externs.Func (type_of_shim shim)) (externs.Func type) (sym stands.typed ∙ (one ∙ fits)))
-shim_fits w shim (OfExport e) stands of role right same type fits = absurd (none-some (externs.Func type) (ap (type_of_target w) same ∙ (sym (target_typed w of role right) ∙ fits)))
+call_fits : (w : ComponentWorld) (role : Import) → IsCall role → (type : ExternType) → FitsRole w role type → type_of_import w.resolve (items_of w) role ≡ Some type
+call_fits w (imports.WorldFunc (keys.Name text) function abi) call type fits = fits
+call_fits w (imports.InterfaceFunc key id function abi) call type fits = fits
+call_fits w role call type fits = absurd call
+
+-- a shim for what an import of a role is to be given has the core type of each import that fits the role
+shim_fits : (w : ComponentWorld) → IsWorld w → (shim : Shim) (p : Purpose) → HasPurpose w shim p → (of : UserModule) (role : Import) → IsImportRole w role → target_of w p ≡ link_of w of role → (type : ExternType) → FitsRole w role type →
+    type ≡ externs.Func (type_of_shim shim)
+shim_fits w ok shim (OfImport from other) stands of role right same type fits =
+    let call : IsCall other = shim_calls w shim from other stands in
+    let lowered : IsLoweredTarget (link_of w from other) = call_lowered w from other call in
+    let called : IsCall role = lowered_call w of role right lowered.function lowered.options (sym same ∙ lowered.is) in
+    let shim_type : type_of_target w (link_of w from other) ≡ Some (externs.Func (type_of_shim shim)) = sym (call_typed w from other stands.right call) ∙ stands.typed in
+    let own_type : type_of_target w (link_of w of role) ≡ Some type = sym (call_typed w of role right called) ∙ call_fits w role called type fits in
+    same_Some type (externs.Func (type_of_shim shim)) (sym own_type ∙ (ap (type_of_target w) (sym same) ∙ shim_type))
+shim_fits w ok shim (OfExport e) stands of role right same type fits =
+    matched_function type (type_of_shim shim) (offered_matches w ok of role e right (sym same) stands.exporting stands.listed stands.same (externs.Func (type_of_shim shim)) stands.typed type fits)
 
 -- ---- what an import is given
 
--- the terms that these targets name are core functions
-module _ (w : ComponentWorld) (ds : List Def) where
-  lowering_kind : (kind : ExportKind) (index : ℕ) (function : WorldFunction) (options : List TargetOption) (term : Term) → Is ds (kind_space kind) index term → IsTermFor w (Lowered function options) term → kind ≡ kinds.Func
-  lowering_kind kinds.Func index function options (terms.Lowering origin type written) is asked = refl
-  lowering_kind kinds.Table index function options (terms.Lowering origin type written) is asked = absurd is
-  lowering_kind kinds.Memory index function options (terms.Lowering origin type written) is asked = absurd is
-  lowering_kind kinds.Global index function options (terms.Lowering origin type written) is asked = absurd is
-  lowering_kind kind index function options term is asked = absurd asked
-
-  resource_kind : (kind : ExportKind) (index : ℕ) (function : ResourceFunction) (id : TypeId) (term : Term) → Is ds (kind_space kind) index term → IsTermFor w (OfResource function id) term → kind ≡ kinds.Func
-  resource_kind kinds.Func index function id (terms.OfResource same resource) is asked = refl
-  resource_kind kinds.Table index function id (terms.OfResource same resource) is asked = absurd is
-  resource_kind kinds.Memory index function id (terms.OfResource same resource) is asked = absurd is
-  resource_kind kinds.Global index function id (terms.OfResource same resource) is asked = absurd is
-  resource_kind kind index function id term is asked = absurd asked
-
-  -- so is what an import of a role is to be given
-  role_kind : (of : UserModule) (kind : ExportKind) (index : ℕ) (role : Import) → IsImportRole w role → IsItemFor w ds (kind_space kind) index (link_of w of role) → kind ≡ kinds.Func
-  role_kind of kind index (imports.WorldFunc (keys.Name text) function abi) right h = lowering_kind kind index (OfRoot text) (lower_options w of (imports.WorldFunc (keys.Name text) function abi)) h.term h.is h.asked
-  role_kind of kind index (imports.InterfaceFunc key interface function abi) right h = lowering_kind kind index (OfInterface interface function) (lower_options w of (imports.InterfaceFunc key interface function abi)) h.term h.is h.asked
-  role_kind of kind index (imports.ImportedResourceDrop key interface id) right h = resource_kind kind index Drop id h.term h.is h.asked
-  role_kind of kind index (imports.ExportedResourceDrop key id) right h = resource_kind kind index Drop id h.term h.is h.asked
-  role_kind of kind index (imports.ExportedResourceRep key id) right h = resource_kind kind index Rep id h.term h.is h.asked
-  role_kind of kind index (imports.ExportedResourceNew key id) right h = resource_kind kind index New id h.term h.is h.asked
-  role_kind of kind index role right h = absurd right
-
--- The core function is what an import of this role, of this user module, is to be given, or a shim for that; and it has the core type that
--- the role requires.
-pub record IsRoleServed (w : ComponentWorld) (shims : Option ShimsAt) (s : Store) (of : UserModule) (address : ℕ) (role : Import) : Type 0 where
-  pub serves : Serves w shims s address (link_of w of role)
-  pub typed : (type : FuncType) → type_of_import w.resolve (items_of w) role ≡ Some (externs.Func type) → IsFunctionTyped s address type
+-- The item is what an import of this role, of this user module, is to be given, or a shim for that; and it matches each import that
+-- fits the role.
+pub record IsRoleServed (w : ComponentWorld) (shims : Option ShimsAt) (s : Store) (of : UserModule) (space : Space) (address : ℕ) (role : Import) : Type 0 where
+  pub serves : Serves w shims s space address (link_of w of role)
+  pub typed : (type : ExternType) → FitsRole w role type → HasType s space address type
 
 -- the item of the export is so for this field of a user module's imports
 pub record IsFieldExport (w : ComponentWorld) (shims : Option ShimsAt) (s : Store) (of : UserModule) (e : Export) (field : List ℕ × Import) : Type 0 where
   pub named : e.name ≡ field.0
-  pub space : e.space ≡ spaces.CoreFunc
-  pub is : IsRoleServed w shims s of e.address field.1
+  pub is : IsRoleServed w shims s of e.space e.address field.1
 
 -- the argument has an export for each field of this module, as planned
 pub record IsOffered (w : ComponentWorld) (shims : Option ShimsAt) (s : Store) (of : UserModule) (a : List ℕ × List Export) (group : List ℕ × ImportInstance) : Type 0 where
@@ -180,48 +257,46 @@ pub record IsOffered (w : ComponentWorld) (shims : Option ShimsAt) (s : Store) (
   pub each : AllZip (IsFieldExport w shims s of) a.1 (fields_of group.1)
 
 -- what a user module is given
-module _ {w : ComponentWorld} {earlier : List Def} {c : Scope} {s : Store} (a : Agrees w earlier c s) (of : UserModule) where
-  -- what is given for an import is the item that the link table names, or a shim
-  role_there : (kind : ExportKind) (index : ℕ) (role : Import) → IsImportRole w role → IsGivenFor w earlier (kind_space kind) index (link_of w of role) →
-      (kind ≡ kinds.Func) × (x : ℕ) × (address_at spaces.CoreFunc index c.items ≡ Some x) × IsRoleServed w a.shims s of x role
-  role_there kind index role right (inl h) =
-      let function : kind ≡ kinds.Func = role_kind w earlier of kind index role right h in
-      let x = target_there a index (link_of w of role) (subst (λ k. IsItemFor w earlier (kind_space k) index (link_of w of role)) function h) in
-      let opaque : (type : FuncType) → type_of_import w.resolve (items_of w) role ≡ Some (externs.Func type) → (item : CoreItem) × IsOpaqueOf s x.0 type item =
-      λ type fits. served_opaque w s of x.0 role type right fits x.2 in (
-        function,
-        x.0,
-        x.1,
-        record {
-          serves = inl x.2;
-          typed = λ type fits. let o : (item : CoreItem) × IsOpaqueOf s x.0 type item = opaque type fits in record { function = Opaque o.1.what type; present = o.1.present; typed = refl };
-        },
-      )
-  role_there kind index role right (inr h) =
+module _ {w : ComponentWorld} {earlier : List Def} {c : Scope} {s : Store} (a : Agrees w earlier c s) (ok : IsWorld w) (of : UserModule) where
+  item_served : (kind : ExportKind) (index : ℕ) (role : Import) → IsImportRole w role → IsItemFor w earlier (kind_space kind) index (link_of w of role) →
+      (x : ℕ) × (address_at (kind_space kind) index c.items ≡ Some x) × IsRoleServed w a.shims s of (kind_space kind) x role
+  item_served kind index role right h =
+      let x = item_there a kind index (link_of w of role) h in
+      (x.0, x.1, record { serves = inl x.2; typed = λ type fits. role_typed w ok s of (kind_space kind) x.0 role type right fits x.2 })
+
+  shim_served : (index : ℕ) (role : Import) → IsImportRole w role → IsShimFor w earlier spaces.CoreFunc index (link_of w of role) →
+      (x : ℕ) × (address_at spaces.CoreFunc index c.items ≡ Some x) × IsRoleServed w a.shims s of spaces.CoreFunc x role
+  shim_served index role right h =
       let x : (x : ℕ) × (address_at spaces.CoreFunc index c.items ≡ Some x) × IsShimGiven w a.shims x (link_of w of role) = shim_there a h in
       let y : (x : ℕ) × (address_at spaces.CoreFunc index c.items ≡ Some x) × IsFunctionTyped s x (type_of_shim h.shim) = shim_typed a h.place h.shim h.listed h.is in
-      let same : y.0 ≡ x.0 = same_Some y.0 x.0 (sym y.1 ∙ x.1) in (
-        func_kind kind h.in_space,
+      let same : y.0 ≡ x.0 = same_Some y.0 x.0 (sym y.1 ∙ x.1) in
+      let typed : IsFunctionTyped s x.0 (type_of_shim h.shim) = subst (λ n. IsFunctionTyped s n (type_of_shim h.shim)) same y.2 in (
         x.0,
         x.1,
         record {
-          serves = inr x.2;
-          typed = λ type fits.
-              let own : type_of_shim h.shim ≡ type = shim_fits w h.shim h.purpose h.stands_for of role right h.same type fits in
-              subst (IsFunctionTyped s x.0) own (subst (λ n. IsFunctionTyped s n (type_of_shim h.shim)) same y.2);
+          serves = inr (refl, x.2);
+          typed = λ type fits. subst (HasType s spaces.CoreFunc x.0) (sym (shim_fits w ok h.shim h.purpose h.stands_for of role right h.same type fits)) typed;
         },
       )
+
+  -- what is given for an import is the item that the link table names, or a shim
+  role_there : (kind : ExportKind) (index : ℕ) (role : Import) → IsImportRole w role → IsGivenFor w earlier (kind_space kind) index (link_of w of role) →
+      (x : ℕ) × (address_at (kind_space kind) index c.items ≡ Some x) × IsRoleServed w a.shims s of (kind_space kind) x role
+  role_there kind index role right (inl h) = item_served kind index role right h
+  role_there kind index role right (inr h) =
+      let function : kind_space kind ≡ spaces.CoreFunc = h.in_space in
+      let shim : IsShimFor w earlier spaces.CoreFunc index (link_of w of role) = subst (λ space. IsShimFor w earlier space index (link_of w of role)) function h in
+      subst (λ space. (x : ℕ) × (address_at space index c.items ≡ Some x) × IsRoleServed w a.shims s of space x role) (sym function) (shim_served index role right shim)
 
   -- the entries of an inline instance, as they were put into the store
   fields_there : (es : List CoreInlineExport) (xs : List Export) (fs : List (List ℕ × Import)) → AllByRecursion (λ f. IsImportRole w f.1) fs → AllZip (IsEntryFor w of earlier) es fs → AllZip (IsNamedEntry c.items) es xs →
       AllZip (IsFieldExport w a.shims s of) xs fs
   fields_there [] [] [] r h n = tt
   fields_there (e ∷ es) (x ∷ xs) (f ∷ fs) r h n =
-      let i : (e.kind ≡ kinds.Func) × (y : ℕ) × (address_at spaces.CoreFunc e.index c.items ≡ Some y) × IsRoleServed w a.shims s of y f.1 = role_there e.kind e.index f.1 r.0 h.0.serves in
-      let kind : kind_space e.kind ≡ spaces.CoreFunc = ap kind_space i.0 in
-      let at : address_at spaces.CoreFunc e.index c.items ≡ Some x.address = subst (λ space. address_at space e.index c.items ≡ Some x.address) kind n.0.at in
-      let same : i.1 ≡ x.address = same_Some i.1 x.address (sym i.2 ∙ at) in
-      (record { named = n.0.named ∙ h.0.named; space = n.0.space ∙ kind; is = subst (λ y. IsRoleServed w a.shims s of y f.1) same i.3 }, fields_there es xs fs r.1 h.1 n.1)
+      let i : (y : ℕ) × (address_at (kind_space e.kind) e.index c.items ≡ Some y) × IsRoleServed w a.shims s of (kind_space e.kind) y f.1 = role_there e.kind e.index f.1 r.0 h.0.serves in
+      let same : i.0 ≡ x.address = same_Some i.0 x.address (sym i.1 ∙ n.0.at) in
+      let served : IsRoleServed w a.shims s of (kind_space e.kind) x.address f.1 = subst (λ y. IsRoleServed w a.shims s of (kind_space e.kind) y f.1) same i.2 in
+      (record { named = n.0.named ∙ h.0.named; is = subst (λ space. IsRoleServed w a.shims s of space x.address f.1) (sym n.0.space) served }, fields_there es xs fs r.1 h.1 n.1)
   fields_there [] (x ∷ xs) fs r h n = absurd n
   fields_there (e ∷ es) [] fs r h n = absurd n
   fields_there [] [] (f ∷ fs) r h n = absurd h
@@ -249,10 +324,6 @@ module _ {w : ComponentWorld} {earlier : List Def} {c : Scope} {s : Store} (a : 
 
 -- ---- what the imports of a user module find
 
--- a function matches an import of its core type
-matches_function : (m : Machine) (t : Thing) (type : FuncType) → t.space ≡ spaces.CoreFunc → IsFunctionTyped m.store t.address type → matching m (externs.Func type) t ≡ Some t
-matches_function m t type space h = rw (space, h.present, h.typed, same_signature-refl type) refl
-
 -- an import that has a role is to be given what the link table says of the role
 linked_in : (w : ComponentWorld) (of : UserModule) (instance : ImportInstance) (field : List ℕ) (role : Import) → found field (fields_of instance) ≡ Some role → link_in w of field instance ≡ Some (link_of w of role)
 linked_in w of (instances.Names fields) field role e = ap (option_map (link_of w of)) e
@@ -261,7 +332,7 @@ linked_in w of (instances.Whole which) field role e = absurd (none-some role e)
 module _ (w : ComponentWorld) (shims : Option ShimsAt) (of : WorldModule) (m : Machine) where
   -- an export serves the role of a field; the exports of an argument serve those of a module's imports
   abbrev IsFor : Export → Import → Type 0
-  IsFor e role = (e.space ≡ spaces.CoreFunc) × IsRoleServed w shims m.store of.of e.address role
+  IsFor e role = IsRoleServed w shims m.store of.of e.space e.address role
 
   abbrev AreFor : List Export → ImportInstance → Type 0
   AreFor es instance = AllZip (IsFieldExport w shims m.store of.of) es (fields_of instance)
@@ -269,7 +340,7 @@ module _ (w : ComponentWorld) (shims : Option ShimsAt) (of : WorldModule) (m : M
   fields_named : (es : List Export) (fs : List (List ℕ × Import)) → AllZip (IsFieldExport w shims m.store of.of) es fs →
       AllZip (λ (x : List ℕ × Export) (z : List ℕ × Import). (x.0 ≡ z.0) × IsFor x.1 z.1) (map (λ (e : Export). (e.name, e)) es) fs
   fields_named [] [] h = tt
-  fields_named (e ∷ es) (f ∷ fs) h = ((h.0.named, (h.0.space, h.0.is)), fields_named es fs h.1)
+  fields_named (e ∷ es) (f ∷ fs) h = ((h.0.named, h.0.is), fields_named es fs h.1)
   fields_named [] (f ∷ fs) h = absurd h
   fields_named (e ∷ es) [] h = absurd h
 
@@ -278,7 +349,7 @@ module _ (w : ComponentWorld) (shims : Option ShimsAt) (of : WorldModule) (m : M
   groups_named arguments gs h = AllZip-weaker (λ a g o. (o.named, o.each)) arguments gs h
 
   -- each import of the module finds what was planned for it
-  pub given_there : (arguments : List (List ℕ × List Export)) → AllZip (IsOffered w shims m.store of.of) arguments of.found.imports.modules → (i : ImportType) → IsFunctionImport w of.found i →
+  pub given_there : (arguments : List (List ℕ × List Export)) → AllZip (IsOffered w shims m.store of.of) arguments of.found.imports.modules → (i : ImportType) → IsGivenImport w of.found i →
       (t : Thing) × (given_to m arguments i ≡ Some t) × IsPlanned w shims m.store of t i
   given_there arguments h i p =
       let roles : List (List ℕ × ImportInstance) = of.found.imports.modules in
@@ -287,6 +358,5 @@ module _ (w : ComponentWorld) (shims : Option ShimsAt) (of : WorldModule) (m : M
       let e = found-zip IsFor i.field (map (λ (e : Export). (e.name, e)) a.0) (fields_of g.0) p.role (fields_named a.0 (fields_of g.0) a.2) g.2 in
       let x : Export = e.0 in
       let t : Thing = record { space = x.space; address = x.address } in
-      let function : IsFunctionTyped m.store x.address p.type = e.2.1.typed p.type p.fits in
       let said : link_at w of i.module_name i.field ≡ Some (link_of w of.of p.role) = ap (option_and_then (link_in w of.of i.field)) g.1 ∙ linked_in w of.of g.0 i.field p.role g.2 in
-      (t, rw (p.typed, a.1, e.1, at_some x e.2.0) (matches_function m t p.type e.2.0 function), record { target = link_of w of.of p.role; said = said; space = e.2.0; serves = e.2.1.serves })
+      (t, rw (a.1, e.1) (finds_given m x i.ty (e.2.typed i.ty p.fits)), record { target = link_of w of.of p.role; said = said; serves = e.2.serves })

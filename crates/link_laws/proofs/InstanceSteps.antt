@@ -49,7 +49,7 @@ use Rattle.link_laws.proofs.Zips.{all_some-each}
 use Rattle.link_laws.proofs.Stores.{IsOpaqueOf, ShimsAt, IsModuleInstance, IsInlineInstance, IsFilledWith, AreFilled, AreShims, IsServedAs, IsNamedEntry, ExportsShims, MayHaveShims, IsPlanned, IsPlannedUser, NumberedFrom, AreResources, Agrees}
 use Rattle.link_laws.proofs.Given.{thing_there, target_there, user_below, apart, not_shims, not_fixup, of_shims, module_there, address_there}
 use Rattle.link_laws.proofs.GivenImports.{purpose_opaque, IsOffered, arguments_there, given_there}
-use Rattle.link_laws.proofs.Plain.{only, nothing_in, IsRightModule, module_right, IsFunctionImport, function_imports}
+use Rattle.link_laws.proofs.Plain.{only, nothing_in, IsRightModule, module_right, IsGivenImport, given_imports}
 use Rattle.link_laws.proofs.UserExports.{Exports, Alike, all_exports, all_alike, same_exports, each_export}
 use Rattle.link_laws.proofs.Kept.{IsFilledWith-kept, ShimsKept, shims_same, MayHaveShims-kept, Keeps, things_kept, IsPlannedUser-kept, AreKeyExports-kept, AreResources-kept}
 
@@ -164,8 +164,8 @@ module _ {w : ComponentWorld} {earlier : List Def} {c : Scope} {s : Store} (a : 
       numbered_at 0 (filter (is_of spaces.CoreModule) c.items) (length s.core_modules) number a.modules (address_there a spaces.CoreModule number l) ∙ ap (λ (n : ℕ). Some n) same
 
   -- any user module: what it imports is given, and its instance exports what the module offers
-  pub step_user : (number : ℕ) (arguments : List CoreArgument) (h : InstantiatesUser w earlier number arguments) → IsRightModule w h.of → Steps w gen earlier c s g (defs.Item (items.CoreInstantiate number arguments))
-  step_user number arguments h right =
+  pub step_user : IsWorld w → (number : ℕ) (arguments : List CoreArgument) (h : InstantiatesUser w earlier number arguments) → IsRightModule w h.of → Steps w gen earlier c s g (defs.Item (items.CoreInstantiate number arguments))
+  step_user ok number arguments h right =
       let d : Def = defs.Item (items.CoreInstantiate number arguments) in
       let of : WorldModule = h.of in
       let es : ExportTypes = of.found.offered in
@@ -179,8 +179,8 @@ module _ {w : ComponentWorld} {earlier : List Def} {c : Scope} {s : Store} (a : 
       let own : List Export = exported_by user es m0 in
       let below : number < shims_number w = user_below w number of h.listed in
       let args : (ys : List (List ℕ × List Export)) × (all_some (map (core_argument m0) arguments) ≡ Some ys) × AllZip (IsOffered w a.shims s of.of) ys roles =
-      arguments_there a of.of m0 refl refl arguments roles right.is.import_roles h.each in
-      let plain : AllByRecursion (IsFunctionImport w of.found) is = function_imports w of right in
+      arguments_there a ok of.of m0 refl refl arguments roles right.is.import_roles h.each in
+      let plain : AllByRecursion (IsGivenImport w of.found) is = given_imports w of right in
       let found : (ts : List Thing) × (all_some (map (given_to (machine c s no_answers) args.0) is) ≡ Some ts) × AllZip (IsPlanned w a.shims s of) ts is =
       all_some-each (IsPlanned w a.shims s of) (given_to (machine c s no_answers) args.0) is
       (AllByRecursion-weaker (given_there w a.shims of (machine c s no_answers) args.0 args.2) is plain) in
@@ -193,6 +193,7 @@ module _ {w : ComponentWorld} {earlier : List Def} {c : Scope} {s : Store} (a : 
       let k : Keeps c.items (c.items ++ t ∷ []) s s' = record {
         things = things_kept c.items t s;
         code = more.code;
+        memories = more.memories;
         known = more.known;
         core_instances = keeps_grown s.core_instances (m1.store.core_instances ++ own ∷ []) (own ∷ []) (ap (λ (m : Machine). m.store.core_instances ++ own ∷ []) more.same);
         functions = keeps_same (ap (λ (m : Machine). m.store.functions) more.same);
@@ -281,6 +282,7 @@ module _ {w : ComponentWorld} {earlier : List Def} {c : Scope} {s : Store} (a : 
       let k : Keeps c.items (c.items ++ t ∷ []) s s' = record {
         things = things_kept c.items t s;
         code = keeps_more s.code.functions r.functions;
+        memories = keeps_same refl;
         known = keeps_same refl;
         core_instances = keeps_more s.core_instances (own ∷ []);
         functions = keeps_same refl;
@@ -421,6 +423,7 @@ module _ {w : ComponentWorld} {earlier : List Def} {c : Scope} {s : Store} (a : 
       k = record {
         things = things_kept c.items t s;
         code = keeps_same refl;
+        memories = keeps_same refl;
         known = keeps_same refl;
         core_instances = keeps_more s.core_instances ([] ∷ []);
         functions = keeps_same refl;
@@ -494,7 +497,7 @@ module _ {w : ComponentWorld} {earlier : List Def} {c : Scope} {s : Store} (a : 
 
   -- where a generated module is instantiated, it is one of the list
   pub step_instantiate : IsWorld w → (number : ℕ) (arguments : List CoreArgument) → ((number < shims_number w → ⊥) → IsGenerated w gen) → InstantiatesModule w earlier number arguments → Steps w gen earlier c s g (defs.Item (items.CoreInstantiate number arguments))
-  step_instantiate ok number arguments there (inl h) = step_user number arguments h (module_right w ok number h.of h.listed)
+  step_instantiate ok number arguments there (inl h) = step_user ok number arguments h (module_right w ok number h.of h.listed)
   step_instantiate ok number arguments there (inr (inl h)) =
       let generated : IsGenerated w gen = there (λ below. not_shims w number below h.numbered) in
       let own : InstantiatesShims w earlier (shims_number w) [] = subst (InstantiatesShims w earlier (shims_number w)) h.closed (subst (λ n. InstantiatesShims w earlier n arguments) h.numbered h) in

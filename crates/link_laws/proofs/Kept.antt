@@ -30,7 +30,7 @@ use Rattle.comp_roles.specs.declared.offered.ExternType.TheVariants as externs
 use Rattle.comp_roles.specs.declared.offered.ImportType.{ImportType}
 use Rattle.comp_worlds.specs.WorldContents.{exported_item}
 use Rattle.comp_worlds.specs.declared.world.ComponentWorld.{ComponentWorld}
-use Rattle.comp_links.specs.Targets.{ExportRef, TargetOption, Target, Lowered, ExportOf, OfResource}
+use Rattle.comp_links.specs.Targets.{ExportRef, TargetOption, Target, Lowered, ExportOf, MainMemory, OfResource}
 use Rattle.comp_links.specs.Targets as targets
 use Rattle.comp_links.specs.Modules.{WorldModule}
 use Rattle.comp_links.specs.Lists.{resource_of, RequiredKey, RequiredFunction, functions_required, RequiredType, types_required, type_of_world}
@@ -50,12 +50,13 @@ use Rattle.nested_laws.proofs.Kept.{AreGiven-kept, AreNestedExports-kept}
 use Rattle.wit_data.specs.declared.worlds.WorldItem.{WorldItem}
 use Rattle.wit_data.specs.declared.worlds.WorldItem.TheVariants as world_items
 use Rattle.link_laws.proofs.Zips.{mapped_some, AllByRecursion-join}
-use Rattle.link_laws.proofs.Stores.{IsOpaqueOf, IsUserItem, IsUserExport, IsInstance, ShimsAt, AreShimExports, AreModuleExports, IsModuleInstance, IsNamedEntry, IsTypeAt, IsHeldOption, IsArgumentHeld, ItemIs, DefIs, Means, IsEntryItem, IsTypeEntry, IsFunctionEntry, IsInstanceThing, IsFunctionExported, IsFirstMemory, IsOptionHeld, IsLoweringOf, IsServedAs, IsShimGiven, Serves, IsPlanned, IsPlannedUser, IsFilledWith, AreFilled, ExportsShims, AreShims, MayHaveShims, IsLiftedFrom, function_at_key, IsRequiredAt, IsAmong, IsTypeAmong, IsItemExport, IsKeyExport, AreKeyExports, IsDestroyedBy, IsOwnResource, IsOwnIfDefined, AreResources, HasNumber}
+use Rattle.link_laws.proofs.Stores.{IsOpaqueOf, IsUserItem, IsUserExport, IsInstance, ShimsAt, AreShimExports, AreModuleExports, IsModuleInstance, IsNamedEntry, IsTypeAt, IsHeldOption, IsArgumentHeld, ItemIs, DefIs, Means, IsEntryItem, IsTypeEntry, IsFunctionEntry, IsInstanceThing, IsFunctionExported, IsMemoryExported, IsFirstMemory, IsOptionHeld, IsLoweringOf, IsServedAs, IsShimGiven, IsServedIn, Serves, IsPlanned, IsPlannedUser, IsFilledWith, AreFilled, ExportsShims, AreShims, MayHaveShims, IsLiftedFrom, function_at_key, IsRequiredAt, IsAmong, IsTypeAmong, IsItemExport, IsKeyExport, AreKeyExports, IsDestroyedBy, IsOwnResource, IsOwnIfDefined, AreResources, HasNumber}
 
 -- every entry of the old scope and store is unchanged in the new ones
 pub record Keeps (a b : List Thing) (s t : Store) : Type 0 where
   pub things : (space : Space) (i x : ℕ) → address_at space i a ≡ Some x → address_at space i b ≡ Some x
   pub code : KeepsEntries s.code.functions t.code.functions
+  pub memories : KeepsEntries s.code.memories t.code.memories
   pub known : KeepsEntries s.known t.known
   pub core_instances : KeepsEntries s.core_instances t.core_instances
   pub functions : KeepsEntries s.functions t.functions
@@ -75,6 +76,7 @@ pub keeps_all : (items : List Thing) (s : Store) → Keeps items items s s
 keeps_all items s = record {
   things = λ space i x e. e;
   code = keeps_same refl;
+  memories = keeps_same refl;
   known = keeps_same refl;
   core_instances = keeps_same refl;
   functions = keeps_same refl;
@@ -94,6 +96,7 @@ module _ (items : List Thing) (t : Thing) (s : Store) where
   keeps_store = record {
     things = things_kept;
     code = keeps_same refl;
+    memories = keeps_same refl;
     known = keeps_same refl;
     core_instances = keeps_same refl;
     functions = keeps_same refl;
@@ -107,6 +110,7 @@ module _ (items : List Thing) (t : Thing) (s : Store) where
   keeps_type item = record {
     things = things_kept;
     code = keeps_same refl;
+    memories = keeps_same refl;
     known = keeps_same refl;
     core_instances = keeps_same refl;
     functions = keeps_same refl;
@@ -120,6 +124,7 @@ module _ (items : List Thing) (t : Thing) (s : Store) where
   keeps_function f = record {
     things = things_kept;
     code = keeps_same refl;
+    memories = keeps_same refl;
     known = keeps_same refl;
     core_instances = keeps_same refl;
     functions = keeps_more s.functions (f ∷ []);
@@ -133,6 +138,7 @@ module _ (items : List Thing) (t : Thing) (s : Store) where
   keeps_opaque item type = record {
     things = things_kept;
     code = keeps_more s.code.functions (Opaque (length s.known) type ∷ []);
+    memories = keeps_same refl;
     known = keeps_more s.known (item ∷ []);
     core_instances = keeps_same refl;
     functions = keeps_same refl;
@@ -146,6 +152,7 @@ module _ (items : List Thing) (t : Thing) (s : Store) where
   keeps_core_instance es = record {
     things = things_kept;
     code = keeps_same refl;
+    memories = keeps_same refl;
     known = keeps_same refl;
     core_instances = keeps_more s.core_instances (es ∷ []);
     functions = keeps_same refl;
@@ -159,6 +166,7 @@ module _ (items : List Thing) (t : Thing) (s : Store) where
   keeps_component component = record {
     things = things_kept;
     code = keeps_same refl;
+    memories = keeps_same refl;
     known = keeps_same refl;
     core_instances = keeps_same refl;
     functions = keeps_same refl;
@@ -172,6 +180,7 @@ module _ (items : List Thing) (t : Thing) (s : Store) where
   keeps_module bytes = record {
     things = things_kept;
     code = keeps_same refl;
+    memories = keeps_same refl;
     known = keeps_same refl;
     core_instances = keeps_same refl;
     functions = keeps_same refl;
@@ -276,6 +285,7 @@ module _ {a b : List Thing} {s t : Store} (k : Keeps a b s t) where
 
   item_of_user-kept : (user : ℕ) (e : Export) (type : ExternType) → IsUserItem s user e type → IsUserItem t user e type
   item_of_user-kept user e (externs.Func type) h = IsOpaque-kept h
+  item_of_user-kept user e (externs.Memory type) h = k.memories.at e.address type h
   item_of_user-kept user e type h = tt
 
   exports-kept : (user : ℕ) (e : Export) (found : List ℕ × ExternType) → IsUserExport s user e found → IsUserExport t user e found
@@ -294,7 +304,11 @@ module _ {a b : List Thing} {s t : Store} (k : Keeps a b s t) where
   IsFunctionExported-kept h = record { number = h.number; of = h.of; user = h.user; instance = IsInstance-kept h.instance; type = h.type; is = IsOpaque-kept h.is; offered = h.offered }
 
   IsFirstMemory-kept : (w : ComponentWorld) (address : ℕ) → IsFirstMemory w s address → IsFirstMemory w t address
-  IsFirstMemory-kept w address h = record { name = h.name; type = h.type; first = h.first; is = record { user = h.is.user; instance = h.is.instance; present = k.users.at h.is.user h.is.instance h.is.present; of = h.is.of; exported = h.is.exported } }
+  IsFirstMemory-kept w address h = record { name = h.name; type = h.type; first = h.first; is = record { user = h.is.user; instance = h.is.instance; present = k.users.at h.is.user h.is.instance h.is.present; of = h.is.of; exported = h.is.exported }; held = h.held; present = k.memories.at address h.held h.present; offered = h.offered }
+
+  IsMemoryExported-kept : {w : ComponentWorld} {address : ℕ} {export_ref : ExportRef} → IsMemoryExported w s address export_ref → IsMemoryExported w t address export_ref
+  IsMemoryExported-kept {w} {address} h =
+      record { number = h.number; of = h.of; user = h.user; instance = IsInstance-kept h.instance; exported = h.exported; type = h.type; is = k.memories.at address h.type h.is; offered = h.offered }
 
   IsOptionHeld-kept : (w : ComponentWorld) (held : HeldOption) (o : TargetOption) → IsOptionHeld w s held o → IsOptionHeld w t held o
   IsOptionHeld-kept w (HeldMemory a) targets.Memory h = IsFirstMemory-kept w a h
@@ -317,12 +331,18 @@ module _ {a b : List Thing} {s t : Store} (k : Keeps a b s t) where
   IsServedAs-kept w address (ExportOf export_ref) h = IsFunctionExported-kept h
   IsServedAs-kept w address target h = absurd h
 
-  Serves-kept : (w : ComponentWorld) (old new : Option ShimsAt) → ShimsKept old new → (address : ℕ) (target : Target) → Serves w old s address target → Serves w new t address target
-  Serves-kept w old new same address target (inl h) = inl (IsServedAs-kept w address target h)
-  Serves-kept w old new same address target (inr h) = inr (IsShimGiven-kept w old new same address target h)
+  IsServedIn-kept : (w : ComponentWorld) (space : Space) (address : ℕ) (target : Target) → IsServedIn w s space address target → IsServedIn w t space address target
+  IsServedIn-kept w spaces.CoreFunc address target h = IsServedAs-kept w address target h
+  IsServedIn-kept w spaces.CoreMemory address (ExportOf export_ref) h = IsMemoryExported-kept h
+  IsServedIn-kept w spaces.CoreMemory address MainMemory h = IsFirstMemory-kept w address h
+  IsServedIn-kept w space address target h = absurd h
+
+  Serves-kept : (w : ComponentWorld) (old new : Option ShimsAt) → ShimsKept old new → (space : Space) (address : ℕ) (target : Target) → Serves w old s space address target → Serves w new t space address target
+  Serves-kept w old new same space address target (inl h) = inl (IsServedIn-kept w space address target h)
+  Serves-kept w old new same space address target (inr h) = inr (h.0, IsShimGiven-kept w old new same address target h.1)
 
   pub IsPlanned-kept : (w : ComponentWorld) (old new : Option ShimsAt) → ShimsKept old new → (of : WorldModule) (x : Thing) (i : ImportType) → IsPlanned w old s of x i → IsPlanned w new t of x i
-  IsPlanned-kept w old new same of x i h = record { target = h.target; said = h.said; space = h.space; serves = Serves-kept w old new same x.address h.target h.serves }
+  IsPlanned-kept w old new same of x i h = record { target = h.target; said = h.said; serves = Serves-kept w old new same x.space x.address h.target h.serves }
 
   pub IsFilledWith-kept : (w : ComponentWorld) (shim : Shim) (function : ℕ) → IsFilledWith w s shim function → IsFilledWith w t shim function
   IsFilledWith-kept w shim function h = record { purpose = h.purpose; stands_for = h.stands_for; serves = IsServedAs-kept w function (target_of w h.purpose) h.serves }

@@ -152,6 +152,7 @@ module _ {w : ComponentWorld} {earlier : List Def} {c : Scope} {s : Store} (a : 
       let k : Keeps c.items (c.items ++ t ∷ []) s s' = record {
         things = things_kept c.items t s;
         code = keeps_same refl;
+        memories = keeps_same refl;
         known = keeps_same refl;
         core_instances = keeps_same refl;
         functions = keeps_same refl;

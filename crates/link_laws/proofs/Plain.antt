@@ -33,10 +33,13 @@ use Rattle.comp_roles.specs.declared.imports.ImportInstance.TheVariants as insta
 use Rattle.comp_roles.specs.declared.offered.ExternType.{ExternType}
 use Rattle.comp_roles.specs.declared.offered.ExternType.TheVariants as externs
 use Rattle.comp_roles.specs.declared.offered.ImportType.{ImportType}
-use Rattle.comp_roles.specs.Lookups.{first_export, memory_of_import, memory_of_fields, imported_memory, is_initialize, is_task_hook}
+use Rattle.comp_roles.specs.Lookups.{first_export, is_initialize, is_task_hook}
+use Rattle.comp_roles.specs.Matching.{kind_of}
 use Rattle.world_values.specs.Items.{functions_of, root_function_at}
+use Rattle.comp_worlds.proofs.Matched.{matched_kind}
 use Rattle.comp_worlds.proofs.Roles.{role_right}
-use Rattle.comp_worlds.specs.Typed.{drop_type, handle_type, type_of_import, FitsImport}
+use Rattle.comp_worlds.specs.Offered.{IsGivenKind}
+use Rattle.comp_worlds.specs.Typed.{drop_type, handle_type, FitsRole, FitsImport}
 use Rattle.comp_worlds.specs.WorldContents.{items_of, exported_item}
 use Rattle.comp_worlds.specs.Worlds.{IsWorld, IsUserModule, IsExportItem, IsImportRole, IsImportGroup, IsExportRole}
 use Rattle.comp_worlds.specs.declared.world.ComponentWorld.{ComponentWorld}
@@ -50,8 +53,7 @@ use Rattle.comp_runs.specs.Signatures.{core_signature}
 use Rattle.comp_trees.specs.Trees.{FunctionTree}
 use Rattle.comp_trees.proofs.Signing.{signatures_of_trees}
 use Rattle.link_laws.proofs.Zips.{mapped_some}
-use Rattle.comp_links.specs.Targets.{New, Rep, Drop}
-use Rattle.link_laws.proofs.Stores.{resource_core, main_module}
+use Rattle.link_laws.proofs.Stores.{main_module}
 
 pub only : {X : Type 0} (x y : X) → Contains (x ∷ []) y → x ≡ y
 only x y (zero, l, e) = e
@@ -154,40 +156,55 @@ pub fields_right : (w : ComponentWorld) (group : List ℕ × ImportInstance) →
 fields_right w (name, instances.Names fields) h = h.1
 fields_right w (name, instances.Whole which) h = absurd h
 
--- an import of the module that has the role of a function, whose core type is the one of its role
-pub record IsFunctionImport (w : ComponentWorld) (m : ValidatedModule) (i : ImportType) : Type 0 where
+-- types of imports that are given so far
+abbrev pub IsGivenType : ExternType → Type 0
+IsGivenType (externs.Func type) = Unit {0}
+IsGivenType (externs.Memory type) = Unit {0}
+IsGivenType type = ⊥
+
+-- an import of the module that has a role, which it fits
+pub record IsGivenImport (w : ComponentWorld) (m : ValidatedModule) (i : ImportType) : Type 0 where
   pub role : Import
-  pub type : FuncType
   pub has_role : role_at m.imports.modules i.module_name i.field ≡ Some role
   pub right : IsImportRole w role
-  pub fits : type_of_import w.resolve (items_of w) role ≡ Some (externs.Func type)
-  pub typed : i.ty ≡ externs.Func type
+  pub fits : FitsRole w role i.ty
+  pub given : IsGivenType i.ty
 
--- the role of an import requires a core type of functions
-import_type : (w : ComponentWorld) (role : Import) (type : ExternType) → IsImportRole w role → type_of_import w.resolve (items_of w) role ≡ Some type → (t : FuncType) × (type ≡ externs.Func t)
+type_of_kind : (type : ExternType) → IsGivenKind (kind_of type) → IsGivenType type
+type_of_kind (externs.Func type) h = tt
+type_of_kind (externs.Memory type) h = tt
+type_of_kind type h = absurd h
+
+-- the role of an import requires such a type
+import_type : (w : ComponentWorld) (role : Import) (type : ExternType) → IsImportRole w role → FitsRole w role type → IsGivenType type
 import_type w (imports.WorldFunc (keys.Name text) function abi) type right fits =
     let x : (f : Function) × (root_function_at (items_of w).imports (keys.Name text) ≡ Some f) × (called_type w.resolve abi f ≡ type) =
     mapped_some (called_type w.resolve abi) (root_function_at (items_of w).imports (keys.Name text)) type fits in
-    (core_type (signature abi w.resolve.types x.0), sym x.2)
+    subst IsGivenType x.2 tt
 import_type w (imports.InterfaceFunc key id function abi) type right fits =
     let x : (f : Function) × (found function (functions_of w.resolve id) ≡ Some f) × (called_type w.resolve abi f ≡ type) =
     mapped_some (called_type w.resolve abi) (found function (functions_of w.resolve id)) type fits in
-    (core_type (signature abi w.resolve.types x.0), sym x.2)
-import_type w (imports.ImportedResourceDrop key interface id) type right fits = (resource_core Drop, sym (same_Some drop_type type fits))
-import_type w (imports.ExportedResourceDrop key id) type right fits = (resource_core Drop, sym (same_Some drop_type type fits))
-import_type w (imports.ExportedResourceRep key id) type right fits = (resource_core Rep, sym (same_Some handle_type type fits))
-import_type w (imports.ExportedResourceNew key id) type right fits = (resource_core New, sym (same_Some handle_type type fits))
+    subst IsGivenType x.2 tt
+import_type w (imports.ImportedResourceDrop key interface id) type right fits = subst IsGivenType (same_Some drop_type type fits) tt
+import_type w (imports.ExportedResourceDrop key id) type right fits = subst IsGivenType (same_Some drop_type type fits) tt
+import_type w (imports.ExportedResourceRep key id) type right fits = subst IsGivenType (same_Some handle_type type fits) tt
+import_type w (imports.ExportedResourceNew key id) type right fits = subst IsGivenType (same_Some handle_type type fits) tt
+import_type w (imports.MainModuleMemory memory) type right fits = subst IsGivenType (same_Some (externs.Memory memory) type fits) tt
+import_type w (imports.AdapterExport adapter name function) type right fits = subst IsGivenType (same_Some (externs.Func function) type fits) tt
+import_type w (imports.MainModuleExport name kind) type right fits =
+    let same : right.type ≡ fits.type = same_Some right.type fits.type (sym right.offered ∙ fits.offered) in
+    let kind_is : kind ≡ kind_of type = sym right.of_kind ∙ (ap kind_of same ∙ sym (matched_kind type fits.type fits.matching)) in
+    type_of_kind type (subst IsGivenKind kind_is right.given)
 import_type w role type right fits = absurd right
 
-one_import : (w : ComponentWorld) (m : ValidatedModule) → AllByRecursion (IsImportGroup w) m.imports.modules → (i : ImportType) → FitsImport w.resolve (items_of w) m i → IsFunctionImport w m i
+one_import : (w : ComponentWorld) (m : ValidatedModule) → AllByRecursion (IsImportGroup w) m.imports.modules → (i : ImportType) → FitsImport w m i → IsGivenImport w m i
 one_import w m roles i h =
     let right : IsImportRole w h.role = role_right w m.imports.modules i.module_name i.field h.role roles h.has_role in
-    let t : (t : FuncType) × (i.ty ≡ externs.Func t) = import_type w h.role i.ty right h.fits in
-    record { role = h.role; type = t.0; has_role = h.has_role; right = right; fits = h.fits ∙ ap (λ (x : ExternType). Some x) t.1; typed = t.1 }
+    record { role = h.role; has_role = h.has_role; right = right; fits = h.fits; given = import_type w h.role i.ty right h.fits }
 
--- user modules import functions
-pub function_imports : (w : ComponentWorld) (of : WorldModule) → IsRightModule w of → AllByRecursion (IsFunctionImport w of.found) of.found.imported
-function_imports w of right = AllByRecursion-weaker (one_import w of.found right.is.import_roles) of.found.imported right.is.imported
+-- what user modules import is given
+pub given_imports : (w : ComponentWorld) (of : WorldModule) → IsRightModule w of → AllByRecursion (IsGivenImport w of.found) of.found.imported
+given_imports w of right = AllByRecursion-weaker (one_import w of.found right.is.import_roles) of.found.imported right.is.imported
 
 -- ---- what main exports
 
@@ -209,16 +226,3 @@ no_hook w es h = none_exported w is_task_hook (not_hook w) es h
 
 pub no_initialize : (w : ComponentWorld) (es : List (List ℕ × WorldExport)) → AllByRecursion (λ e. IsExportRole w e.1) es → first_export is_initialize es ≡ None
 no_initialize w es h = none_exported w is_initialize (not_initialize w) es h
-
--- main imports no memory
-no_memory_role : (w : ComponentWorld) (role : Import) → IsImportRole w role → memory_of_import role ≡ None
-no_memory_role w (imports.MainModuleMemory type) h = absurd h
-no_memory_role w role h = refl
-
-no_memory_field : (w : ComponentWorld) (fields : List (List ℕ × Import)) → AllByRecursion (λ f. IsImportRole w f.1) fields → memory_of_fields fields ≡ None
-no_memory_field w [] h = refl
-no_memory_field w (f ∷ fields) h = rw (no_memory_role w f.1 h.0) (no_memory_field w fields h.1)
-
-pub no_memory_imported : (w : ComponentWorld) (groups : List (List ℕ × ImportInstance)) → AllByRecursion (IsImportGroup w) groups → imported_memory groups ≡ None
-no_memory_imported w [] h = refl
-no_memory_imported w (g ∷ groups) h = rw (no_memory_field w (fields_of g.1) (fields_right w g h.0)) (no_memory_imported w groups h.1)

@@ -55,11 +55,12 @@ use Rattle.link_laws.specs.Meeting.{CoreMeets, CoreExportMeets, task_hook, hooks
 use Rattle.instance_laws.proofs.Held.{tree_of_held}
 use Rattle.link_laws.specs.Linking.{IsServed, AreServed, UsersServed, IsProvided, IsTypeProvided, DestructorMeets, IsDefined, IsNumberDefined, exports_at}
 use Rattle.link_laws.proofs.Zips.{AllByRecursion-join, each_at}
-use Rattle.link_laws.proofs.Stores.{IsOpaqueOf, ShimsAt, resource_core, IsLoweredFor, IsFunctionOf, IsFunctionExported, IsServedAs, IsShimGivenAt, Serves, IsFilledWith, AreFilled, main_module, IsPlanned, IsPlannedUser, IsFirstMemory, IsOptionHeld, function_at_key, IsRequiredAt, IsFunctionExport, IsAmong, IsInterfaceExport, IsItemExport, IsKeyExport, AreKeyExports, type_at_key, IsTypeAmong, IsDestroyedBy, IsOwnResource, IsOwnIfDefined, AreResources, HasNumber}
+use Rattle.link_laws.proofs.Stores.{IsOpaqueOf, ShimsAt, resource_core, IsLoweredFor, IsFunctionOf, IsFunctionExported, IsMemoryExported, IsServedAs, IsServedIn, IsShimGivenAt, Serves, IsFilledWith, AreFilled, main_module, IsPlanned, IsPlannedUser, IsFirstMemory, IsOptionHeld, function_at_key, IsRequiredAt, IsFunctionExport, IsAmong, IsInterfaceExport, IsItemExport, IsKeyExport, AreKeyExports, type_at_key, IsTypeAmong, IsDestroyedBy, IsOwnResource, IsOwnIfDefined, AreResources, HasNumber}
 use Rattle.link_laws.proofs.Given.{by_parts}
 use Rattle.comp_links.proofs.Keys.{one_provider}
 use Rattle.link_laws.proofs.GivenImports.{purpose_opaque, one_purpose}
-use Rattle.link_laws.proofs.Plain.{no_hook, no_memory_imported, function_key}
+use Rattle.comp_worlds.proofs.NotOfMain.{no_memory_imported}
+use Rattle.link_laws.proofs.Plain.{no_hook, function_key}
 use Rattle.comp_worlds.specs.WorldContents.{exported_item}
 
 -- ---- opaque functions
@@ -139,7 +140,7 @@ module _ (w : ComponentWorld) (ok : IsWorld w) (m : Machine) where
 
   memory_meets : (address : ℕ) → IsFirstMemory w m.store address → IsMainMemory w m address
   memory_meets address h =
-      subst (λ o. MemoryMeets w m address o (first_memory w.main.exports.exports)) (sym (no_memory_imported w w.main.imports.modules ok.main.import_roles))
+      subst (λ o. MemoryMeets w m address o (first_memory w.main.exports.exports)) (sym (no_memory_imported w ok))
       (subst (λ o. MemoryMeets w m address None o) (sym h.first)
       (record {
         number = 0;
@@ -271,13 +272,28 @@ module _ (w : ComponentWorld) (ok : IsWorld w) (m : Machine) where
 
   -- ---- what a user module is given
 
-  serves_meets : (shims : Option ShimsAt) → FilledAtEnd shims → (t : Thing) (target : Target) → t.space ≡ spaces.CoreFunc → Serves w shims m.store t.address target → Meets w m (resource_of w) t target
-  serves_meets shims filled t target space (inl h) = function_meets_as t t.address target space (λ type item o. forwards_itself w ok m t.address type item o) h
-  serves_meets None filled t target space (inr h) = absurd h
-  serves_meets (Some at) filled t target space (inr h) = shim_meets t at target space filled h
+  -- a memory meets what it is
+  memory_met : (address : ℕ) (target : Target) → IsServedIn w m.store spaces.CoreMemory address target → MeetsIn w m (resource_of w) spaces.CoreMemory address target
+  memory_met address (ExportOf export_ref) h = record {
+    number = h.number;
+    of = h.of;
+    is = record { made = h.instance.instance; instance = h.user; present = h.instance.present; of = h.instance.of; exported = h.exported };
+  }
+  memory_met address targets.MainMemory h = memory_meets w ok m address h
+  memory_met address target h = absurd h
+
+  item_meets : (space : Space) (address : ℕ) (target : Target) → IsServedIn w m.store space address target → MeetsIn w m (resource_of w) space address target
+  item_meets spaces.CoreFunc address target h = function_meets_as (record { space = spaces.CoreFunc; address = address }) address target refl (λ type item o. forwards_itself w ok m address type item o) h
+  item_meets spaces.CoreMemory address target h = memory_met address target h
+  item_meets space address target h = absurd h
+
+  serves_meets : (shims : Option ShimsAt) → FilledAtEnd shims → (t : Thing) (target : Target) → Serves w shims m.store t.space t.address target → Meets w m (resource_of w) t target
+  serves_meets shims filled t target (inl h) = item_meets t.space t.address target h
+  serves_meets None filled t target (inr h) = absurd h.1
+  serves_meets (Some at) filled t target (inr h) = shim_meets t at target h.0 filled h.1
 
   planned_served : (shims : Option ShimsAt) → FilledAtEnd shims → (of : WorldModule) (t : Thing) (i : ImportType) → IsPlanned w shims m.store of t i → IsServed w m (resource_of w) of t i
-  planned_served shims filled of t i h = record { target = h.target; said = h.said; meets = serves_meets shims filled t h.target h.space h.serves }
+  planned_served shims filled of t i h = record { target = h.target; said = h.said; meets = serves_meets shims filled t h.target h.serves }
 
   instance_served : (shims : Option ShimsAt) → FilledAtEnd shims → (i : ModuleInstance) (of : WorldModule) → slice_get (user_modules w) i.module_number ≡ Some of → IsPlannedUser w shims m.store i → AreServed w m (resource_of w) of i
   instance_served shims filled i of listed h = AllZip-weaker (planned_served shims filled of) i.given of.found.imported (h of listed)

@@ -57,12 +57,13 @@ use Rattle.comp_runs.specs.Store.{Thing, Export, HeldOption, HeldEncoding, HeldM
 use Rattle.comp_links.specs.Targets.{ExportRef, ExportOf, ResourceFunction, New, Rep, Drop}
 use Rattle.comp_links.specs.Lists.{required_keys, provided_resources}
 use Rattle.comp_links.specs.Links.{destructor_of}
+use Rattle.comp_roles.specs.Matching.{kind_of}
 use Rattle.comp_roles.specs.declared.offered.ExternType.{ExternType}
 use Rattle.comp_roles.specs.declared.offered.ExternType.TheVariants as externs
 use Rattle.comp_roles.specs.declared.offered.ImportType.{ImportType}
 use Rattle.comp_terms.specs.Rules.{AliasesUser, AliasesShim, IsEntry, AreEntries, AliasesImported, AliasesNested, AliasesType as MayAliasType, HasFunctionType, HasResource, HasOwnResource, HasImportedFunction, IsOptionRight, IsLowerOptionRight, IsTypeRight, IsDestructorRight, DefinesResource, IsItemRight}
 use Rattle.comp_runs.specs.Machine.{Scope, Machine, with_some, address_at, is_of, export_named, all_some, with_opaque}
-use Rattle.comp_runs.specs.Instances.{matching, argument_for, type_kind, given_to, type_scope, known_function, type_item}
+use Rattle.comp_runs.specs.Instances.{matching, argument_for, given_to, type_scope, known_function, type_item}
 use Rattle.comp_runs.specs.Signatures.{is_async, core_signature, intrinsic_signature}
 use Rattle.comp_runs.specs.Running.{core_entry, held, options_held, type_of_function as function_type_of, lowered_signature, if_own, own_address, addressed, run}
 use Rattle.instance_laws.specs.Instantiated.{IsHeldAs}
@@ -76,7 +77,7 @@ use Rattle.link_laws.proofs.Zips.{all_some-self}
 use Rattle.link_laws.proofs.Outcomes.{machine, no_answers, quiet, users_among, Steps}
 use Rattle.link_laws.proofs.Stores.{IsOpaqueOf, IsUserItem, IsUserExport, IsUserInstance, ShimsAt, IsModuleInstance, IsNamedEntry, ExportsShims, MayHaveShims, IsTypeAt, resource_core, IsResourceItem, DefIs, Means, makes, IsTypeEntry, entry_of, IsFunctionEntry, IsInstanceThing, IsPlannedUser, IsAliasedItem, IsHeldOption, NumberedFrom, Agrees, AreKeyExports, IsShimGiven, IsDestroyedBy, IsOwnResource, AreResources}
 use Rattle.link_laws.proofs.Given.{of_shims, module_there, address_there, all_held, scope_there, entry_there, held_there, type_there, instance_type_there, instance_there, imported_there, user_there, space_of_kind, offered_there, shim_there}
-use Rattle.link_laws.proofs.Plain.{only, IsFunctionImport}
+use Rattle.link_laws.proofs.Plain.{only, IsGivenType, IsGivenImport}
 use Rattle.link_laws.proofs.Kept.{ShimsKept, shims_same, MayHaveShims-kept, keeps_all, IsHeldOption-kept, Keeps, address_at-append, things_kept, keeps_store, keeps_type, keeps_function, keeps_opaque, keeps_core_instance, keeps_module, Means-kept, IsTypeEntry-kept, IsFunctionEntry-kept, IsInstanceThing-kept, IsPlannedUser-kept, AreKeyExports-kept, AreResources-more, AreResources-push}
 
 -- a list without generated modules
@@ -152,24 +153,31 @@ options_same : (c : Scope) (s : Store) (now : Now) (os : List CanonicalOption) �
 options_same c s now [] = refl
 options_same c s now (o ∷ os) = ap₂ (λ x xs. x ∷ xs) (held_same c s now o) (options_same c s now os)
 
--- what an import of a function is given doesn't depend on what a run changes
-matching_same : (c : Scope) (s : Store) (now : Now) (type : FuncType) (space : Space) (address : ℕ) →
-    matching (machine c s now) (externs.Func type) (record { space = space; address = address }) ≡ matching (machine c s no_answers) (externs.Func type) (record { space = space; address = address })
-matching_same c s now type spaces.CoreFunc address = refl
-matching_same c s now type space address = refl
+-- what an import of a function or a memory is given doesn't depend on what a run changes
+matching_same : (c : Scope) (s : Store) (now : Now) (type : ExternType) → IsGivenType type → (space : Space) (address : ℕ) →
+    matching (machine c s now) type (record { space = space; address = address }) ≡ matching (machine c s no_answers) type (record { space = space; address = address })
+matching_same c s now (externs.Func type) h spaces.CoreFunc address = refl
+matching_same c s now (externs.Func type) h spaces.CoreTable address = refl
+matching_same c s now (externs.Func type) h spaces.CoreMemory address = refl
+matching_same c s now (externs.Func type) h spaces.CoreGlobal address = refl
+matching_same c s now (externs.Func type) h space address = refl
+matching_same c s now (externs.Memory type) h spaces.CoreFunc address = refl
+matching_same c s now (externs.Memory type) h spaces.CoreTable address = refl
+matching_same c s now (externs.Memory type) h spaces.CoreMemory address = refl
+matching_same c s now (externs.Memory type) h spaces.CoreGlobal address = refl
+matching_same c s now (externs.Memory type) h space address = refl
+matching_same c s now type h space address = absurd h
 
-given_one : (c : Scope) (s : Store) (now : Now) (type : FuncType) (o : Option Thing) →
-    option_and_then (matching (machine c s now) (externs.Func type)) o ≡ option_and_then (matching (machine c s no_answers) (externs.Func type)) o
-given_one c s now type None = refl
-given_one c s now type (Some t) = matching_same c s now type t.space t.address
+given_one : (c : Scope) (s : Store) (now : Now) (type : ExternType) → IsGivenType type → (o : Option Thing) →
+    option_and_then (matching (machine c s now) type) o ≡ option_and_then (matching (machine c s no_answers) type) o
+given_one c s now type h None = refl
+given_one c s now type h (Some t) = matching_same c s now type h t.space t.address
 
-pub given_same : (w : ComponentWorld) (m : ValidatedModule) (c : Scope) (s : Store) (now : Now) (arguments : List (List ℕ × List Export)) (is : List ImportType) → AllByRecursion (IsFunctionImport w m) is →
+pub given_same : (w : ComponentWorld) (m : ValidatedModule) (c : Scope) (s : Store) (now : Now) (arguments : List (List ℕ × List Export)) (is : List ImportType) → AllByRecursion (IsGivenImport w m) is →
     map (given_to (machine c s now) arguments) is ≡ map (given_to (machine c s no_answers) arguments) is
 given_same w m c s now arguments [] h = refl
 given_same w m c s now arguments (i ∷ is) h =
-    let SameFor : ExternType → Type 0 =
-    λ ty. option_and_then (matching (machine c s now) ty) (argument_for arguments (type_kind ty) i.module_name i.field) ≡ option_and_then (matching (machine c s no_answers) ty) (argument_for arguments (type_kind ty) i.module_name i.field) in
-    ap₂ (λ x xs. x ∷ xs) (subst SameFor (sym h.0.typed) (given_one c s now h.0.type (argument_for arguments kinds.Func i.module_name i.field))) (given_same w m c s now arguments is h.1)
+    ap₂ (λ x xs. x ∷ xs) (given_one c s now i.ty h.0.given (argument_for arguments (kind_of i.ty) i.module_name i.field)) (given_same w m c s now arguments is h.1)
 
 -- the exports of an instance in a store with other instances
 module _ (s : Store) (core_instances : List (List Export)) (module_instances : List ModuleInstance) (user : ℕ) where
@@ -178,6 +186,7 @@ module _ (s : Store) (core_instances : List (List Export)) (module_instances : L
 
   item_beside : (e : Export) (type : ExternType) → IsUserItem s user e type → IsUserItem with_instances user e type
   item_beside e (externs.Func type) h = record { what = h.what; present = h.present; known = h.known }
+  item_beside e (externs.Memory type) h = h
   item_beside e type h = tt
 
   pub export_beside : (e : Export) (found : List ℕ × ExternType) → IsUserExport s user e found → IsUserExport with_instances user e found
@@ -397,6 +406,7 @@ module _ {w : ComponentWorld} {earlier : List Def} {c : Scope} {s : Store} (a : 
       let k : Keeps c.items (c.items ++ t ∷ []) s s' = record {
         things = things_kept c.items t s;
         code = keeps_same refl;
+        memories = keeps_same refl;
         known = keeps_same refl;
         core_instances = keeps_same refl;
         functions = keeps_grown s.functions r.functions r.more_functions r.functions_grew;
@@ -586,8 +596,8 @@ module _ {w : ComponentWorld} {earlier : List Def} {c : Scope} {s : Store} (a : 
       let found : (xs : List Export) × (all_some (map (core_entry (machine c s no_answers)) entries) ≡ Some xs) × AllZip (IsNamedEntry c.items) entries xs =
       all_some-self (IsNamedEntry c.items) (core_entry (machine c s no_answers)) (IsEntry earlier)
       (λ e k.
-      let at : (x : ℕ) × (address_at spaces.CoreFunc e.index c.items ≡ Some x) = address_there a spaces.CoreFunc e.index k.scoped in
-      (record { space = spaces.CoreFunc; name = e.name; address = at.0 }, rw (k.kind, at.1) refl, record { named = refl; space = rw k.kind refl; at = rw k.kind at.1 }))
+      let at : (x : ℕ) × (address_at (kind_space e.kind) e.index c.items ≡ Some x) = address_there a (kind_space e.kind) e.index k.scoped in
+      (record { space = kind_space e.kind; name = e.name; address = at.0 }, rw at.1 refl, record { named = refl; space = refl; at = at.1 }))
       entries h.each in
       let s' : Store = record s { core_instances = s.core_instances ++ found.0 ∷ [] } in
       quiet_step d c.imports s' t (λ rest now. rw found.1 refl) (keeps_core_instance c.items t s found.0)

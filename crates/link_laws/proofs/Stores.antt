@@ -3,6 +3,7 @@ use Rattle.std.proofs.Common.{None, ◌≡◌, ◌<◌, ◌^◌, ◌+◌, ◌⊎
 use Rattle.std.specs.Prelude.{Contains}
 use Rattle.std.specs.List.{slice_get, flat_map, AllZip, AllByRecursion}
 use Rattle.comp_bytes.specs.Spaces.{kind_space, space_of, sort_space}
+use Rattle.comp_bytes.specs.declared.space.Space.{Space}
 use Rattle.comp_bytes.specs.declared.space.Space.TheVariants as spaces
 use Rattle.standard_kinds.specs.declared.kinds.ExportKind.{ExportKind}
 use Rattle.standard_kinds.specs.declared.kinds.StringEncoding.TheVariants as encodings
@@ -32,7 +33,7 @@ use Rattle.comp_roles.specs.declared.offered.ExternType.TheVariants as externs
 use Rattle.comp_roles.specs.declared.offered.ImportType.{ImportType}
 use Rattle.comp_worlds.specs.WorldContents.{exported_item, function_exported}
 use Rattle.comp_worlds.specs.declared.world.ComponentWorld.{ComponentWorld}
-use Rattle.comp_links.specs.Targets.{Main, ExportRef, WorldFunction, TargetOption, ResourceFunction, New, Rep, Drop, Target, Lowered, ExportOf, OfResource}
+use Rattle.comp_links.specs.Targets.{Main, ExportRef, WorldFunction, TargetOption, ResourceFunction, New, Rep, Drop, Target, Lowered, ExportOf, MainMemory, OfResource}
 use Rattle.comp_links.specs.Targets as targets
 use Rattle.comp_links.specs.Modules.{WorldModule, user_modules, IsModule}
 use Rattle.comp_links.specs.Lists.{IsOriginOf, resource_of, RequiredKey, required_keys, RequiredFunction, functions_required, RequiredType, types_required, type_of_world, ProvidedType, provided_resources}
@@ -67,9 +68,10 @@ pub record IsOpaqueOf (s : Store) (address : ℕ) (type : FuncType) (item : Core
   pub present : slice_get s.code.functions address ≡ Some (Opaque what type)
   pub known : slice_get s.known what ≡ Some item
 
--- what is at the address of an export of this user instance: a function is opaque
+-- what is at the address of an export of this user instance: a function is opaque, and a memory has its type
 abbrev pub IsUserItem : Store → ℕ → Export → ExternType → Type 0
 IsUserItem s user e (externs.Func type) = IsOpaqueOf s e.address type (ExportedBy user e.name)
+IsUserItem s user e (externs.Memory type) = slice_get s.code.memories e.address ≡ Some type
 IsUserItem s user e type = Unit {0}
 
 -- an export of this user instance, which validation found with this name and type
@@ -299,6 +301,17 @@ pub record IsFunctionExported (w : ComponentWorld) (s : Store) (address : ℕ) (
   pub is : IsOpaqueOf s address type (ExportedBy user export_ref.name)
   pub offered : found export_ref.name of.world_module.found.offered ≡ Some (externs.Func type)
 
+-- the memory is this export of a user module, of the type that validation found
+pub record IsMemoryExported (w : ComponentWorld) (s : Store) (address : ℕ) (export_ref : ExportRef) : Type 0 where
+  pub number : ℕ
+  pub of : IsModule w number export_ref.of
+  pub user : ℕ
+  pub instance : IsInstance s user number
+  pub exported : export_of spaces.CoreMemory export_ref.name instance.instance.exports ≡ Some (record { space = spaces.CoreMemory; name = export_ref.name; address = address })
+  pub type : MemoryType
+  pub is : slice_get s.code.memories address ≡ Some type
+  pub offered : found export_ref.name of.world_module.found.offered ≡ Some (externs.Memory type)
+
 -- the memory is what an instance of main exports under this name
 pub record IsMemoryOfMain (s : Store) (address : ℕ) (name : List ℕ) : Type 0 where
   pub user : ℕ
@@ -313,6 +326,9 @@ pub record IsFirstMemory (w : ComponentWorld) (s : Store) (address : ℕ) : Type
   pub type : MemoryType
   pub first : first_memory w.main.exports.exports ≡ Some (name, type)
   pub is : IsMemoryOfMain s address name
+  pub held : MemoryType
+  pub present : slice_get s.code.memories address ≡ Some held
+  pub offered : found name w.main.offered ≡ Some (externs.Memory held)
 
 -- an option is what the target names
 abbrev pub IsOptionHeld : ComponentWorld → Store → HeldOption → TargetOption → Type 0
@@ -367,16 +383,22 @@ abbrev pub IsShimGiven : ComponentWorld → Option ShimsAt → ℕ → Target �
 IsShimGiven w None address target = ⊥
 IsShimGiven w (Some at) address target = IsShimGivenAt w at address target
 
--- it is what the target names, or a shim for it
-abbrev pub Serves : ComponentWorld → Option ShimsAt → Store → ℕ → Target → Type 0
-Serves w shims s address target = IsServedAs w s address target ⊎ IsShimGiven w shims address target
+-- the item of this space is what the target names
+abbrev pub IsServedIn : ComponentWorld → Store → Space → ℕ → Target → Type 0
+IsServedIn w s spaces.CoreFunc address target = IsServedAs w s address target
+IsServedIn w s spaces.CoreMemory address (ExportOf export_ref) = IsMemoryExported w s address export_ref
+IsServedIn w s spaces.CoreMemory address MainMemory = IsFirstMemory w s address
+IsServedIn w s space address target = ⊥
+
+-- it is what the target names, or a function that is a shim for it
+abbrev pub Serves : ComponentWorld → Option ShimsAt → Store → Space → ℕ → Target → Type 0
+Serves w shims s space address target = IsServedIn w s space address target ⊎ ((space ≡ spaces.CoreFunc) × IsShimGiven w shims address target)
 
 -- what an import of a user module is given, by the link table
 pub record IsPlanned (w : ComponentWorld) (shims : Option ShimsAt) (s : Store) (of : WorldModule) (t : Thing) (i : ImportType) : Type 0 where
   pub target : Target
   pub said : link_at w of i.module_name i.field ≡ Some target
-  pub space : t.space ≡ spaces.CoreFunc
-  pub serves : Serves w shims s t.address target
+  pub serves : Serves w shims s t.space t.address target
 
 -- an instance of a user module is given all that the module imports
 abbrev pub IsPlannedUser : ComponentWorld → Option ShimsAt → Store → ModuleInstance → Type 0

@@ -16,11 +16,12 @@ use Rattle.link_laws.proofs.Stores.{IsUserItem, IsUserExport}
 abbrev pub beside_code : Machine → Machine
 beside_code m = record m { store = record m.store { code = record { functions = []; tables = []; memories = [] }; known = [] }; now = record m.now { globals = [] } }
 
--- the second machine has all that the first has, with more core functions, tables and known items at the end
+-- the second machine has all that the first has, with more core functions, tables, memories and known items at the end
 pub record Exports (m n : Machine) : Type 0 where
   pub same : beside_code n ≡ beside_code m
   pub code : KeepsEntries m.store.code.functions n.store.code.functions
   pub tables : KeepsEntries m.store.code.tables n.store.code.tables
+  pub memories : KeepsEntries m.store.code.memories n.store.code.memories
   pub known : KeepsEntries m.store.known n.store.known
 
 one_export : (item : CoreItem) (type : ExternType) (m : Machine) → Exports m (with_export item type m)
@@ -28,11 +29,12 @@ one_export item (externs.Func type) m = record {
   same = refl;
   code = keeps_more m.store.code.functions (Opaque (length m.store.known) type ∷ []);
   tables = keeps_same refl;
+  memories = keeps_same refl;
   known = keeps_more m.store.known (item ∷ []);
 }
-one_export item (externs.Table type) m = record { same = refl; code = keeps_same refl; tables = keeps_more m.store.code.tables (empty_table type.minimum ∷ []); known = keeps_same refl }
-one_export item (externs.Memory type) m = record { same = refl; code = keeps_same refl; tables = keeps_same refl; known = keeps_same refl }
-one_export item (externs.Global type) m = record { same = refl; code = keeps_same refl; tables = keeps_same refl; known = keeps_more m.store.known (item ∷ []) }
+one_export item (externs.Table type) m = record { same = refl; code = keeps_same refl; tables = keeps_more m.store.code.tables (empty_table type.minimum ∷ []); memories = keeps_same refl; known = keeps_same refl }
+one_export item (externs.Memory type) m = record { same = refl; code = keeps_same refl; tables = keeps_same refl; memories = keeps_more m.store.code.memories (type ∷ []); known = keeps_same refl }
+one_export item (externs.Global type) m = record { same = refl; code = keeps_same refl; tables = keeps_same refl; memories = keeps_same refl; known = keeps_more m.store.known (item ∷ []) }
 
 -- ---- what is added doesn't depend on what a run changes, but for the number of globals
 
@@ -61,11 +63,11 @@ one_address (externs.Global type) m n a = a.globals
 
 module _ (user : ℕ) where
   pub all_exports : (es : ExportTypes) (m : Machine) → Exports m (with_exports user es m)
-  all_exports [] m = record { same = refl; code = keeps_same refl; tables = keeps_same refl; known = keeps_same refl }
+  all_exports [] m = record { same = refl; code = keeps_same refl; tables = keeps_same refl; memories = keeps_same refl; known = keeps_same refl }
   all_exports ((name, type) ∷ es) m =
       let first : Exports m (with_export (ExportedBy user name) type m) = one_export (ExportedBy user name) type m in
       let rest : Exports (with_export (ExportedBy user name) type m) (with_exports user es (with_export (ExportedBy user name) type m)) = all_exports es (with_export (ExportedBy user name) type m) in
-      record { same = rest.same ∙ first.same; code = keeps_then first.code rest.code; tables = keeps_then first.tables rest.tables; known = keeps_then first.known rest.known }
+      record { same = rest.same ∙ first.same; code = keeps_then first.code rest.code; tables = keeps_then first.tables rest.tables; memories = keeps_then first.memories rest.memories; known = keeps_then first.known rest.known }
 
   pub all_alike : (es : ExportTypes) (m n : Machine) → Alike m n → Alike (with_exports user es m) (with_exports user es n)
   all_alike [] m n a = a
@@ -85,10 +87,12 @@ module _ (user : ℕ) where
     present = slice_get-end m.store.code.functions (Opaque (length m.store.known) type);
     known = slice_get-end m.store.known (ExportedBy user name);
   }
+  item_added name (externs.Memory type) m = slice_get-end m.store.code.memories type
   item_added name type m = tt
 
   item_unchanged : (m n : Machine) → Exports m n → (e : Export) (type : ExternType) → IsUserItem m.store user e type → IsUserItem n.store user e type
   item_unchanged m n u e (externs.Func type) h = record { what = h.what; present = u.code.at e.address (Opaque h.what type) h.present; known = u.known.at h.what (ExportedBy user e.name) h.known }
+  item_unchanged m n u e (externs.Memory type) h = u.memories.at e.address type h
   item_unchanged m n u e type h = tt
 
   pub each_export : (es : ExportTypes) (m : Machine) → AllZip (IsUserExport (with_exports user es m).store user) (exported_by user es m) es

@@ -146,6 +146,7 @@ is_world = record {
     exported = tt;
     required = (record { exported = (0, omega arith, refl); present = tt }, tt);
   };
+  main_first = (tt, (tt, (tt, tt)));
   adapters = tt;
   adapters_apart = none_apart;
   keys_apart = one_key_apart key;
@@ -236,21 +237,21 @@ new_given : IsEntryFor world Main (ds 7) (record { name = new_r; kind = kinds.Fu
 new_given = record {
   named = refl;
   serves = inl (record { term = terms.OfResource New (DefinedAt 0); is = record { type = 0; made = record { made = refl }; of = r_at_7 }; asked = (refl, sym r_is_first) });
-  encoded = not_true;
+  supplied = record { encoding = not_true; memory = not_true };
 }
 
 rep_given : IsEntryFor world Main (ds 7) (record { name = rep_r; kind = kinds.Func; index = 1 }) (rep_r, imports.ExportedResourceRep key (type_id 0))
 rep_given = record {
   named = refl;
   serves = inl (record { term = terms.OfResource Rep (DefinedAt 0); is = record { type = 0; made = record { made = refl }; of = r_at_7 }; asked = (refl, sym r_is_first) });
-  encoded = not_true;
+  supplied = record { encoding = not_true; memory = not_true };
 }
 
 drop_given : IsEntryFor world Main (ds 7) (record { name = drop_r; kind = kinds.Func; index = 2 }) (drop_r, imports.ExportedResourceDrop key (type_id 0))
 drop_given = record {
   named = refl;
   serves = inl (record { term = terms.OfResource Drop (DefinedAt 0); is = record { type = 0; made = record { made = refl }; of = r_at_7 }; asked = (refl, sym r_is_first) });
-  encoded = not_true;
+  supplied = record { encoding = not_true; memory = not_true };
 }
 
 all_given : IsArgumentFor world Main (ds 7) (record { name = exported_i; instance = 0 }) (exported_i, instances.Names fields)

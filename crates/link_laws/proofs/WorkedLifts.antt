@@ -142,6 +142,7 @@ is_world = record {
     exported = (record { type = externs.Func g_core; offered = refl; fits = refl }, (record { type = externs.Func r_core; offered = refl; fits = refl }, (record { type = externs.Memory memory_type; offered = refl; fits = refl }, (record { type = externs.Func p_core; offered = refl; fits = refl }, tt))));
     required = (record { exported = (0, omega arith, refl); present = (refl, tt) }, tt);
   };
+  main_first = tt;
   adapters = tt;
   adapters_apart = none_apart;
   keys_apart = one_key_apart (keys.Name g);

@@ -131,6 +131,7 @@ is_world = record {
     exported = (record { type = externs.Func plain_core; offered = refl; fits = refl }, (record { type = externs.Func plain_core; offered = refl; fits = refl }, tt));
     required = (record { exported = (0, omega arith, refl); present = (refl, (refl, tt)) }, tt);
   };
+  main_first = tt;
   adapters = tt;
   adapters_apart = none_apart;
   keys_apart = one_key_apart key;

@@ -115,6 +115,7 @@ is_world = record {
     exported = tt;
     required = (record { exported = (0, omega arith, refl); present = tt }, tt);
   };
+  main_first = tt;
   adapters = tt;
   adapters_apart = none_apart;
   keys_apart = one_key_apart key;

@@ -132,6 +132,7 @@ is_world = record {
     exported = (record { type = externs.Memory memory_type; offered = refl; fits = refl }, tt);
     required = tt;
   };
+  main_first = (tt, tt);
   adapters = tt;
   adapters_apart = none_apart;
   keys_apart = no_keys_apart;

@@ -94,7 +94,7 @@ f_given = record {
       record {
         named = refl;
         serves = inr (record { place = 0; shim = only_shim; purpose = OfImport Main role_f; listed = refl; stands_for = stands_for_f; same = refl; in_space = refl; is = record { instance = 0; made = record { made = refl }; of = shims_made 7 refl } });
-        encoded = λ e. refl;
+        supplied = record { encoding = λ e. refl; memory = λ e. cc };
       },
       tt,
     );

@@ -141,6 +141,7 @@ is_world = record {
     exported = (record { type = externs.Func g_core; offered = refl; fits = refl }, tt);
     required = (record { exported = (0, omega arith, refl); present = (refl, tt) }, tt);
   };
+  main_first = (tt, tt);
   adapters = tt;
   adapters_apart = none_apart;
   keys_apart = one_key_apart (keys.Name g);

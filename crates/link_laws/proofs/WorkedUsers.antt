@@ -134,6 +134,7 @@ is_world = record {
     exported = (record { type = externs.Func plain_core; offered = refl; fits = refl }, tt);
     required = (record { exported = (0, omega arith, refl); present = (refl, tt) }, tt);
   };
+  main_first = tt;
   adapters = (
     record {
       core = refl;
@@ -243,7 +244,7 @@ f_offered = record {
       record {
         named = refl;
         serves = inl (record { term = terms.Lowering (root_import 0) plain_tree []; is = record { function = 0; written = []; made = record { made = refl }; of = f_imported_later; with_options = tt }; asked = ((refl, refl), f_as_said, tt) });
-        encoded = λ e. refl;
+        supplied = record { encoding = λ e. refl; memory = λ e. cc };
       },
       tt,
     );

@@ -142,7 +142,7 @@ module _ (w : ComponentWorld) (ds : List Def) where
   -- ---- the instance
 
   one_entry : (e : CoreInlineExport) (s : Shim) → IsFillFor w ds e s → IsEntry ds e
-  one_entry e s h = record { kind = h.function; scoped = term_in_range ds spaces.CoreFunc e.index h.serves.term h.serves.is }
+  one_entry e s h = record { scoped = subst (λ kind. e.index < items_in (kind_space kind) ds) (sym h.function) (term_in_range ds spaces.CoreFunc e.index h.serves.term h.serves.is) }
 
   each_entry : (es : List CoreInlineExport) (ss : List Shim) → AllZip (IsFillFor w ds) es ss → AllByRecursion (IsEntry ds) es
   each_entry [] ss h = tt

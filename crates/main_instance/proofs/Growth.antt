@@ -1,5 +1,5 @@
 -- What was made stays what it is while definitions are added.
-use Rattle.std.proofs.Common.{◌≡◌, ◌<◌, inl, inr, ℕ, Some, None, Option, List, [], ◌∷◌, refl}
+use Rattle.std.proofs.Common.{◌≡◌, ◌<◌, inl, inr, ℕ, Some, None, Option, List, [], ◌∷◌, sym, subst}
 use Rattle.std.specs.List.{AllZip, AllByRecursion}
 use Rattle.comp_lists.proofs.Lists.{AllZip-weaker}
 use Rattle.comp_bytes.proofs.ItemIndices.{in_range}
@@ -7,25 +7,20 @@ use Rattle.comp_bytes.specs.declared.def.Def.{Def}
 use Rattle.comp_bytes.specs.declared.def.CoreInlineExport.{CoreInlineExport}
 use Rattle.comp_bytes.specs.declared.def.CoreArgument.{CoreArgument}
 use Rattle.comp_bytes.specs.declared.space.Space.{Space}
-use Rattle.comp_bytes.specs.declared.space.Space.TheVariants as spaces
 use Rattle.standard_kinds.specs.declared.kinds.ExportKind.{ExportKind}
 use Rattle.standard_kinds.specs.declared.kinds.ExportKind.TheVariants as kinds
 use Rattle.comp_bytes.specs.Spaces.{items_in, kind_space}
 use Rattle.comp_builder.specs.Built.{Built}
 use Rattle.comp_roles.specs.declared.imports.Import.{Import}
 use Rattle.comp_roles.specs.declared.imports.ImportInstance.{ImportInstance}
-use Rattle.comp_worlds.specs.Worlds.{IsImportRole}
 use Rattle.comp_worlds.specs.declared.world.ComponentWorld.{ComponentWorld}
-use Rattle.comp_links.specs.Targets.{UserModule, WorldFunction, TargetOption, Target, OfRoot, OfInterface, ResourceFunction, New, Rep, Drop, Lowered, OfResource}
+use Rattle.comp_links.specs.Targets.{UserModule, Target}
 use Rattle.wit_data.specs.declared.ids.InterfaceId.{InterfaceId}
-use Rattle.wit_data.specs.declared.ids.TypeId.{TypeId}
 use Rattle.root_imports.specs.declared.met_types.MetTypes.{MetTypes}
-use Rattle.comp_links.specs.Links.{lower_options, link_of}
+use Rattle.comp_links.specs.Links.{link_of}
 use Rattle.comp_terms.specs.Terms.{CoreExport, Term, IsInstanceOf, Is}
 use Rattle.comp_terms.specs.Terms as terms
-use Rattle.comp_terms.specs.Planned.{IsTermFor, IsItemFor, IsShimFor, IsGivenFor, IsEntryFor, IsInlineInstanceFor, IsArgumentFor}
-use Rattle.wit_data.specs.declared.worlds.WorldKey.TheVariants as keys
-use Rattle.comp_roles.specs.declared.imports.Import.TheVariants as imports
+use Rattle.comp_terms.specs.Planned.{IsItemFor, IsShimFor, IsGivenFor, IsEntryFor, IsInlineInstanceFor, IsArgumentFor}
 use Rattle.comp_terms.specs.Rules.{IsEntry}
 use Rattle.wit_types.specs.declared.maps.TypeEncodingMaps.{TypeEncodingMaps}
 use Rattle.comp_items.specs.Items.{Extends}
@@ -54,7 +49,7 @@ module _ {w : ComponentWorld} {old new : List Def} (g : Longer old new) where
   IsGivenFor-kept (inr h) = inr (IsShimFor-kept h)
 
   pub IsEntryFor-kept : {of : UserModule} {e : CoreInlineExport} {f : List ℕ × Import} → IsEntryFor w of old e f → IsEntryFor w of new e f
-  IsEntryFor-kept {of} {e} {f} h = record { named = h.named; serves = IsGivenFor-kept h.serves; encoded = h.encoded }
+  IsEntryFor-kept {of} {e} {f} h = record { named = h.named; serves = IsGivenFor-kept h.serves; supplied = h.supplied }
 
   pub IsInlineInstanceFor-kept : {of : UserModule} {b : ℕ} {fields : List (List ℕ × Import)} → IsInlineInstanceFor w of old b fields → IsInlineInstanceFor w of new b fields
   IsInlineInstanceFor-kept {of} {b} {fields} h = record { entries = h.entries; made = at-kept g h.made; each = AllZip-weaker (λ x y. IsEntryFor-kept) h.entries fields h.each }
@@ -71,43 +66,23 @@ shim_instance-kept w (Some instance) g h = instance-kept g h
 pub sources-kept : {w : ComponentWorld} {s : ImportSources} {met : MetTypes} {old new : Built} {maps : TypeEncodingMaps} {instances : List (InterfaceId × ℕ)} → Extends old new → AreSources w s met old.defs maps instances → AreSources w s met new.defs maps instances
 sources-kept {w} {s} {met} {old} {new} {maps} {instances} g h = record { valid = h.valid; user = h.user; imports = FindsImports-kept (longer g) h.imports; used = h.used; shims = h.shims; shim_instance = shim_instance-kept w s.shim_instance (longer g) h.shim_instance; tables = tables_kept w met instances old new maps g h.tables; passed = h.passed; exports = h.exports }
 
--- ---- the entries of an inline instance are core functions
+-- ---- the entries of an inline instance name items
 
-pub entries_in_range : (w : ComponentWorld) (of : UserModule) (ds : List Def) (es : List CoreInlineExport) (fs : List (List ℕ × Import)) → AllByRecursion (λ f. IsImportRole w f.1) fs → AllZip (IsEntryFor w of ds) es fs → AllByRecursion (IsEntry ds) es
-entries_in_range w of ds [] [] r h = tt
-entries_in_range w of ds (e ∷ es) (f ∷ fs) r h = (one e f.1 r.0 h.0.serves, entries_in_range w of ds es fs r.1 h.1)
+pub entries_in_range : (w : ComponentWorld) (of : UserModule) (ds : List Def) (es : List CoreInlineExport) (fs : List (List ℕ × Import)) → AllZip (IsEntryFor w of ds) es fs → AllByRecursion (IsEntry ds) es
+entries_in_range w of ds [] [] h = tt
+entries_in_range w of ds (e ∷ es) (f ∷ fs) h = (record { scoped = given e.kind e.index (link_of w of f.1) h.0.serves }, entries_in_range w of ds es fs h.1)
   where
-    by_kind : (kind : ExportKind) (index : ℕ) (function : WorldFunction) (os : List TargetOption) (t : Term) → Is ds (kind_space kind) index t → IsTermFor w (Lowered function os) t → (kind ≡ kinds.Func) × (index < items_in spaces.CoreFunc ds)
-    by_kind kinds.Func index function os (terms.Lowering origin type written) is asked = (refl, in_range is.made)
-    by_kind kinds.Table index function os (terms.Lowering origin type written) is asked = absurd is
-    by_kind kinds.Memory index function os (terms.Lowering origin type written) is asked = absurd is
-    by_kind kinds.Global index function os (terms.Lowering origin type written) is asked = absurd is
-    by_kind kind index function os t is asked = absurd asked
+    term_in_range : (kind : ExportKind) (index : ℕ) (t : Term) → Is ds (kind_space kind) index t → index < items_in (kind_space kind) ds
+    term_in_range kinds.Func index (terms.Lowering origin type written) is = in_range is.made
+    term_in_range kinds.Func index (terms.OfResource function resource) is = in_range is.made
+    term_in_range kinds.Func index (terms.Exported e) is = subst (λ space. index < items_in space ds) (sym is.0) (in_range is.1.made)
+    term_in_range kinds.Table index (terms.Exported e) is = subst (λ space. index < items_in space ds) (sym is.0) (in_range is.1.made)
+    term_in_range kinds.Memory index (terms.Exported e) is = subst (λ space. index < items_in space ds) (sym is.0) (in_range is.1.made)
+    term_in_range kinds.Global index (terms.Exported e) is = subst (λ space. index < items_in space ds) (sym is.0) (in_range is.1.made)
+    term_in_range kind index t is = absurd is
 
-    of_resource : (kind : ExportKind) (index : ℕ) (function : ResourceFunction) (id : TypeId) (t : Term) → Is ds (kind_space kind) index t → IsTermFor w (OfResource function id) t → (kind ≡ kinds.Func) × (index < items_in spaces.CoreFunc ds)
-    of_resource kinds.Func index function id (terms.OfResource same resource) is asked = (refl, in_range is.made)
-    of_resource kinds.Table index function id (terms.OfResource same resource) is asked = absurd is
-    of_resource kinds.Memory index function id (terms.OfResource same resource) is asked = absurd is
-    of_resource kinds.Global index function id (terms.OfResource same resource) is asked = absurd is
-    of_resource kind index function id t is asked = absurd asked
-
-    own : (e : CoreInlineExport) (role : Import) → IsImportRole w role → IsItemFor w ds (kind_space e.kind) e.index (link_of w of role) → IsEntry ds e
-    own e (imports.WorldFunc (keys.Name text) function abi) r h = let b = by_kind e.kind e.index (OfRoot text) (lower_options w of (imports.WorldFunc (keys.Name text) function abi)) h.term h.is h.asked in record { kind = b.0; scoped = b.1 }
-    own e (imports.InterfaceFunc key id function abi) r h = let b = by_kind e.kind e.index (OfInterface id function) (lower_options w of (imports.InterfaceFunc key id function abi)) h.term h.is h.asked in record { kind = b.0; scoped = b.1 }
-    own e (imports.ImportedResourceDrop key interface id) r h = let b = of_resource e.kind e.index Drop id h.term h.is h.asked in record { kind = b.0; scoped = b.1 }
-    own e (imports.ExportedResourceDrop key id) r h = let b = of_resource e.kind e.index Drop id h.term h.is h.asked in record { kind = b.0; scoped = b.1 }
-    own e (imports.ExportedResourceRep key id) r h = let b = of_resource e.kind e.index Rep id h.term h.is h.asked in record { kind = b.0; scoped = b.1 }
-    own e (imports.ExportedResourceNew key id) r h = let b = of_resource e.kind e.index New id h.term h.is h.asked in record { kind = b.0; scoped = b.1 }
-    own e role r h = absurd r
-
-    func_kind : (kind : ExportKind) → kind_space kind ≡ spaces.CoreFunc → kind ≡ kinds.Func
-    func_kind kinds.Func e = refl
-    func_kind kinds.Table e = cc
-    func_kind kinds.Memory e = cc
-    func_kind kinds.Global e = cc
-
-    one : (e : CoreInlineExport) (role : Import) → IsImportRole w role → IsGivenFor w ds (kind_space e.kind) e.index (link_of w of role) → IsEntry ds e
-    one e role r (inl h) = own e role r h
-    one e role r (inr h) = record { kind = func_kind e.kind h.in_space; scoped = in_range h.is.made }
-entries_in_range w of ds [] (f ∷ fs) r h = absurd h
-entries_in_range w of ds (e ∷ es) [] r h = absurd h
+    given : (kind : ExportKind) (index : ℕ) (target : Target) → IsGivenFor w ds (kind_space kind) index target → index < items_in (kind_space kind) ds
+    given kind index target (inl h) = term_in_range kind index h.term h.is
+    given kind index target (inr h) = subst (λ space. index < items_in space ds) (sym h.in_space) (in_range h.is.made)
+entries_in_range w of ds [] (f ∷ fs) h = absurd h
+entries_in_range w of ds (e ∷ es) [] h = absurd h

@@ -41,7 +41,7 @@ use Rattle.comp_links.specs.Lists.{required_functions}
 use Rattle.comp_links.specs.Modules.{WorldModule, UserImport, import_groups, imports_of_module, module_found, user_imports, user_modules}
 use Rattle.comp_links.specs.Targets.{UserModule as User}
 use Rattle.comp_terms.specs.Planned.{IsEntryFor, IsArgumentFor}
-use Rattle.comp_links.specs.Roles.{IsEncodedImport, encoding_in, field_path, import_encoding, needs_encoding, interface_function, is_named, is_used, is_used_of}
+use Rattle.comp_links.specs.Roles.{IsSuppliedImport, encoding_in, field_path, import_encoding, needs_encoding, interface_function, is_named, is_used, is_used_of}
 use Rattle.comp_terms.specs.Rules.{Grows}
 use Rattle.interface_needs.proofs.Lists.{contains_one, contains_none, contains_cons, contains_first, contains_later, contains_flat, IsInOne, flat_contains, passes_any, all_both}
 use Rattle.shim_targets.proofs.Roles.{import_role as role_of_import}
@@ -67,7 +67,7 @@ module _ (w : ComponentWorld) (of : User) (m : ValidatedModule) (there : module_
   pub encoding_found : (role : Import) (o : Option StringEncoding) → encoding_in role m ≡ o → import_encoding w of role ≡ o
   encoding_found role o e = ap (option_and_then (encoding_in role)) there ∙ e
 
-  pub has_encoding : (role : Import) (encoding : StringEncoding) → encoding_in role m ≡ Some encoding → IsEncodedImport w of role
+  pub has_encoding : (role : Import) (encoding : StringEncoding) → encoding_in role m ≡ Some encoding → IsSuppliedImport w of role
   has_encoding role encoding e needed = ap is_some (encoding_found role (Some encoding) e)
 
   -- what it lacks is a cause
@@ -197,8 +197,7 @@ pub serve_group : (w : ComponentWorld) → IsEncodable w → (u : UserModule) �
     AllZip (IsEntryFor w (user_of u.which) mid.defs) entries fields → IsDistinct bytes_eq (map (λ e. e.name) entries) → new.defs ≡ mid.defs ++ defs.Item (items.CoreExports entries) ∷ [] →
     IsAt new.defs spaces.CoreInstance index (defs.Item (items.CoreExports entries)) → ServesGroup w (user_of u.which) mid.defs new.defs (record { name = name; instance = index }) (name, instances.Names fields)
 serve_group w valid u h mid new index entries name fields present each apart appended at =
-    let right : IsImportGroup w (name, instances.Names fields) = group_right w valid u h (name, instances.Names fields) present in
-    let g : Grows w mid.defs new.defs [] = Grows-by (defs.Item (items.CoreExports entries)) appended (record { each = entries_in_range w (user_of u.which) mid.defs entries fields right.1 each; apart = apart }) in
+    let g : Grows w mid.defs new.defs [] = Grows-by (defs.Item (items.CoreExports entries)) appended (record { each = entries_in_range w (user_of u.which) mid.defs entries fields each; apart = apart }) in
     record {
       grows = g;
       serves = record { named = refl; serves = record { entries = entries; made = at; each = AllZip-weaker (λ x y. IsEntryFor-kept (longer_by g)) entries fields each } };
@@ -246,26 +245,26 @@ group_refused w of m there done rest g split e h =
 -- ---- encodings
 
 fields_encoded : (w : ComponentWorld) (of : User) (ds : List Def) (name : List ℕ) (es : List CoreInlineExport) (fs : List (List ℕ × Import)) → AllZip (IsEntryFor w of ds) es fs →
-    AllByRecursion (λ (i : CoreImport). IsEncodedImport w of i.role) (map (λ f. record { module_name = name; field = f.0; role = f.1 }) fs)
+    AllByRecursion (λ (i : CoreImport). IsSuppliedImport w of i.role) (map (λ f. record { module_name = name; field = f.0; role = f.1 }) fs)
 fields_encoded w of ds name [] [] h = tt
 fields_encoded w of ds name (e ∷ es) (f ∷ fs) h = (h.0.encoded, fields_encoded w of ds name es fs h.1)
 fields_encoded w of ds name [] (f ∷ fs) h = absurd h
 fields_encoded w of ds name (e ∷ es) [] h = absurd h
 
 each_encoded : (w : ComponentWorld) (of : User) (ds : List Def) (as' : List CoreArgument) (gs : List (List ℕ × ImportInstance)) → AllZip (IsArgumentFor w of ds) as' gs →
-    AllByRecursion (λ (i : CoreImport). IsEncodedImport w of i.role) (flat_map imports_from gs)
+    AllByRecursion (λ (i : CoreImport). IsSuppliedImport w of i.role) (flat_map imports_from gs)
 each_encoded w of ds [] [] h = tt
 each_encoded w of ds (a ∷ as') (g ∷ gs) h =
-    all_both (λ (i : CoreImport). IsEncodedImport w of i.role) (imports_from g) (flat_map imports_from gs)
+    all_both (λ (i : CoreImport). IsSuppliedImport w of i.role) (imports_from g) (flat_map imports_from gs)
     (fields_encoded w of ds g.0 h.0.serves.entries (fields_of g.1) h.0.serves.each) (each_encoded w of ds as' gs h.1)
 each_encoded w of ds [] (g ∷ gs) h = absurd h
 each_encoded w of ds (a ∷ as') [] h = absurd h
 
-by_module : (w : ComponentWorld) (of : User) (is : List CoreImport) → AllByRecursion (λ (i : CoreImport). IsEncodedImport w of i.role) is → AllByRecursion (λ (i : UserImport). IsEncodedImport w i.of i.core.role) (imports_by of is)
+by_module : (w : ComponentWorld) (of : User) (is : List CoreImport) → AllByRecursion (λ (i : CoreImport). IsSuppliedImport w of i.role) is → AllByRecursion (λ (i : UserImport). IsSuppliedImport w i.of i.core.role) (imports_by of is)
 by_module w of [] h = tt
 by_module w of (i ∷ is) h = (h.0, by_module w of is h.1)
 
 -- where each import of a module is given its item, each has an encoding
 pub groups_encoded : (w : ComponentWorld) (of : User) (ds : List Def) (as' : List CoreArgument) (gs : List (List ℕ × ImportInstance)) → AllZip (IsArgumentFor w of ds) as' gs →
-    AllByRecursion (λ (i : UserImport). IsEncodedImport w i.of i.core.role) (imports_by of (flat_map imports_from gs))
+    AllByRecursion (λ (i : UserImport). IsSuppliedImport w i.of i.core.role) (imports_by of (flat_map imports_from gs))
 groups_encoded w of ds as' gs h = by_module w of (flat_map imports_from gs) (each_encoded w of ds as' gs h)

@@ -8,7 +8,7 @@ ghost use Rattle.std.specs.Str.{bytes_eq};
 ghost use Rattle.comp_bytes.specs.Spaces.{kind_space};
 ghost use Rattle.comp_bytes.specs.declared.space.Space.TheVariants.{CoreFunc};
 ghost use Rattle.comp_items.specs.Items.{Extends};
-ghost use Rattle.comp_links.specs.Roles.{IsEncodedImport};
+ghost use Rattle.comp_links.specs.Roles.{IsSuppliedImport};
 ghost use Rattle.comp_links.specs.Links.{link_of};
 ghost use Rattle.comp_links.specs.Targets.{OfRoot, OfInterface, Drop, Lowered, OfResource};
 ghost use Rattle.comp_lists.specs.Found.{found};
@@ -179,7 +179,7 @@ impl ImportSources<'_> {
         ensures extends { Extends root.old.items root.new.items }
         ensures grows { OnOk result (Grows root.old.world.now root.old.items.defs root.new.items.defs []) }
         ensures given { IfOk result (λ index. IsGivenFor root.old.world.now root.new.items.defs CoreFunc index (link_of root.old.world.now (user_of self.now.user.which) (imports.WorldFunc (keys.Name name.now) function.now abi))) }
-        ensures encoded { OnOk result (IsEncodedImport root.old.world.now (user_of self.now.user.which) (imports.WorldFunc (keys.Name name.now) function.now abi)) }
+        ensures encoded { OnOk result (IsSuppliedImport root.old.world.now (user_of self.now.user.which) (imports.WorldFunc (keys.Name name.now) function.now abi)) }
         ensures cause { IfErr result (IsCauseAmong root.old.world.now (record { of = user_of self.now.user.which; core = import_at place.entry (imports.WorldFunc (keys.Name name.now) function.now abi) } ∷ []) []) }
     {
         let alloc = root.items.allocator();
@@ -210,7 +210,7 @@ impl ImportSources<'_> {
         ensures extends { Extends root.old.items root.new.items }
         ensures grows { OnOk result (Grows root.old.world.now root.old.items.defs root.new.items.defs []) }
         ensures given { IfOk result (λ index. IsGivenFor root.old.world.now root.new.items.defs CoreFunc index (link_of root.old.world.now (user_of self.now.user.which) (imports.InterfaceFunc key.now interface function.now abi))) }
-        ensures encoded { OnOk result (IsEncodedImport root.old.world.now (user_of self.now.user.which) (imports.InterfaceFunc key.now interface function.now abi)) }
+        ensures encoded { OnOk result (IsSuppliedImport root.old.world.now (user_of self.now.user.which) (imports.InterfaceFunc key.now interface function.now abi)) }
         ensures cause { IfErr result (IsCauseAmong root.old.world.now (record { of = user_of self.now.user.which; core = import_at place.entry (imports.InterfaceFunc key.now interface function.now abi) } ∷ []) []) }
     {
         let alloc = root.items.allocator();
@@ -237,7 +237,7 @@ impl ImportSources<'_> {
         ensures extends { Extends root.old.items root.new.items }
         ensures grows { OnOk result (Grows root.old.world.now root.old.items.defs root.new.items.defs []) }
         ensures made { IfOk result (λ item. IsGivenFor root.old.world.now root.new.items.defs (kind_space item.0) item.1 (link_of root.old.world.now (user_of self.now.user.which) import.now)) }
-        ensures encoded { OnOk result (IsEncodedImport root.old.world.now (user_of self.now.user.which) import.now) }
+        ensures encoded { OnOk result (IsSuppliedImport root.old.world.now (user_of self.now.user.which) import.now) }
         ensures cause { IfErr result (IsCauseAmong root.old.world.now (record { of = user_of self.now.user.which; core = record { module_name = «module».now; field = field.now; role = import.now } } ∷ []) []) }
     {
         let place = CorePlace { module, field };

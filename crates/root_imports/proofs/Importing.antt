@@ -65,6 +65,9 @@ role_is_imported w text (imports.InterfaceFunc key interface function abi) same 
 role_is_imported w text (imports.ExportedResourceDrop key id) same h = cc
 role_is_imported w text (imports.ExportedResourceRep key id) same h = cc
 role_is_imported w text (imports.ExportedResourceNew key id) same h = cc
+role_is_imported w text (imports.MainModuleMemory type) same h = cc
+role_is_imported w text (imports.MainModuleExport name kind) same h = cc
+role_is_imported w text (imports.AdapterExport adapter name type) same h = cc
 role_is_imported w text role same h = absurd h
 
 field_is_imported : (w : ComponentWorld) (text : List ℕ) (fs : List (List ℕ × Import)) → AllByRecursion (λ f. IsImportRole w f.1) fs → is_any_import text fs ≡ true → IsWorldImport w text

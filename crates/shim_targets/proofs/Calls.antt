@@ -205,4 +205,7 @@ role_back w ok of (imports.ImportedResourceDrop key interface id) h encoding kin
 role_back w ok of (imports.ExportedResourceDrop key id) h encoding kind e = absurd (none-some kind e)
 role_back w ok of (imports.ExportedResourceRep key id) h encoding kind e = absurd (none-some kind e)
 role_back w ok of (imports.ExportedResourceNew key id) h encoding kind e = absurd (none-some kind e)
+role_back w ok of (imports.MainModuleMemory type) h encoding kind e = absurd (none-some kind e)
+role_back w ok of (imports.MainModuleExport name export) h encoding kind e = absurd (none-some kind e)
+role_back w ok of (imports.AdapterExport adapter name type) h encoding kind e = absurd (none-some kind e)
 role_back w ok of role h encoding kind e = absurd h

@@ -1,7 +1,10 @@
--- Every shim of a world stands for a core import of a user module, or for a destructor that one exports.
+-- Every shim of a world stands for a core import of a user module, for a function that an adapter exports and another module imports, or
+-- for a destructor that a user module exports.
 use Rattle.std.proofs.Common.{◌∙◌, ℕ, suc, Bool, true, false, List, [], ◌∷◌, ◌++◌, Contains, if◌then◌else◌, inr, Option, Some, None, ◌≡◌, refl, sym, ap, subst}
 use Rattle.std.specs.List.{AllByRecursion, flat_map, list_any}
+use Rattle.std.specs.Option.{option_map}
 use Rattle.comp_lists.proofs.Lists.{AllByRecursion-contains}
+use Rattle.core_types.specs.declared.types.FuncType.{FuncType}
 use Rattle.wit_data.specs.declared.worlds.WorldKey.TheVariants as keys
 use Rattle.comp_roles.specs.CoreImports.{CoreImport}
 use Rattle.comp_roles.specs.declared.exports.Export.{Export}
@@ -9,22 +12,26 @@ use Rattle.comp_roles.specs.declared.exports.Export.TheVariants as exports
 use Rattle.comp_roles.specs.declared.imports.Import.{Import}
 use Rattle.comp_roles.specs.declared.imports.Import.TheVariants as imports
 use Rattle.comp_roles.specs.declared.libraries.MainOrAdapter.{MainOrAdapter}
+use Rattle.comp_roles.specs.declared.offered.ExternType.TheVariants as externs
 use Rattle.comp_worlds.specs.Encodable.{IsEncodable}
+use Rattle.comp_worlds.specs.Offered.{AdapterOffers}
 use Rattle.comp_worlds.specs.Typed.{FitsExport}
 use Rattle.comp_worlds.specs.Uses.{imports_of}
 use Rattle.comp_worlds.specs.WorldContents.{items_of}
 use Rattle.comp_worlds.specs.Worlds.{IsImportRole}
 use Rattle.comp_worlds.specs.declared.world.ComponentWorld.{ComponentWorld}
 use Rattle.comp_worlds.specs.declared.world.ValidatedModule.{ValidatedModule}
+use Rattle.comp_worlds.specs.declared.world.WorldAdapter.{WorldAdapter}
 use Rattle.shim_plan.specs.Needed.{import_needs, export_needs, needs_of, needed}
-use Rattle.shim_plan.specs.Plans.{same_kind, numbered, lacking}
+use Rattle.shim_plan.specs.Plans.{same_kind, shim_at, numbered, lacking}
 use Rattle.shim_plan.specs.declared.kinds.ShimKind.{ShimKind}
 use Rattle.shim_plan.specs.declared.needs.NeededShim.{NeededShim}
 use Rattle.world_shims.specs.WorldShims.{modules_in, shims_of}
 use Rattle.comp_links.specs.Links.{module_of}
 use Rattle.comp_links.specs.Modules.{WorldModule, module_found, user_modules, user_imports}
-use Rattle.comp_links.specs.Targets.{UserModule}
-use Rattle.shim_targets.specs.ShimTargets.{which_of, StandsForOne}
+use Rattle.comp_links.specs.Targets.{UserModule, Adapter}
+use Rattle.shim_targets.specs.ShimTargets.{which_of, StandsForOne, StandsForExport}
+use Rattle.shim_targets.proofs.AdapterNeeds.{adapter_shim, adapter_needed, numbers_back}
 use Rattle.shim_targets.proofs.CallNeeds.{Stands, call_needs_stand}
 use Rattle.shim_targets.proofs.Calls.{world_call, interface_call}
 use Rattle.shim_targets.proofs.Lists.{all_both, all_flat}
@@ -47,6 +54,23 @@ lacking_stand w known (n ∷ ns) h = by (list_any (same_kind n.kind) known) (lac
 
 -- ---- the imports
 
+-- a function of numbers has the shim of its adapter's export, which stands for it
+adapter_stands : (w : ComponentWorld) (adapter function : List ℕ) (type : FuncType) (h : AdapterOffers w adapter function type) (i : CoreImport) (place : ℕ) →
+    StandsForExport w (shim_at place (adapter_shim i adapter function type)) (record { of = Adapter adapter; name = function })
+adapter_stands w adapter function type h i place =
+    let of : UserModule = Adapter adapter in
+    let found : module_found w of ≡ Some h.of.info = ap (option_map (λ (a : WorldAdapter). a.info)) h.named in
+    record {
+      is = record {
+        of_kind = refl;
+        exporting = record { of = of; found = h.of.info };
+        listed = found_listed w of h.of.info found;
+        same = refl;
+        typed = h.offered ∙ ap (λ (t : FuncType). Some (externs.Func t)) (sym (numbers_back type h.numbers));
+      };
+      options = refl;
+    }
+
 module _ (w : ComponentWorld) (ok : IsEncodable w) (of : UserModule) (m : ValidatedModule) (found : module_found w of ≡ Some m) where
   import_stands : (name field : List ℕ) (role : Import) → Contains (user_imports w) (record { of = of; core = record { module_name = name; field = field; role = role } }) → IsImportRole w role →
       AllByRecursion (Stands w) (import_needs w (which_of of) m (record { module_name = name; field = field; role = role }))
@@ -60,6 +84,11 @@ module _ (w : ComponentWorld) (ok : IsEncodable w) (of : UserModule) (m : Valida
   import_stands name field (imports.ExportedResourceDrop key id) there h = tt
   import_stands name field (imports.ExportedResourceRep key id) there h = tt
   import_stands name field (imports.ExportedResourceNew key id) there h = tt
+  import_stands name field (imports.MainModuleMemory type) there h = tt
+  import_stands name field (imports.MainModuleExport export kind) there h = tt
+  import_stands name field (imports.AdapterExport adapter function type) there h =
+      subst (AllByRecursion (Stands w)) (sym (adapter_needed (record { module_name = name; field = field; role = imports.AdapterExport adapter function type }) adapter function type h.numbers))
+      (λ place. inr (record { of = Adapter adapter; name = function }, adapter_stands w adapter function type h (record { module_name = name; field = field; role = imports.AdapterExport adapter function type }) place), tt)
   import_stands name field role there h = absurd h
 
   -- ---- the destructors

@@ -11,9 +11,11 @@ pub mod NoOptions
 pub mod Unencoded
 pub mod Synchronous
 pub mod FoundShims
+mod AdapterNeeds
 pub mod EachShim
 pub mod ByKind
 pub mod GivenShims
 pub mod NeededShims
 pub mod DestructorShims
+pub mod AdapterShims
 pub mod Worked

@@ -2,14 +2,14 @@
 use Rattle.std.proofs.Common.{◌≡◌, ℕ, false, List, [], ◌∷◌, map, Contains, None, is_some, refl, ap}
 use Rattle.std.specs.List.{AllByRecursion, flat_map}
 use Rattle.comp_lists.proofs.Lists.{AllByRecursion-contains}
-use Rattle.comp_roles.specs.CoreImports.{CoreImport, fields_of, imports_from}
-use Rattle.comp_roles.specs.Lookups.{first_export, is_task_hook, memory_of_import, memory_of_fields, imported_memory}
+use Rattle.comp_roles.specs.CoreImports.{CoreImport, imports_from}
+use Rattle.comp_roles.specs.Lookups.{first_export, is_task_hook, imported_memory}
 use Rattle.comp_roles.specs.declared.exports.Export.{Export}
 use Rattle.comp_roles.specs.declared.exports.Export.TheVariants as exports
 use Rattle.comp_roles.specs.declared.imports.Import.{Import}
-use Rattle.comp_roles.specs.declared.imports.Import.TheVariants as imports
 use Rattle.comp_roles.specs.declared.imports.ImportInstance.{ImportInstance}
 use Rattle.comp_roles.specs.declared.imports.ImportInstance.TheVariants as instances
+use Rattle.comp_worlds.proofs.NotOfMain.{no_memory_imported}
 use Rattle.comp_worlds.specs.Encodable.{IsEncodable}
 use Rattle.comp_worlds.specs.Uses.{imports_of}
 use Rattle.comp_worlds.specs.Worlds.{IsImportRole, IsImportGroup, IsExportRole}
@@ -40,24 +40,8 @@ import_role w ok i c =
     groups [] h = tt
     groups (g ∷ gs) h = all_both (λ (i : CoreImport). IsImportRole w i.role) (imports_from g) (flat_map imports_from gs) (group g h.0) (groups gs h.1)
 
-no_memory_role : (w : ComponentWorld) (role : Import) → IsImportRole w role → memory_of_import role ≡ None
-no_memory_role w (imports.MainModuleMemory type) h = absurd h
-no_memory_role w role h = refl
-
-no_memory_field : (w : ComponentWorld) (fields : List (List ℕ × Import)) → AllByRecursion (λ f. IsImportRole w f.1) fields → memory_of_fields fields ≡ None
-no_memory_field w [] h = refl
-no_memory_field w (f ∷ fields) h = rw (no_memory_role w f.1 h.0) (no_memory_field w fields h.1)
-
-no_memory_group : (w : ComponentWorld) (g : List ℕ × ImportInstance) → IsImportGroup w g → memory_of_fields (fields_of g.1) ≡ None
-no_memory_group w (name, instances.Names fields) h = no_memory_field w fields h.1
-no_memory_group w (name, instances.Whole which) h = absurd h
-
-no_memory_groups : (w : ComponentWorld) (groups : List (List ℕ × ImportInstance)) → AllByRecursion (IsImportGroup w) groups → imported_memory groups ≡ None
-no_memory_groups w [] h = refl
-no_memory_groups w (g ∷ groups) h = rw (no_memory_group w g h.0) (no_memory_groups w groups h.1)
-
 pub no_memory : (w : ComponentWorld) → IsEncodable w → is_some (imported_memory w.main.imports.modules) ≡ false
-no_memory w ok = ap is_some (no_memory_groups w w.main.imports.modules ok.valid.main.import_roles)
+no_memory w ok = ap is_some (no_memory_imported w ok.valid)
 
 -- ---- exports
 

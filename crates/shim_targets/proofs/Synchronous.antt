@@ -32,4 +32,7 @@ role_waits w (imports.ImportedResourceDrop key interface id) h = refl
 role_waits w (imports.ExportedResourceDrop key id) h = refl
 role_waits w (imports.ExportedResourceRep key id) h = refl
 role_waits w (imports.ExportedResourceNew key id) h = refl
+role_waits w (imports.MainModuleMemory type) h = refl
+role_waits w (imports.MainModuleExport name kind) h = refl
+role_waits w (imports.AdapterExport adapter name type) h = refl
 role_waits w role h = absurd h

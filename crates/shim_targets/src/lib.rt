@@ -7,6 +7,7 @@
 //! `proofs/Roles.antt` (what the roles of a world exclude), `proofs/Lowered.antt` and `proofs/Calls.antt` (how a function that a
 //! module calls is lowered). The laws are in
 //! `proofs/NoOptions.antt`, `proofs/Unencoded.antt`, `proofs/FoundShims.antt`, `proofs/EachShim.antt`, `proofs/ByKind.antt`,
-//! `proofs/GivenShims.antt` and `proofs/NeededShims.antt` (imports) and `proofs/DestructorShims.antt`; `proofs/Worked.antt` has
+//! `proofs/GivenShims.antt` and `proofs/NeededShims.antt` (imports), `proofs/DestructorShims.antt`, and `proofs/AdapterNeeds.antt` and `proofs/AdapterShims.antt` (functions that adapters
+//! export); `proofs/Worked.antt` has
 //! examples.
 #![tactic(auto)]

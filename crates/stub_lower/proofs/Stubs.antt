@@ -94,6 +94,7 @@ valid_of bytes core = record {
     exported = tt;
     required = tt;
   };
+  main_first = (tt, tt);
   adapters = tt;
   adapters_apart = none;
   keys_apart = no_key;

@@ -5,7 +5,7 @@ use Rattle.std.specs.List.{AllByRecursion}
 use Rattle.comp_items.specs.Items.{Extends}
 use Rattle.comp_items.proofs.Extending.{extends_none}
 use Rattle.comp_items.proofs.Remembering.{longer}
-use Rattle.comp_links.specs.Roles.{IsEncodedImport}
+use Rattle.comp_links.specs.Roles.{IsSuppliedImport}
 use Rattle.comp_terms.specs.Rules.{Grows, resources_marked, users_marked}
 use Rattle.comp_links.specs.Modules.{UserImport, user_imports}
 use Rattle.comp_worlds.specs.Encodable.{IsEncodable}
@@ -187,7 +187,7 @@ returns-clause-made c =
 pub returns-clause-encoded : goal.returns-clause-encoded
 returns-clause-encoded c =
     let k : RootMoved c.args.root.now.world.now c.args.root.now c.define_exported_types.new.root = typed c.args.root.now c.encode_shim_instantiation.new.root c.define_exported_types.new.root c.requires.made.tables c.in_ok-shim_instance.ensures.same c.in_ok-shim_instance.ensures.extends c.in_ok-define_exported_types.ensures.moved in
-    subst (λ x. AllByRecursion (λ (i : UserImport). IsEncodedImport x.now i.of i.core.role) (user_imports x.now)) k.world c.in_ok-instances.ensures.encoded
+    subst (λ x. AllByRecursion (λ (i : UserImport). IsSuppliedImport x.now i.of i.core.role) (user_imports x.now)) k.world c.in_ok-instances.ensures.encoded
 
 pub returns-clause-lowered : goal.returns-clause-lowered
 returns-clause-lowered c =
@@ -195,7 +195,7 @@ returns-clause-lowered c =
     let k : RootMoved w c.args.root.now c.define_exported_types.new.root = typed c.args.root.now c.encode_shim_instantiation.new.root c.define_exported_types.new.root c.requires.made.tables c.in_ok-shim_instance.ensures.same c.in_ok-shim_instance.ensures.extends c.in_ok-define_exported_types.ensures.moved in
     let world : c.instantiate_users.new.root.world ≡ c.args.root.now.world = ap (λ (r : Root). r.world) c.in_ok-instances.ensures.same ∙ k.world in
     let offered : AllByRecursion (HasShimOptions w) (shims_of w) = subst (λ x. AllByRecursion (HasShimOptions x.now) (shims_of x.now)) world c.in_ok-encode_indirect_lowerings.ensures.offered in
-    all_lowered w c.requires.made.valid offered (subst (λ x. AllByRecursion (λ (i : UserImport). IsEncodedImport x.now i.of i.core.role) (user_imports x.now)) k.world c.in_ok-instances.ensures.encoded)
+    all_lowered w c.requires.made.valid offered (subst (λ x. AllByRecursion (λ (i : UserImport). IsSuppliedImport x.now i.of i.core.role) (user_imports x.now)) k.world c.in_ok-instances.ensures.encoded)
 
 pub returns-clause-ordered : goal.returns-clause-ordered
 returns-clause-ordered c = subst (λ x. AreExportsInOrder x.now) (ap (λ (r : Root). r.world) c.in_ok-shim_instance.ensures.same) c.in_ok-define_exported_types.ensures.ordered
