@@ -100,6 +100,23 @@ impl ComponentItems {
         }
     }
 
+    /// The item of this kind that a core instance exports under this name: an alias that was added before, or a new one.
+    ///
+    /// The debug name of a new one is the name of the export.
+    pub fn core_export(
+        &mut self,
+        instance: u32,
+        kind: ExportKind,
+        name: &str,
+    ) -> Result<u32, BuildFault>
+        ensures extends { Extends self.old self.new }
+        ensures adds { OnOk result (MayAdd self.old.defs self.new.defs (Def.Item (Item.Alias (Alias.CoreExport kind instance name.now)))) }
+        ensures exported { IfOk result (λ index. (number : ℕ) → IsInstanceOf self.old.defs instance number → IsExported self.new.defs index (record { of = number; kind = kind; name = name.now })) }
+        ensures cause { IfErr result (Full (kind_space kind) self.old.defs) }
+    {
+        self.named_export(name, instance, kind, name)
+    }
+
     /// The function that a core instance exports under this name: an alias that was added before, or a new one with this debug
     /// name.
     pub fn named_function(

@@ -7,10 +7,11 @@ use Rattle.comp_bytes.specs.declared.def.Def.{Def}
 use Rattle.comp_items.proofs.Kept.{Longer, instance-kept}
 use Rattle.comp_items.proofs.Remembering.{longer}
 use Rattle.comp_worlds.specs.declared.world.ComponentWorld.{ComponentWorld}
-use Rattle.core_options.specs.MainOptions.{IsUser, AreUserInstances, memory_name}
+use Rattle.core_options.specs.MainOptions.{user_of, IsUser, AreUserInstances, memory_name}
 use Rattle.main_fixup.specs.Filling.{AreFillSources}
 use Rattle.main_fixup.specs.declared.sources.FillSources.{FillSources}
-use Rattle.main_instance.specs.Sources.{AreSources, IsShimInstance}
+use Rattle.main_instance.specs.Sources.{AreSources, IsShimInstance, IsMainInstance}
+use Rattle.comp_links.specs.Targets.{Main}
 use Rattle.main_instance.specs.declared.instances.ImportSources.{ImportSources}
 use Rattle.root_imports.proofs.Finding.{FindsImports-kept}
 use Rattle.root_imports.proofs.Growth.{tables_kept}
@@ -30,8 +31,8 @@ use Rattle.core_instances.specs.declared.own_resources.ShimSources.{ShimSources}
 use Rattle.core_instances.specs.Instances.{AreImportsMade}
 
 module _ {w : ComponentWorld} {met : MetTypes} {old new : Built} {maps : TypeEncodingMaps} {instances : List (InterfaceId × ℕ)} (g : Extends old new) where
-  pub sources_after : (s : ImportSources) → IsUser w s.user → AreImportsMade w s.functions.now met old.defs maps instances → AreExportsMet w met → s.shims.now ≡ shims_of w → IsShimInstance w new.defs s.shim_instance → AreSources w s met new.defs maps instances
-  sources_after s user h exports planned there = record { user = user; exports = exports; valid = h.valid; imports = FindsImports-kept (longer g) h.imports; used = h.used; shims = planned; shim_instance = there; tables = tables_kept w met instances old new maps g h.tables; passed = h.passed }
+  pub sources_after : (s : ImportSources) → IsUser w s.user → AreImportsMade w s.functions.now met old.defs maps instances → AreExportsMet w met → s.shims.now ≡ shims_of w → IsShimInstance w new.defs s.shim_instance → user_of s.user.which ≡ Main → AreSources w s met new.defs maps instances
+  sources_after s user h exports planned there main = record { main = subst (λ of. IsMainInstance new.defs of s.main) (sym main) tt; user = user; exports = exports; valid = h.valid; imports = FindsImports-kept (longer g) h.imports; used = h.used; shims = planned; shim_instance = there; tables = tables_kept w met instances old new maps g h.tables; passed = h.passed }
 
   pub fills_after : (s : FillSources) → AreImportsMade w s.functions.now met old.defs maps instances → AreUserInstances w new.defs s.instances.now → option_copied s.memory ≡ memory_name w → AreFillSources w s met new.defs maps instances
   fills_after s h made memory = record { valid = h.valid; imports = FindsImports-kept (longer g) h.imports; used = h.used; memory = memory; users = made; tables = tables_kept w met instances old new maps g h.tables; passed = h.passed }

@@ -65,11 +65,11 @@ module _ (w : ComponentWorld) (ok : IsEncodable w) (has : AllByRecursion (HasShi
   one of name field role there encoded false e = without (record { of = of; core = record { module_name = name; field = field; role = role } }) there e
   one of name field (imports.WorldFunc key function abi) there encoded true e =
       let i : UserImport = record { of = of; core = record { module_name = name; field = field; role = imports.WorldFunc key function abi } } in
-      let n = known (import_encoding w of i.core.role) (encoded refl) in
+      let n = known (import_encoding w of i.core.role) (encoded.encoding refl) in
       through i there e n.0 n.1 _ refl
   one of name field (imports.InterfaceFunc key id function abi) there encoded true e =
       let i : UserImport = record { of = of; core = record { module_name = name; field = field; role = imports.InterfaceFunc key id function abi } } in
-      let n = known (import_encoding w of i.core.role) (encoded refl) in
+      let n = known (import_encoding w of i.core.role) (encoded.encoding refl) in
       through i there e n.0 n.1 _ refl
   one of name field role there encoded true e = absurd (true≢false (sym e))
 

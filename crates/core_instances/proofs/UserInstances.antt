@@ -34,14 +34,14 @@ use Rattle.core_options.specs.MainOptions.{user_of_name, user_of, IsUser, IsAdap
 use Rattle.core_options.specs.declared.modules.UserModule.{UserModule}
 use Rattle.core_options.specs.declared.modules.UserInstances.{UserInstances}
 use Rattle.interface_needs.proofs.Lists.{all_both, contains_later}
-use Rattle.main_instance.specs.Sources.{AreSources, IsShimInstance}
+use Rattle.main_instance.specs.Sources.{AreSources, IsShimInstance, IsBehindMain, IsMainInstance}
 use Rattle.main_instance.specs.declared.instances.ImportSources.{ImportSources}
 use Rattle.main_instance.proofs.Growth.{sources-kept}
 use Rattle.root_imports.specs.Imports.{FindsImports, FindsUsed}
 use Rattle.root_imports.specs.declared.met_types.MetTypes.{MetTypes}
 use Rattle.wit_types.specs.declared.maps.TypeEncodingMaps.{TypeEncodingMaps}
 use Rattle.wit_data.specs.declared.ids.InterfaceId.{InterfaceId}
-use Rattle.core_instances.specs.Instances.{HasUserModules, IsMainUser, IsSameUser, IsEncodedUser, AreEncodedAdapters, AreAdapterInstances, AllAdapters}
+use Rattle.core_instances.specs.Instances.{HasUserModules, IsMainUser, IsSameUser, IsSuppliedUser, AreSuppliedAdapters, AreAdapterInstances, AllAdapters}
 use Rattle.core_instances.proofs.Counting.{no_fewer}
 
 abbrev Adapters : Type 0
@@ -67,7 +67,7 @@ pub record AdaptersSoFar (w : ComponentWorld) (old new : Built) (table : List (L
   pub extends : Extends old new
   pub grows : Grows w old.defs new.defs (map InstanceOf (range_with_len 1 (length done)))
   pub made : AreAdapterInstances w new.defs table done
-  pub encoded : AreEncodedAdapters w done
+  pub encoded : AreSuppliedAdapters w done
 
 pub adapters_start : (w : ComponentWorld) (old : Built) → AdaptersSoFar w old old [] 0 w.adapters
 adapters_start w old = record {
@@ -92,7 +92,7 @@ at_end (z ∷ zs) x zero y e P before last = before 0 e
 at_end (z ∷ zs) x (suc n) y e P before last = at_end zs x n y e (λ k v. P (suc k) v) (λ k h. before (suc k) h) last
 
 pub adapters_step : (w : ComponentWorld) (old mid new : Built) (table : List (List ℕ × ℕ)) (last : ℕ) (rest : Adapters) (a : List ℕ × WorldAdapter) (index : ℕ) → AdaptersSoFar w old mid table last (a ∷ rest) → Extends mid new →
-    Grows w mid.defs new.defs (InstanceOf (last + 1) ∷ []) → IsInstanceOf new.defs index (last + 1) → IsEncodedUser w (Adapter a.0) a.1.info → AdaptersSoFar w old new (table ++ (a.0, index) ∷ []) (last + 1) rest
+    Grows w mid.defs new.defs (InstanceOf (last + 1) ∷ []) → IsInstanceOf new.defs index (last + 1) → IsSuppliedUser w (Adapter a.0) a.1.info → AdaptersSoFar w old new (table ++ (a.0, index) ∷ []) (last + 1) rest
 adapters_step w old mid new table last rest a index h extends grows made encoded =
     let many : length (h.done ++ a ∷ []) ≡ length h.done + 1 = length-append h.done (a ∷ []) in
     let number : 1 + length h.done ≡ last + 1 = let c = h.count in omega (arith, c) in
@@ -112,7 +112,7 @@ adapters_step w old mid new table last rest a index h extends grows made encoded
             at_end table (a.0, index) place e at (λ k v. IsInstanceOf new.defs v.1 (suc k)) (λ k there. instance-kept (longer_by grows) (h.made.each k e there))
             (subst (λ n. IsInstanceOf new.defs index n) (let c = h.count in omega (arith, c, places)) made);
       };
-      encoded = all_both (λ (x : List ℕ × WorldAdapter). IsEncodedUser w (Adapter x.0) x.1.info) h.done (a ∷ []) h.encoded (encoded, tt);
+      encoded = all_both (λ (x : List ℕ × WorldAdapter). IsSuppliedUser w (Adapter x.0) x.1.info) h.done (a ∷ []) h.encoded (encoded, tt);
     }
   where
     length_map : (es : List (List ℕ × ℕ)) → length (map (λ (e : List ℕ × ℕ). e.0) es) ≡ length es
@@ -130,7 +130,7 @@ adapters_all w old new table last rest apart h e =
       grows = subst (λ (d : Adapters). Grows w old.defs new.defs (map InstanceOf (range_with_len 1 (length d)))) all h.grows;
       made = subst (AreAdapterInstances w new.defs table) all h.made;
       apart = apart;
-      encoded = subst (AreEncodedAdapters w) all h.encoded;
+      encoded = subst (AreSuppliedAdapters w) all h.encoded;
     }
 
 -- ---- the next adapter
@@ -267,7 +267,7 @@ instances_found w ds u main apart h = record { main = main; adapters = each }
         }
 
 -- each of their imports that needs a string encoding has one
-one_encoded : (w : ComponentWorld) (m : WorldModule) → IsEncodedUser w m.of m.found → AllByRecursion (λ (i : UserImport). IsSuppliedImport w i.of i.core.role) (imports_of_module m)
+one_encoded : (w : ComponentWorld) (m : WorldModule) → IsSuppliedUser w m.of m.found → AllByRecursion (λ (i : UserImport). IsSuppliedImport w i.of i.core.role) (imports_of_module m)
 one_encoded w m h = mapped (imports_of m.found) h
   where
     mapped : (is : List CoreImport) → AllByRecursion (λ (i : CoreImport). IsSuppliedImport w m.of i.role) is → AllByRecursion (λ (i : UserImport). IsSuppliedImport w i.of i.core.role) (map (λ i. record { of = m.of; core = i }) is)
@@ -278,13 +278,13 @@ pub user_encoded : (w : ComponentWorld) (of : User) (is : List CoreImport) → A
 user_encoded w of [] h = tt
 user_encoded w of (i ∷ is) h = (h.0, user_encoded w of is h.1)
 
-adapters_encoded : (w : ComponentWorld) (adapters : Adapters) → AreEncodedAdapters w adapters → AllByRecursion (λ (i : UserImport). IsSuppliedImport w i.of i.core.role) (flat_map imports_of_module (map adapter_module adapters))
+adapters_encoded : (w : ComponentWorld) (adapters : Adapters) → AreSuppliedAdapters w adapters → AllByRecursion (λ (i : UserImport). IsSuppliedImport w i.of i.core.role) (flat_map imports_of_module (map adapter_module adapters))
 adapters_encoded w [] h = tt
 adapters_encoded w (a ∷ adapters) h =
     all_both (λ (i : UserImport). IsSuppliedImport w i.of i.core.role) (imports_of_module (adapter_module a)) (flat_map imports_of_module (map adapter_module adapters))
     (one_encoded w (adapter_module a) h.0) (adapters_encoded w adapters h.1)
 
-pub all_encoded : (w : ComponentWorld) → IsEncodedUser w Main w.main → AreEncodedAdapters w w.adapters → AllByRecursion (λ (i : UserImport). IsSuppliedImport w i.of i.core.role) (user_imports w)
+pub all_encoded : (w : ComponentWorld) → IsSuppliedUser w Main w.main → AreSuppliedAdapters w w.adapters → AllByRecursion (λ (i : UserImport). IsSuppliedImport w i.of i.core.role) (user_imports w)
 all_encoded w main adapters =
     let m : WorldModule = record { of = Main; found = w.main } in
     all_both (λ (i : UserImport). IsSuppliedImport w i.of i.core.role) (imports_of_module m) (flat_map imports_of_module (map adapter_module w.adapters)) (one_encoded w m main) (adapters_encoded w w.adapters adapters)
@@ -318,8 +318,8 @@ next_is_user w table last a h u number named found =
     }
 
 -- its imports have what they need, where those of the same user have it
-pub next_encoded : (w : ComponentWorld) (a : List ℕ × WorldAdapter) (u v : UserModule) → IsSameUser u v → module_name u.which ≡ Some a.0 → u.found.now ≡ a.1.info → IsEncodedUser w (user_of v.which) v.found.now → IsEncodedUser w (Adapter a.0) a.1.info
-next_encoded w a u v s named found h = subst (λ (m : ValidatedModule). IsEncodedUser w (Adapter a.0) m) (s.found ∙ found) (subst (λ (of : User). IsEncodedUser w of v.found.now) (ap user_of_name (s.named ∙ named)) h)
+pub next_encoded : (w : ComponentWorld) (a : List ℕ × WorldAdapter) (u v : UserModule) → IsSameUser u v → module_name u.which ≡ Some a.0 → u.found.now ≡ a.1.info → IsSuppliedUser w (user_of v.which) v.found.now → IsSuppliedUser w (Adapter a.0) a.1.info
+next_encoded w a u v s named found h = subst (λ (m : ValidatedModule). IsSuppliedUser w (Adapter a.0) m) (s.found ∙ found) (subst (λ (of : User). IsSuppliedUser w of v.found.now) (ap user_of_name (s.named ∙ named)) h)
 
 -- the same user
 pub same_is_user : (w : ComponentWorld) (u v : UserModule) → IsSameUser u v → IsUser w u → IsUser w v
@@ -333,10 +333,18 @@ same_is_user w u v s h =
 pub main_same : (w : ComponentWorld) (u v : UserModule) → IsSameUser u v → IsMainUser w u → IsMainUser w v
 main_same w u v s h = record { number = s.number ∙ h.number; named = s.named ∙ h.named; found = s.found ∙ h.found }
 
+-- main's instance is there for the imports of an adapter
+pub behind_main : (ds : List Def) (own : ImportSources) (main : ℕ) → own.main ≡ Some main → IsInstanceOf ds main 0 → IsMainInstance ds (user_of own.user.which) own.main
+behind_main ds own main is made = by (user_of own.user.which)
+  where
+    by : (of : User) → IsMainInstance ds of own.main
+    by Main = tt
+    by (Adapter name) = subst (IsBehindMain ds) (sym is) made
+
 -- what is there for the imports of one module is there for those of another
 pub own_sources : {w : ComponentWorld} {s : ImportSources} {met : MetTypes} {old new : Built} {maps : TypeEncodingMaps} {instances : List (InterfaceId × ℕ)} → Extends old new → AreSources w s met old.defs maps instances →
-    (own : ImportSources) → IsUser w own.user → own.functions.now ≡ s.functions.now → own.shims.now ≡ s.shims.now → own.shim_instance ≡ s.shim_instance → AreSources w own met new.defs maps instances
-own_sources {w} {s} {met} {old} {new} {maps} {instances} g h own user functions shims instance =
+    (own : ImportSources) → IsUser w own.user → own.functions.now ≡ s.functions.now → own.shims.now ≡ s.shims.now → own.shim_instance ≡ s.shim_instance → IsMainInstance new.defs (user_of own.user.which) own.main → AreSources w own met new.defs maps instances
+own_sources {w} {s} {met} {old} {new} {maps} {instances} g h own user functions shims instance main =
     let k : AreSources w s met new.defs maps instances = sources-kept g h in
     record {
       valid = k.valid;
@@ -345,6 +353,7 @@ own_sources {w} {s} {met} {old} {new} {maps} {instances} g h own user functions 
       used = subst (FindsUsed w) (sym functions) k.used;
       shims = shims ∙ k.shims;
       shim_instance = subst (IsShimInstance w new.defs) (sym instance) k.shim_instance;
+      main = main;
       tables = k.tables;
       passed = k.passed;
       exports = k.exports;
@@ -358,8 +367,8 @@ main_there w ds u h m =
     let number = m.number in
     omega (arith, there, number)
 
-pub main_encoded : (w : ComponentWorld) (u : UserModule) → IsMainUser w u → IsEncodedUser w (user_of u.which) u.found.now → IsEncodedUser w Main w.main
-main_encoded w u m h = subst (λ (v : ValidatedModule). IsEncodedUser w Main v) m.found (subst (λ (of : User). IsEncodedUser w of u.found.now) (ap user_of_name m.named) h)
+pub main_encoded : (w : ComponentWorld) (u : UserModule) → IsMainUser w u → IsSuppliedUser w (user_of u.which) u.found.now → IsSuppliedUser w Main w.main
+main_encoded w u m h = subst (λ (v : ValidatedModule). IsSuppliedUser w Main v) m.found (subst (λ (of : User). IsSuppliedUser w of u.found.now) (ap user_of_name m.named) h)
 
 pub main_grows : (w : ComponentWorld) (old mid new : List Def) (u : UserModule) → IsMainUser w u → Grows w old mid (InstanceOf u.number ∷ []) → Grows w mid new [] → Grows w old new (InstanceOf 0 ∷ [])
 main_grows w old mid new u m g more = Grows-then (subst (λ n. Grows w old mid (InstanceOf n ∷ [])) m.number g) more

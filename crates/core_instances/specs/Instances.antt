@@ -80,12 +80,12 @@ pub record IsSameUser (u v : UserModule) : Type 0 where
   pub found : v.found.now ≡ u.found.now
 
 -- the imports of a user module that need a string encoding have one
-abbrev pub IsEncodedUser : ComponentWorld → User → ValidatedModule → Type 0
-IsEncodedUser w of m = AllByRecursion (λ i. IsSuppliedImport w of i.role) (imports_of m)
+abbrev pub IsSuppliedUser : ComponentWorld → User → ValidatedModule → Type 0
+IsSuppliedUser w of m = AllByRecursion (λ i. IsSuppliedImport w of i.role) (imports_of m)
 
 -- those of the adapters
-abbrev pub AreEncodedAdapters : ComponentWorld → List (List ℕ × WorldAdapter) → Type 0
-AreEncodedAdapters w adapters = AllByRecursion (λ a. IsEncodedUser w (Adapter a.0) a.1.info) adapters
+abbrev pub AreSuppliedAdapters : ComponentWorld → List (List ℕ × WorldAdapter) → Type 0
+AreSuppliedAdapters w adapters = AllByRecursion (λ a. IsSuppliedUser w (Adapter a.0) a.1.info) adapters
 
 -- the instances of the first of these adapters are found by their names
 pub record AreAdapterInstances (w : ComponentWorld) (ds : List Def) (table : List (List ℕ × ℕ)) (adapters : List (List ℕ × WorldAdapter)) : Type 0 where
@@ -97,7 +97,7 @@ pub record AllAdapters (w : ComponentWorld) (old new : List Def) (table : List (
   pub grows : Grows w old new (map InstanceOf (range_with_len 1 (length w.adapters)))
   pub made : AreAdapterInstances w new table w.adapters
   pub apart : IsDistinct bytes_eq (keys_of w.adapters)
-  pub encoded : AreEncodedAdapters w w.adapters
+  pub encoded : AreSuppliedAdapters w w.adapters
 
 -- ---- types of exported interfaces
 

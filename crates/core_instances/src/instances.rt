@@ -47,7 +47,8 @@ fn fill_sources<'a>(
 /// `functions` has the root functions that were imported, by their names. After a refusal the definitions that were made until then
 /// stay.
 ///
-/// `E9` where an import of a function has no string encoding, `E7` where a function is lowered with a memory and main exports none,
+/// `E9` where an import of a function has no string encoding, `E7` where a function is lowered with a memory, or an import is main's
+/// memory, and main exports none,
 /// `E8` where it is lowered with a realloc and there is none for the module, and `E11` where an exported interface uses types of another
 /// one that isn't exported before it.
 pub fn encode_core_instantiation(
@@ -62,7 +63,7 @@ pub fn encode_core_instantiation(
     ensures ordered { OnOk result (AreExportsInOrder root.old.world.now) }
     ensures met { OnOk result (AreExportsMet root.old.world.now root.new.met) }
     ensures made { IfOk result (AreUserInstances root.old.world.now root.new.items.defs) }
-    ensures encoded { OnOk result (AllByRecursion (λ (i : UserImport). IsSuppliedImport root.old.world.now i.of i.core.role) (user_imports root.old.world.now)) }
+    ensures supplied { OnOk result (AllByRecursion (λ (i : UserImport). IsSuppliedImport root.old.world.now i.of i.core.role) (user_imports root.old.world.now)) }
     ensures lowered { OnOk result (AllByRecursion (HasLowerOptions root.old.world.now) (user_imports root.old.world.now)) }
     ensures cause { IfErr result (IsCause root.old.world.now) }
 {
@@ -74,7 +75,7 @@ pub fn encode_core_instantiation(
     };
     define_exported_types(root, shims_made)?;
     let world = root.world;
-    let sources = sources_of(main_user(world), functions, &shims, shim_instance);
+    let sources = sources_of(main_user(world), functions, &shims, shim_instance, None);
     let instances = instantiate_users(root, &sources)?;
     let sources = fill_sources(functions, memory_name(world), &instances);
     encode_indirect_lowerings(root, &sources, &shims, shim_instance, debug_names)?;

@@ -12,7 +12,7 @@ ghost use Rattle.comp_links.specs.Targets.{Main};
 ghost use Rattle.comp_terms.specs.Rules.{Grows, InstanceOf, users_marked};
 ghost use Rattle.comp_terms.specs.Terms.{IsInstanceOf};
 ghost use Rattle.comp_worlds.specs.Lookups.{module_name};
-ghost use Rattle.core_instances.specs.Instances.{HasUserModules, IsMainUser, IsSameUser, IsEncodedUser, AllAdapters};
+ghost use Rattle.core_instances.specs.Instances.{HasUserModules, IsMainUser, IsSameUser, IsSuppliedUser, AllAdapters};
 ghost use Rattle.core_options.specs.Causes.{IsCause};
 ghost use Rattle.core_options.specs.MainOptions.{user_of, AreUserInstances};
 ghost use Rattle.main_instance.specs.Sources.{AreSources};
@@ -35,23 +35,26 @@ pub(crate) fn main_user(world: &ComponentWorld) -> UserModule<'_>
     }
 }
 
-/// What the imports of a user module are given: root functions that were imported, and shims with their instance.
+/// What the imports of a user module are given: root functions that were imported, shims with their instance, and main's instance.
 pub(crate) fn sources_of<'a>(
     user: UserModule<'a>,
     functions: &'a Keyed<Text, u32>,
     shims: &'a Shims,
     shim_instance: Option<u32>,
+    main: Option<u32>,
 ) -> ImportSources<'a>
     ensures user { IsSameUser user.entry result.user }
     ensures functions { result.functions.now ≡ functions.now }
     ensures shims { result.shims.now ≡ shims.now }
     ensures instance { result.shim_instance ≡ shim_instance }
+    ensures main { result.main ≡ main }
 {
     ImportSources {
         user,
         functions,
         shims,
         shim_instance,
+        main,
     }
 }
 
@@ -71,7 +74,7 @@ fn next_user<'a>(last: u32, name: &'a Text, adapter: &'a WorldAdapter) -> UserMo
 
 /// Makes the instance of a user module. `debug` is its debug name.
 ///
-/// `E9` where an import of a function has no string encoding.
+/// `E7` where an import is main's memory and main exports none, `E9` where an import of a function has no string encoding.
 fn instantiate_user(
     root: &mut RootScope<'_, ComponentWorld>,
     sources: &ImportSources<'_>,
@@ -83,7 +86,7 @@ fn instantiate_user(
     ensures extends { Extends root.old.items root.new.items }
     ensures grows { OnOk result (Grows root.old.world.now root.old.items.defs root.new.items.defs (InstanceOf sources.now.user.number ∷ [])) }
     ensures made { IfOk result (λ index. IsInstanceOf root.new.items.defs index sources.now.user.number) }
-    ensures encoded { OnOk result (IsEncodedUser root.old.world.now (user_of sources.now.user.which) sources.now.user.found.now) }
+    ensures supplied { OnOk result (IsSuppliedUser root.old.world.now (user_of sources.now.user.which) sources.now.user.found.now) }
     ensures cause { IfErr result (IsCause root.old.world.now) }
 {
     let arguments = sources.arguments(root)?;
@@ -105,7 +108,7 @@ fn instantiate_main(
     ensures extends { Extends root.old.items root.new.items }
     ensures grows { OnOk result (Grows root.old.world.now root.old.items.defs root.new.items.defs (InstanceOf 0 ∷ [])) }
     ensures made { IfOk result (λ index. IsInstanceOf root.new.items.defs index 0) }
-    ensures encoded { OnOk result (IsEncodedUser root.old.world.now Main root.old.world.now.main) }
+    ensures supplied { OnOk result (IsSuppliedUser root.old.world.now Main root.old.world.now.main) }
     ensures cause { IfErr result (IsCause root.old.world.now) }
 {
     let index = instantiate_user(root, sources, "main")?;
@@ -114,12 +117,14 @@ fn instantiate_main(
     Ok(index)
 }
 
-/// Makes the instances of the adapters, in order.
+/// Makes the instances of the adapters, in order. `main` is main's instance.
 fn instantiate_adapters(
     root: &mut RootScope<'_, ComponentWorld>,
     sources: &ImportSources<'_>,
+    main: u32,
 ) -> Result<Keyed<Text, u32>, StateFault>
     requires sources { AreSources root.old.world.now sources.now root.old.met root.old.items.defs root.old.maps root.old.instances }
+    requires made { IsInstanceOf root.old.items.defs main 0 }
     requires there { HasUserModules root.old.world.now root.old.items.defs }
     ensures same { root.new ≡ record root.old { items = root.new.items } }
     ensures extends { Extends root.old.items root.new.items }
@@ -138,6 +143,7 @@ fn instantiate_adapters(
             sources.functions,
             sources.shims,
             sources.shim_instance,
+            Some(main),
         );
         let index = instantiate_user(root, &own, name.as_str())?;
         table.insert(key, index)?;
@@ -149,7 +155,7 @@ fn instantiate_adapters(
 /// Makes the instances of the user modules: main's, with an alias of the memory that it exports, if it exports one, and then those of
 /// the adapters in order.
 ///
-/// `E9` where an import of a function has no string encoding.
+/// `E7` where an import is main's memory and main exports none, `E9` where an import of a function has no string encoding.
 pub(crate) fn instantiate_users(
     root: &mut RootScope<'_, ComponentWorld>,
     sources: &ImportSources<'_>,
@@ -161,10 +167,10 @@ pub(crate) fn instantiate_users(
     ensures extends { Extends root.old.items root.new.items }
     ensures grows { OnOk result (Grows root.old.world.now root.old.items.defs root.new.items.defs (users_marked root.old.world.now)) }
     ensures made { IfOk result (AreUserInstances root.old.world.now root.new.items.defs) }
-    ensures encoded { OnOk result (AllByRecursion (λ (i : UserImport). IsSuppliedImport root.old.world.now i.of i.core.role) (user_imports root.old.world.now)) }
+    ensures supplied { OnOk result (AllByRecursion (λ (i : UserImport). IsSuppliedImport root.old.world.now i.of i.core.role) (user_imports root.old.world.now)) }
     ensures cause { IfErr result (IsCause root.old.world.now) }
 {
     let main = instantiate_main(root, sources)?;
-    let adapters = instantiate_adapters(root, sources)?;
+    let adapters = instantiate_adapters(root, sources, main)?;
     Ok(UserInstances { main, adapters })
 }

@@ -1,5 +1,5 @@
 -- What a core import is given: its shim, or what the link table names.
-use Rattle.std.proofs.Common.{◌≡◌, ℕ, List, [], Some, None, refl, sym, subst, inl, inr}
+use Rattle.std.proofs.Common.{◌≡◌, ◌∙◌, ℕ, List, [], Some, None, is_some, refl, sym, ap, subst, inl, inr, true≢false}
 use Rattle.std.proofs.lemmas.Option.{slice_get_within}
 use Rattle.std.specs.List.{AllByRecursion}
 use Rattle.standard_kinds.specs.declared.kinds.StringEncoding.{StringEncoding}
@@ -20,9 +20,9 @@ use Rattle.comp_worlds.specs.declared.world.ComponentWorld.{ComponentWorld}
 use Rattle.comp_links.specs.Links.{link_of, lower_options}
 use Rattle.comp_links.specs.Modules.{UserImport, user_imports}
 use Rattle.comp_links.specs.Roles.{import_encoding}
-use Rattle.comp_links.specs.Targets.{UserModule as User, OfRoot, OfInterface, Lowered}
-use Rattle.comp_terms.specs.Generated.{shims_number, OfImport}
-use Rattle.comp_terms.specs.Planned.{IsItemFor, IsGivenFor}
+use Rattle.comp_links.specs.Targets.{UserModule as User, Adapter, OfRoot, OfInterface, Lowered, ExportOf}
+use Rattle.comp_terms.specs.Generated.{shims_number, OfImport, OfExport}
+use Rattle.comp_terms.specs.Planned.{IsItemFor, IsShimFor, IsGivenFor}
 use Rattle.comp_items.specs.Items.{MayAdd}
 use Rattle.comp_terms.specs.Rules.{Grows, IsLowerOptionRight}
 use Rattle.comp_terms.specs.Terms.{IsInstanceOf, IsExported}
@@ -31,12 +31,13 @@ use Rattle.shim_plan.specs.Plans.{shim_of}
 use Rattle.shim_plan.specs.declared.kinds.ShimKind.{ShimKind}
 use Rattle.shim_plan.specs.declared.shims.Shim.{Shim}
 use Rattle.world_shims.specs.WorldShims.{shims_of}
-use Rattle.std.specs.Prelude.{Contains}
+use Rattle.std.specs.Prelude.{Contains, IsSome}
 use Rattle.shim_targets.specs.ShimTargets.{kind_of_import}
 use Rattle.shim_targets.proofs.FoundShims.{found_shim}
 use Rattle.shim_targets.proofs.GivenShims.{given_shim}
 use Rattle.shim_targets.proofs.NeededShims.{direct}
-use Rattle.main_instance.specs.Sources.{IsShimAlias}
+use Rattle.main_instance.specs.Sources.{IsShimAlias, adapter_kind}
+use Rattle.shim_targets.proofs.AdapterShims.{given_adapter}
 
 -- no options keep the rule of a lowering
 pub no_options_right : (ds : List Def) (options : List CanonicalOption) → options ≡ [] → AllByRecursion (IsLowerOptionRight ds) options
@@ -86,3 +87,22 @@ pub interface_given : (w : ComponentWorld) → IsEncodable w → (of : User) (mo
     shim_of kind (shims_of w) ≡ None → IsItemFor w ds spaces.CoreFunc index (Lowered (OfInterface id function) []) → IsGivenFor w ds spaces.CoreFunc index (link_of w of (imports.InterfaceFunc key id function abi))
 interface_given w ok of module_name field key id function abi present encoding encoded kind of_kind ds index none h =
     inl (subst (λ os. IsItemFor w ds spaces.CoreFunc index (Lowered (OfInterface id function) os)) (sym (no_options_given w ok (interface_import of module_name field key id function abi) present encoding encoded kind of_kind ds index none)) h)
+
+-- the shim of an adapter's export stands for it
+pub adapter_given : (w : ComponentWorld) → IsEncodable w → (adapter function : List ℕ) (ds : List Def) (index : ℕ) → IsShimAlias w ds (adapter_kind adapter function) (Some index) → IsShimFor w ds spaces.CoreFunc index (ExportOf (record { of = Adapter adapter; name = function }))
+adapter_given w ok adapter function ds index h =
+    let f = found_shim w ok (adapter_kind adapter function) h.0 h.1 in
+    record {
+      place = f.0;
+      shim = h.0;
+      purpose = OfExport (record { of = Adapter adapter; name = function });
+      listed = f.1;
+      stands_for = given_adapter w ok adapter function h.0 h.1;
+      same = refl;
+      in_space = refl;
+      is = subst (λ n. IsExported ds index (record { of = shims_number w; kind = kinds.Func; name = n })) f.3 h.2;
+    }
+
+-- a shim that is found is there
+pub shim_not_missing : (w : ComponentWorld) (ds : List Def) (kind : ShimKind) → IsSome (shim_of kind (shims_of w)) → IsShimAlias w ds kind None → ⊥
+shim_not_missing w ds kind there none = true≢false (sym there ∙ ap is_some none)

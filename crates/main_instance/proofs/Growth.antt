@@ -14,7 +14,8 @@ use Rattle.comp_builder.specs.Built.{Built}
 use Rattle.comp_roles.specs.declared.imports.Import.{Import}
 use Rattle.comp_roles.specs.declared.imports.ImportInstance.{ImportInstance}
 use Rattle.comp_worlds.specs.declared.world.ComponentWorld.{ComponentWorld}
-use Rattle.comp_links.specs.Targets.{UserModule, Target}
+use Rattle.comp_links.specs.Targets.{UserModule, Main, Adapter, Target}
+use Rattle.core_options.specs.MainOptions.{user_of}
 use Rattle.wit_data.specs.declared.ids.InterfaceId.{InterfaceId}
 use Rattle.root_imports.specs.declared.met_types.MetTypes.{MetTypes}
 use Rattle.comp_links.specs.Links.{link_of}
@@ -30,7 +31,7 @@ use Rattle.comp_items.proofs.Kept.{Longer, at-kept, instance-kept, exported-kept
 use Rattle.root_imports.proofs.Growth.{tables_kept}
 use Rattle.root_imports.proofs.Finding.{FindsImports-kept}
 use Rattle.main_instance.specs.declared.instances.ImportSources.{ImportSources}
-use Rattle.main_instance.specs.Sources.{AreSources, IsShimInstance}
+use Rattle.main_instance.specs.Sources.{AreSources, IsShimInstance, IsBehindMain, IsMainInstance}
 
 pub ruleset growing = (extends_none, extends_same, extends_then)
 
@@ -63,8 +64,16 @@ shim_instance-kept : (w : ComponentWorld) {old new : List Def} (instance : Optio
 shim_instance-kept w None g h = h
 shim_instance-kept w (Some instance) g h = instance-kept g h
 
+behind_main-kept : {old new : List Def} (instance : Option ℕ) → Longer old new → IsBehindMain old instance → IsBehindMain new instance
+behind_main-kept None g h = absurd h
+behind_main-kept (Some instance) g h = instance-kept g h
+
+main_instance-kept : {old new : List Def} (of : UserModule) (instance : Option ℕ) → Longer old new → IsMainInstance old of instance → IsMainInstance new of instance
+main_instance-kept Main instance g h = tt
+main_instance-kept (Adapter name) instance g h = behind_main-kept instance g h
+
 pub sources-kept : {w : ComponentWorld} {s : ImportSources} {met : MetTypes} {old new : Built} {maps : TypeEncodingMaps} {instances : List (InterfaceId × ℕ)} → Extends old new → AreSources w s met old.defs maps instances → AreSources w s met new.defs maps instances
-sources-kept {w} {s} {met} {old} {new} {maps} {instances} g h = record { valid = h.valid; user = h.user; imports = FindsImports-kept (longer g) h.imports; used = h.used; shims = h.shims; shim_instance = shim_instance-kept w s.shim_instance (longer g) h.shim_instance; tables = tables_kept w met instances old new maps g h.tables; passed = h.passed; exports = h.exports }
+sources-kept {w} {s} {met} {old} {new} {maps} {instances} g h = record { valid = h.valid; user = h.user; imports = FindsImports-kept (longer g) h.imports; used = h.used; shims = h.shims; shim_instance = shim_instance-kept w s.shim_instance (longer g) h.shim_instance; main = main_instance-kept (user_of s.user.which) s.main (longer g) h.main; tables = tables_kept w met instances old new maps g h.tables; passed = h.passed; exports = h.exports }
 
 -- ---- the entries of an inline instance name items
 

@@ -4,3 +4,4 @@ pub mod Interfaces
 pub mod Giving
 pub mod Instantiating
 mod OwnHandles
+pub mod OfMain

@@ -41,7 +41,7 @@ use Rattle.comp_links.specs.Lists.{required_functions}
 use Rattle.comp_links.specs.Modules.{WorldModule, UserImport, import_groups, imports_of_module, module_found, user_imports, user_modules}
 use Rattle.comp_links.specs.Targets.{UserModule as User}
 use Rattle.comp_terms.specs.Planned.{IsEntryFor, IsArgumentFor}
-use Rattle.comp_links.specs.Roles.{IsSuppliedImport, encoding_in, field_path, import_encoding, needs_encoding, interface_function, is_named, is_used, is_used_of}
+use Rattle.comp_links.specs.Roles.{IsSuppliedImport, encoding_in, field_path, import_encoding, needs_encoding, interface_function, is_named, is_used, is_used_of, is_main_memory}
 use Rattle.comp_terms.specs.Rules.{Grows}
 use Rattle.interface_needs.proofs.Lists.{contains_one, contains_none, contains_cons, contains_first, contains_later, contains_flat, IsInOne, flat_contains, passes_any, all_both}
 use Rattle.shim_targets.proofs.Roles.{import_role as role_of_import}
@@ -67,8 +67,8 @@ module _ (w : ComponentWorld) (of : User) (m : ValidatedModule) (there : module_
   pub encoding_found : (role : Import) (o : Option StringEncoding) → encoding_in role m ≡ o → import_encoding w of role ≡ o
   encoding_found role o e = ap (option_and_then (encoding_in role)) there ∙ e
 
-  pub has_encoding : (role : Import) (encoding : StringEncoding) → encoding_in role m ≡ Some encoding → IsSuppliedImport w of role
-  has_encoding role encoding e needed = ap is_some (encoding_found role (Some encoding) e)
+  pub has_encoding : (role : Import) (encoding : StringEncoding) → encoding_in role m ≡ Some encoding → (IsTrue (is_main_memory role) → ⊥) → IsSuppliedImport w of role
+  has_encoding role encoding e other = record { encoding = λ needed. ap is_some (encoding_found role (Some encoding) e); memory = λ memory. absurd (other memory) }
 
   -- what it lacks is a cause
   pub unencoded : (i : CoreImport) → IsTrue (needs_encoding i.role) → (e : StateFault) → IsUnencoded (encoding_in i.role m) (field_path i.module_name i.field) e → IsCauseAmong w (record { of = of; core = i } ∷ []) [] e
@@ -247,7 +247,7 @@ group_refused w of m there done rest g split e h =
 fields_encoded : (w : ComponentWorld) (of : User) (ds : List Def) (name : List ℕ) (es : List CoreInlineExport) (fs : List (List ℕ × Import)) → AllZip (IsEntryFor w of ds) es fs →
     AllByRecursion (λ (i : CoreImport). IsSuppliedImport w of i.role) (map (λ f. record { module_name = name; field = f.0; role = f.1 }) fs)
 fields_encoded w of ds name [] [] h = tt
-fields_encoded w of ds name (e ∷ es) (f ∷ fs) h = (h.0.encoded, fields_encoded w of ds name es fs h.1)
+fields_encoded w of ds name (e ∷ es) (f ∷ fs) h = (h.0.supplied, fields_encoded w of ds name es fs h.1)
 fields_encoded w of ds name [] (f ∷ fs) h = absurd h
 fields_encoded w of ds name (e ∷ es) [] h = absurd h
 

@@ -18,17 +18,18 @@ use Rattle.comp_worlds.specs.Worlds.{IsOwnResource}
 use Rattle.comp_worlds.specs.declared.world.ComponentWorld.{ComponentWorld}
 use Rattle.comp_links.specs.Modules.{UserImport}
 use Rattle.comp_links.specs.Roles.{is_used_of}
-use Rattle.comp_links.specs.Targets.{UserModule as User}
+use Rattle.comp_links.specs.Targets.{UserModule as User, Main, Adapter}
 use Rattle.comp_terms.specs.Generated.{shims_number}
 use Rattle.comp_terms.specs.Terms.{IsInstanceOf, IsExported}
 use Rattle.shim_plan.specs.Plans.{shim_of}
 use Rattle.shim_plan.specs.declared.kinds.ShimKind.{ShimKind}
+use Rattle.shim_plan.specs.declared.kinds.ShimKind.TheVariants as kinds_of_shims
 use Rattle.shim_plan.specs.declared.shims.Shim.{Shim}
 use Rattle.world_shims.specs.WorldShims.{shims_of}
 use Rattle.root_imports.specs.RootScopes.{AreTablesRight, ArePassed}
 use Rattle.root_imports.specs.Imports.{FindsImports, FindsUsed}
 use Rattle.root_imports.specs.Met.{has_types}
-use Rattle.core_options.specs.MainOptions.{IsUser}
+use Rattle.core_options.specs.MainOptions.{IsUser, user_of}
 use Rattle.main_instance.specs.declared.instances.ImportSources.{ImportSources}
 
 -- imports, as those of a user module
@@ -56,6 +57,20 @@ abbrev pub IsShimInstance : ComponentWorld → List Def → Option ℕ → Type 
 IsShimInstance w ds None = shims_of w ≡ []
 IsShimInstance w ds (Some instance) = IsInstanceOf ds instance (shims_number w)
 
+-- main's instance is there
+abbrev pub IsBehindMain : List Def → Option ℕ → Type 0
+IsBehindMain ds None = ⊥
+IsBehindMain ds (Some instance) = IsInstanceOf ds instance 0
+
+-- main's instance is there for all user modules but main
+abbrev pub IsMainInstance : List Def → User → Option ℕ → Type 0
+IsMainInstance ds Main instance = Unit {0}
+IsMainInstance ds (Adapter name) instance = IsBehindMain ds instance
+
+-- the kind of the shim for calls of a function that an adapter exports
+abbrev pub adapter_kind : List ℕ → List ℕ → ShimKind
+adapter_kind adapter function = kinds_of_shims.Adapter adapter function
+
 -- what the imports of a user module are given is there, and the tables of types are right, with the instances of the interfaces
 pub record AreSources (w : ComponentWorld) (s : ImportSources) (met : MetTypes) (ds : List Def) (maps : TypeEncodingMaps) (instances : List (InterfaceId × ℕ)) : Type 0 where
   pub valid : IsEncodable w
@@ -64,6 +79,7 @@ pub record AreSources (w : ComponentWorld) (s : ImportSources) (met : MetTypes) 
   pub used : FindsUsed w s.functions.now
   pub shims : s.shims.now ≡ shims_of w
   pub shim_instance : IsShimInstance w ds s.shim_instance
+  pub main : IsMainInstance ds (user_of s.user.which) s.main
   pub tables : AreTablesRight w met instances ds maps
   pub passed : ArePassed w met
   pub exports : AreExportsMet w met

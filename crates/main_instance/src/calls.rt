@@ -26,7 +26,7 @@ pub(crate) struct CorePlace<'a> {
 }
 
 /// The text that names a core import in faults: `module::field`.
-fn path_of_import(alloc: Global, place: CorePlace<'_>) -> Result<Text, AllocError>
+pub(crate) fn path_of_import(alloc: Global, place: CorePlace<'_>) -> Result<Text, AllocError>
     ensures { IfOk result (λ path. path ≡ field_path place.entry.«module».now place.entry.field.now) }
 {
     let mut path = String::from_str(alloc, place.module.as_str())?;

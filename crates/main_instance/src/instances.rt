@@ -49,6 +49,8 @@ pub struct ImportSources<'a> {
     pub shims: &'a Shims,
     /// The instance of the module of shims, where there are shims.
     pub shim_instance: Option<u32>,
+    /// Main's instance, where these are the imports of another module.
+    pub main: Option<u32>,
 }
 
 impl ImportSources<'_> {
@@ -118,7 +120,7 @@ impl ImportSources<'_> {
     }
 
     /// The shim of a kind, as an alias of the shims' instance, if there is one.
-    fn shim(
+    pub(crate) fn shim(
         &self,
         root: &mut RootScope<'_, ComponentWorld>,
         kind: &ShimKind,
@@ -179,7 +181,7 @@ impl ImportSources<'_> {
         ensures extends { Extends root.old.items root.new.items }
         ensures grows { OnOk result (Grows root.old.world.now root.old.items.defs root.new.items.defs []) }
         ensures given { IfOk result (λ index. IsGivenFor root.old.world.now root.new.items.defs CoreFunc index (link_of root.old.world.now (user_of self.now.user.which) (imports.WorldFunc (keys.Name name.now) function.now abi))) }
-        ensures encoded { OnOk result (IsSuppliedImport root.old.world.now (user_of self.now.user.which) (imports.WorldFunc (keys.Name name.now) function.now abi)) }
+        ensures supplied { OnOk result (IsSuppliedImport root.old.world.now (user_of self.now.user.which) (imports.WorldFunc (keys.Name name.now) function.now abi)) }
         ensures cause { IfErr result (IsCauseAmong root.old.world.now (record { of = user_of self.now.user.which; core = import_at place.entry (imports.WorldFunc (keys.Name name.now) function.now abi) } ∷ []) []) }
     {
         let alloc = root.items.allocator();
@@ -210,7 +212,7 @@ impl ImportSources<'_> {
         ensures extends { Extends root.old.items root.new.items }
         ensures grows { OnOk result (Grows root.old.world.now root.old.items.defs root.new.items.defs []) }
         ensures given { IfOk result (λ index. IsGivenFor root.old.world.now root.new.items.defs CoreFunc index (link_of root.old.world.now (user_of self.now.user.which) (imports.InterfaceFunc key.now interface function.now abi))) }
-        ensures encoded { OnOk result (IsSuppliedImport root.old.world.now (user_of self.now.user.which) (imports.InterfaceFunc key.now interface function.now abi)) }
+        ensures supplied { OnOk result (IsSuppliedImport root.old.world.now (user_of self.now.user.which) (imports.InterfaceFunc key.now interface function.now abi)) }
         ensures cause { IfErr result (IsCauseAmong root.old.world.now (record { of = user_of self.now.user.which; core = import_at place.entry (imports.InterfaceFunc key.now interface function.now abi) } ∷ []) []) }
     {
         let alloc = root.items.allocator();
@@ -223,7 +225,7 @@ impl ImportSources<'_> {
 
     /// What an import of the module is given: the kind and the index of a core item.
     ///
-    /// `E9` where the function of the import has no string encoding.
+    /// `E7` where the import is main's memory and main exports none, `E9` where the function of the import has no string encoding.
     pub fn materialize_import(
         &self,
         root: &mut RootScope<'_, ComponentWorld>,
@@ -237,7 +239,7 @@ impl ImportSources<'_> {
         ensures extends { Extends root.old.items root.new.items }
         ensures grows { OnOk result (Grows root.old.world.now root.old.items.defs root.new.items.defs []) }
         ensures made { IfOk result (λ item. IsGivenFor root.old.world.now root.new.items.defs (kind_space item.0) item.1 (link_of root.old.world.now (user_of self.now.user.which) import.now)) }
-        ensures encoded { OnOk result (IsSuppliedImport root.old.world.now (user_of self.now.user.which) import.now) }
+        ensures supplied { OnOk result (IsSuppliedImport root.old.world.now (user_of self.now.user.which) import.now) }
         ensures cause { IfErr result (IsCauseAmong root.old.world.now (record { of = user_of self.now.user.which; core = record { module_name = «module».now; field = field.now; role = import.now } } ∷ []) []) }
     {
         let place = CorePlace { module, field };
@@ -266,6 +268,18 @@ impl ImportSources<'_> {
             }
             Import::ExportedResourceNew(_, id) => {
                 let index = self.new_of_own(root, *id)?;
+                Ok((ExportKind::Func, index))
+            }
+            Import::MainModuleMemory(_) => {
+                let index = self.main_memory(root, place)?;
+                Ok((ExportKind::Memory, index))
+            }
+            Import::MainModuleExport { name, kind } => {
+                let index = self.main_export(root, name, *kind)?;
+                Ok((*kind, index))
+            }
+            Import::AdapterExport { adapter, func, .. } => {
+                let index = self.adapter_export(root, adapter, func)?;
                 Ok((ExportKind::Func, index))
             }
             _ => unreachable!(),

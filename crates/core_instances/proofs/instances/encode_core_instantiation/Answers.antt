@@ -1,6 +1,6 @@
 use Rattle.std.proofs.Common.{◌≡◌, ◌∙◌, [], ◌++◌, Option, ℕ, ap, sym, subst}
 use Rattle.std.specs.Option.{option_copied}
-use Rattle.core_options.specs.MainOptions.{memory_name, AreUserInstances}
+use Rattle.core_options.specs.MainOptions.{user_of_name, memory_name, AreUserInstances}
 use Rattle.std.specs.List.{AllByRecursion}
 use Rattle.comp_items.specs.Items.{Extends}
 use Rattle.comp_items.proofs.Extending.{extends_none}
@@ -104,7 +104,7 @@ instantiate_users-requires-clause-sources c =
     let main : IsMainUser w c.main_user.result = subst (λ x. IsMainUser x.now c.main_user.result) k.world c.main_user.ensures in
     let made : AreImportsMade w s.functions.now b.met b.items.defs b.maps b.instances = subst (λ l. AreImportsMade w l b.met b.items.defs b.maps b.instances) (sym f.functions) (made_after c.args.root.now b k c.requires.made) in
     subst (λ x. AreSources x.now s b.met b.items.defs b.maps b.instances) (sym k.world)
-    (sources_after (extends_none b.items) s (same_is_user w c.main_user.result s.user f.user (main_is_user w c.main_user.result main)) made (subst (λ x. AreExportsMet x.now b.met) a_world c.in_ok-define_exported_types.ensures.met) (f.shims ∙ c.in_ok-shims.ensures.ok) (subst (IsShimInstance w b.items.defs) (sym f.instance) there))
+    (sources_after (extends_none b.items) s (same_is_user w c.main_user.result s.user f.user (main_is_user w c.main_user.result main)) made (subst (λ x. AreExportsMet x.now b.met) a_world c.in_ok-define_exported_types.ensures.met) (f.shims ∙ c.in_ok-shims.ensures.ok) (subst (IsShimInstance w b.items.defs) (sym f.instance) there) (ap user_of_name (f.user.named ∙ main.named)))
 
 pub instantiate_users-requires-clause-main : goal.instantiate_users-requires-clause-main
 instantiate_users-requires-clause-main c = main_same c.define_exported_types.new.root.world.now c.main_user.result c.sources_of-sources.result.user c.sources_of-sources.ensures.user c.main_user.ensures
@@ -184,10 +184,10 @@ returns-clause-made c =
     let k : RootMoved c.args.root.now.world.now c.args.root.now c.define_exported_types.new.root = typed c.args.root.now c.encode_shim_instantiation.new.root c.define_exported_types.new.root c.requires.made.tables c.in_ok-shim_instance.ensures.same c.in_ok-shim_instance.ensures.extends c.in_ok-define_exported_types.ensures.moved in
     instances_kept (longer c.in_ok-encode_indirect_lowerings.ensures.extends) (subst (λ x. AreUserInstances x.now c.instantiate_users.new.root.items.defs c.in_ok-instances.instances) k.world c.in_ok-instances.ensures.made)
 
-pub returns-clause-encoded : goal.returns-clause-encoded
-returns-clause-encoded c =
+pub returns-clause-supplied : goal.returns-clause-supplied
+returns-clause-supplied c =
     let k : RootMoved c.args.root.now.world.now c.args.root.now c.define_exported_types.new.root = typed c.args.root.now c.encode_shim_instantiation.new.root c.define_exported_types.new.root c.requires.made.tables c.in_ok-shim_instance.ensures.same c.in_ok-shim_instance.ensures.extends c.in_ok-define_exported_types.ensures.moved in
-    subst (λ x. AllByRecursion (λ (i : UserImport). IsSuppliedImport x.now i.of i.core.role) (user_imports x.now)) k.world c.in_ok-instances.ensures.encoded
+    subst (λ x. AllByRecursion (λ (i : UserImport). IsSuppliedImport x.now i.of i.core.role) (user_imports x.now)) k.world c.in_ok-instances.ensures.supplied
 
 pub returns-clause-lowered : goal.returns-clause-lowered
 returns-clause-lowered c =
@@ -195,7 +195,7 @@ returns-clause-lowered c =
     let k : RootMoved w c.args.root.now c.define_exported_types.new.root = typed c.args.root.now c.encode_shim_instantiation.new.root c.define_exported_types.new.root c.requires.made.tables c.in_ok-shim_instance.ensures.same c.in_ok-shim_instance.ensures.extends c.in_ok-define_exported_types.ensures.moved in
     let world : c.instantiate_users.new.root.world ≡ c.args.root.now.world = ap (λ (r : Root). r.world) c.in_ok-instances.ensures.same ∙ k.world in
     let offered : AllByRecursion (HasShimOptions w) (shims_of w) = subst (λ x. AllByRecursion (HasShimOptions x.now) (shims_of x.now)) world c.in_ok-encode_indirect_lowerings.ensures.offered in
-    all_lowered w c.requires.made.valid offered (subst (λ x. AllByRecursion (λ (i : UserImport). IsSuppliedImport x.now i.of i.core.role) (user_imports x.now)) k.world c.in_ok-instances.ensures.encoded)
+    all_lowered w c.requires.made.valid offered (subst (λ x. AllByRecursion (λ (i : UserImport). IsSuppliedImport x.now i.of i.core.role) (user_imports x.now)) k.world c.in_ok-instances.ensures.supplied)
 
 pub returns-clause-ordered : goal.returns-clause-ordered
 returns-clause-ordered c = subst (λ x. AreExportsInOrder x.now) (ap (λ (r : Root). r.world) c.in_ok-shim_instance.ensures.same) c.in_ok-define_exported_types.ensures.ordered

@@ -9,8 +9,10 @@ use Rattle.comp_terms.specs.Terms.{IsInstanceOf}
 use Rattle.root_imports.specs.Keeping.{Root}
 use Rattle.core_options.specs.MainOptions.{user_of, IsUser}
 use Rattle.main_instance.specs.Sources.{AreSources}
-use Rattle.core_instances.specs.Instances.{IsEncodedUser}
-use Rattle.core_instances.proofs.UserInstances.{AdaptersSoFar, IsNextAdapter, adapters_start, adapters_step, adapters_all, next_adapter, next_encoded, next_is_user, next_there, own_sources, same_is_user}
+use Rattle.core_instances.specs.Instances.{IsSuppliedUser}
+use Rattle.core_instances.proofs.UserInstances.{AdaptersSoFar, IsNextAdapter, adapters_start, adapters_step, adapters_all, next_adapter, next_encoded, next_is_user, next_there, own_sources, behind_main, same_is_user}
+use Rattle.comp_items.proofs.Kept.{instance-kept}
+use Rattle.comp_items.proofs.Remembering.{longer}
 use Rattle.core_instances.proofs.users.instantiate_adapters.Goals as goal
 
 pub loop-name-init : goal.loop-name-init
@@ -51,7 +53,7 @@ instantiate_user-requires-clause-sources c =
     let own = c.sources_of-own.ensures in
     let is : IsUser w c.next_user-user.result = next_is_user w table last a next c.next_user-user.result user.number user.named user.found in
     subst (λ (r : Root). AreSources r.world.now c.sources_of-own.result r.met mid.defs r.maps r.instances) (sym c.loop-name.invariant.2)
-    (own_sources before.extends c.requires.sources c.sources_of-own.result (same_is_user w c.next_user-user.result c.sources_of-own.result.user own.user is) own.functions own.shims own.instance)
+    (own_sources before.extends c.requires.sources c.sources_of-own.result (same_is_user w c.next_user-user.result c.sources_of-own.result.user own.user is) own.functions own.shims own.instance (behind_main mid.defs c.sources_of-own.result c.args.main own.main (instance-kept (longer before.extends) c.requires.made)))
 
 pub instantiate_user-requires-clause-there : goal.instantiate_user-requires-clause-there
 instantiate_user-requires-clause-there c =
@@ -112,7 +114,7 @@ loop-name-preserved c =
     let number : v.number ≡ last + 1 = own.user.number ∙ user.number in
     let grows : Grows w mid.defs new.defs (InstanceOf (last + 1) ∷ []) = subst (λ n. Grows w mid.defs new.defs (InstanceOf n ∷ [])) number (subst (λ x. Grows x.now mid.defs new.defs (InstanceOf v.number ∷ [])) world of.grows) in
     let made : IsInstanceOf new.defs index (last + 1) = subst (λ n. IsInstanceOf new.defs index n) number of.made in
-    let encoded : IsEncodedUser w (user_of v.which) v.found.now = subst (λ x. IsEncodedUser x.now (user_of v.which) v.found.now) world of.encoded in
+    let encoded : IsSuppliedUser w (user_of v.which) v.found.now = subst (λ x. IsSuppliedUser x.now (user_of v.which) v.found.now) world of.encoded in
     let step : AdaptersSoFar w old new (table ++ (a.0, index) ∷ []) (last + 1) c.next.new.self =
     adapters_step w old mid new table last c.next.new.self a index before of.extends grows made (next_encoded w a c.next_user-user.result v own.user user.named user.found encoded) in
     let kept : c.insert.new.self ≡ table ++ (a.0, index) ∷ [] = c.in_ok-insert.ensures.ok ∙ ap (λ (k : List ℕ). table ++ (k, index) ∷ []) c.in_ok-key.ensures in (

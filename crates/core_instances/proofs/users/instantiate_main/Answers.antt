@@ -25,5 +25,5 @@ pub returns-clause-made : goal.returns-clause-made
 returns-clause-made c =
     instance-kept (longer c.in_ok-memory_of_main.ensures.extends) (subst (λ n. IsInstanceOf c.instantiate_user.new.root.items.defs c.in_ok-index.index n) c.requires.main.number c.in_ok-index.ensures.made)
 
-pub returns-clause-encoded : goal.returns-clause-encoded
-returns-clause-encoded c = main_encoded c.args.root.now.world.now c.args.sources.now.user c.requires.main c.in_ok-index.ensures.encoded
+pub returns-clause-supplied : goal.returns-clause-supplied
+returns-clause-supplied c = main_encoded c.args.root.now.world.now c.args.sources.now.user c.requires.main c.in_ok-index.ensures.supplied

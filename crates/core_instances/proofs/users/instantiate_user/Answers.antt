@@ -32,8 +32,8 @@ returns-clause-grows c =
     (inl (record { of = module_named u.which u.found.now; listed = c.requires.sources.user.listed; scoped = scoped; each = c.in_ok-arguments.ensures.serves })) in
     Grows-then c.in_ok-arguments.ensures.grows instance
 
-pub returns-clause-encoded : goal.returns-clause-encoded
-returns-clause-encoded c =
+pub returns-clause-supplied : goal.returns-clause-supplied
+returns-clause-supplied c =
     let w = c.args.root.now.world.now in
     let u = c.args.sources.now.user in
     user_encoded w (user_of u.which) (imports_of u.found.now) (groups_encoded w (user_of u.which) c.arguments.new.root.items.defs c.in_ok-arguments.arguments u.found.now.imports.modules c.in_ok-arguments.ensures.serves)

@@ -35,10 +35,10 @@ returns-clause-made c =
     let all : AllAdapters w mid new c.in_ok-adapters.adapters = subst (λ (r : Root). AllAdapters r.world.now mid new c.in_ok-adapters.adapters) c.in_ok-main.ensures.same c.in_ok-adapters.ensures.all in
     instances_found w new (record { main = c.in_ok-main.main; adapters = c.in_ok-adapters.adapters }) (instance-kept (longer c.in_ok-adapters.ensures.extends) c.in_ok-main.ensures.made) all.apart all.made
 
-pub returns-clause-encoded : goal.returns-clause-encoded
-returns-clause-encoded c =
+pub returns-clause-supplied : goal.returns-clause-supplied
+returns-clause-supplied c =
     let w = c.args.root.now.world.now in
     let mid = c.instantiate_main.new.root.items.defs in
     let new = c.instantiate_adapters.new.root.items.defs in
     let all : AllAdapters w mid new c.in_ok-adapters.adapters = subst (λ (r : Root). AllAdapters r.world.now mid new c.in_ok-adapters.adapters) c.in_ok-main.ensures.same c.in_ok-adapters.ensures.all in
-    all_encoded w c.in_ok-main.ensures.encoded all.encoded
+    all_encoded w c.in_ok-main.ensures.supplied all.encoded
