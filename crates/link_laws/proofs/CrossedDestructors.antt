@@ -475,7 +475,7 @@ keeps_the_rules = record {
                       (
                         inl e_aliased,
                         (
-                          record { each = (record { kind = refl; scoped = omega arith }, (record { kind = refl; scoped = omega arith }, tt)); apart = numbers_apart },
+                          record { each = (record { scoped = omega arith }, (record { scoped = omega arith }, tt)); apart = numbers_apart },
                           (inr (inr fixup_right), ((record { given = resources_given; right = nested_right }, nested_for), (instantiated_14, (exported, tt)))),
                         ),
                       ),

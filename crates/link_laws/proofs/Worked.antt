@@ -430,7 +430,7 @@ keeps_the_rules = record {
         (
           (record { origin = root_import 0; type = plain_tree; is = f_imported }, tt),
           (
-            record { each = (record { kind = refl; scoped = omega arith }, tt); apart = one_apart f },
+            record { each = (record { scoped = omega arith }, tt); apart = one_apart f },
             (
               inl (record { of = main_module one_each; listed = refl; scoped = omega arith; each = (f_offered, tt) }),
               (

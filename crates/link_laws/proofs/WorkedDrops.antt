@@ -249,7 +249,7 @@ keeps_the_rules = record {
           (
             record { resource = resource 1; is = s_there },
             (
-              record { each = (record { kind = refl; scoped = omega arith }, (record { kind = refl; scoped = omega arith }, tt)); apart = fields_apart },
+              record { each = (record { scoped = omega arith }, (record { scoped = omega arith }, tt)); apart = fields_apart },
               (inl (record { of = main_module world; listed = refl; scoped = omega arith; each = (both_given, tt) }), tt),
             ),
           ),

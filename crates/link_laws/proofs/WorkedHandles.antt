@@ -316,7 +316,7 @@ keeps_the_rules = record {
             (
               record { resource = DefinedAt 0; is = r_at_5 },
               (
-                record { each = (record { kind = refl; scoped = omega arith }, (record { kind = refl; scoped = omega arith }, (record { kind = refl; scoped = omega arith }, tt))); apart = fields_apart },
+                record { each = (record { scoped = omega arith }, (record { scoped = omega arith }, (record { scoped = omega arith }, tt))); apart = fields_apart },
                 (
                   inl (record { of = main_module world; listed = refl; scoped = omega arith; each = (all_given, tt) }),
                   ((record { given = resources_given; right = nested_right }, nested_for), (instantiated_9, (exported, tt))),

@@ -222,7 +222,7 @@ keeps_the_rules = record {
                 (
                   (record { origin = f_origin; type = f_tree x; is = f_imported }, tt),
                   (
-                    record { each = (record { kind = refl; scoped = omega arith }, tt); apart = one_apart f },
+                    record { each = (record { scoped = omega arith }, tt); apart = one_apart f },
                     (inl (record { of = main_module world; listed = refl; scoped = omega arith; each = (f_offered, tt) }), tt),
                   ),
                 ),

@@ -448,7 +448,7 @@ keeps_the_rules = record {
                 (
                   inl d_aliased,
                   (
-                    record { each = (record { kind = refl; scoped = omega arith }, tt); apart = one_apart zero_text },
+                    record { each = (record { scoped = omega arith }, tt); apart = one_apart zero_text },
                     (inr (inr fixup_right), ((record { given = own_resource; right = nested_right }, nested_for), (instantiated_11, (exported, tt)))),
                   ),
                 ),

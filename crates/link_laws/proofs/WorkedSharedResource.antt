@@ -296,7 +296,7 @@ keeps_the_rules = record {
   front = list_of shared;
   names = [];
   whole = refl;
-  right = (record { number = 0; right = resource_right }, (t_imported, (inl r_aliased, (record { number = 1; right = shared_right }, (u_imported, (tt, (record { resource = resource 0; is = r_there }, (f_aliased, ((record { origin = f_origin; type = f_tree 0; is = f_imported }, tt), (record { each = (record { kind = refl; scoped = omega arith }, tt); apart = one_apart drop_r }, (record { each = (record { kind = refl; scoped = omega arith }, tt); apart = one_apart f }, (inl (record { of = main_module world; listed = refl; scoped = omega arith; each = (from_t_given, (from_u_given, tt)) }), tt))))))))))));
+  right = (record { number = 0; right = resource_right }, (t_imported, (inl r_aliased, (record { number = 1; right = shared_right }, (u_imported, (tt, (record { resource = resource 0; is = r_there }, (f_aliased, ((record { origin = f_origin; type = f_tree 0; is = f_imported }, tt), (record { each = (record { scoped = omega arith }, tt); apart = one_apart drop_r }, (record { each = (record { scoped = omega arith }, tt); apart = one_apart f }, (inl (record { of = main_module world; listed = refl; scoped = omega arith; each = (from_t_given, (from_u_given, tt)) }), tt))))))))))));
   marked = refl;
   named = tt;
 }

@@ -162,7 +162,7 @@ keeps_the_rules = record {
             (
               inr shim_aliased,
               (
-                record { each = (record { kind = refl; scoped = omega arith }, tt); apart = one_apart f },
+                record { each = (record { scoped = omega arith }, tt); apart = one_apart f },
                 (
                   inl (record { of = main_module world; listed = refl; scoped = omega arith; each = (f_given, tt) }),
                   (
@@ -172,7 +172,7 @@ keeps_the_rules = record {
                       (
                         (record { origin = root_import 0; type = f_tree; is = f_imported }, (omega arith, (tt, tt))),
                         (
-                          record { each = (record { kind = refl; scoped = omega arith }, tt); apart = one_apart zero_text },
+                          record { each = (record { scoped = omega arith }, tt); apart = one_apart zero_text },
                           (inr (inr fixup_right), tt),
                         ),
                       ),
