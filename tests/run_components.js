@@ -126,7 +126,15 @@ const runCounters = (name, file) => {
   holds(`${name}: all were destroyed`, count(), 0);
 };
 
-const RUNS = { main: runMain, strings: runStrings, log: runLog, people: runPeople, search: runSearch, counters: runCounters };
+const runLines = (name, file) => {
+  const lines = [];
+  const { run, counted } = withShim(name, file, { log: line => { lines.push(line); } }, 'old', 'write');
+  holds(`${name}: how many lines the adapter's function said`, run(), 4);
+  holds(`${name}: what the adapter read in main's memory`, lines, ['one', 'two words', '', 'Grüße, 世界']);
+  holds(`${name}: how many calls of main's function it made`, counted(), 4);
+};
+
+const RUNS = { main: runMain, strings: runStrings, log: runLog, people: runPeople, search: runSearch, counters: runCounters, lines: runLines };
 for (const argument of process.argv.slice(2)) {
   const [name, file] = argument.split('=');
   try {

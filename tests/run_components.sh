@@ -26,14 +26,19 @@ check() {
     if "$@"; then echo "ok: $name"; else echo "FAILED: $name"; failed=1; fi
 }
 
+# The arguments that name the adapters of an example, in this folder.
+adapters() {
+    case $1 in lines) echo "--adapt lines=$2/adapter.wasm" ;; esac
+}
+
 kept="main=$top/examples/component.wasm" anew=
-for example in strings log people search counters; do
+for example in strings log people search counters lines; do
     from=$top/examples/$example made=$folder/$example
     mkdir "$made"
-    check "$example: the kept module's component is made" "$program" new "$made/kept.wasm" "$from/main.wasm"
+    check "$example: the kept module's component is made" "$program" new "$made/kept.wasm" "$from/main.wasm" $(adapters "$example" "$from")
     check "$example: it is the kept one" cmp "$made/kept.wasm" "$from/component.wasm"
     check "$example: its source is compiled" sh "$from/build.sh" "$made"
-    check "$example: a component is made of that" "$program" new "$made/component.wasm" "$made/main.wasm"
+    check "$example: a component is made of that" "$program" new "$made/component.wasm" "$made/main.wasm" $(adapters "$example" "$made")
     kept="$kept $example=$from/component.wasm" anew="$anew $example=$made/component.wasm"
 done
 

@@ -68,7 +68,7 @@ pub record IsTypeOf (w : ComponentWorld) (function : WorldFunction) (type : Func
 abbrev pub IsTermFor : ComponentWorld → Target → Term → Type 0
 IsTermFor w (targets.Lowered function options) (terms.Lowering origin type written) = IsOriginOf w function origin × IsTypeOf w function type × AllZip (IsOptionFor w) written options
 IsTermFor w (targets.ExportOf export_ref) (terms.Exported e) = IsExportFor w e export_ref
-IsTermFor w targets.MainMemory (terms.Exported e) = IsMemoryFor w e
+IsTermFor w targets.MainMemory (terms.Exported e) = IsMemoryFor w e × (e.kind ≡ kinds.Memory)
 IsTermFor w (targets.OfResource function id) (terms.OfResource same resource) = (same ≡ function) × (resource ≡ resource_of w id)
 IsTermFor w (targets.Lifted entry options) (terms.Lifting e written type) = IsExportFor w e entry × AllZip (IsOptionFor w) written options
 IsTermFor w target term = ⊥

@@ -34,7 +34,7 @@ use Rattle.comp_runs.specs.Store.{Thing, Export, HeldOption, HeldEncoding, HeldM
 use Rattle.comp_roles.specs.declared.offered.ExternType.{ExternType}
 use Rattle.comp_roles.specs.declared.offered.ExternType.TheVariants as externs
 use Rattle.wit_data.specs.declared.ids.TypeId.{TypeId}
-use Rattle.comp_links.specs.Targets.{UserModule, WorldFunction, ExportRef, TargetOption, Lowered, ExportOf, MainMemory, OfResource, ResourceFunction, New, Rep, Drop, Lifted, Target}
+use Rattle.comp_links.specs.Targets.{UserModule, WorldFunction, ExportRef, TargetOption, Lowered, ExportOf, MainMemory, Unlinked, OfResource, ResourceFunction, New, Rep, Drop, Lifted, Target}
 use Rattle.comp_links.specs.Targets as targets
 use Rattle.comp_links.specs.Modules.{WorldModule, user_modules, IsModule}
 use Rattle.comp_links.specs.Lists.{IsOriginOf, resource_of}
@@ -607,13 +607,25 @@ module _ {w : ComponentWorld} {earlier : List Def} {c : Scope} {s : Store} (a : 
   no_lift index entry options (terms.Lifting e written type) is asked = is
   no_lift index entry options term is asked = asked
 
+  -- nor is one a memory
+  no_memory : (index : ℕ) (term : Term) → Is earlier spaces.CoreFunc index term → IsTermFor w MainMemory term → ⊥
+  no_memory index (terms.Exported e) is asked = not_function e.kind asked.1 is.0
+    where
+      not_function : (kind : ExportKind) → kind ≡ kinds.Memory → spaces.CoreFunc ≡ kind_space kind → ⊥
+      not_function kinds.Memory memory e = cc
+      not_function kinds.Func memory e = cc
+      not_function kinds.Table memory e = cc
+      not_function kinds.Global memory e = cc
+  no_memory index term is asked = absurd asked
+
   -- the core function that a target names has an address
   pub target_there : (index : ℕ) (target : Target) → IsItemFor w earlier spaces.CoreFunc index target → (x : ℕ) × (address_at spaces.CoreFunc index c.items ≡ Some x) × IsServedAs w s x target
   target_there index (Lowered function options) h = lowering_there index function options h.term h.is h.asked
   target_there index (OfResource function id) h = resource_function_there index function id h.term h.is h.asked
   target_there index (ExportOf export_ref) h = export_there index export_ref h.term h.is h.asked
   target_there index (Lifted entry options) h = absurd (no_lift index entry options h.term h.is h.asked)
-  target_there index target h = absurd h.asked
+  target_there index MainMemory h = absurd (no_memory index h.term h.is h.asked)
+  target_there index Unlinked h = absurd h.asked
 
   -- the memory that a target names has an address
   exported_memory_there : (index : ℕ) (export_ref : ExportRef) (term : Term) → Is earlier spaces.CoreMemory index term → IsTermFor w (ExportOf export_ref) term →
@@ -622,7 +634,7 @@ module _ {w : ComponentWorld} {earlier : List Def} {c : Scope} {s : Store} (a : 
   exported_memory_there index export_ref term is asked = absurd asked
 
   main_memory_there : (index : ℕ) (term : Term) → Is earlier spaces.CoreMemory index term → IsTermFor w MainMemory term → (x : ℕ) × (address_at spaces.CoreMemory index c.items ≡ Some x) × IsFirstMemory w s x
-  main_memory_there index (terms.Exported e) is asked = memory_exported (memory_kind e.kind (sym is.0)) asked is.1
+  main_memory_there index (terms.Exported e) is asked = memory_exported asked.1 asked.0 is.1
   main_memory_there index term is asked = absurd asked
 
   -- a memory is none of the functions that other targets name
@@ -652,7 +664,7 @@ module _ {w : ComponentWorld} {earlier : List Def} {c : Scope} {s : Store} (a : 
 
   no_table : (index : ℕ) (target : Target) (term : Term) → Is earlier spaces.CoreTable index term → IsTermFor w target term → ⊥
   no_table index (ExportOf export_ref) (terms.Exported e) is asked = let k = aliased_kind asked.of is.1 in not_table e.kind (sym is.0) k.0 k.1
-  no_table index MainMemory (terms.Exported e) is asked = let k = aliased_kind asked.of is.1 in not_table e.kind (sym is.0) k.0 k.1
+  no_table index MainMemory (terms.Exported e) is asked = let k = aliased_kind asked.0.of is.1 in not_table e.kind (sym is.0) k.0 k.1
   no_table index (Lowered function options) (terms.Lowering origin type written) is asked = is
   no_table index (OfResource function id) (terms.OfResource same resource) is asked = is
   no_table index (Lifted entry options) (terms.Lifting e written type) is asked = is
@@ -660,7 +672,7 @@ module _ {w : ComponentWorld} {earlier : List Def} {c : Scope} {s : Store} (a : 
 
   no_global : (index : ℕ) (target : Target) (term : Term) → Is earlier spaces.CoreGlobal index term → IsTermFor w target term → ⊥
   no_global index (ExportOf export_ref) (terms.Exported e) is asked = let k = aliased_kind asked.of is.1 in not_global e.kind (sym is.0) k.0 k.1
-  no_global index MainMemory (terms.Exported e) is asked = let k = aliased_kind asked.of is.1 in not_global e.kind (sym is.0) k.0 k.1
+  no_global index MainMemory (terms.Exported e) is asked = let k = aliased_kind asked.0.of is.1 in not_global e.kind (sym is.0) k.0 k.1
   no_global index (Lowered function options) (terms.Lowering origin type written) is asked = is
   no_global index (OfResource function id) (terms.OfResource same resource) is asked = is
   no_global index (Lifted entry options) (terms.Lifting e written type) is asked = is

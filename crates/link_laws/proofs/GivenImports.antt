@@ -1,5 +1,5 @@
 -- What the arguments of a user module's instantiation are, and what its imports find among them.
-use Rattle.std.proofs.Common.{◌≡◌, ◌∙◌, inl, inr, ℕ, List, [], ◌∷◌, map, refl, sym, ap, subst, Option, Some, None}
+use Rattle.std.proofs.Common.{◌≡◌, ◌∙◌, inl, inr, ℕ, List, [], ◌∷◌, map, refl, sym, ap, subst, Option, Some, None, true}
 use Rattle.std.proofs.lemmas.Option.{same_Some, none-some}
 use Rattle.std.specs.List.{AllZip, AllByRecursion}
 use Rattle.std.specs.Option.{option_map, option_and_then}
@@ -39,7 +39,7 @@ use Rattle.comp_roles.specs.declared.offered.ExternType.TheVariants as externs
 use Rattle.comp_roles.specs.declared.offered.ImportType.{ImportType}
 use Rattle.wit_data.specs.declared.ids.TypeId.{TypeId}
 use Rattle.comp_links.specs.Targets.{UserModule, Main, Adapter, ExportRef, WorldFunction, TargetOption, Target, OfRoot, OfInterface, Lowered, ExportOf, OfResource, ResourceFunction, New, Rep, Drop}
-use Rattle.comp_links.specs.Modules.{WorldModule}
+use Rattle.comp_links.specs.Modules.{WorldModule, user_modules}
 use Rattle.comp_links.specs.Lists.{resource_of}
 use Rattle.comp_links.specs.Links.{lower_options, link_of, link_in, link_at, module_of}
 use Rattle.shim_plan.specs.declared.kinds.ShimKind.{ShimKind}
@@ -180,7 +180,7 @@ shim_calls w shim from other h = by shim.kind h.of_kind
         subst IsCall (ap (λ (x : UserModule × Import). x.1) (same_Some (module_of which, imports.WorldFunc (keys.Name f.name) f.name f.abi) (from, other) k)) tt
     by (shim_kinds.IndirectLowering (Some key) f which encoding) k = among (interface_imported w key) k
       where
-        among : (o : Option InterfaceId) → option_map (λ id. (module_of which, imports.InterfaceFunc key id f.name f.abi)) o ≡ Some (from, other) → IsCall other
+        among : (o : Option InterfaceId) → option_map {U = UserModule × Import} (λ id. (module_of which, imports.InterfaceFunc key id f.name f.abi)) o ≡ Some (from, other) → IsCall other
         among None k = absurd (none-some (from, other) k)
         among (Some id) k = subst IsCall (ap (λ (x : UserModule × Import). x.1) (same_Some (module_of which, imports.InterfaceFunc key id f.name f.abi) (from, other) k)) tt
     by kind k = absurd (none-some (from, other) k)

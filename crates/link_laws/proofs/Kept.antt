@@ -307,6 +307,7 @@ module _ {a b : List Thing} {s t : Store} (k : Keeps a b s t) where
   IsFirstMemory-kept w address h = record { name = h.name; type = h.type; first = h.first; is = record { user = h.is.user; instance = h.is.instance; present = k.users.at h.is.user h.is.instance h.is.present; of = h.is.of; exported = h.is.exported }; held = h.held; present = k.memories.at address h.held h.present; offered = h.offered }
 
   IsMemoryExported-kept : {w : ComponentWorld} {address : ℕ} {export_ref : ExportRef} → IsMemoryExported w s address export_ref → IsMemoryExported w t address export_ref
+  unfolding IsInstance-kept
   IsMemoryExported-kept {w} {address} h =
       record { number = h.number; of = h.of; user = h.user; instance = IsInstance-kept h.instance; exported = h.exported; type = h.type; is = k.memories.at address h.type h.is; offered = h.offered }
 

@@ -4,6 +4,7 @@ mod Kept
 pub mod Plain
 mod ModuleMarks
 mod Given
+mod Offering
 mod GivenImports
 mod GivenTypes
 mod UserExports
@@ -45,3 +46,4 @@ mod WorkedOwnResource
 mod CrossedDestructors
 mod WorkedHandles
 mod WorkedUsers
+mod WorkedGiven

@@ -184,7 +184,7 @@ both_given = record {
         serves = inl (record {
           term = terms.Exported (record { of = 0; kind = kinds.Memory; name = memory });
           is = (refl, record { instance = 0; made = record { made = refl }; of = main_made 6 refl });
-          asked = record { of = record { world_module = main_module world; listed = refl; same = refl }; type = one_page; first = refl };
+          asked = (record { of = record { world_module = main_module world; listed = refl; same = refl }; type = one_page; first = refl }, refl);
         });
         supplied = record { encoding = not_true; memory = λ e. refl };
       },

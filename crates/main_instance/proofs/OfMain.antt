@@ -81,7 +81,7 @@ memory_given w ds index h = by (first_memory w.main.exports.exports) refl h
   where
     by : (o : Option (List ℕ × MemoryType)) → first_memory w.main.exports.exports ≡ o → IsMemoryIf ds (option_map (λ m. m.0) o) (Some index) → IsItemFor w ds spaces.CoreMemory index MainMemory
     by None e k = absurd k
-    by (Some m) e k = record { term = terms.Exported (memory_of_main m.0); is = (refl, k); asked = record { of = is_main w; type = m.1; first = e } }
+    by (Some m) e k = record { term = terms.Exported (memory_of_main m.0); is = (refl, k); asked = (record { of = is_main w; type = m.1; first = e }, refl) }
 
 pub memory_there : (w : ComponentWorld) (ds : List Def) (index : ℕ) → IsMemoryIf ds (memory_name w) (Some index) → IsSome (first_memory w.main.exports.exports)
 memory_there w ds index h = by (first_memory w.main.exports.exports) refl h
