@@ -10,6 +10,7 @@ use Rattle.std.proofs.lemmas.List.Elements.{Contains-append_right}
 use Rattle.comp_lists.proofs.Lists.{AllZip-weaker, AllZip-end, AllByRecursion-contains, AllByRecursion-push}
 use Rattle.comp_builder.specs.Built.{Built}
 use Rattle.comp_bytes.specs.declared.def.CoreInlineExport.{CoreInlineExport}
+use Rattle.comp_bytes.specs.Spaces.{items_in, kind_space}
 use Rattle.comp_bytes.specs.declared.def.Def.{Def}
 use Rattle.comp_bytes.specs.declared.def.Def.TheVariants as defs
 use Rattle.comp_bytes.specs.declared.def.Item.TheVariants as items

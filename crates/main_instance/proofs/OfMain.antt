@@ -25,7 +25,7 @@ use Rattle.comp_roles.specs.declared.offered.ExternType.{ExternType}
 use Rattle.comp_roles.specs.declared.offered.ExternType.TheVariants as externs
 use Rattle.comp_terms.specs.Planned.{IsItemFor}
 use Rattle.comp_terms.specs.Rules.{Grows, IsOfKind}
-use Rattle.comp_terms.specs.Terms.{IsInstanceOf, IsExported}
+use Rattle.comp_terms.specs.Terms.{Is, IsInstanceOf, IsExported}
 use Rattle.comp_terms.specs.Terms as terms
 use Rattle.comp_worlds.specs.Encodable.{IsEncodable}
 use Rattle.comp_worlds.specs.Offered.{IsGivenKind, OffersItem}
@@ -70,8 +70,14 @@ pub export_grows : (w : ComponentWorld) (old new : List Def) (kind : ExportKind)
 export_grows w old new kind instance name h made adds =
     grows_alias w old new kind instance 0 (record { of = Main; found = w.main }) name h.type made refl h.offered (offered_kind h.type kind h.of_kind h.given) adds
 
+is_exported : (ds : List Def) (kind : ExportKind) (index : ℕ) (name : List ℕ) → IsExported ds index (record { of = 0; kind = kind; name = name }) → Is ds (kind_space kind) index (terms.Exported (record { of = 0; kind = kind; name = name }))
+is_exported ds kinds.Func index name is = (refl, is)
+is_exported ds kinds.Memory index name is = (refl, is)
+is_exported ds kinds.Table index name is = (refl, is)
+is_exported ds kinds.Global index name is = (refl, is)
+
 pub export_given : (w : ComponentWorld) (ds : List Def) (kind : ExportKind) (index : ℕ) (name : List ℕ) → IsExported ds index (record { of = 0; kind = kind; name = name }) → IsItemFor w ds (kind_space kind) index (ExportOf (record { of = Main; name = name }))
-export_given w ds kind index name is = record { term = terms.Exported (record { of = 0; kind = kind; name = name }); is = (refl, is); asked = record { of = is_main w; named = refl } }
+export_given w ds kind index name is = record { term = terms.Exported (record { of = 0; kind = kind; name = name }); is = is_exported ds kind index name is; asked = record { of = is_main w; named = refl } }
 
 -- ---- the memory
 

@@ -1,11 +1,17 @@
-use Rattle.std.proofs.Common.{subst, rules}
+use Rattle.std.proofs.Common.{Contains, ◌∷◌, [], refl, ap, subst, rules}
+use Rattle.comp_links.specs.Modules.{UserImport}
+use Rattle.comp_links.specs.Roles.{field_path, is_main_memory}
+use Rattle.comp_worlds.specs.Uses.{imports_of}
 use Rattle.comp_worlds.specs.Worlds.{IsImportRole}
+use Rattle.core_options.proofs.Refusals.{memory_import_refused}
+use Rattle.core_options.specs.Causes.{IsCauseAmong}
+use Rattle.shim_targets.proofs.AdapterShims.{adapter_shim_there}
 use Rattle.interface_needs.proofs.RootItems.{drop_known}
 use Rattle.comp_roles.specs.declared.imports.Import.{Import}
 use Rattle.comp_roles.specs.CoreImports.{CoreImport}
 use Rattle.core_options.specs.MainOptions.{user_of}
 use Rattle.shim_targets.proofs.Users.{among_all}
-use Rattle.main_instance.proofs.Serving.{import_role, user_import}
+use Rattle.main_instance.proofs.Serving.{handed_on, import_role, user_import}
 use Rattle.main_instance.proofs.instances.ImportSources.materialize_import.Goals as goal
 
 pub drop_resource-requires-clause-known : goal.drop_resource-requires-clause-known
@@ -34,6 +40,31 @@ new_of_own-requires-clause-own c =
     let w = c.args.root.now.world.now in
     let it = c.in-ExportedResourceNew in
     record { key = it.field-0; own = subst (λ (role : Import). IsImportRole w role) it.is (import_role w (user_of c.args.self.now.user.which) c.args.self.now.user.found.now c.requires.sources.user.named c.requires.sources.valid (record { module_name = c.args.module.now; field = c.args.field.now; role = c.args.import.now }) c.requires.present) }
+
+pub main_export-requires-clause-offered : goal.main_export-requires-clause-offered
+main_export-requires-clause-offered c =
+    let w = c.args.root.now.world.now in
+    let it = c.in-MainModuleExport in
+    subst (λ (role : Import). IsImportRole w role) it.is (import_role w (user_of c.args.self.now.user.which) c.args.self.now.user.found.now c.requires.sources.user.named c.requires.sources.valid (record { module_name = c.args.module.now; field = c.args.field.now; role = c.args.import.now }) c.requires.present)
+
+pub adapter_export-requires-clause-needed : goal.adapter_export-requires-clause-needed
+adapter_export-requires-clause-needed c =
+    let w = c.args.root.now.world.now in
+    let u = c.args.self.now.user in
+    let it = c.in-AdapterExport in
+    let i : CoreImport = record { module_name = c.args.module.now; field = c.args.field.now; role = c.args.import.now } in
+    let named = c.requires.sources.user.named in
+    adapter_shim_there w (user_of u.which) u.found.now named c.args.module.now c.args.field.now it.adapter it.func it.ty
+    (subst (λ (role : Import). IsImportRole w role) it.is (import_role w (user_of u.which) u.found.now named c.requires.sources.valid i c.requires.present))
+    (subst (λ (role : Import). Contains (imports_of u.found.now) (record { module_name = c.args.module.now; field = c.args.field.now; role = role })) it.is c.requires.present)
+
+pub returns-in_err-index-in-MainModuleMemory-clause-cause : goal.returns-in_err-index-in-MainModuleMemory-clause-cause
+returns-in_err-index-in-MainModuleMemory-clause-cause c =
+    let w = c.args.root.now.world.now in
+    let i : UserImport = record { of = user_of c.args.self.now.user.which; core = record { module_name = c.args.module.now; field = c.args.field.now; role = c.args.import.now } } in
+    let refused = c.in_err-index-in-MainModuleMemory in
+    handed_on c.from_residual-in_err-index-in-MainModuleMemory.result refused.field-0.0 (IsCauseAmong w (i ∷ []) []) c.from_residual-in_err-index-in-MainModuleMemory.ensures.1
+    (memory_import_refused w i (field_path c.args.module.now c.args.field.now) (ap is_main_memory c.in-MainModuleMemory.is) refl refused.field-0.0 refused.ensures.cause)
 
 pub unreachable-requires : goal.unreachable-requires
 unreachable-requires c =

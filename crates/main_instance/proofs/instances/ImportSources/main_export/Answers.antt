@@ -1,7 +1,7 @@
 use Rattle.std.proofs.Common.{Some, ◌≡◌, rules}
 use Rattle.comp_terms.specs.Terms.{IsInstanceOf}
 use Rattle.main_instance.proofs.OfMain.{export_given, export_grows, instance_known, instance_there}
-use Rattle.main_instance.proofs.others.ImportSources.main_export.Goals as goal
+use Rattle.main_instance.proofs.instances.ImportSources.main_export.Goals as goal
 
 pub unwrap-instance-requires : goal.unwrap-instance-requires
 unwrap-instance-requires c = instance_there c.args.root.now.items.defs c.args.self.now.main c.requires.behind
