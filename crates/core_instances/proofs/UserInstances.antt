@@ -67,7 +67,7 @@ pub record AdaptersSoFar (w : ComponentWorld) (old new : Built) (table : List (L
   pub extends : Extends old new
   pub grows : Grows w old.defs new.defs (map InstanceOf (range_with_len 1 (length done)))
   pub made : AreAdapterInstances w new.defs table done
-  pub encoded : AreSuppliedAdapters w done
+  pub supplied : AreSuppliedAdapters w done
 
 pub adapters_start : (w : ComponentWorld) (old : Built) → AdaptersSoFar w old old [] 0 w.adapters
 adapters_start w old = record {
@@ -77,7 +77,7 @@ adapters_start w old = record {
   extends = extends_none old;
   grows = Grows-none w old.defs;
   made = record { names = refl; each = λ place e h. absurd (none-some e h) };
-  encoded = tt;
+  supplied = tt;
 }
 
 -- the instances that are found stay what they are
@@ -93,7 +93,7 @@ at_end (z ∷ zs) x (suc n) y e P before last = at_end zs x n y e (λ k v. P (su
 
 pub adapters_step : (w : ComponentWorld) (old mid new : Built) (table : List (List ℕ × ℕ)) (last : ℕ) (rest : Adapters) (a : List ℕ × WorldAdapter) (index : ℕ) → AdaptersSoFar w old mid table last (a ∷ rest) → Extends mid new →
     Grows w mid.defs new.defs (InstanceOf (last + 1) ∷ []) → IsInstanceOf new.defs index (last + 1) → IsSuppliedUser w (Adapter a.0) a.1.info → AdaptersSoFar w old new (table ++ (a.0, index) ∷ []) (last + 1) rest
-adapters_step w old mid new table last rest a index h extends grows made encoded =
+adapters_step w old mid new table last rest a index h extends grows made supplied =
     let many : length (h.done ++ a ∷ []) ≡ length h.done + 1 = length-append h.done (a ∷ []) in
     let number : 1 + length h.done ≡ last + 1 = let c = h.count in omega (arith, c) in
     let places : length table ≡ length h.done = sym (length_map table) ∙ (ap (λ (l : List (List ℕ)). length l) h.made.names ∙ length_names h.done) in
@@ -112,7 +112,7 @@ adapters_step w old mid new table last rest a index h extends grows made encoded
             at_end table (a.0, index) place e at (λ k v. IsInstanceOf new.defs v.1 (suc k)) (λ k there. instance-kept (longer_by grows) (h.made.each k e there))
             (subst (λ n. IsInstanceOf new.defs index n) (let c = h.count in omega (arith, c, places)) made);
       };
-      encoded = all_both (λ (x : List ℕ × WorldAdapter). IsSuppliedUser w (Adapter x.0) x.1.info) h.done (a ∷ []) h.encoded (encoded, tt);
+      supplied = all_both (λ (x : List ℕ × WorldAdapter). IsSuppliedUser w (Adapter x.0) x.1.info) h.done (a ∷ []) h.supplied (supplied, tt);
     }
   where
     length_map : (es : List (List ℕ × ℕ)) → length (map (λ (e : List ℕ × ℕ). e.0) es) ≡ length es
@@ -130,7 +130,7 @@ adapters_all w old new table last rest apart h e =
       grows = subst (λ (d : Adapters). Grows w old.defs new.defs (map InstanceOf (range_with_len 1 (length d)))) all h.grows;
       made = subst (AreAdapterInstances w new.defs table) all h.made;
       apart = apart;
-      encoded = subst (AreSuppliedAdapters w) all h.encoded;
+      supplied = subst (AreSuppliedAdapters w) all h.supplied;
     }
 
 -- ---- the next adapter
@@ -267,27 +267,27 @@ instances_found w ds u main apart h = record { main = main; adapters = each }
         }
 
 -- each of their imports that needs a string encoding has one
-one_encoded : (w : ComponentWorld) (m : WorldModule) → IsSuppliedUser w m.of m.found → AllByRecursion (λ (i : UserImport). IsSuppliedImport w i.of i.core.role) (imports_of_module m)
-one_encoded w m h = mapped (imports_of m.found) h
+one_supplied : (w : ComponentWorld) (m : WorldModule) → IsSuppliedUser w m.of m.found → AllByRecursion (λ (i : UserImport). IsSuppliedImport w i.of i.core.role) (imports_of_module m)
+one_supplied w m h = mapped (imports_of m.found) h
   where
     mapped : (is : List CoreImport) → AllByRecursion (λ (i : CoreImport). IsSuppliedImport w m.of i.role) is → AllByRecursion (λ (i : UserImport). IsSuppliedImport w i.of i.core.role) (map (λ i. record { of = m.of; core = i }) is)
     mapped [] h = tt
     mapped (i ∷ is) h = (h.0, mapped is h.1)
 
-pub user_encoded : (w : ComponentWorld) (of : User) (is : List CoreImport) → AllByRecursion (λ (i : UserImport). IsSuppliedImport w i.of i.core.role) (map (λ (i : CoreImport). record { of = of; core = i }) is) → AllByRecursion (λ (i : CoreImport). IsSuppliedImport w of i.role) is
-user_encoded w of [] h = tt
-user_encoded w of (i ∷ is) h = (h.0, user_encoded w of is h.1)
+pub user_supplied : (w : ComponentWorld) (of : User) (is : List CoreImport) → AllByRecursion (λ (i : UserImport). IsSuppliedImport w i.of i.core.role) (map (λ (i : CoreImport). record { of = of; core = i }) is) → AllByRecursion (λ (i : CoreImport). IsSuppliedImport w of i.role) is
+user_supplied w of [] h = tt
+user_supplied w of (i ∷ is) h = (h.0, user_supplied w of is h.1)
 
-adapters_encoded : (w : ComponentWorld) (adapters : Adapters) → AreSuppliedAdapters w adapters → AllByRecursion (λ (i : UserImport). IsSuppliedImport w i.of i.core.role) (flat_map imports_of_module (map adapter_module adapters))
-adapters_encoded w [] h = tt
-adapters_encoded w (a ∷ adapters) h =
+adapters_supplied : (w : ComponentWorld) (adapters : Adapters) → AreSuppliedAdapters w adapters → AllByRecursion (λ (i : UserImport). IsSuppliedImport w i.of i.core.role) (flat_map imports_of_module (map adapter_module adapters))
+adapters_supplied w [] h = tt
+adapters_supplied w (a ∷ adapters) h =
     all_both (λ (i : UserImport). IsSuppliedImport w i.of i.core.role) (imports_of_module (adapter_module a)) (flat_map imports_of_module (map adapter_module adapters))
-    (one_encoded w (adapter_module a) h.0) (adapters_encoded w adapters h.1)
+    (one_supplied w (adapter_module a) h.0) (adapters_supplied w adapters h.1)
 
-pub all_encoded : (w : ComponentWorld) → IsSuppliedUser w Main w.main → AreSuppliedAdapters w w.adapters → AllByRecursion (λ (i : UserImport). IsSuppliedImport w i.of i.core.role) (user_imports w)
-all_encoded w main adapters =
+pub all_supplied : (w : ComponentWorld) → IsSuppliedUser w Main w.main → AreSuppliedAdapters w w.adapters → AllByRecursion (λ (i : UserImport). IsSuppliedImport w i.of i.core.role) (user_imports w)
+all_supplied w main adapters =
     let m : WorldModule = record { of = Main; found = w.main } in
-    all_both (λ (i : UserImport). IsSuppliedImport w i.of i.core.role) (imports_of_module m) (flat_map imports_of_module (map adapter_module w.adapters)) (one_encoded w m main) (adapters_encoded w w.adapters adapters)
+    all_both (λ (i : UserImport). IsSuppliedImport w i.of i.core.role) (imports_of_module m) (flat_map imports_of_module (map adapter_module w.adapters)) (one_supplied w m main) (adapters_supplied w w.adapters adapters)
 
 -- the landmarks of main's instance, and of the others
 pub users_joined : (w : ComponentWorld) → InstanceOf 0 ∷ map InstanceOf (range_with_len 1 (length w.adapters)) ≡ map InstanceOf (range_with_len 0 (length (user_modules w)))
@@ -318,8 +318,8 @@ next_is_user w table last a h u number named found =
     }
 
 -- its imports have what they need, where those of the same user have it
-pub next_encoded : (w : ComponentWorld) (a : List ℕ × WorldAdapter) (u v : UserModule) → IsSameUser u v → module_name u.which ≡ Some a.0 → u.found.now ≡ a.1.info → IsSuppliedUser w (user_of v.which) v.found.now → IsSuppliedUser w (Adapter a.0) a.1.info
-next_encoded w a u v s named found h = subst (λ (m : ValidatedModule). IsSuppliedUser w (Adapter a.0) m) (s.found ∙ found) (subst (λ (of : User). IsSuppliedUser w of v.found.now) (ap user_of_name (s.named ∙ named)) h)
+pub next_supplied : (w : ComponentWorld) (a : List ℕ × WorldAdapter) (u v : UserModule) → IsSameUser u v → module_name u.which ≡ Some a.0 → u.found.now ≡ a.1.info → IsSuppliedUser w (user_of v.which) v.found.now → IsSuppliedUser w (Adapter a.0) a.1.info
+next_supplied w a u v s named found h = subst (λ (m : ValidatedModule). IsSuppliedUser w (Adapter a.0) m) (s.found ∙ found) (subst (λ (of : User). IsSuppliedUser w of v.found.now) (ap user_of_name (s.named ∙ named)) h)
 
 -- the same user
 pub same_is_user : (w : ComponentWorld) (u v : UserModule) → IsSameUser u v → IsUser w u → IsUser w v
@@ -367,8 +367,8 @@ main_there w ds u h m =
     let number = m.number in
     omega (arith, there, number)
 
-pub main_encoded : (w : ComponentWorld) (u : UserModule) → IsMainUser w u → IsSuppliedUser w (user_of u.which) u.found.now → IsSuppliedUser w Main w.main
-main_encoded w u m h = subst (λ (v : ValidatedModule). IsSuppliedUser w Main v) m.found (subst (λ (of : User). IsSuppliedUser w of u.found.now) (ap user_of_name m.named) h)
+pub main_supplied : (w : ComponentWorld) (u : UserModule) → IsMainUser w u → IsSuppliedUser w (user_of u.which) u.found.now → IsSuppliedUser w Main w.main
+main_supplied w u m h = subst (λ (v : ValidatedModule). IsSuppliedUser w Main v) m.found (subst (λ (of : User). IsSuppliedUser w of u.found.now) (ap user_of_name m.named) h)
 
 pub main_grows : (w : ComponentWorld) (old mid new : List Def) (u : UserModule) → IsMainUser w u → Grows w old mid (InstanceOf u.number ∷ []) → Grows w mid new [] → Grows w old new (InstanceOf 0 ∷ [])
 main_grows w old mid new u m g more = Grows-then (subst (λ n. Grows w old mid (InstanceOf n ∷ [])) m.number g) more

@@ -97,7 +97,7 @@ pub record AllAdapters (w : ComponentWorld) (old new : List Def) (table : List (
   pub grows : Grows w old new (map InstanceOf (range_with_len 1 (length w.adapters)))
   pub made : AreAdapterInstances w new table w.adapters
   pub apart : IsDistinct bytes_eq (keys_of w.adapters)
-  pub encoded : AreSuppliedAdapters w w.adapters
+  pub supplied : AreSuppliedAdapters w w.adapters
 
 -- ---- types of exported interfaces
 

@@ -57,14 +57,17 @@ env = codes "env"
 abbrev one_page : MemoryType
 one_page = record { minimum = 1; maximum = None }
 
--- main exports its memory and the function g
+abbrev other : List ℕ
+other = codes "other"
+
+-- main exports its memory, another one without a role, and the function g
 abbrev main : ValidatedModule
 main = record {
   bytes = core;
   imports = record { modules = [] };
   exports = record { exports = (memory, exports.Memory one_page) ∷ [] };
   imported = [];
-  offered = (memory, externs.Memory one_page) ∷ (g, externs.Func plain_core) ∷ [];
+  offered = (memory, externs.Memory one_page) ∷ (other, externs.Memory one_page) ∷ (g, externs.Func plain_core) ∷ [];
   metadata = record { import_encodings = []; export_encodings = [] };
 }
 

@@ -10,7 +10,7 @@ use Rattle.root_imports.specs.Keeping.{Root}
 use Rattle.core_options.specs.MainOptions.{user_of, IsUser}
 use Rattle.main_instance.specs.Sources.{AreSources}
 use Rattle.core_instances.specs.Instances.{IsSuppliedUser}
-use Rattle.core_instances.proofs.UserInstances.{AdaptersSoFar, IsNextAdapter, adapters_start, adapters_step, adapters_all, next_adapter, next_encoded, next_is_user, next_there, own_sources, behind_main, same_is_user}
+use Rattle.core_instances.proofs.UserInstances.{AdaptersSoFar, IsNextAdapter, adapters_start, adapters_step, adapters_all, next_adapter, next_supplied, next_is_user, next_there, own_sources, behind_main, same_is_user}
 use Rattle.comp_items.proofs.Kept.{instance-kept}
 use Rattle.comp_items.proofs.Remembering.{longer}
 use Rattle.core_instances.proofs.users.instantiate_adapters.Goals as goal
@@ -114,9 +114,9 @@ loop-name-preserved c =
     let number : v.number ≡ last + 1 = own.user.number ∙ user.number in
     let grows : Grows w mid.defs new.defs (InstanceOf (last + 1) ∷ []) = subst (λ n. Grows w mid.defs new.defs (InstanceOf n ∷ [])) number (subst (λ x. Grows x.now mid.defs new.defs (InstanceOf v.number ∷ [])) world of.grows) in
     let made : IsInstanceOf new.defs index (last + 1) = subst (λ n. IsInstanceOf new.defs index n) number of.made in
-    let encoded : IsSuppliedUser w (user_of v.which) v.found.now = subst (λ x. IsSuppliedUser x.now (user_of v.which) v.found.now) world of.encoded in
+    let supplied : IsSuppliedUser w (user_of v.which) v.found.now = subst (λ x. IsSuppliedUser x.now (user_of v.which) v.found.now) world of.supplied in
     let step : AdaptersSoFar w old new (table ++ (a.0, index) ∷ []) (last + 1) c.next.new.self =
-    adapters_step w old mid new table last c.next.new.self a index before of.extends grows made (next_encoded w a c.next_user-user.result v own.user user.named user.found encoded) in
+    adapters_step w old mid new table last c.next.new.self a index before of.extends grows made (next_supplied w a c.next_user-user.result v own.user user.named user.found supplied) in
     let kept : c.insert.new.self ≡ table ++ (a.0, index) ∷ [] = c.in_ok-insert.ensures.ok ∙ ap (λ (k : List ℕ). table ++ (k, index) ∷ []) c.in_ok-key.ensures in (
       tt,
       tt,

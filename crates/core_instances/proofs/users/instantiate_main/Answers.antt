@@ -4,7 +4,7 @@ use Rattle.comp_items.proofs.Remembering.{longer}
 use Rattle.comp_terms.specs.Rules.{Grows}
 use Rattle.comp_terms.specs.Terms.{IsInstanceOf}
 use Rattle.root_imports.specs.Keeping.{Root}
-use Rattle.core_instances.proofs.UserInstances.{main_encoded, main_grows, main_there}
+use Rattle.core_instances.proofs.UserInstances.{main_supplied, main_grows, main_there}
 use Rattle.core_instances.proofs.users.instantiate_main.Goals as goal
 
 pub instantiate_user-requires-clause-there : goal.instantiate_user-requires-clause-there
@@ -26,4 +26,4 @@ returns-clause-made c =
     instance-kept (longer c.in_ok-memory_of_main.ensures.extends) (subst (λ n. IsInstanceOf c.instantiate_user.new.root.items.defs c.in_ok-index.index n) c.requires.main.number c.in_ok-index.ensures.made)
 
 pub returns-clause-supplied : goal.returns-clause-supplied
-returns-clause-supplied c = main_encoded c.args.root.now.world.now c.args.sources.now.user c.requires.main c.in_ok-index.ensures.supplied
+returns-clause-supplied c = main_supplied c.args.root.now.world.now c.args.sources.now.user c.requires.main c.in_ok-index.ensures.supplied

@@ -9,7 +9,7 @@ use Rattle.core_options.specs.MainOptions.{user_of, module_named}
 use Rattle.comp_items.proofs.Extending.{extends_adds, extends_then}
 use Rattle.comp_worlds.specs.Uses.{imports_of}
 use Rattle.main_instance.proofs.Serving.{groups_encoded}
-use Rattle.core_instances.proofs.UserInstances.{user_encoded}
+use Rattle.core_instances.proofs.UserInstances.{user_supplied}
 use Rattle.root_imports.specs.Growing.{Grows-by, Grows-then}
 use Rattle.core_instances.proofs.Counting.{no_fewer}
 use Rattle.core_instances.proofs.users.instantiate_user.Goals as goal
@@ -36,4 +36,4 @@ pub returns-clause-supplied : goal.returns-clause-supplied
 returns-clause-supplied c =
     let w = c.args.root.now.world.now in
     let u = c.args.sources.now.user in
-    user_encoded w (user_of u.which) (imports_of u.found.now) (groups_encoded w (user_of u.which) c.arguments.new.root.items.defs c.in_ok-arguments.arguments u.found.now.imports.modules c.in_ok-arguments.ensures.serves)
+    user_supplied w (user_of u.which) (imports_of u.found.now) (groups_encoded w (user_of u.which) c.arguments.new.root.items.defs c.in_ok-arguments.arguments u.found.now.imports.modules c.in_ok-arguments.ensures.serves)

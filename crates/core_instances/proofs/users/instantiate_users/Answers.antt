@@ -6,7 +6,7 @@ use Rattle.main_instance.specs.Sources.{AreSources}
 use Rattle.main_instance.proofs.Growth.{sources-kept}
 use Rattle.core_instances.specs.Instances.{HasUserModules, AllAdapters}
 use Rattle.core_instances.proofs.Ordering.{modules_kept}
-use Rattle.core_instances.proofs.UserInstances.{all_encoded, instances_found, users_grow}
+use Rattle.core_instances.proofs.UserInstances.{all_supplied, instances_found, users_grow}
 use Rattle.core_instances.proofs.users.instantiate_users.Goals as goal
 
 pub instantiate_adapters-requires-clause-sources : goal.instantiate_adapters-requires-clause-sources
@@ -41,4 +41,4 @@ returns-clause-supplied c =
     let mid = c.instantiate_main.new.root.items.defs in
     let new = c.instantiate_adapters.new.root.items.defs in
     let all : AllAdapters w mid new c.in_ok-adapters.adapters = subst (λ (r : Root). AllAdapters r.world.now mid new c.in_ok-adapters.adapters) c.in_ok-main.ensures.same c.in_ok-adapters.ensures.all in
-    all_encoded w c.in_ok-main.ensures.supplied all.encoded
+    all_supplied w c.in_ok-main.ensures.supplied all.supplied
