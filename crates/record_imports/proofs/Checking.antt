@@ -46,7 +46,7 @@ use Rattle.record_core_types.specs.Guarantees.{IsCalled}
 use Rattle.record_faults.specs.declared.fault.Failure.{Failure}
 use Rattle.record_faults.specs.Faults.{◌>>=◌, Gives}
 use Rattle.record_faults.proofs.Chains.{bind_ok, got, passed}
-use Rattle.record_imports.specs.Meaning.{Roles, world_id, role_of, is_of_other, target, no_role, unfit, meaningless, fitting, kept, import_of}
+use Rattle.record_imports.specs.Meaning.{Roles, world_id, role_of, target, no_role, unfit, meaningless, fitting, kept, import_of}
 use Rattle.record_imports.specs.Guarantees.{IsChecked}
 
 -- ---- steps
@@ -62,17 +62,11 @@ concluded (Err e) value answer read is h = subst (λ a. Gives (λ x. x) a read) 
 
 -- ---- an import that was read
 
--- a role that resolves, where roles of other modules resolve to nothing
-pub unless_other : (b : Bool) (o : Option Import) (x : Import) → (if b then None else o) ≡ Some x → (b ≡ false) × (o ≡ Some x)
-unless_other true o x e = absurd cc
-unless_other false o x e = (refl, e)
-
 pub record Passes (r : Resolved) (table : Roles) (core : CoreModule) (i : CoreImport) (import : Import) : Type 0 where
   pub ty : ExternType
   pub typed : extern_type core i.entity ≡ Some ty
   pub role : ImportRole
   pub has : role_of table i ≡ Some role
-  pub own : is_of_other role ≡ false
   pub means : resolved_import r i.field role (Some ty) ≡ Some import
   pub fits : fits_import r.resolve world_id core import i.entity ≡ true
 
@@ -89,14 +83,12 @@ import_passes r table core i import e =
     let b = bind_ok (ok_or (role_of table i) (no_role i)) (after_role r core i a.0) import a.2 in
     let c = bind_ok (ok_or (target r i b.0 a.0) (meaningless i b.0)) (fitting r core i) import b.2 in
     let p = passed (fits_import r.resolve world_id core c.0 i.entity) c.0 import (unfit i) c.2 in
-    let m = unless_other (is_of_other b.0) (resolved_import r i.field b.0 (Some a.0)) c.0 (got (target r i b.0 a.0) (meaningless i b.0) c.0 c.1) in
     record {
       ty = a.0;
       typed = got (extern_type core i.entity) (unfit i) a.0 a.1;
       role = b.0;
       has = got (role_of table i) (no_role i) b.0 b.1;
-      own = m.0;
-      means = m.1 ∙ ap Some p.1;
+      means = got (target r i b.0 a.0) (meaningless i b.0) c.0 c.1 ∙ ap Some p.1;
       fits = ap (λ (x : Import). fits_import r.resolve world_id core x i.entity) (sym p.1) ∙ p.0;
     }
 

@@ -27,12 +27,12 @@ use Rattle.record_faults.specs.declared.fault.Refusal.TheVariants as refusals
 use Rattle.record_faults.specs.Faults.{◌>>=◌}
 use Rattle.record_faults.proofs.Chains.{refused, same_refusal, bind_ok, bind_err, missed, got, failed}
 use Rattle.record_imports.specs.declared.grouping.Group.{Group}
-use Rattle.record_imports.specs.Meaning.{Roles, world_id, role_of, is_of_other, target, no_role as missing_role, unfit as unfit_type, meaningless, fitting, import_of}
+use Rattle.record_imports.specs.Meaning.{Roles, world_id, role_of, target, no_role as missing_role, unfit as unfit_type, meaningless, fitting, import_of}
 use Rattle.record_imports.specs.Grouping.{fields_in, with_field, imported_twice, group_after, groups_after, instances_of}
 use Rattle.record_imports.specs.Memories.{fits_memory, takes, unfit_memory as refused_memory, all_take, all_take_first, memories_fit}
 use Rattle.record_imports.specs.Importing.{imports_of}
-use Rattle.record_imports.specs.Causes.{AreImports, ImportCause, twice, untyped, no_role, of_other, nothing_there, no_memory, unfit, unfit_memory}
-use Rattle.record_imports.proofs.Checking.{unless_other, Passes, after_type, after_role, import_passes}
+use Rattle.record_imports.specs.Causes.{ImportCause, twice, untyped, no_role, nothing_there, of_another_kind, unfit, MemoryCause, unfit_memory}
+use Rattle.record_imports.proofs.Checking.{Passes, after_type, after_role, import_passes}
 use Rattle.record_imports.proofs.Fields.{with_field_cases, with_field_keeps, with_field_adds}
 
 -- an element in the middle
@@ -41,9 +41,6 @@ middle xs ys x = Contains-append_right xs (x ∷ ys) x (0, omega arith, refl)
 
 same_some : {A : Type 0} (o : Option A) (x y : A) → o ≡ Some x → o ≡ Some y → x ≡ y
 same_some o x y a b = cc
-
-same_ok : {A : Type 0} (o : Result A Failure) (x y : A) → o ≡ Ok x → o ≡ Ok y → x ≡ y
-same_ok o x y a b = cc
 
 -- ---- memories
 
@@ -103,6 +100,22 @@ memory_taken modules u first ty i e is there asks =
     let this = AllByRecursion-contains (λ x. takes first (memory_of_import x.role) ≡ true) (flat_map imports_from modules) i (all_taken first (flat_map imports_from modules) u taken) there in
     ap (λ (x : Import). takes first (memory_of_import x)) (sym asks) ∙ this
 
+-- the failure that is returned, where it isn't out of memory
+refusal_of : (modules : List (List ℕ × ImportInstance)) (e : Failure) (f : Refusal) → e ≡ failures.Refused f → (e ≢ failures.Memory → memories_fit modules ≡ Err e) → memories_fit modules ≡ refused f
+refusal_of modules failures.Memory f is h = absurd cc
+refusal_of modules (failures.Refused x) f is h = h (λ m. cc) ∙ ap (λ (y : Failure). Err y) is
+
+-- a memory that is refused has its cause
+pub has_memory_cause : (modules : List (List ℕ × ImportInstance)) (e : Failure) → (e ≢ failures.Memory → memories_fit modules ≡ Err e) → (f : Refusal) → e ≡ failures.Refused f → MemoryCause modules f
+has_memory_cause modules e h f is =
+    let u = memories_refused modules f (refusal_of modules e f is h) in
+    let one = u.unfit_one in
+    subst (λ (x : Refusal). MemoryCause modules x) one.reported (unfit_memory u.first one.ty one.i u.is_first one.there one.asks one.unfits)
+
+-- memories that pass have none
+pub no_memory_cause : (modules : List (List ℕ × ImportInstance)) (u : ⊤) → memories_fit modules ≡ Ok u → (f : Refusal) → MemoryCause modules f → ⊥
+no_memory_cause modules u fit f (unfit_memory first ty i is_first there asks unfits) = true≢false (sym (memory_taken modules u first ty i fit is_first there asks) ∙ unfits)
+
 module _ (r : Resolved) (table : Roles) (core : CoreModule) where
   -- ---- one import
 
@@ -110,11 +123,11 @@ module _ (r : Resolved) (table : Roles) (core : CoreModule) where
       → target r i role ty ≡ None → meaningless i role ≡ failures.Refused f → ImportCause r table core f
   no_target i roles.Memory ty f c typed has none reported =
       let none' : resolved_import r i.field roles.Memory (extern_type core i.entity) ≡ None = ap (resolved_import r i.field roles.Memory) typed ∙ none in
-      subst (λ (x : Refusal). ImportCause r table core x) (same_refusal (refusals.CoreType i.field) f reported) (no_memory i c has none')
-  no_target i (roles.MainExport name kind) ty f c typed has none reported =
-      subst (λ (x : Refusal). ImportCause r table core x) (same_refusal (refusals.RoleMissing i.«module» i.field) f reported) (of_other i (roles.MainExport name kind) c has refl)
+      subst (λ (x : Refusal). ImportCause r table core x) (same_refusal (refusals.CoreType i.field) f reported) (of_another_kind i roles.Memory c has refl none')
   no_target i (roles.AdapterExport adapter name) ty f c typed has none reported =
-      subst (λ (x : Refusal). ImportCause r table core x) (same_refusal (refusals.RoleMissing i.«module» i.field) f reported) (of_other i (roles.AdapterExport adapter name) c has refl)
+      let role : ImportRole = roles.AdapterExport adapter name in
+      let none' : resolved_import r i.field role (extern_type core i.entity) ≡ None = ap (resolved_import r i.field role) typed ∙ none in
+      subst (λ (x : Refusal). ImportCause r table core x) (same_refusal (refusals.CoreType i.field) f reported) (of_another_kind i role c has refl none')
   no_target i role ty f c typed has none reported =
       let none' : resolved_import r i.field role (extern_type core i.entity) ≡ None = ap (resolved_import r i.field role) typed ∙ none in
       subst (λ (x : Refusal). ImportCause r table core x) (same_refusal (refusals.RoleMissing i.«module» i.field) f reported) (nothing_there i role c has refl none')
@@ -140,9 +153,8 @@ module _ (r : Resolved) (table : Roles) (core : CoreModule) where
                         no_target i b.0 a.0 f c typed has n.0 n.1
                     | inr d ↦
                         let n = failed (fits_import r.resolve world_id core d.0 i.entity) d.0 (unfit_type i) (failures.Refused f) d.2 in
-                        let m = unless_other (is_of_other b.0) (resolved_import r i.field b.0 (Some a.0)) d.0 (got (target r i b.0 a.0) (meaningless i b.0) d.0 d.1) in
-                        let means : resolved_import r i.field b.0 (extern_type core i.entity) ≡ Some d.0 = ap (resolved_import r i.field b.0) typed ∙ m.1 in
-                        subst (λ (x : Refusal). ImportCause r table core x) (same_refusal (refusals.CoreType i.field) f n.1) (unfit i b.0 d.0 c has m.0 means n.0)
+                        let means : resolved_import r i.field b.0 (extern_type core i.entity) ≡ Some d.0 = ap (resolved_import r i.field b.0) typed ∙ got (target r i b.0 a.0) (meaningless i b.0) d.0 d.1 in
+                        subst (λ (x : Refusal). ImportCause r table core x) (same_refusal (refusals.CoreType i.field) f n.1) (unfit i b.0 d.0 c has means n.0)
                   ]
             ]
       ]
@@ -265,22 +277,14 @@ module _ (r : Resolved) (table : Roles) (core : CoreModule) where
   -- ---- all imports
 
   abbrev after_groups : List Group → Result (List (List ℕ × ImportInstance)) Failure
-  after_groups groups = memories_fit (instances_of groups) >>= λ u. Ok (instances_of groups)
+  after_groups groups = Ok (instances_of groups)
 
   imports_refused : (f : Refusal) → imports_of r table core ≡ refused f → ImportCause r table core f
   unfolding imports_of
   imports_refused f e =
       elim (bind_err (groups_after r table core [] core.imports) after_groups (failures.Refused f) e) [
         | inl h ↦ groups_refused [] core.imports [] f refl (λ m n k. absurd (true≢false (sym k))) h
-        | inr a ↦
-            elim (bind_err (memories_fit (instances_of a.0)) (λ u. Ok (instances_of a.0)) (failures.Refused f) a.2) [
-              | inl h ↦
-                  let u = memories_refused (instances_of a.0) f h in
-                  let one = u.unfit_one in
-                  let are : AreImports r table core (instances_of a.0) = record { groups = a.0; grouped = a.1; are = refl } in
-                  subst (λ (x : Refusal). ImportCause r table core x) one.reported (unfit_memory (instances_of a.0) u.first one.ty one.i are u.is_first one.there one.asks one.unfits)
-              | inr b ↦ absurd cc
-            ]
+        | inr a ↦ absurd cc
       ]
 
   -- a refusal has its cause
@@ -294,14 +298,12 @@ module _ (r : Resolved) (table : Roles) (core : CoreModule) where
   record Answered (modules : List (List ℕ × ImportInstance)) : Type 0 where
     groups : List Group
     grouped : groups_after r table core [] core.imports ≡ Ok groups
-    fit : memories_fit (instances_of groups) ≡ Ok tt
 
   answered : (modules : List (List ℕ × ImportInstance)) → imports_of r table core ≡ Ok modules → Answered modules
   unfolding imports_of
   answered modules e =
       let a = bind_ok (groups_after r table core [] core.imports) after_groups modules e in
-      let b = bind_ok (memories_fit (instances_of a.0)) (λ u. Ok (instances_of a.0)) modules a.2 in
-      record { groups = a.0; grouped = a.1; fit = b.1 }
+      record { groups = a.0; grouped = a.1 }
 
   passes_at : (modules : List (List ℕ × ImportInstance)) (i : CoreImport) → imports_of r table core ≡ Ok modules → Contains core.imports i → Passed i
   passes_at modules i e c =
@@ -330,24 +332,14 @@ module _ (r : Resolved) (table : Roles) (core : CoreModule) where
       let p = passes_at modules i e c in
       let q = p.passes in
       let clash : Some q.role ≡ None = sym q.has ∙ none in cc
-  no_cause modules e f (of_other i role c has other) =
-      let p = passes_at modules i e c in
-      let q = p.passes in
-      true≢false (sym other ∙ ap (λ (x : ImportRole). is_of_other x) (sym (same_role i p.import q role has)) ∙ q.own)
   no_cause modules e f (nothing_there i role c has other none) =
       let p = passes_at modules i e c in
       let clash : Some p.import ≡ None = sym (means_at i p.import p.passes role has) ∙ none in cc
-  no_cause modules e f (no_memory i c has none) =
+  no_cause modules e f (of_another_kind i role c has kind none) =
       let p = passes_at modules i e c in
-      let clash : Some p.import ≡ None = sym (means_at i p.import p.passes roles.Memory has) ∙ none in cc
-  no_cause modules e f (unfit i role import c has own means unfits) =
+      let clash : Some p.import ≡ None = sym (means_at i p.import p.passes role has) ∙ none in cc
+  no_cause modules e f (unfit i role import c has means unfits) =
       let p = passes_at modules i e c in
       let q = p.passes in
       let same : p.import ≡ import = same_some (resolved_import r i.field role (extern_type core i.entity)) p.import import (means_at i p.import q role has) means in
       true≢false (sym q.fits ∙ ap (λ (x : Import). fits_import r.resolve world_id core x i.entity) same ∙ unfits)
-  no_cause modules e f (unfit_memory imported first ty i are is_first c asks unfits) =
-      let p = answered modules e in
-      let same : are.groups ≡ p.groups = same_ok (groups_after r table core [] core.imports) are.groups p.groups are.grouped p.grouped in
-      let all : imported ≡ instances_of p.groups = are.are ∙ ap instances_of same in
-      let fit : memories_fit imported ≡ Ok tt = ap memories_fit all ∙ p.fit in
-      true≢false (sym (memory_taken imported tt first ty i fit is_first c asks) ∙ unfits)

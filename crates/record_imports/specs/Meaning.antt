@@ -1,4 +1,4 @@
--- The role of one core import of a main module (the roles are this project's own; what they require is from the Canonical
+-- The role of one core import of a module (the roles are this project's own; what they require is from the Canonical
 -- ABI: `canon lower` and the built-in functions).
 --
 -- An import must have a role, the role must resolve in the world, and the import must have the type that the resolved role
@@ -36,19 +36,15 @@ world_id = record { index = 0 }
 abbrev pub role_of : Roles → CoreImport → Option ImportRole
 role_of table i = lookup (is_same_import (record { «module» = i.«module»; field = i.field })) table
 
--- an export of another module; for a main module alone there is no other
-abbrev pub is_of_other : ImportRole → Bool
-is_of_other (roles.MainExport name kind) = true
-is_of_other (roles.AdapterExport adapter name) = true
-is_of_other role = false
-
-abbrev pub is_memory : ImportRole → Bool
-is_memory roles.Memory = true
-is_memory role = false
+-- a role that the type of the import resolves: main's memory, or a function that an adapter exports
+abbrev pub is_by_type : ImportRole → Bool
+is_by_type roles.Memory = true
+is_by_type (roles.AdapterExport adapter name) = true
+is_by_type role = false
 
 -- what a role resolves to, for an import of this type
 abbrev pub target : Resolved → CoreImport → ImportRole → ExternType → Option Import
-target r i role ty = if is_of_other role then None else resolved_import r i.field role (Some ty)
+target r i role ty = resolved_import r i.field role (Some ty)
 
 -- ---- refusals
 
@@ -58,9 +54,10 @@ no_role i = failures.Refused (refusals.RoleMissing i.«module» i.field)
 abbrev pub unfit : CoreImport → Failure
 unfit i = failures.Refused (refusals.CoreType i.field)
 
--- The role of a memory doesn't resolve where the import is no memory, any other where what it names does not exist.
+-- The role of a memory doesn't resolve where the import is no memory, that of a function of an adapter where it is no function, and
+-- any other where what it names does not exist.
 abbrev pub meaningless : CoreImport → ImportRole → Failure
-meaningless i role = if is_memory role then unfit i else no_role i
+meaningless i role = if is_by_type role then unfit i else no_role i
 
 -- ---- the import
 

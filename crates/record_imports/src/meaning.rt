@@ -1,12 +1,11 @@
 //! The role of one core import.
 
 ghost use Rattle.std.specs.Prelude.{◌≡◌, Err, ok_or, IfOk};
-ghost use Rattle.std.specs.Option.{IfSome};
 ghost use Rattle.wit_data.specs.Sound.{IsSound};
 ghost use Rattle.record_role_targets.specs.Named.{HasNamed};
 ghost use Rattle.record_core_types.specs.Offered.{extern_type};
 ghost use Rattle.record_faults.specs.Faults.{Gives};
-ghost use Rattle.record_imports.specs.Meaning.{is_of_other, target, no_role, unfit, meaningless, fitting, kept, import_of};
+ghost use Rattle.record_imports.specs.Meaning.{target, no_role, unfit, meaningless, fitting, kept, import_of};
 ghost use Rattle.record_imports.specs.Guarantees.{IsChecked};
 
 use comp_lists::Keyed;
@@ -44,7 +43,7 @@ fn meaningless<T>(alloc: Global, import: &CoreImport, role: &ImportRole) -> Resu
     ensures { Gives (λ x. x) result (Err (meaningless import.now role.now)) }
 {
     match role {
-        ImportRole::Memory => unfit(alloc, import),
+        ImportRole::Memory | ImportRole::AdapterExport { .. } => unfit(alloc, import),
         _ => no_role(alloc, import),
     }
 }
@@ -69,35 +68,6 @@ fn name_of(alloc: Global, import: &CoreImport) -> Result<ImportName, AllocError>
     })
 }
 
-/// Whether a role is an export of another module.
-fn is_of_other(role: &ImportRole) -> bool
-    ensures { result ≡ is_of_other role.now }
-{
-    match role {
-        ImportRole::MainExport { .. } => true,
-        ImportRole::AdapterExport { .. } => true,
-        _ => false,
-    }
-}
-
-/// What a role resolves to for an import of a type, if it resolves.
-fn target(
-    alloc: Global,
-    resolved: &Resolved,
-    import: &CoreImport,
-    role: &ImportRole,
-    ty: &ExternType,
-) -> Result<Option<Import>, AllocError>
-    requires { IsSound resolved.now.resolve }
-    ensures exact { IfOk result (λ m. m ≡ target resolved.now import.now role.now ty.now) }
-    ensures present { IfOk result (λ m. IfSome m (HasNamed resolved.now.resolve)) }
-{
-    if is_of_other(role) {
-        return Ok(None);
-    }
-    resolved_import(alloc, resolved, &import.field, role, Some(ty))
-}
-
 /// What the role of an import resolves to.
 fn meaning_of(
     alloc: Global,
@@ -110,7 +80,7 @@ fn meaning_of(
     ensures exact { Gives (λ i. i) result (ok_or (target resolved.now import.now role.now ty.now) (meaningless import.now role.now)) }
     ensures present { IfOk result (HasNamed resolved.now.resolve) }
 {
-    match target(alloc, resolved, import, role, ty)? {
+    match resolved_import(alloc, resolved, &import.field, role, Some(ty))? {
         Some(meaning) => Ok(meaning),
         None => meaningless(alloc, import, role),
     }
