@@ -1,3 +1,4 @@
 pub mod Roles
 pub mod WholeTables
 pub mod NotOfMain
+pub mod Matched
