@@ -1,5 +1,5 @@
 -- The roles of the imports of small modules, worked: a world that imports one function "f", with no parameter and no result.
-use Rattle.std.proofs.Common.{◌≡◌, ℕ, List, [], ◌∷◌, Option, Some, None, Result, Ok, refl, false}
+use Rattle.std.proofs.Common.{◌≡◌, ℕ, List, [], ◌∷◌, Option, Some, None, Result, Ok, refl, true, false}
 use Rattle.std.specs.Prelude.{codes, ⊤}
 use Rattle.core_sections.specs.Entries.{no_entries}
 use Rattle.core_sections.specs.declared.core_module.CoreModule.{CoreModule}
@@ -25,6 +25,7 @@ use Rattle.record_resolve.specs.declared.resolving.Resolved.{Resolved}
 use Rattle.record_faults.specs.declared.fault.Failure.{Failure}
 use Rattle.record_faults.specs.declared.fault.Refusal.TheVariants as refusals
 use Rattle.record_faults.proofs.Chains.{refused}
+use Rattle.record_imports.specs.declared.others.OtherModules.{OtherModules}
 use Rattle.record_imports.specs.Meaning.{Roles, import_of}
 use Rattle.record_imports.specs.Grouping.{group_after}
 use Rattle.record_imports.specs.Memories.{memories_fit}
@@ -45,6 +46,13 @@ small = record {
   imported_keys = [];
   exported_keys = [];
 }
+
+-- a main module with no adapter, and an adapter or a library beside one of these
+abbrev alone : OtherModules
+alone = record { has_main = false; adapters = [] }
+
+abbrev beside : List ℕ → OtherModules
+beside name = record { has_main = true; adapters = (name, tt) ∷ [] }
 
 -- the roles of the imports of fields of one module
 abbrev of : List ℕ → ImportRole → ImportName × ImportRole
@@ -67,7 +75,7 @@ abbrev Answer : Type 0
 Answer = Result (List (List ℕ × ImportInstance)) Failure
 
 abbrev answered : Roles → List CoreImport → Answer
-answered table is = imports_of small table (importing is)
+answered table is = imports_of small alone table (importing is)
 
 calls_f : answered (of (codes "a") (calls (codes "f")) ∷ []) (import (codes "a") (entities.Function 0) ∷ [])
     ≡ Ok ((codes "m", instances.Names ((codes "a", imports.WorldFunc (keys.Name (codes "f")) (codes "f") GuestImport) ∷ [])) ∷ [])
@@ -82,12 +90,19 @@ calls_nothing : answered (of (codes "a") (calls (codes "g")) ∷ []) (import (co
 unfolding imports_of group_after import_of
 calls_nothing = refl
 
-of_an_adapter : answered (of (codes "a") (roles.AdapterExport (codes "x") (codes "f")) ∷ []) (import (codes "a") (entities.Function 1) ∷ [])
+of_no_adapter : answered (of (codes "a") (roles.AdapterExport (codes "x") (codes "f")) ∷ []) (import (codes "a") (entities.Function 0) ∷ []) ≡ refused (refusals.RoleMissing (codes "m") (codes "a"))
+unfolding imports_of group_after import_of
+of_no_adapter = refl
+
+abbrev answered_beside : Roles → List CoreImport → Answer
+answered_beside table is = imports_of small (beside (codes "x")) table (importing is)
+
+of_an_adapter : answered_beside (of (codes "a") (roles.AdapterExport (codes "x") (codes "f")) ∷ []) (import (codes "a") (entities.Function 1) ∷ [])
     ≡ Ok ((codes "m", instances.Names ((codes "a", imports.AdapterExport (codes "x") (codes "f") (record { params = numbers.I32 ∷ []; results = [] })) ∷ [])) ∷ [])
 unfolding imports_of group_after import_of
 of_an_adapter = refl
 
-no_function : answered (of (codes "a") (roles.AdapterExport (codes "x") (codes "f")) ∷ []) (import (codes "a") (memory 1 None) ∷ []) ≡ refused (refusals.CoreType (codes "a"))
+no_function : answered_beside (of (codes "a") (roles.AdapterExport (codes "x") (codes "f")) ∷ []) (import (codes "a") (memory 1 None) ∷ []) ≡ refused (refusals.CoreType (codes "a"))
 unfolding imports_of group_after import_of
 no_function = refl
 

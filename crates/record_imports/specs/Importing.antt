@@ -5,10 +5,11 @@ use Rattle.comp_roles.specs.declared.imports.ImportInstance.{ImportInstance}
 use Rattle.record_resolve.specs.declared.resolving.Resolved.{Resolved}
 use Rattle.record_faults.specs.declared.fault.Failure.{Failure}
 use Rattle.record_faults.specs.Faults.{◌>>=◌}
+use Rattle.record_imports.specs.declared.others.OtherModules.{OtherModules}
 use Rattle.record_imports.specs.Meaning.{Roles}
 use Rattle.record_imports.specs.Grouping.{groups_after, instances_of}
 
-unfoldable pub imports_of : Resolved → Roles → CoreModule → Result (List (List ℕ × ImportInstance)) Failure
-imports_of r table core = do
-  groups ← groups_after r table core [] core.imports
+unfoldable pub imports_of : Resolved → OtherModules → Roles → CoreModule → Result (List (List ℕ × ImportInstance)) Failure
+imports_of r others table core = do
+  groups ← groups_after r others table core [] core.imports
   Ok (instances_of groups)

@@ -2,9 +2,10 @@
 -- ABI: `canon lower` and the built-in functions).
 --
 -- An import must have a role, the role must resolve in the world, and the import must have the type that the resolved role
--- requires.
+-- requires. A role that is an export of another module must be one that the module may import, of a module that is there.
 use Rattle.std.specs.Prelude.{Bool, true, false, List, Option, Some, None, ok_or, Result, Ok, Err, ⊤, if◌then◌else◌}
 use Rattle.std.specs.Map.{lookup}
+use Rattle.std.specs.Option.{option_and_then}
 use Rattle.core_sections.specs.declared.core_module.CoreModule.{CoreModule}
 use Rattle.core_sections.specs.declared.entries.CoreImport.{CoreImport}
 use Rattle.wit_data.specs.declared.ids.WorldId.{WorldId}
@@ -22,6 +23,8 @@ use Rattle.record_faults.specs.declared.fault.Failure.{Failure}
 use Rattle.record_faults.specs.declared.fault.Failure.TheVariants as failures
 use Rattle.record_faults.specs.declared.fault.Refusal.TheVariants as refusals
 use Rattle.record_faults.specs.Faults.{◌>>=◌}
+use Rattle.record_imports.specs.declared.others.OtherModules.{OtherModules}
+use Rattle.record_imports.specs.Others.{is_unknown}
 
 -- the roles of core imports, by module and field
 abbrev pub Roles : Type 0
@@ -35,6 +38,13 @@ world_id = record { index = 0 }
 
 abbrev pub role_of : Roles → CoreImport → Option ImportRole
 role_of table i = lookup (is_same_import (record { «module» = i.«module»; field = i.field })) table
+
+-- the role of an import, unless it names an export of another module that the module may not import, or that isn't there
+abbrev pub unless_unknown : OtherModules → ImportRole → Option ImportRole
+unless_unknown others role = if is_unknown others role then None else Some role
+
+abbrev pub known_role : OtherModules → Roles → CoreImport → Option ImportRole
+known_role others table i = option_and_then (unless_unknown others) (role_of table i)
 
 -- a role that the type of the import resolves: main's memory, or a function that an adapter exports
 abbrev pub is_by_type : ImportRole → Bool
@@ -71,9 +81,9 @@ kept value (Ok u) = Ok value
 kept value (Err e) = Err e
 
 -- The resolved role of a core import. Its type is made of numbers and references to any function only, with limits of 32 bits.
-unfoldable pub import_of : Resolved → Roles → CoreModule → CoreImport → Result Import Failure
-import_of r table core i = do
+unfoldable pub import_of : Resolved → OtherModules → Roles → CoreModule → CoreImport → Result Import Failure
+import_of r others table core i = do
   ty ← ok_or (extern_type core i.entity) (unfit i)
-  role ← ok_or (role_of table i) (no_role i)
+  role ← ok_or (known_role others table i) (no_role i)
   import ← ok_or (target r i role ty) (meaningless i role)
   fitting r core i import

@@ -10,10 +10,11 @@
 //! [`read_imports`] returns exactly what `specs/Importing.antt` gives, unless it runs out of memory;
 //! what the imports name exists in the resolve, and no module and no field of one occurs twice. Each
 //! refusal has its cause, and where a cause holds the call does not succeed: `specs/Causes.antt` lists
-//! the causes, in words that don't follow the code. The callers of this crate decide how imports are
-//! satisfied, and whether a role that is an export of another module names one that is there.
+//! the causes, in words that don't follow the code. A role that is an export of another module is
+//! refused where the module may not import it, or that module isn't there; the callers of this crate
+//! compare the types, and decide how imports are satisfied.
 //!
-//! In reading order: `meaning` (one import), `grouping` (the imports of each module), `memories`,
+//! In reading order: `others` (exports of other modules), `meaning` (one import), `grouping` (the imports of each module), `memories`,
 //! `importing`.
 #![tactic(auto)]
 
@@ -21,6 +22,8 @@ mod grouping;
 mod importing;
 mod meaning;
 mod memories;
+mod others;
 
 pub use importing::read_imports;
 pub use memories::check_memories;
+pub use others::OtherModules;

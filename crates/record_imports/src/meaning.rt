@@ -1,13 +1,17 @@
 //! The role of one core import.
 
 ghost use Rattle.std.specs.Prelude.{◌≡◌, Err, ok_or, IfOk};
+ghost use Rattle.std.specs.Map.{lookup};
+ghost use Rattle.std.specs.Option.{option_copied, option_and_then};
+ghost use Rattle.record_values.specs.Names.{is_same_import};
 ghost use Rattle.wit_data.specs.Sound.{IsSound};
 ghost use Rattle.record_role_targets.specs.Named.{HasNamed};
 ghost use Rattle.record_core_types.specs.Offered.{extern_type};
 ghost use Rattle.record_faults.specs.Faults.{Gives};
-ghost use Rattle.record_imports.specs.Meaning.{target, no_role, unfit, meaningless, fitting, kept, import_of};
+ghost use Rattle.record_imports.specs.Meaning.{unless_unknown, target, no_role, unfit, meaningless, fitting, kept, import_of};
 ghost use Rattle.record_imports.specs.Guarantees.{IsChecked};
 
+use crate::others::{OtherModules, is_unknown};
 use comp_lists::Keyed;
 use comp_roles::{ExternType, Import};
 use core_sections::{CoreImport, CoreModule};
@@ -68,6 +72,21 @@ fn name_of(alloc: Global, import: &CoreImport) -> Result<ImportName, AllocError>
     })
 }
 
+/// The role that a name has, unless it is an export of another module that isn't known.
+fn known_role<'a>(
+    others: &OtherModules,
+    roles: &'a Keyed<ImportName, ImportRole>,
+    name: &ImportName,
+) -> Option<&'a ImportRole>
+    ensures { option_copied result ≡ option_and_then (unless_unknown others.now) (lookup (is_same_import name.now) roles.now) }
+{
+    let role = roles.get(name)?;
+    if is_unknown(others, role) {
+        return None;
+    }
+    Some(role)
+}
+
 /// What the role of an import resolves to.
 fn meaning_of(
     alloc: Global,
@@ -120,17 +139,18 @@ fn unless_refused<T: Drop>(value: T, step: Result<(), Failure>) -> Result<T, Fai
 fn read_import(
     alloc: Global,
     resolved: &Resolved,
+    others: &OtherModules,
     roles: &Keyed<ImportName, ImportRole>,
     core: &CoreModule,
     import: &CoreImport,
 ) -> Result<Import, Failure>
     requires { IsSound resolved.now.resolve }
-    ensures exact { Gives (λ i. i) result (import_of resolved.now roles.now core.now import.now) }
+    ensures exact { Gives (λ i. i) result (import_of resolved.now others.now roles.now core.now import.now) }
     ensures present { IfOk result (HasNamed resolved.now.resolve) }
 {
     let ty = typed(alloc, core, import)?;
     let name = name_of(alloc, import)?;
-    let Some(role) = roles.get(&name) else {
+    let Some(role) = known_role(others, roles, &name) else {
         return no_role(alloc, import);
     };
     let meaning = meaning_of(alloc, resolved, import, role, &ty)?;
@@ -146,14 +166,15 @@ fn read_import(
 pub(crate) fn import_of(
     alloc: Global,
     resolved: &Resolved,
+    others: &OtherModules,
     roles: &Keyed<ImportName, ImportRole>,
     core: &CoreModule,
     import: &CoreImport,
 ) -> Result<Import, Failure>
     requires { IsSound resolved.now.resolve }
-    ensures exact { Gives (λ i. i) result (import_of resolved.now roles.now core.now import.now) }
+    ensures exact { Gives (λ i. i) result (import_of resolved.now others.now roles.now core.now import.now) }
     ensures checks { IfOk result (IsChecked resolved.now.resolve) }
 {
-    let meaning = read_import(alloc, resolved, roles, core, import)?;
+    let meaning = read_import(alloc, resolved, others, roles, core, import)?;
     Ok(meaning)
 }
