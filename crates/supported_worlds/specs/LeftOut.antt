@@ -2,9 +2,9 @@
 -- types and of synchronous functions, exported interfaces of types of their own and of synchronous functions made of these and of
 -- named types of interfaces that are imported or exported, types that it imports, in their order and with all resources of the root
 -- among them, core imports and exports with the role of such a function, core imports that drop a resource, or make or read a handle of
--- one that their module has to export, and core exports that are a post-return, a destructor, a memory or a realloc; of main and of
--- adapters, and of libraries without arguments. All else is left out, and reported by the name of its kind. (The names are those of
--- this project's record.)
+-- one that their module has to export, or are main's memory, a function or a memory that main exports or a function that an adapter
+-- exports, and core exports that are a post-return, a destructor, a memory or a realloc; of main and of adapters, and of libraries
+-- without arguments. All else is left out, and reported by the name of its kind. (The names are those of this project's record.)
 use Rattle.std.specs.Prelude.{ℕ, Bool, ◌++◌, ◌==◌, List, length, codes, Option, Some, None, Result, Ok, Err, get_or, if◌then◌else◌}
 use Rattle.std.specs.List.{flat_map}
 use Rattle.std.specs.Map.{lookup}
