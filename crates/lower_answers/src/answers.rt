@@ -2,11 +2,11 @@
 
 ghost use Rattle.std.specs.Prelude.{IsSome};
 
-use comp_lists::{Bytes, Keyed, Seq};
-use comp_worlds::Lower;
+use comp_lists::{Bytes, Keyed, Seq, Text};
+use comp_worlds::{LibraryInfo, Lower};
 use std::alloc::{AllocError, Global};
 use std::fmt;
-use world_values::{EncoderOptions, ExportKey, Gathered, Merged, Part};
+use world_values::{EncoderOptions, ExportKey, Gathered, GatheredAdapter, Merged, Part};
 
 /// The call that refuses a module, with its fault, or that none does.
 #[derive(Drop)]
@@ -180,6 +180,150 @@ fn answer_after<L: Lower>(
     }
 }
 
+/// Adapters by their names, and what they say together with main.
+#[derive(Drop)]
+struct Beside<B> {
+    adapters: Keyed<Text, GatheredAdapter<B>>,
+    combined: B,
+}
+
+/// An adapter that was given, and what is said with it; a library has no arguments.
+fn adapter_of<B>(alloc: Global, given: Given<B>, is_library: bool) -> (GatheredAdapter<B>, B) {
+    let (bytes, own, merged) = given;
+    let Merged { combined, exports } = merged;
+    let library_info = if is_library {
+        Some(LibraryInfo {
+            arguments: Seq::new(alloc),
+        })
+    } else {
+        None
+    };
+    let part = Part {
+        bytes,
+        own,
+        required: exports,
+    };
+    (GatheredAdapter { part, library_info }, combined)
+}
+
+/// The adapters with one more.
+fn with_adapter<B: Drop>(
+    beside: Beside<B>,
+    name: Text,
+    adapter: GatheredAdapter<B>,
+    combined: B,
+) -> Result<Beside<B>, AllocError> {
+    let Beside {
+        mut adapters,
+        combined: _,
+    } = beside;
+    adapters.insert_if_absent(name, adapter)?;
+    Ok(Beside { adapters, combined })
+}
+
+/// The adapters with a further module, which is a library or not.
+fn one_more<L: Lower>(
+    lower: &L,
+    alloc: Global,
+    beside: Beside<L::Bindgen>,
+    name: Text,
+    is_library: bool,
+    bytes: &[u8],
+) -> Result<Result<Beside<L::Bindgen>, Answer<L::Fault>>, AllocError> {
+    match given_after(lower, alloc, &beside.combined, bytes) {
+        Ok(given) => {
+            let (adapter, combined) = adapter_of(alloc, given, is_library);
+            let beside = with_adapter(beside, name, adapter, combined)?;
+            Ok(Ok(beside))
+        }
+        Err(answer) => {
+            drop(beside);
+            drop(name);
+            Ok(Err(answer))
+        }
+    }
+}
+
+/// What was gathered of main and these adapters.
+fn gathered_beside<B>(
+    bytes: Bytes,
+    own: B,
+    required: Seq<ExportKey>,
+    beside: Beside<B>,
+) -> Gathered<B>
+    ensures { IsSome result.main }
+{
+    let Beside { adapters, combined } = beside;
+    Gathered {
+        main: Some(Part {
+            bytes,
+            own,
+            required,
+        }),
+        adapters,
+        combined,
+        options: OPTIONS,
+    }
+}
+
+/// A further module, as a case has it: its name, whether it is a library, and its bytes.
+#[derive(Drop)]
+pub(crate) struct Further {
+    pub name: Text,
+    pub is_library: bool,
+    pub bytes: Vec<u8>,
+}
+
+/// The adapters with all of these.
+fn all_beside<L: Lower>(
+    lower: &L,
+    alloc: Global,
+    first: Beside<L::Bindgen>,
+    modules: Vec<Further>,
+) -> Result<Result<Beside<L::Bindgen>, Answer<L::Fault>>, AllocError> {
+    let mut beside = first;
+    for further in modules {
+        let Further {
+            name,
+            is_library,
+            bytes,
+        } = further;
+        match one_more(lower, alloc, beside, name, is_library, &bytes)? {
+            Ok(more) => beside = more,
+            Err(answer) => return Ok(Err(answer)),
+        }
+    }
+    Ok(Ok(beside))
+}
+
+/// The result of a layer for a module as main, and these beside it.
+fn answer_for_all<L: Lower>(
+    lower: &L,
+    alloc: Global,
+    main: &[u8],
+    modules: Vec<Further>,
+) -> Result<Answer<L::Fault>, AllocError> {
+    match given_first(lower, alloc, main) {
+        Ok((bytes, own, merged)) => {
+            let Merged { combined, exports } = merged;
+            let first = Beside {
+                adapters: Keyed::new(alloc),
+                combined,
+            };
+            match all_beside(lower, alloc, first, modules)? {
+                Ok(beside) => {
+                    let gathered = gathered_beside(bytes, own, exports, beside);
+                    let answer = prepare_answer(lower, alloc, &gathered);
+                    drop(gathered);
+                    Ok(answer)
+                }
+                Err(answer) => Ok(answer),
+            }
+        }
+        Err(answer) => Ok(answer),
+    }
+}
+
 /// The result for the records of a module: that they are read, or the fault.
 fn read_by<L: Lower>(lower: &L, alloc: Global, bytes: &[u8]) -> Result<String, AllocError> {
     match lower.decode(alloc, bytes) {
@@ -240,5 +384,16 @@ pub fn modules_answer<L: Lower>(
     second: &[u8],
 ) -> Result<String, AllocError> {
     let answer = answer_for_both(lower, alloc, first, second)?;
+    format!(in alloc; "{answer}")
+}
+
+/// The result of a layer for a module as main, with adapters and libraries beside it.
+pub(crate) fn group_answer<L: Lower>(
+    lower: &L,
+    alloc: Global,
+    main: &[u8],
+    modules: Vec<Further>,
+) -> Result<String, AllocError> {
+    let answer = answer_for_all(lower, alloc, main, modules)?;
     format!(in alloc; "{answer}")
 }

@@ -1,6 +1,7 @@
 //! Cases, one line each, and how many have the expected result.
 
-use crate::answers::{module_answer, modules_answer, records_answer};
+use crate::answers::{Further, group_answer, module_answer, modules_answer, records_answer};
+use comp_lists::Text;
 use comp_worlds::Lower;
 use std::alloc::{AllocError, Global};
 use std::fmt;
@@ -14,6 +15,8 @@ pub enum Kind {
     Modules,
     /// Two modules, with ` & ` between them.
     Pairs,
+    /// A module, and behind it adapters and libraries, each after ` & ` with its name: `NAME: MODULE` or `library NAME: MODULE`.
+    Groups,
 }
 
 impl Kind {
@@ -21,6 +24,7 @@ impl Kind {
         match word {
             "records" => Kind::Records,
             "pairs" => Kind::Pairs,
+            "groups" => Kind::Groups,
             _ => Kind::Modules,
         }
     }
@@ -54,6 +58,45 @@ fn pair_answer_of<L: Lower>(lower: &L, alloc: Global, text: &str) -> Result<Stri
     }
 }
 
+/// An adapter or a library with its name; it is none where its digits aren't.
+fn further_of(alloc: Global, text: &str) -> Result<Option<Further>, AllocError> {
+    let (is_library, rest) = match text.strip_prefix("library ") {
+        Some(rest) => (true, rest),
+        None => (false, text),
+    };
+    let (name, digits) = rest.split_once(": ").unwrap_or((rest, ""));
+    let name = Text::from_str(alloc, name)?;
+    match hex::decode(alloc, digits.as_bytes()) {
+        Ok(bytes) => Ok(Some(Further {
+            name,
+            is_library,
+            bytes,
+        })),
+        Err(_) => Ok(None),
+    }
+}
+
+/// All of these.
+fn all_further(alloc: Global, text: &str) -> Result<Vec<Further>, AllocError> {
+    let mut all = Vec::new(alloc);
+    for part in text.split(" & ") {
+        if let Some(further) = further_of(alloc, part)? {
+            all.push(further)?;
+        }
+    }
+    Ok(all)
+}
+
+/// The result for a module and those beside it.
+fn group_answer_of<L: Lower>(lower: &L, alloc: Global, text: &str) -> Result<String, AllocError> {
+    let (main, rest) = text.split_once(" & ").unwrap_or((text, ""));
+    let further = all_further(alloc, rest)?;
+    match hex::decode(alloc, main.as_bytes()) {
+        Ok(main) => group_answer(lower, alloc, &main, further),
+        Err(_) => String::from_str(alloc, "no digits"),
+    }
+}
+
 /// The result for a case.
 fn answer_of<L: Lower>(
     lower: &L,
@@ -65,6 +108,7 @@ fn answer_of<L: Lower>(
         Kind::Records => records_answer(lower, alloc, text),
         Kind::Modules => module_answer_of(lower, alloc, text),
         Kind::Pairs => pair_answer_of(lower, alloc, text),
+        Kind::Groups => group_answer_of(lower, alloc, text),
     }
 }
 

@@ -21,9 +21,9 @@ use Rattle.record_core_types.specs.Offered.{extern_type, import_type, imported}
 use Rattle.record_faults.specs.declared.fault.Failure.{Failure}
 use Rattle.record_faults.specs.Faults.{◌>>=◌}
 use Rattle.record_faults.proofs.Chains.{bind_ok, got, passed}
-use Rattle.record_imports.specs.Meaning.{Roles, world_id, role_of, target, no_role, unfit, meaningless, fitting, import_of}
+use Rattle.record_imports.specs.declared.others.OtherModules.{OtherModules}
+use Rattle.record_imports.specs.Meaning.{Roles, world_id, known_role, target, no_role, unfit, meaningless, fitting, import_of}
 use Rattle.record_imports.specs.Grouping.{fields_in, with_field, imported_twice, group_after, groups_after, instances_of}
-use Rattle.record_imports.specs.Memories.{memories_fit}
 use Rattle.record_imports.specs.Importing.{imports_of}
 use Rattle.record_merge.specs.declared.bindgen.Bindgen.{Bindgen}
 use Rattle.record_resolve.specs.declared.resolving.Resolved.{Resolved}
@@ -99,7 +99,7 @@ role_in (g ∷ gs) m f = by (bytes_eq m g.name) (role_in gs m f)
 
 -- ---- imports that were read
 
-module _ (r : Resolved) (table : Roles) (core : CoreModule) where
+module _ (r : Resolved) (others : OtherModules) (table : Roles) (core : CoreModule) where
   -- an import has a type, and fits this role
   record IsTyped (i : CoreImport) (role : Import) : Type 0 where
     type : ExternType
@@ -110,13 +110,13 @@ module _ (r : Resolved) (table : Roles) (core : CoreModule) where
   after_role i ty role = ok_or (target r i role ty) (meaningless i role) >>= λ import. fitting r core i import
 
   abbrev after_type : CoreImport → ExternType → Result Import Failure
-  after_type i ty = ok_or (role_of table i) (no_role i) >>= λ role. after_role i ty role
+  after_type i ty = ok_or (known_role others table i) (no_role i) >>= λ role. after_role i ty role
 
-  is_typed : (i : CoreImport) (import : Import) → import_of r table core i ≡ Ok import → IsTyped i import
+  is_typed : (i : CoreImport) (import : Import) → import_of r others table core i ≡ Ok import → IsTyped i import
   unfolding import_of
   is_typed i import e =
       let a = bind_ok (ok_or (extern_type core i.entity) (unfit i)) (after_type i) import e in
-      let b = bind_ok (ok_or (role_of table i) (no_role i)) (after_role i a.0) import a.2 in
+      let b = bind_ok (ok_or (known_role others table i) (no_role i)) (after_role i a.0) import a.2 in
       let c = bind_ok (ok_or (target r i b.0 a.0) (meaningless i b.0)) (fitting r core i) import b.2 in
       let p = passed (fits_import r.resolve world_id core c.0 i.entity) c.0 import (unfit i) c.2 in
       record {
@@ -128,29 +128,29 @@ module _ (r : Resolved) (table : Roles) (core : CoreModule) where
   -- the groups with one import more
   record Made (gs gs' : List Group) (i : CoreImport) : Type 0 where
     role : Import
-    read : import_of r table core i ≡ Ok role
+    read : import_of r others table core i ≡ Ok role
     are : gs' ≡ with_field gs i.«module» i.field role
     lacked : is_some (found i.field (fields_in gs i.«module»)) ≡ false
 
-  group_made : (gs gs' : List Group) (i : CoreImport) → group_after r table core gs i ≡ Ok gs' → Made gs gs' i
+  group_made : (gs gs' : List Group) (i : CoreImport) → group_after r others table core gs i ≡ Ok gs' → Made gs gs' i
   unfolding group_after
   group_made gs gs' i e = by (is_some (found i.field (fields_in gs i.«module»))) refl e
     where
       by : (b : Bool) → is_some (found i.field (fields_in gs i.«module»)) ≡ b
-          → (if b then Err (imported_twice i) else (import_of r table core i >>= λ import. Ok (with_field gs i.«module» i.field import))) ≡ Ok gs' → Made gs gs' i
+          → (if b then Err (imported_twice i) else (import_of r others table core i >>= λ import. Ok (with_field gs i.«module» i.field import))) ≡ Ok gs' → Made gs gs' i
       by true h e = absurd cc
       by false h e =
-          let a = bind_ok (import_of r table core i) (λ import. Ok (with_field gs i.«module» i.field import)) gs' e in
+          let a = bind_ok (import_of r others table core i) (λ import. Ok (with_field gs i.«module» i.field import)) gs' e in
           let same : gs' ≡ with_field gs i.«module» i.field a.0 = cc (a.2) in
           record { role = a.0; read = a.1; are = same; lacked = h }
 
   abbrev IsAt : List Group → List ℕ → List ℕ → Import → Type 0
   IsAt gs m f role = found f (fields_in gs m) ≡ Some role
 
-  all_kept : (is : List CoreImport) (gs gs' : List Group) (m f : List ℕ) (role : Import) → groups_after r table core gs is ≡ Ok gs' → IsAt gs m f role → IsAt gs' m f role
+  all_kept : (is : List CoreImport) (gs gs' : List Group) (m f : List ℕ) (role : Import) → groups_after r others table core gs is ≡ Ok gs' → IsAt gs m f role → IsAt gs' m f role
   all_kept [] gs gs' m f role e h = let same : gs ≡ gs' = cc (e) in subst (λ (x : List Group). IsAt x m f role) same h
   all_kept (i ∷ is) gs gs' m f role e h =
-      let a = bind_ok (group_after r table core gs i) (λ x. groups_after r table core x is) gs' e in
+      let a = bind_ok (group_after r others table core gs i) (λ x. groups_after r others table core x is) gs' e in
       let made = group_made gs a.0 i a.1 in
       all_kept is a.0 gs' m f role a.2 (subst (λ (x : List Group). IsAt x m f role) (sym made.are) (field_kept gs m f i.«module» i.field made.role role h))
 
@@ -160,10 +160,10 @@ module _ (r : Resolved) (table : Roles) (core : CoreModule) where
     there : IsAt gs i.«module» i.field role
     passes : IsTyped i role
 
-  each_has : (is : List CoreImport) (gs gs' : List Group) → groups_after r table core gs is ≡ Ok gs' → AllByRecursion (HasRole gs') is
+  each_has : (is : List CoreImport) (gs gs' : List Group) → groups_after r others table core gs is ≡ Ok gs' → AllByRecursion (HasRole gs') is
   each_has [] gs gs' e = tt
   each_has (i ∷ is) gs gs' e =
-      let a = bind_ok (group_after r table core gs i) (λ x. groups_after r table core x is) gs' e in
+      let a = bind_ok (group_after r others table core gs i) (λ x. groups_after r others table core x is) gs' e in
       let made = group_made gs a.0 i a.1 in
       let now : IsAt a.0 i.«module» i.field made.role = subst (λ (x : List Group). IsAt x i.«module» i.field made.role) (sym made.are) (field_added gs i.«module» i.field made.role made.lacked) in
       (record { role = made.role; there = all_kept is a.0 gs' i.«module» i.field made.role a.2 now; passes = is_typed i made.role made.read }, each_has is a.0 gs' a.2)
@@ -171,26 +171,25 @@ module _ (r : Resolved) (table : Roles) (core : CoreModule) where
   -- the groups of which the imports were made
   record AreMade (modules : List (List ℕ × ImportInstance)) : Type 0 where
     groups : List Group
-    grouped : groups_after r table core [] core.imports ≡ Ok groups
+    grouped : groups_after r others table core [] core.imports ≡ Ok groups
     are : instances_of groups ≡ modules
 
-  are_made : (modules : List (List ℕ × ImportInstance)) → imports_of r table core ≡ Ok modules → AreMade modules
+  are_made : (modules : List (List ℕ × ImportInstance)) → imports_of r others table core ≡ Ok modules → AreMade modules
   unfolding imports_of
   are_made modules e =
-      let a = bind_ok (groups_after r table core [] core.imports) (λ groups. memories_fit (instances_of groups) >>= λ _. Ok (instances_of groups)) modules e in
-      let b = bind_ok (memories_fit (instances_of a.0)) (λ _. Ok (instances_of a.0)) modules a.2 in
-      record { groups = a.0; grouped = a.1; are = cc (b.2) }
+      let a = bind_ok (groups_after r others table core [] core.imports) (λ groups. Ok (instances_of groups)) modules e in
+      record { groups = a.0; grouped = a.1; are = cc (a.2) }
 
 -- ---- imports that were found
 
 same_some : {A : Type 0} (o : Option A) (x y : A) → o ≡ Some x → o ≡ Some y → x ≡ y
 same_some o x y a b = cc
 
-module _ (r : Resolved) (main : Part Bindgen) (core : CoreModule) (m : CheckedRoles) (present : 0 < length r.resolve.worlds) where
+module _ (r : Resolved) (others : OtherModules) (main : Part Bindgen) (core : CoreModule) (m : CheckedRoles) (present : 0 < length r.resolve.worlds) where
   abbrev table : Roles
   table = main.own.roles.import_roles
 
-  is_found : (gs : List Group) → instances_of gs ≡ m.imports.modules → (i : CoreImport) → (h : HasRole r table core gs i)
+  is_found : (gs : List Group) → instances_of gs ≡ m.imports.modules → (i : CoreImport) → (h : HasRole r others table core gs i)
       → HasFoundImport r.resolve (get_or r.resolve.worlds 0 no_items) (parts_of r main core m).info (record { module_name = i.«module»; field = i.field; ty = h.passes.type })
   is_found gs are i h = record {
     role = h.role;
@@ -198,7 +197,7 @@ module _ (r : Resolved) (main : Part Bindgen) (core : CoreModule) (m : CheckedRo
     fits = λ ty is. same_some (extern_type core i.entity) ty h.passes.type (import_typed r.resolve present core h.role i.entity ty h.passes.fits is) h.passes.typed;
   }
 
-  each_found : (gs : List Group) → instances_of gs ≡ m.imports.modules → (is : List CoreImport) → AllByRecursion (HasRole r table core gs) is
+  each_found : (gs : List Group) → instances_of gs ≡ m.imports.modules → (is : List CoreImport) → AllByRecursion (HasRole r others table core gs) is
       → AllByRecursion (HasFoundImport r.resolve (get_or r.resolve.worlds 0 no_items) (parts_of r main core m).info) (flat_map (λ i. option_to_list (import_type core i)) is)
   each_found gs are [] h = tt
   each_found gs are (i ∷ is) h =
@@ -208,7 +207,7 @@ module _ (r : Resolved) (main : Part Bindgen) (core : CoreModule) (m : CheckedRo
       (is_found gs are i here, each_found gs are is h.1)
 
   -- of the imports whose roles these are
-  pub all_found : imports_of r table core ≡ Ok m.imports.modules → AllByRecursion (HasFoundImport r.resolve (get_or r.resolve.worlds 0 no_items) (parts_of r main core m).info) (imported core)
+  pub all_found : imports_of r others table core ≡ Ok m.imports.modules → AllByRecursion (HasFoundImport r.resolve (get_or r.resolve.worlds 0 no_items) (parts_of r main core m).info) (imported core)
   all_found e =
-      let made = are_made r table core m.imports.modules e in
-      each_found made.groups made.are core.imports (each_has r table core core.imports [] made.groups made.grouped)
+      let made = are_made r others table core m.imports.modules e in
+      each_found made.groups made.are core.imports (each_has r others table core core.imports [] made.groups made.grouped)

@@ -41,9 +41,10 @@ use Rattle.comp_roles.specs.declared.imports.Import.{Import}
 use Rattle.comp_roles.specs.declared.imports.Import.TheVariants as imports
 use Rattle.comp_roles.specs.declared.offered.ExternType.{ExternType}
 use Rattle.comp_roles.specs.declared.offered.ExternType.TheVariants as externs
+use Rattle.comp_worlds.proofs.Matched.{one_function}
 use Rattle.comp_worlds.specs.Typed.{post_return_type, type_of_import, type_of_export}
 use Rattle.record_core_types.specs.Asked.{function, number, called, post_return}
-use Rattle.record_core_types.specs.Fitting.{are_same, is_same, is_asked, function_type, is_function, is_memory, fits_import, fits_export}
+use Rattle.record_core_types.specs.Fitting.{are_same, is_same, is_asked, function_type, is_function, is_memory, is_of_type, fits_import, fits_export}
 use Rattle.record_core_types.specs.Offered.{value_type, value_types, func_type, memory_type, extern_type, item_type}
 use Rattle.plain_lower.specs.Guarantees.{world_id}
 
@@ -143,6 +144,11 @@ memory_typed core (entities.Memory l) type fits = by (memory_type l) fits
     by None e = absurd (true≢false (sym e))
 memory_typed core e type fits = absurd (true≢false (sym fits))
 
+-- what is a function of a type, for a role that has this type
+function_is : (o : Option ExternType) (type : FuncType) → is_of_type o type ≡ true → o ≡ Some (externs.Func type)
+function_is (Some (externs.Func f)) type fits = ap (λ (x : FuncType). Some (externs.Func x)) (one_function f type fits)
+function_is o type fits = absurd (true≢false (sym fits))
+
 -- ---- roles
 
 module _ (r : Resolve) (present : 0 < length r.worlds) (core : CoreModule) where
@@ -163,6 +169,8 @@ module _ (r : Resolve) (present : 0 < length r.worlds) (core : CoreModule) where
   import_typed (imports.ExportedResourceDrop key id) e ty fits is = entity_of core e dropping fits ∙ is
   import_typed (imports.ExportedResourceRep key id) e ty fits is = entity_of core e handling fits ∙ is
   import_typed (imports.ExportedResourceNew key id) e ty fits is = entity_of core e handling fits ∙ is
+  import_typed (imports.MainModuleMemory type) e ty fits is = memory_typed core e type fits ∙ is
+  import_typed (imports.AdapterExport adapter name type) e ty fits is = function_is (extern_type core e) type fits ∙ is
   import_typed role e ty fits is = absurd (none-some ty is)
 
   -- an entity is of no type that is not required

@@ -9,4 +9,8 @@ mod CheckingCauses
 mod Whole
 mod Gathering
 mod Adding
-mod OtherModules
+mod WithArguments
+mod SameTypes
+mod Names
+mod Linked
+mod LinkRefusals

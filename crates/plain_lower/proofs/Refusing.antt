@@ -14,7 +14,7 @@ use Rattle.record_faults.specs.declared.fault.Refusal.{Refusal}
 use Rattle.record_faults.specs.declared.fault.Refusal.TheVariants as refusals
 use Rattle.record_faults.specs.Faults.{flat, flat_refusal}
 use Rattle.record_faults.proofs.Chains.{same_refusal, refused}
-use Rattle.plain_lower.specs.Others.{Adapters}
+use Rattle.plain_lower.specs.Arguments.{Adapters}
 use Rattle.plain_lower.specs.Preparing.{is_plain, adapters_pass}
 use Rattle.plain_lower.specs.Causes.{PrepareCause, grows}
 

@@ -21,10 +21,12 @@ use Rattle.record_faults.specs.declared.fault.PlainFault.{PlainFault}
 use Rattle.record_faults.specs.Faults.{◌>>=◌, lifted, of_section, flat, flat_refusal}
 use Rattle.record_merge.specs.declared.bindgen.Bindgen.{Bindgen}
 use Rattle.record_resolve.specs.declared.resolving.Resolved.{Resolved}
-use Rattle.plain_lower.specs.Others.{Adapters}
-use Rattle.plain_lower.specs.declared.others.Importer.{Importer}
+use Rattle.plain_lower.specs.Arguments.{Adapters}
+use Rattle.plain_lower.specs.Reach.{reach_of}
 use Rattle.plain_lower.specs.Preparing.{adapters_pass, combined, world_parts, preparing_if, preparing}
-use Rattle.plain_lower.specs.Causes.{CombinedCause, CoreCause, ModuleCause, unread, as_core, PartsCause, WorldCause, of_parts, not_yet, PrepareCause, grows, of_combined, of_world}
+use Rattle.plain_lower.specs.Causes.{CombinedCause, RolesCause, ModuleCause, unread, as_core, PartsCause, WholeCause, unlinked, not_yet, WorldCause, of_parts, of_whole, PrepareCause, grows, of_combined, of_world}
+use Rattle.plain_lower.specs.LinkCauses.{LinkCause}
+use Rattle.record_imports.specs.declared.others.OtherModules.{OtherModules}
 use Rattle.plain_lower.proofs.Refusing.{none_grows}
 
 same_ok : {A E : Type 0} (r : Result A E) (x y : A) → r ≡ Ok x → r ≡ Ok y → x ≡ y
@@ -42,43 +44,55 @@ begins bytes m e = by (pieces_of bytes) refl e
     by (Err f) is e = absurd cc
 
 -- a module that can't be read
-pub unread_caused : (r : Resolved) (importer : Importer) (all : Adapters) (part : Part Bindgen) (f : SectionFault) → (f ≢ section_faults.Memory → module_of part.bytes ≡ Err f) → (q : Refusal) → of_section f ≡ failures.Refused q → ModuleCause r importer all part q
-unread_caused r importer all part section_faults.Memory h q e = absurd cc
-unread_caused r importer all part section_faults.NotModule h q e = unread q (ap (λ (x : Result CoreModule SectionFault). lifted x) (h (λ m. cc)) ∙ ap Err e)
-unread_caused r importer all part (section_faults.Section place) h q e = unread q (ap (λ (x : Result CoreModule SectionFault). lifted x) (h (λ m. cc)) ∙ ap Err e)
-unread_caused r importer all part section_faults.PackageBinary h q e = unread q (ap (λ (x : Result CoreModule SectionFault). lifted x) (h (λ m. cc)) ∙ ap Err e)
+pub unread_caused : (r : Resolved) (others : OtherModules) (part : Part Bindgen) (f : SectionFault) → (f ≢ section_faults.Memory → module_of part.bytes ≡ Err f) → (q : Refusal) → of_section f ≡ failures.Refused q → ModuleCause r others part q
+unread_caused r others part section_faults.Memory h q e = absurd cc
+unread_caused r others part section_faults.NotModule h q e = unread q (ap (λ (x : Result CoreModule SectionFault). lifted x) (h (λ m. cc)) ∙ ap Err e)
+unread_caused r others part (section_faults.Section place) h q e = unread q (ap (λ (x : Result CoreModule SectionFault). lifted x) (h (λ m. cc)) ∙ ap Err e)
+unread_caused r others part section_faults.PackageBinary h q e = unread q (ap (λ (x : Result CoreModule SectionFault). lifted x) (h (λ m. cc)) ∙ ap Err e)
 
 no_both : {A E : Type 0} (r : Result A E) (x : A) (e : E) → r ≡ Ok x → r ≡ Err e → ⊥
 no_both r x e a b = absurd cc
 
-no_module_cause : (r : Resolved) (importer : Importer) (all : Adapters) (part : Part Bindgen) (core : CoreModule) → module_of part.bytes ≡ Ok core → ((f : Refusal) → CoreCause r importer all part core f → ⊥) → (f : Refusal) → ModuleCause r importer all part f → ⊥
-no_module_cause r importer all part core is h f (unread q e) = no_both (lifted (module_of part.bytes)) core _ (ap (λ (x : Result CoreModule SectionFault). lifted x) is) e
-no_module_cause r importer all part core is h f (as_core other q e c) = h f (subst (λ (x : CoreModule). CoreCause r importer all part x f) (same_ok (module_of part.bytes) other core e is) c)
+no_module_cause : (r : Resolved) (others : OtherModules) (part : Part Bindgen) (core : CoreModule) → module_of part.bytes ≡ Ok core → ((f : Refusal) → RolesCause r others part core f → ⊥) → (f : Refusal) → ModuleCause r others part f → ⊥
+no_module_cause r others part core is h f (unread q e) = no_both (lifted (module_of part.bytes)) core _ (ap (λ (x : Result CoreModule SectionFault). lifted x) is) e
+no_module_cause r others part core is h f (as_core other q e c) = h f (subst (λ (x : CoreModule). RolesCause r others part x f) (same_ok (module_of part.bytes) other core e is) c)
 
-pub module_caused : (r : Resolved) (importer : Importer) (all : Adapters) (part : Part Bindgen) (core : CoreModule) (answer : Result ModuleParts Failure) → module_of part.bytes ≡ Ok core
-    → IfErr answer (λ e. (f : Refusal) → e ≡ failures.Refused f → CoreCause r importer all part core f) → IfErr answer (λ e. (f : Refusal) → e ≡ failures.Refused f → ModuleCause r importer all part f)
-module_caused r importer all part core (Ok p) is h = tt
-module_caused r importer all part core (Err e) is h = λ f k. as_core core f is (h f k)
+pub module_caused : (r : Resolved) (others : OtherModules) (part : Part Bindgen) (core : CoreModule) (answer : Result ModuleParts Failure) → module_of part.bytes ≡ Ok core
+    → IfErr answer (λ e. (f : Refusal) → e ≡ failures.Refused f → RolesCause r others part core f) → IfErr answer (λ e. (f : Refusal) → e ≡ failures.Refused f → ModuleCause r others part f)
+module_caused r others part core (Ok p) is h = tt
+module_caused r others part core (Err e) is h = λ f k. as_core core f is (h f k)
 
-pub module_refused : (r : Resolved) (importer : Importer) (all : Adapters) (part : Part Bindgen) (core : CoreModule) (answer : Result ModuleParts Failure) → module_of part.bytes ≡ Ok core
-    → (IsOk answer → (f : Refusal) → CoreCause r importer all part core f → ⊥) → IsOk answer → (f : Refusal) → ModuleCause r importer all part f → ⊥
-module_refused r importer all part core answer is h ok = no_module_cause r importer all part core is (h ok)
+pub module_refused : (r : Resolved) (others : OtherModules) (part : Part Bindgen) (core : CoreModule) (answer : Result ModuleParts Failure) → module_of part.bytes ≡ Ok core
+    → (IsOk answer → (f : Refusal) → RolesCause r others part core f → ⊥) → IsOk answer → (f : Refusal) → ModuleCause r others part f → ⊥
+module_refused r others part core answer is h ok = no_module_cause r others part core is (h ok)
 
 -- ---- the world of the modules
 
-no_world_cause : (r : Resolved) (main : Part Bindgen) (adapters : Adapters) (p : WorldParts) → world_parts r main adapters ≡ Ok p → ((f : Refusal) → PartsCause r main adapters f → ⊥) → ((f : Refusal) → IsLeftOut p f → ⊥)
+no_world_cause : (r : Resolved) (main : Part Bindgen) (adapters : Adapters) (p : WorldParts) → world_parts r main adapters ≡ Ok p → ((f : Refusal) → PartsCause r (reach_of adapters) main adapters f → ⊥) → ((f : Refusal) → WholeCause p f → ⊥)
     → (f : Refusal) → WorldCause r main adapters f → ⊥
 no_world_cause r main adapters p is parts whole f (of_parts q c) = parts f c
-no_world_cause r main adapters p is parts whole f (not_yet other q e c) = whole f (subst (λ (x : WorldParts). IsLeftOut x f) (same_ok (world_parts r main adapters) other p e is) c)
+no_world_cause r main adapters p is parts whole f (of_whole other q e c) = whole f (subst (λ (x : WorldParts). WholeCause x f) (same_ok (world_parts r main adapters) other p e is) c)
 
 pub world_caused : (r : Resolved) (main : Part Bindgen) (adapters : Adapters) (p : WorldParts) (answer : Result ComponentWorld Failure) → world_parts r main adapters ≡ Ok p
-    → IfErr answer (λ e. (f : Refusal) → e ≡ failures.Refused f → IsLeftOut p f) → IfErr answer (λ e. (f : Refusal) → e ≡ failures.Refused f → WorldCause r main adapters f)
+    → IfErr answer (λ e. (f : Refusal) → e ≡ failures.Refused f → WholeCause p f) → IfErr answer (λ e. (f : Refusal) → e ≡ failures.Refused f → WorldCause r main adapters f)
 world_caused r main adapters p (Ok w) is h = tt
-world_caused r main adapters p (Err e) is h = λ f k. not_yet p f is (h f k)
+world_caused r main adapters p (Err e) is h = λ f k. of_whole p f is (h f k)
 
-pub world_refused : (r : Resolved) (main : Part Bindgen) (adapters : Adapters) (p : WorldParts) (answer : Result ComponentWorld Failure) → world_parts r main adapters ≡ Ok p → ((f : Refusal) → PartsCause r main adapters f → ⊥)
-    → (IsOk answer → (f : Refusal) → IsLeftOut p f → ⊥) → IsOk answer → (f : Refusal) → WorldCause r main adapters f → ⊥
+pub world_refused : (r : Resolved) (main : Part Bindgen) (adapters : Adapters) (p : WorldParts) (answer : Result ComponentWorld Failure) → world_parts r main adapters ≡ Ok p → ((f : Refusal) → PartsCause r (reach_of adapters) main adapters f → ⊥)
+    → (IsOk answer → (f : Refusal) → WholeCause p f → ⊥) → IsOk answer → (f : Refusal) → WorldCause r main adapters f → ⊥
 world_refused r main adapters p answer is parts h ok = no_world_cause r main adapters p is parts (h ok)
+
+-- where the modules are given what they import, and nothing is left out, there is a world of them
+no_whole_cause : (p : WorldParts) → ((f : Refusal) → LinkCause p f → ⊥) → ((f : Refusal) → IsLeftOut p f → ⊥) → (f : Refusal) → WholeCause p f → ⊥
+no_whole_cause p links whole f (unlinked q c) = links f c
+no_whole_cause p links whole f (not_yet q c) = whole f c
+
+pub left_out_caused : (p : WorldParts) (answer : Result ComponentWorld Failure) → IfErr answer (λ e. (f : Refusal) → e ≡ failures.Refused f → IsLeftOut p f) → IfErr answer (λ e. (f : Refusal) → e ≡ failures.Refused f → WholeCause p f)
+left_out_caused p (Ok w) h = tt
+left_out_caused p (Err e) h = λ f k. not_yet f (h f k)
+
+pub whole_refused : (p : WorldParts) (answer : Result ComponentWorld Failure) → ((f : Refusal) → LinkCause p f → ⊥) → (IsOk answer → (f : Refusal) → IsLeftOut p f → ⊥) → IsOk answer → (f : Refusal) → WholeCause p f → ⊥
+whole_refused p answer links h ok = no_whole_cause p links (h ok)
 
 -- ---- the whole
 

@@ -12,30 +12,30 @@ use Rattle.plain_lower.specs.declared.modules.ModuleParts.{ModuleParts}
 use Rattle.plain_lower.specs.declared.preparing.Modules.{Modules}
 use Rattle.plain_lower.specs.Causes.{AdapterCause, PartsCause}
 use Rattle.plain_lower.specs.Guarantees.{user_module, IsSoundPart}
-use Rattle.plain_lower.specs.Others.{Adapters}
+use Rattle.plain_lower.specs.Arguments.{Adapters}
+use Rattle.plain_lower.specs.declared.reach.Reach.{Reach}
 use Rattle.plain_lower.specs.Preparing.{module_parts, adapter_parts, adapter_of, adapter_in, adapters_after}
-use Rattle.plain_lower.specs.declared.others.Importer.TheVariants as importers
 
 -- this is the adapter of a gathered one, which has no fault
-pub record IsAdapterOf (r : Resolved) (all : Adapters) (a : GatheredAdapter Bindgen) (w : WorldAdapter) : Type 0 where
+pub record IsAdapterOf (r : Resolved) (reach : Reach) (a : GatheredAdapter Bindgen) (w : WorldAdapter) : Type 0 where
   pub parts : ModuleParts
-  pub made : adapter_parts r all a ≡ Ok parts
+  pub made : adapter_parts r reach a ≡ Ok parts
   pub is : w ≡ adapter_of a parts
   pub sound : IsSoundPart r (user_module parts)
-  pub fine : (f : Refusal) → AdapterCause r all a f → ⊥
+  pub fine : (f : Refusal) → AdapterCause r reach a f → ⊥
 
 -- it was added at the end
-pub record IsAdded (r : Resolved) (all : Adapters) (a : List ℕ × GatheredAdapter Bindgen) (old new : List (List ℕ × WorldAdapter)) : Type 0 where
+pub record IsAdded (r : Resolved) (reach : Reach) (a : List ℕ × GatheredAdapter Bindgen) (old new : List (List ℕ × WorldAdapter)) : Type 0 where
   pub parts : ModuleParts
-  pub made : adapter_parts r all a.1 ≡ Ok parts
+  pub made : adapter_parts r reach a.1 ≡ Ok parts
   pub put : new ≡ old ++ adapter_in a parts ∷ []
   pub sound : IsSoundPart r (user_module parts)
-  pub fine : (f : Refusal) → AdapterCause r all a.1 f → ⊥
+  pub fine : (f : Refusal) → AdapterCause r reach a.1 f → ⊥
 
 -- these are main and the adapters of gathered ones, which have no fault
-pub record AreModulesOf (r : Resolved) (main : Part Bindgen) (adapters : Adapters) (m : Modules) : Type 0 where
-  pub main_made : module_parts r importers.Main adapters main ≡ Ok m.main
-  pub adapters_made : adapters_after r adapters [] adapters ≡ Ok m.adapters
+pub record AreModulesOf (r : Resolved) (reach : Reach) (main : Part Bindgen) (adapters : Adapters) (m : Modules) : Type 0 where
+  pub main_made : module_parts r reach.main main ≡ Ok m.main
+  pub adapters_made : adapters_after r reach [] adapters ≡ Ok m.adapters
   pub main_sound : IsSoundPart r (user_module m.main)
   pub adapters_sound : AllByRecursion (λ a. IsSoundPart r (module_of a)) m.adapters
-  pub fine : (f : Refusal) → PartsCause r main adapters f → ⊥
+  pub fine : (f : Refusal) → PartsCause r reach main adapters f → ⊥

@@ -4,9 +4,6 @@ use Rattle.std.specs.Prelude.{◌≡◌, ℕ, Bool, true, List, [], ◌++◌, So
 use Rattle.std.specs.List.{AllZip}
 use Rattle.comp_roles.specs.declared.exports.Export.{Export}
 use Rattle.comp_roles.specs.declared.libraries.LibraryInfo.{LibraryInfo}
-use Rattle.core_sections.specs.declared.entries.CoreImport.{CoreImport}
-use Rattle.record_imports.specs.Meaning.{role_of}
-use Rattle.record_values.specs.declared.roles.ImportRole.{ImportRole}
 use Rattle.record_faults.specs.declared.fault.Refusal.TheVariants as refusals
 use Rattle.world_values.specs.declared.gathered.Gathered.{Gathered}
 use Rattle.world_values.specs.declared.gathered.GatheredAdapter.{GatheredAdapter}
@@ -36,14 +33,16 @@ use Rattle.record_versions.specs.MergedVersions.{merged_versions}
 use Rattle.record_resolve.specs.declared.resolving.Resolved.{Resolved}
 use Rattle.record_resolve.specs.Resolved.{resolved, IsWhole}
 use Rattle.record_imports.specs.Causes.{ImportCause}
+use Rattle.record_imports.specs.declared.others.OtherModules.{OtherModules}
 use Rattle.record_exports.specs.Exporting.{exports_of}
 use Rattle.record_exports.specs.Causes.{ExportCause, RequiredCause}
 use Rattle.supported_worlds.specs.Causes.{IsLeftOut}
 use Rattle.plain_lower.specs.ModuleRecords.{records_in}
-use Rattle.plain_lower.specs.Others.{Adapters, importer_of, other_kind}
+use Rattle.plain_lower.specs.Arguments.{Adapters}
+use Rattle.plain_lower.specs.Reach.{reach_of, others_for}
+use Rattle.plain_lower.specs.declared.reach.Reach.{Reach}
+use Rattle.plain_lower.specs.LinkCauses.{LinkCause}
 use Rattle.plain_lower.specs.Preparing.{combined, world_parts}
-use Rattle.plain_lower.specs.declared.others.Importer.{Importer}
-use Rattle.plain_lower.specs.declared.others.Importer.TheVariants as importers
 
 -- ---- decoding
 
@@ -108,47 +107,46 @@ pub data ExportsCause (r : Resolved) (part : Part Bindgen) (core : CoreModule) :
   -- one that is required of the module is missing
   missing : (exported : List (List ℕ × Export)) (f : Refusal) → exports_of r part.own.roles.export_roles core ≡ Ok exported → RequiredCause r exported part.required f → ExportsCause r part core f
 
--- why its roles are refused
-pub data RolesCause (r : Resolved) (part : Part Bindgen) (core : CoreModule) : Refusal → Type 0 where
-  of_imports : (f : Refusal) → ImportCause r part.own.roles.import_roles core f → RolesCause r part core f
-  of_exports : (f : Refusal) → ExportsCause r part core f → RolesCause r part core f
+-- why its roles are refused, where it may import these exports of other modules
+pub data RolesCause (r : Resolved) (others : OtherModules) (part : Part Bindgen) (core : CoreModule) : Refusal → Type 0 where
+  of_imports : (f : Refusal) → ImportCause r others part.own.roles.import_roles core f → RolesCause r others part core f
+  of_exports : (f : Refusal) → ExportsCause r part core f → RolesCause r others part core f
 
--- why a module is refused as this core module: main, an adapter or a library, where these adapters are there
-pub data CoreCause (r : Resolved) (importer : Importer) (all : Adapters) (part : Part Bindgen) (core : CoreModule) : Refusal → Type 0 where
-  -- an import has a role that is main's memory, or an export of another module
-  of_other : (i : CoreImport) (role : ImportRole) (what : List ℕ) → Contains core.imports i → role_of part.own.roles.import_roles i ≡ Some role → other_kind importer all role ≡ Some what
-      → CoreCause r importer all part core (refusals.LeftOut what)
-  -- its roles are refused
-  unmet : (f : Refusal) → RolesCause r part core f → CoreCause r importer all part core f
-
--- why it is refused
-pub data ModuleCause (r : Resolved) (importer : Importer) (all : Adapters) (part : Part Bindgen) : Refusal → Type 0 where
+-- why a module is refused
+pub data ModuleCause (r : Resolved) (others : OtherModules) (part : Part Bindgen) : Refusal → Type 0 where
   -- its sections can't be read as those of a core module, and this is the fault
-  unread : (f : Refusal) → lifted (module_of part.bytes) ≡ Err (failures.Refused f) → ModuleCause r importer all part f
-  -- they can be read
-  as_core : (core : CoreModule) (f : Refusal) → module_of part.bytes ≡ Ok core → CoreCause r importer all part core f → ModuleCause r importer all part f
+  unread : (f : Refusal) → lifted (module_of part.bytes) ≡ Err (failures.Refused f) → ModuleCause r others part f
+  -- they can be read, and its roles are refused
+  as_core : (core : CoreModule) (f : Refusal) → module_of part.bytes ≡ Ok core → RolesCause r others part core f → ModuleCause r others part f
 
 -- why an adapter is refused
-pub data AdapterCause (r : Resolved) (all : Adapters) (a : GatheredAdapter Bindgen) : Refusal → Type 0 where
+pub data AdapterCause (r : Resolved) (reach : Reach) (a : GatheredAdapter Bindgen) : Refusal → Type 0 where
   -- it is a library with arguments
-  with_arguments : (info : LibraryInfo) → a.library_info ≡ Some info → (info.arguments ≡ [] → ⊥) → AdapterCause r all a (refusals.LeftOut (codes "library"))
-  of_module : (f : Refusal) → ModuleCause r (importer_of a.library_info) all a.part f → AdapterCause r all a f
+  with_arguments : (info : LibraryInfo) → a.library_info ≡ Some info → (info.arguments ≡ [] → ⊥) → AdapterCause r reach a (refusals.LeftOut (codes "library"))
+  of_module : (f : Refusal) → ModuleCause r (others_for reach a.library_info) a.part f → AdapterCause r reach a f
 
 -- why adapters are refused: one of them is
-pub data AdaptersCause (r : Resolved) (all : Adapters) : Refusal → Type 0 where
-  of_adapter : (a : List ℕ × GatheredAdapter Bindgen) (f : Refusal) → Contains all a → AdapterCause r all a.1 f → AdaptersCause r all f
+pub data AdaptersCause (r : Resolved) (reach : Reach) (all : Adapters) : Refusal → Type 0 where
+  of_adapter : (a : List ℕ × GatheredAdapter Bindgen) (f : Refusal) → Contains all a → AdapterCause r reach a.1 f → AdaptersCause r reach all f
 
--- why there are no parts of a world of main and these adapters
-pub data PartsCause (r : Resolved) (main : Part Bindgen) (adapters : Adapters) : Refusal → Type 0 where
-  of_main : (f : Refusal) → ModuleCause r importers.Main adapters main f → PartsCause r main adapters f
-  of_adapters : (f : Refusal) → AdaptersCause r adapters f → PartsCause r main adapters f
+-- why there are no parts of a world of main and these adapters, which may import these exports of other modules
+pub data PartsCause (r : Resolved) (reach : Reach) (main : Part Bindgen) (adapters : Adapters) : Refusal → Type 0 where
+  of_main : (f : Refusal) → ModuleCause r reach.main main f → PartsCause r reach main adapters f
+  of_adapters : (f : Refusal) → AdaptersCause r reach adapters f → PartsCause r reach main adapters f
 
--- why there is no world of them
+-- why there is no world of these parts
+pub data WholeCause (p : WorldParts) : Refusal → Type 0 where
+  -- a module imports what is not given to it
+  unlinked : (f : Refusal) → LinkCause p f → WholeCause p f
+  -- something of the world is not encoded yet
+  not_yet : (f : Refusal) → IsLeftOut p f → WholeCause p f
+
+-- why there is no world of main and these adapters
 pub data WorldCause (r : Resolved) (main : Part Bindgen) (adapters : Adapters) : Refusal → Type 0 where
   -- a module is refused
-  of_parts : (f : Refusal) → PartsCause r main adapters f → WorldCause r main adapters f
-  -- something of the world is not encoded yet
-  not_yet : (p : WorldParts) (f : Refusal) → world_parts r main adapters ≡ Ok p → IsLeftOut p f → WorldCause r main adapters f
+  of_parts : (f : Refusal) → PartsCause r (reach_of adapters) main adapters f → WorldCause r main adapters f
+  -- or their world
+  of_whole : (p : WorldParts) (f : Refusal) → world_parts r main adapters ≡ Ok p → WholeCause p f → WorldCause r main adapters f
 
 -- ---- preparing
 

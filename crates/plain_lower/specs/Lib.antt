@@ -1,8 +1,13 @@
 pub mod Equalities
 pub mod ModuleRecords
-pub mod Others
+pub mod Reports
+pub mod Arguments
+pub mod Reach
+pub mod Giving
+pub mod Linking
 pub mod Preparing
 pub mod Guarantees
 pub mod Layer
+pub mod LinkCauses
 pub mod Causes
 pub mod Adding

@@ -1,8 +1,9 @@
 -- The validated world of what was gathered.
 --
 -- Compatible versions of imported interfaces are merged, where merging is requested; the names in the world of all modules
--- are resolved; the roles of the core imports and exports of main, and then of each adapter, are checked against the resolve; and
--- the world is made of these, as far as it is encoded yet. (The record is this project's own.)
+-- are resolved; the roles of the core imports and exports of main, and then of each adapter, are checked against the resolve; what the
+-- modules import from each other is compared; and the world is made of these, as far as it is encoded yet. (The record is this project's
+-- own.)
 use Rattle.std.specs.Prelude.{ℕ, ◌&&◌, Bool, List, [], ◌∷◌, ◌++◌, Option, Some, None, Result, Ok, Err, is_some, not, ⊤, if◌then◌else◌}
 use Rattle.std.specs.List.{list_any}
 use Rattle.wit_data.specs.declared.worlds.WorldKey.{WorldKey}
@@ -29,13 +30,15 @@ use Rattle.record_resolve.specs.Resolved.{resolved}
 use Rattle.record_resolve.specs.OtherNames.{also_named}
 use Rattle.record_role_targets.specs.Metadata.{resolved_metadata}
 use Rattle.record_core_types.specs.Offered.{imported, offered}
-use Rattle.plain_lower.specs.Others.{Adapters, importer_of, arguments_pass, others_pass}
-use Rattle.plain_lower.specs.declared.others.Importer.{Importer}
-use Rattle.plain_lower.specs.declared.others.Importer.TheVariants as importers
+use Rattle.plain_lower.specs.Arguments.{Adapters, arguments_pass}
+use Rattle.plain_lower.specs.Reach.{reach_of, others_for}
+use Rattle.plain_lower.specs.declared.reach.Reach.{Reach}
+use Rattle.plain_lower.specs.Linking.{links_pass}
 use Rattle.plain_lower.specs.declared.checking.CheckedRoles.{CheckedRoles}
 use Rattle.plain_lower.specs.declared.modules.ModuleParts.{ModuleParts}
 use Rattle.plain_lower.specs.declared.modules.Own.{Own}
 use Rattle.record_imports.specs.Importing.{imports_of}
+use Rattle.record_imports.specs.declared.others.OtherModules.{OtherModules}
 use Rattle.record_exports.specs.Exporting.{exports_of}
 use Rattle.record_exports.specs.Requiring.{required_of}
 use Rattle.supported_worlds.specs.LeftOut.{encoded}
@@ -72,10 +75,10 @@ checked_exports r part core = do
 abbrev pub with_imports : List (List ℕ × ImportInstance) → List (List ℕ × Export) × List WorldKey → CheckedRoles
 with_imports imported exported = record { imports = record { modules = imported }; exports = exported.0; required = exported.1 }
 
--- these, and the roles of its core imports
-unfoldable pub checked_roles : Resolved → Part Bindgen → CoreModule → Result CheckedRoles Failure
-checked_roles r part core = do
-  imported ← imports_of r part.own.roles.import_roles core
+-- these, and the roles of its core imports, where the module may import these exports of others
+unfoldable pub checked_roles : Resolved → OtherModules → Part Bindgen → CoreModule → Result CheckedRoles Failure
+checked_roles r others part core = do
+  imported ← imports_of r others part.own.roles.import_roles core
   exported ← checked_exports r part core
   Ok (with_imports imported exported)
 
@@ -101,14 +104,11 @@ abbrev pub parts_of : Resolved → Part Bindgen → CoreModule → CheckedRoles 
 parts_of r part core m = with_own (own_of r part core) m
 
 -- the module of a part
-unfoldable pub core_parts : Resolved → Importer → Adapters → Part Bindgen → CoreModule → Result ModuleParts Failure
-core_parts r importer all part core = do
-  _ ← others_pass importer all part.own.roles.import_roles core.imports
-  m ← checked_roles r part core
-  Ok (parts_of r part core m)
+unfoldable pub core_parts : Resolved → OtherModules → Part Bindgen → CoreModule → Result ModuleParts Failure
+core_parts r others part core = checked_roles r others part core >>= λ m. Ok (parts_of r part core m)
 
-unfoldable pub module_parts : Resolved → Importer → Adapters → Part Bindgen → Result ModuleParts Failure
-module_parts r importer all part = lifted (module_of part.bytes) >>= λ core. core_parts r importer all part core
+unfoldable pub module_parts : Resolved → OtherModules → Part Bindgen → Result ModuleParts Failure
+module_parts r others part = lifted (module_of part.bytes) >>= λ core. core_parts r others part core
 
 -- ---- all modules
 
@@ -120,13 +120,13 @@ abbrev pub adapter_in : List ℕ × GatheredAdapter Bindgen → ModuleParts → 
 adapter_in a m = (a.0, adapter_of a.1 m)
 
 -- the module of an adapter
-unfoldable pub adapter_parts : Resolved → Adapters → GatheredAdapter Bindgen → Result ModuleParts Failure
-adapter_parts r all a = arguments_pass a.library_info >>= λ _. module_parts r (importer_of a.library_info) all a.part
+unfoldable pub adapter_parts : Resolved → Reach → GatheredAdapter Bindgen → Result ModuleParts Failure
+adapter_parts r reach a = arguments_pass a.library_info >>= λ _. module_parts r (others_for reach a.library_info) a.part
 
 -- those of all adapters, after others, in order
-abbrev pub adapters_after : Resolved → Adapters → List (List ℕ × WorldAdapter) → Adapters → Result (List (List ℕ × WorldAdapter)) Failure
-adapters_after r all done [] = Ok done
-adapters_after r all done (a ∷ more) = adapter_parts r all a.1 >>= λ m. adapters_after r all (done ++ adapter_in a m ∷ []) more
+abbrev pub adapters_after : Resolved → Reach → List (List ℕ × WorldAdapter) → Adapters → Result (List (List ℕ × WorldAdapter)) Failure
+adapters_after r reach done [] = Ok done
+adapters_after r reach done (a ∷ more) = adapter_parts r reach a.1 >>= λ m. adapters_after r reach (done ++ adapter_in a m ∷ []) more
 
 -- a world of main and of adapters
 abbrev pub world_with : Resolve → ModuleParts → List (List ℕ × WorldAdapter) → Bool → WorldParts
@@ -139,16 +139,23 @@ world_with resolve main adapters slot_1 = record {
   can_use_context_slot_1 = slot_1;
 }
 
--- main first, and then the adapters
-unfoldable pub world_parts : Resolved → Part Bindgen → Adapters → Result WorldParts Failure
-world_parts r main adapters = do
-  m ← module_parts r importers.Main adapters main
-  made ← adapters_after r adapters [] adapters
+-- main first, and then the adapters, which may import these exports of other modules
+unfoldable pub parts_within : Resolved → Reach → Part Bindgen → Adapters → Result WorldParts Failure
+parts_within r reach main adapters = do
+  m ← module_parts r reach.main main
+  made ← adapters_after r reach [] adapters
   Ok (world_with r.resolve m made main.own.roles.context_slot_1)
 
--- their world, where all of it is encoded yet
+-- of the modules that are there
+abbrev pub world_parts : Resolved → Part Bindgen → Adapters → Result WorldParts Failure
+world_parts r main adapters = parts_within r (reach_of adapters) main adapters
+
+-- the world of these parts, where the modules are given what they import, and all of it is encoded yet
+abbrev pub linked_world : WorldParts → Result ComponentWorld Failure
+linked_world p = links_pass p >>= λ _. encoded p
+
 abbrev pub preparing_modules : Resolved → Part Bindgen → Adapters → Result ComponentWorld Failure
-preparing_modules r main adapters = world_parts r main adapters >>= encoded
+preparing_modules r main adapters = world_parts r main adapters >>= linked_world
 
 -- no bytes at all are not a module
 abbrev pub preparing_if : Resolved → Option (Part Bindgen) → Adapters → Result ComponentWorld Failure

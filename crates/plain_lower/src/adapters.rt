@@ -13,8 +13,9 @@ ghost use Rattle.plain_lower.specs.Guarantees.{IsUsable, user_module, IsSoundPar
 ghost use Rattle.plain_lower.specs.Causes.{AdapterCause, AdaptersCause};
 ghost use Rattle.plain_lower.specs.Adding.{IsAdapterOf, IsAdded};
 
+use crate::arguments::check_arguments;
 use crate::modules::{ModuleParts, module_parts};
-use crate::others::{check_arguments, importer_of};
+use crate::reach::{Reach, others_for};
 use comp_lists::{Keyed, Text};
 use comp_roles::LibraryInfo;
 use comp_worlds::WorldAdapter;
@@ -84,18 +85,18 @@ fn put_together(parts: ModuleParts, library_info: Option<LibraryInfo>) -> WorldA
 fn adapter_parts(
     alloc: Global,
     resolved: &Resolved,
-    all: &Keyed<Text, GatheredAdapter<Bindgen>>,
+    reach: &Reach,
     adapter: &GatheredAdapter<Bindgen>,
 ) -> Result<ModuleParts, Failure>
     requires { IsUsable resolved.now }
-    ensures exact { Gives (λ p. p) result (adapter_parts resolved.now all.now adapter.now) }
+    ensures exact { Gives (λ p. p) result (adapter_parts resolved.now reach.now adapter.now) }
     ensures sound { IfOk result (λ p. IsSoundPart resolved.now (user_module p)) }
-    ensures cause { IfErr result (λ e. (f : RefusalValue) → e ≡ failures.Refused f → AdapterCause resolved.now all.now adapter.now f) }
-    ensures refused { IsOk result → (f : RefusalValue) → ¬ AdapterCause resolved.now all.now adapter.now f }
+    ensures cause { IfErr result (λ e. (f : RefusalValue) → e ≡ failures.Refused f → AdapterCause resolved.now reach.now adapter.now f) }
+    ensures refused { IsOk result → (f : RefusalValue) → ¬ AdapterCause resolved.now reach.now adapter.now f }
 {
     check_arguments(alloc, &adapter.library_info)?;
-    let importer = importer_of(&adapter.library_info);
-    let parts = module_parts(alloc, resolved, importer, all, &adapter.part)?;
+    let others = others_for(reach, &adapter.library_info);
+    let parts = module_parts(alloc, resolved, others, &adapter.part)?;
     Ok(parts)
 }
 
@@ -103,16 +104,16 @@ fn adapter_parts(
 fn adapter_of(
     alloc: Global,
     resolved: &Resolved,
-    all: &Keyed<Text, GatheredAdapter<Bindgen>>,
+    reach: &Reach,
     adapter: &GatheredAdapter<Bindgen>,
 ) -> Result<WorldAdapter, Failure>
     requires { IsUsable resolved.now }
-    ensures ok { IfOk result (IsAdapterOf resolved.now all.now adapter.now) }
-    ensures err { IfErr result (λ e. e ≢ failures.Memory → adapter_parts resolved.now all.now adapter.now ≡ Err e) }
-    ensures cause { IfErr result (λ e. (f : RefusalValue) → e ≡ failures.Refused f → AdapterCause resolved.now all.now adapter.now f) }
+    ensures ok { IfOk result (IsAdapterOf resolved.now reach.now adapter.now) }
+    ensures err { IfErr result (λ e. e ≢ failures.Memory → adapter_parts resolved.now reach.now adapter.now ≡ Err e) }
+    ensures cause { IfErr result (λ e. (f : RefusalValue) → e ≡ failures.Refused f → AdapterCause resolved.now reach.now adapter.now f) }
 {
     let library_info = copied_info(alloc, &adapter.library_info)?;
-    match adapter_parts(alloc, resolved, all, adapter) {
+    match adapter_parts(alloc, resolved, reach, adapter) {
         Ok(parts) => Ok(put_together(parts, library_info)),
         Err(failure) => {
             drop(library_info);
@@ -126,19 +127,19 @@ fn adapter_of(
 fn add_adapter(
     alloc: Global,
     resolved: &Resolved,
-    all: &Keyed<Text, GatheredAdapter<Bindgen>>,
+    reach: &Reach,
     made: &mut Keyed<Text, WorldAdapter>,
     name: &Text,
     adapter: &GatheredAdapter<Bindgen>,
 ) -> Result<(), Failure>
     requires usable { IsUsable resolved.now }
     requires absent { lookup (bytes_eq name.now) made.old ≡ None }
-    ensures ok { OnOk result (IsAdded resolved.now all.now (name.now, adapter.now) made.old made.new) }
-    ensures err { IfErr result (λ e. e ≢ failures.Memory → adapter_parts resolved.now all.now adapter.now ≡ Err e) }
-    ensures cause { IfErr result (λ e. (f : RefusalValue) → e ≡ failures.Refused f → AdapterCause resolved.now all.now adapter.now f) }
+    ensures ok { OnOk result (IsAdded resolved.now reach.now (name.now, adapter.now) made.old made.new) }
+    ensures err { IfErr result (λ e. e ≢ failures.Memory → adapter_parts resolved.now reach.now adapter.now ≡ Err e) }
+    ensures cause { IfErr result (λ e. (f : RefusalValue) → e ≡ failures.Refused f → AdapterCause resolved.now reach.now adapter.now f) }
 {
     let name = name.clone(alloc)?;
-    match adapter_of(alloc, resolved, all, adapter) {
+    match adapter_of(alloc, resolved, reach, adapter) {
         Ok(adapter) => {
             made.insert(name, adapter)?;
             Ok(())
@@ -155,17 +156,18 @@ fn add_adapter(
 pub(crate) fn prepare_adapters(
     alloc: Global,
     resolved: &Resolved,
+    reach: &Reach,
     adapters: &Keyed<Text, GatheredAdapter<Bindgen>>,
 ) -> Result<Keyed<Text, WorldAdapter>, Failure>
     requires { IsUsable resolved.now }
-    ensures exact { Gives (λ made. made) result (adapters_after resolved.now adapters.now [] adapters.now) }
+    ensures exact { Gives (λ made. made) result (adapters_after resolved.now reach.now [] adapters.now) }
     ensures sound { IfOk result (AllByRecursion (λ a. IsSoundPart resolved.now (module_of a))) }
-    ensures cause { IfErr result (λ e. (f : RefusalValue) → e ≡ failures.Refused f → AdaptersCause resolved.now adapters.now f) }
-    ensures refused { IsOk result → (f : RefusalValue) → ¬ AdaptersCause resolved.now adapters.now f }
+    ensures cause { IfErr result (λ e. (f : RefusalValue) → e ≡ failures.Refused f → AdaptersCause resolved.now reach.now adapters.now f) }
+    ensures refused { IsOk result → (f : RefusalValue) → ¬ AdaptersCause resolved.now reach.now adapters.now f }
 {
     let mut made = Keyed::new(alloc);
     for (name, adapter) in adapters.iter() {
-        add_adapter(alloc, resolved, adapters, &mut made, name, adapter)?;
+        add_adapter(alloc, resolved, reach, &mut made, name, adapter)?;
     }
     Ok(made)
 }

@@ -17,7 +17,7 @@ use comp_roles::{Export, ImportMap};
 use core_sections::CoreModule;
 use record_exports::{read_exports, require_all};
 use record_faults::Failure;
-use record_imports::read_imports;
+use record_imports::{OtherModules, read_imports};
 use record_merge::Bindgen;
 use record_resolve::Resolved;
 use std::alloc::Global;
@@ -75,16 +75,17 @@ fn with_imports(imports: ImportMap, exports: CheckedExports) -> CheckedRoles
 pub(crate) fn check_roles(
     alloc: Global,
     resolved: &Resolved,
+    others: &OtherModules,
     part: &Part<Bindgen>,
     core: &CoreModule,
 ) -> Result<CheckedRoles, Failure>
     requires { IsSound resolved.now.resolve }
-    ensures exact { Gives (λ m. m) result (checked_roles resolved.now part.now core.now) }
+    ensures exact { Gives (λ m. m) result (checked_roles resolved.now others.now part.now core.now) }
     ensures all_present { IfOk result (AreChecked resolved.now) }
-    ensures cause { IfErr result (λ e. (f : Refusal) → e ≡ failures.Refused f → RolesCause resolved.now part.now core.now f) }
-    ensures refused { IsOk result → (f : Refusal) → ¬ RolesCause resolved.now part.now core.now f }
+    ensures cause { IfErr result (λ e. (f : Refusal) → e ≡ failures.Refused f → RolesCause resolved.now others.now part.now core.now f) }
+    ensures refused { IsOk result → (f : Refusal) → ¬ RolesCause resolved.now others.now part.now core.now f }
 {
-    let imports = read_imports(alloc, resolved, &part.own.roles.import_roles, core)?;
+    let imports = read_imports(alloc, resolved, others, &part.own.roles.import_roles, core)?;
     match check_exports(alloc, resolved, part, core) {
         Ok(exports) => Ok(with_imports(imports, exports)),
         Err(failure) => {

@@ -8,22 +8,22 @@ ghost use Rattle.record_faults.specs.declared.fault.Refusal.{Refusal};
 ghost use Rattle.plain_lower.specs.Preparing as worlds;
 ghost use Rattle.plain_lower.specs.Preparing.{own_of, with_own, parts_of, core_parts, module_parts};
 ghost use Rattle.plain_lower.specs.Guarantees.{IsUsable, AreChecked, user_module, IsSoundPart};
-ghost use Rattle.plain_lower.specs.Causes.{CoreCause, ModuleCause};
+ghost use Rattle.plain_lower.specs.Causes.{RolesCause, ModuleCause};
 
 use crate::checking::{CheckedRoles, check_roles};
-use crate::others::{Importer, check_others};
 use comp_lists::{Bytes, Keyed, Seq, Text};
 use comp_roles::{ExportMap, ExternType, ImportType, ModuleMetadata};
 use comp_worlds::ValidatedModule;
 use core_sections::{CoreModule, read_module};
 use record_core_types::{imported, offered};
 use record_faults::Failure;
+use record_imports::OtherModules;
 use record_merge::Bindgen;
 use record_resolve::Resolved;
 use record_role_targets::resolved_metadata;
 use std::alloc::{AllocError, Global};
 use wit_data::WorldKey;
-use world_values::{GatheredAdapter, Part};
+use world_values::Part;
 
 /// What a module has besides its roles: its bytes, the types of its imports, what it offers, and its
 /// string encodings.
@@ -95,6 +95,7 @@ fn put_together(own: Own, checked_roles: CheckedRoles) -> ModuleParts
 fn parts_of(
     alloc: Global,
     resolved: &Resolved,
+    others: &OtherModules,
     part: &Part<Bindgen>,
     core: &CoreModule,
     checked_roles: CheckedRoles,
@@ -102,7 +103,7 @@ fn parts_of(
     requires usable { IsUsable resolved.now }
     requires bytes { IsCoreModule part.now.bytes }
     requires all_present { AreChecked resolved.now checked_roles }
-    requires checked { worlds.checked_roles resolved.now part.now core.now ≡ Ok checked_roles }
+    requires checked { worlds.checked_roles resolved.now others.now part.now core.now ≡ Ok checked_roles }
     ensures exact { IfOk result (λ p. p ≡ parts_of resolved.now part.now core.now checked_roles) }
     ensures sound { IfOk result (λ p. IsSoundPart resolved.now (user_module p)) }
 {
@@ -115,48 +116,39 @@ fn parts_of(
 fn core_parts(
     alloc: Global,
     resolved: &Resolved,
-    importer: Importer,
-    all: &Keyed<Text, GatheredAdapter<Bindgen>>,
+    others: &OtherModules,
     part: &Part<Bindgen>,
     core: &CoreModule,
 ) -> Result<ModuleParts, Failure>
     requires usable { IsUsable resolved.now }
     requires bytes { IsCoreModule part.now.bytes }
-    ensures exact { Gives (λ p. p) result (core_parts resolved.now importer all.now part.now core.now) }
+    ensures exact { Gives (λ p. p) result (core_parts resolved.now others.now part.now core.now) }
     ensures sound { IfOk result (λ p. IsSoundPart resolved.now (user_module p)) }
-    ensures cause { IfErr result (λ e. (f : Refusal) → e ≡ failures.Refused f → CoreCause resolved.now importer all.now part.now core.now f) }
-    ensures refused { IsOk result → (f : Refusal) → ¬ CoreCause resolved.now importer all.now part.now core.now f }
+    ensures cause { IfErr result (λ e. (f : Refusal) → e ≡ failures.Refused f → RolesCause resolved.now others.now part.now core.now f) }
+    ensures refused { IsOk result → (f : Refusal) → ¬ RolesCause resolved.now others.now part.now core.now f }
 {
-    check_others(
-        alloc,
-        importer,
-        all,
-        &part.own.roles.import_roles,
-        core.imports.as_slice(),
-    )?;
-    let checked_roles = check_roles(alloc, resolved, part, core)?;
-    let parts = parts_of(alloc, resolved, part, core, checked_roles)?;
+    let checked_roles = check_roles(alloc, resolved, others, part, core)?;
+    let parts = parts_of(alloc, resolved, others, part, core, checked_roles)?;
     Ok(parts)
 }
 
-/// The module of a part, where its sections can be read: main, or one of these adapters.
+/// The module of a part, where its sections can be read.
 #[tactic(auto, unfolding(crate::specs::Preparing::module_parts))]
 pub(crate) fn module_parts(
     alloc: Global,
     resolved: &Resolved,
-    importer: Importer,
-    all: &Keyed<Text, GatheredAdapter<Bindgen>>,
+    others: &OtherModules,
     part: &Part<Bindgen>,
 ) -> Result<ModuleParts, Failure>
     requires { IsUsable resolved.now }
-    ensures exact { Gives (λ p. p) result (module_parts resolved.now importer all.now part.now) }
+    ensures exact { Gives (λ p. p) result (module_parts resolved.now others.now part.now) }
     ensures sound { IfOk result (λ p. IsSoundPart resolved.now (user_module p)) }
-    ensures cause { IfErr result (λ e. (f : Refusal) → e ≡ failures.Refused f → ModuleCause resolved.now importer all.now part.now f) }
-    ensures refused { IsOk result → (f : Refusal) → ¬ ModuleCause resolved.now importer all.now part.now f }
+    ensures cause { IfErr result (λ e. (f : Refusal) → e ≡ failures.Refused f → ModuleCause resolved.now others.now part.now f) }
+    ensures refused { IsOk result → (f : Refusal) → ¬ ModuleCause resolved.now others.now part.now f }
 {
     match read_module(alloc, part.bytes.as_slice()) {
         Ok(core) => {
-            let parts = core_parts(alloc, resolved, importer, all, part, &core);
+            let parts = core_parts(alloc, resolved, others, part, &core);
             drop(core);
             parts
         }

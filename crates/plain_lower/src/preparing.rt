@@ -8,15 +8,17 @@ ghost use Rattle.record_faults.specs.declared.fault.Failure.TheVariants as failu
 ghost use Rattle.record_faults.specs.declared.fault.PlainFault.{PlainFault};
 ghost use Rattle.record_faults.specs.declared.fault.Refusal.{Refusal as RefusalRecord};
 ghost use Rattle.supported_worlds.specs.Guarantees.{HasSoundParts};
-ghost use Rattle.plain_lower.specs.Preparing.{world_with, world_parts, preparing_modules, preparing_if, preparing};
+ghost use Rattle.plain_lower.specs.Preparing.{world_with, parts_within, world_parts, linked_world, preparing_modules, preparing_if, preparing};
 ghost use Rattle.plain_lower.specs.Guarantees.{IsUsable};
-ghost use Rattle.plain_lower.specs.Causes.{PartsCause, WorldCause, PrepareCause};
+ghost use Rattle.plain_lower.specs.Reach.{reach_of};
+ghost use Rattle.plain_lower.specs.Causes.{PartsCause, WholeCause, WorldCause, PrepareCause};
 ghost use Rattle.plain_lower.specs.Adding.{AreModulesOf};
 
 use crate::adapters::{prepare_adapters, refuse_adapters};
 use crate::combined::resolve_combined;
+use crate::linking::check_links;
 use crate::modules::{ModuleParts, module_parts};
-use crate::others::Importer;
+use crate::reach::{Reach, reach_of};
 use comp_lists::{Keyed, Text};
 use comp_worlds::{ComponentWorld, WorldAdapter, WorldParts};
 use record_faults::{Failure, Refusal};
@@ -34,7 +36,31 @@ struct Modules {
     adapters: Keyed<Text, WorldAdapter>,
 }
 
-/// Main and the adapters of gathered ones: main is checked first, and then the adapters in order.
+/// Main and the adapters of gathered ones, which may import these exports of other modules: main is checked first, and then the
+/// adapters in order.
+fn modules_within(
+    alloc: Global,
+    resolved: &Resolved,
+    reach: &Reach,
+    main: &Part<Bindgen>,
+    adapters: &Keyed<Text, GatheredAdapter<Bindgen>>,
+) -> Result<Modules, Failure>
+    requires { IsUsable resolved.now }
+    ensures ok { IfOk result (AreModulesOf resolved.now reach.now main.now adapters.now) }
+    ensures err { IfErr result (λ e. e ≢ failures.Memory → parts_within resolved.now reach.now main.now adapters.now ≡ Err e) }
+    ensures cause { IfErr result (λ e. (f : RefusalRecord) → e ≡ failures.Refused f → PartsCause resolved.now reach.now main.now adapters.now f) }
+{
+    let main = module_parts(alloc, resolved, &reach.main, main)?;
+    match prepare_adapters(alloc, resolved, reach, adapters) {
+        Ok(adapters) => Ok(Modules { main, adapters }),
+        Err(failure) => {
+            drop(main);
+            Err(failure)
+        }
+    }
+}
+
+/// Main and the adapters of gathered ones.
 fn modules_of(
     alloc: Global,
     resolved: &Resolved,
@@ -42,18 +68,14 @@ fn modules_of(
     adapters: &Keyed<Text, GatheredAdapter<Bindgen>>,
 ) -> Result<Modules, Failure>
     requires { IsUsable resolved.now }
-    ensures ok { IfOk result (AreModulesOf resolved.now main.now adapters.now) }
+    ensures ok { IfOk result (AreModulesOf resolved.now (reach_of adapters.now) main.now adapters.now) }
     ensures err { IfErr result (λ e. e ≢ failures.Memory → world_parts resolved.now main.now adapters.now ≡ Err e) }
-    ensures cause { IfErr result (λ e. (f : RefusalRecord) → e ≡ failures.Refused f → PartsCause resolved.now main.now adapters.now f) }
+    ensures cause { IfErr result (λ e. (f : RefusalRecord) → e ≡ failures.Refused f → PartsCause resolved.now (reach_of adapters.now) main.now adapters.now f) }
 {
-    let main = module_parts(alloc, resolved, Importer::Main, adapters, main)?;
-    match prepare_adapters(alloc, resolved, adapters) {
-        Ok(adapters) => Ok(Modules { main, adapters }),
-        Err(failure) => {
-            drop(main);
-            Err(failure)
-        }
-    }
+    let reach = reach_of(alloc, adapters)?;
+    let modules = modules_within(alloc, resolved, &reach, main, adapters);
+    drop(reach);
+    modules
 }
 
 /// The parts of a world of these modules.
@@ -82,14 +104,32 @@ fn world_parts(
     requires { IsUsable resolved }
     ensures exact { Gives (λ p. p) result (world_parts resolved main.now adapters.now) }
     ensures sound { IfOk result HasSoundParts }
-    ensures cause { IfErr result (λ e. (f : RefusalRecord) → e ≡ failures.Refused f → PartsCause resolved main.now adapters.now f) }
-    ensures refused { IsOk result → (f : RefusalRecord) → ¬ PartsCause resolved main.now adapters.now f }
+    ensures cause { IfErr result (λ e. (f : RefusalRecord) → e ≡ failures.Refused f → PartsCause resolved (reach_of adapters.now) main.now adapters.now f) }
+    ensures refused { IsOk result → (f : RefusalRecord) → ¬ PartsCause resolved (reach_of adapters.now) main.now adapters.now f }
 {
     let slot_1 = main.own.roles.context_slot_1;
     match modules_of(alloc, &resolved, main, adapters) {
         Ok(modules) => Ok(put_together(resolved.into_resolve(), modules, slot_1)),
         Err(failure) => {
             drop(resolved);
+            Err(failure)
+        }
+    }
+}
+
+/// The world of these parts, where its modules are given what they import, and all of it is encoded yet.
+fn linked_world(alloc: Global, parts: WorldParts) -> Result<ComponentWorld, Failure>
+    requires { HasSoundParts parts }
+    ensures exact { Gives (λ w. w) result (linked_world parts) }
+    ensures valid { IfOk result IsEncodable }
+    ensures tables { IfOk result HasTables }
+    ensures cause { IfErr result (λ e. (f : RefusalRecord) → e ≡ failures.Refused f → WholeCause parts f) }
+    ensures refused { IsOk result → (f : RefusalRecord) → ¬ WholeCause parts f }
+{
+    match check_links(alloc, &parts) {
+        Ok(()) => encoded_world(alloc, parts),
+        Err(failure) => {
+            drop(parts);
             Err(failure)
         }
     }
@@ -110,7 +150,7 @@ fn prepare_modules(
     ensures refused { IsOk result → (f : RefusalRecord) → ¬ WorldCause resolved main.now adapters.now f }
 {
     match world_parts(alloc, resolved, main, adapters) {
-        Ok(parts) => encoded_world(alloc, parts),
+        Ok(parts) => linked_world(alloc, parts),
         Err(failure) => Err(failure),
     }
 }

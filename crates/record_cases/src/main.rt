@@ -1,8 +1,8 @@
 //! The program `record_cases`: cases of records and of modules, with the fault that the lower layer reports of each.
 //!
-//! Its words come in pairs: `records`, `modules` or `pairs`, and a FILE of such cases. Each line of the file has the
+//! Its words come in pairs: `records`, `modules`, `pairs` or `groups`, and a FILE of such cases. Each line of the file has the
 //! expected result, an arrow, and the records of a module, with ` & ` between two of them, or a whole module in hexadecimal
-//! digits, or two modules that are given as main one after the other. It prints each line with another result, with that result, and then how many have the
+//! digits, or two modules that are given as main one after the other, or main with adapters and libraries beside it. It prints each line with another result, with that result, and then how many have the
 //! expected one. A world that should be prepared but needs what isn't encoded yet counts as left out.
 //!
 //! The expected results were worked out by an independent implementation of the same formats, written in Python. The
@@ -15,7 +15,8 @@
 //! record, counts that nothing holds, a pair of names that occurs twice, records that are nested deep, are no JSON or a binary package; those
 //! of `encoded.txt` have root functions with parameters and results of each kind of type, types of the world, its resources
 //! with their functions and drops, and imported interfaces, with the kind of what is left out where something is; the pairs are small worlds of the same kind, two different ones, or one and a changed copy of
-//! its record.
+//! its record. The groups are modules that import from each other: what main exports, main's memory, and functions of adapters and of
+//! libraries, where these are there, are missing, can't be given to others, or are of another kind or type.
 //!
 //! What a line means, and how it is counted, is in `lower_answers`.
 #![tactic(auto)]

@@ -1,10 +1,12 @@
 -- Whether the core type of an import or an export is the one that its role requires (component model, binary format:
 -- `canon`: core types are compared when a component is validated).
-use Rattle.std.specs.Prelude.{Bool, false, ◌&&◌, List, Option, Some, None}
+use Rattle.std.specs.Prelude.{Bool, true, false, ◌&&◌, List, Option, Some, None}
 use Rattle.std.specs.Cmp.Lexicographic.{pointwise}
 use Rattle.std.specs.List.{slice_get}
 use Rattle.std.specs.Option.{option_eq, option_map_or, IfSome}
 use Rattle.core_types.specs.declared.types.MemoryType.{MemoryType}
+use Rattle.core_types.specs.declared.types.FuncType.{FuncType as OfferedFunc}
+use Rattle.core_types.specs.contracts.types.FuncTypePartialEq.TheImpl as same_function
 use Rattle.core_types.specs.contracts.types.MemoryTypePartialEq.TheImpl as same_memory
 use Rattle.core_sections.specs.declared.core_module.CoreModule.{CoreModule}
 use Rattle.core_sections.specs.declared.entries.EntityType.{EntityType}
@@ -22,8 +24,10 @@ use Rattle.comp_roles.specs.declared.exports.Export.{Export}
 use Rattle.comp_roles.specs.declared.exports.Export.TheVariants as exports
 use Rattle.comp_roles.specs.declared.imports.Import.{Import}
 use Rattle.comp_roles.specs.declared.imports.Import.TheVariants as imports
+use Rattle.comp_roles.specs.declared.offered.ExternType.{ExternType}
+use Rattle.comp_roles.specs.declared.offered.ExternType.TheVariants as externs
 use Rattle.record_core_types.specs.Asked.{expected_import, expected_export}
-use Rattle.record_core_types.specs.Offered.{memory_type}
+use Rattle.record_core_types.specs.Offered.{memory_type, extern_type}
 
 abbrev pub are_same : List CoreVal → List CoreVal → Bool
 are_same = pointwise same_value.eq-value.it
@@ -48,9 +52,17 @@ abbrev pub is_memory : EntityType → MemoryType → Bool
 is_memory (entities.Memory l) ty = option_eq same_memory.eq-value.it (memory_type l) (Some ty)
 is_memory e ty = false
 
--- an import fits its role
+-- a function of this type
+abbrev pub is_of_type : Option ExternType → OfferedFunc → Bool
+is_of_type (Some (externs.Func f)) ty = same_function.eq-value.it f ty
+is_of_type other ty = false
+
+-- An import fits its role. What main exports is given where it matches the import, which only main's module says; of what an
+-- adapter exports the role has the type of the import itself.
 abbrev pub fits_import : Resolve → WorldId → CoreModule → Import → EntityType → Bool
 fits_import r w m (imports.MainModuleMemory ty) e = is_memory e ty
+fits_import r w m (imports.MainModuleExport name kind) e = true
+fits_import r w m (imports.AdapterExport adapter name ty) e = is_of_type (extern_type m e) ty
 fits_import r w m role e = is_function m e (expected_import r w role)
 
 -- an export fits its role

@@ -7,14 +7,15 @@ ghost use Rattle.wit_data.specs.Sound.{IsSound, HasFunction};
 ghost use Rattle.wit_data.specs.declared.functions.AbiVariant.TheVariants.{GuestImport};
 ghost use Rattle.world_values.specs.Mentions.{HasReturned};
 ghost use Rattle.record_core_types.specs.Asked.{number, called, post_return, returning, expected_import, expected_export};
+ghost use Rattle.record_core_types.specs.Offered.{extern_type};
 ghost use Rattle.record_core_types.specs.Shapes.{shape_type};
-ghost use Rattle.record_core_types.specs.Fitting.{are_same, is_same, is_asked, function_type, is_memory, fits_import, fits_export, HasFound};
+ghost use Rattle.record_core_types.specs.Fitting.{are_same, is_same, is_asked, function_type, is_function, is_memory, is_of_type, fits_import, fits_export, HasFound};
 
 use crate::finding::{exported_function, exported_interface, function_of, imported_function};
 use crate::intrinsics::{Shape, intrinsic, plain_export};
-use crate::offering::memory_type;
+use crate::offering::{extern_type, memory_type};
 use comp_lists::{Seq, Text};
-use comp_roles::{Export, Import};
+use comp_roles::{Export, ExternType, Import};
 use core_sections::{CoreModule, EntityType, ExportedItem, FuncType, ValType};
 use core_types::MemoryType;
 use std::alloc::{AllocError, Global};
@@ -213,10 +214,45 @@ fn is_memory(entity: &EntityType, ty: MemoryType) -> bool
     }
 }
 
+/// Whether an entity is a function of the type that an import's role requires.
+fn has_expected_type(
+    alloc: Global,
+    resolve: &Resolve,
+    world: WorldId,
+    core: &CoreModule,
+    import: &Import,
+    entity: &EntityType,
+) -> Result<bool, AllocError>
+    requires sound { IsSound resolve.now }
+    requires present { HasReturned resolve.now import.now }
+    ensures { IfOk result (λ fits. fits ≡ is_function core.now entity.now (expected_import resolve.now world import.now)) }
+{
+    match function_type(core, entity) {
+        Some(ty) => is_expected_import(alloc, resolve, world, import, ty),
+        None => Ok(false),
+    }
+}
+
+/// Whether an entity is a function of this type, made of numbers and references to any function.
+fn is_of_type(
+    alloc: Global,
+    core: &CoreModule,
+    entity: &EntityType,
+    ty: &core_types::FuncType,
+) -> Result<bool, AllocError>
+    ensures { IfOk result (λ fits. fits ≡ is_of_type (extern_type core.now entity.now) ty.now) }
+{
+    match extern_type(alloc, core, entity)? {
+        Some(ExternType::Func(function)) => Ok(function == *ty),
+        _ => Ok(false),
+    }
+}
+
 /// Whether the core type of an import of a module is the one that its role requires: the core signature
-/// of a function of the world, the type of a built-in function, or a memory of the role's type. Shared
-/// memories and those with addresses of 64 bits never fit. For an export of another module nothing is
-/// decided here: the result is no.
+/// of a function of the world, the type of a built-in function, a memory of the role's type, or, where
+/// the role is an export of an adapter, a function of the role's type. Shared memories and those with
+/// addresses of 64 bits never fit. Where the role is an export of main the result is yes: what main
+/// exports may be given where it matches the import, and only main's module says that.
 ///
 /// Functions are looked up in the world by the role's key, and in its interface by the role's name;
 /// where there is none, nothing fits. The only refusal is out of memory.
@@ -232,12 +268,11 @@ pub fn fits_import(
     requires present { HasReturned resolve.now import.now }
     ensures { IfOk result (λ fits. fits ≡ fits_import resolve.now world core.now import.now entity.now) }
 {
-    if let Import::MainModuleMemory(ty) = import {
-        return Ok(is_memory(entity, *ty));
-    }
-    match function_type(core, entity) {
-        Some(ty) => is_expected_import(alloc, resolve, world, import, ty),
-        None => Ok(false),
+    match import {
+        Import::MainModuleMemory(ty) => Ok(is_memory(entity, *ty)),
+        Import::MainModuleExport { .. } => Ok(true),
+        Import::AdapterExport { ty, .. } => is_of_type(alloc, core, entity, ty),
+        _ => has_expected_type(alloc, resolve, world, core, import, entity),
     }
 }
 

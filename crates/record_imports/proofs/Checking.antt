@@ -46,7 +46,9 @@ use Rattle.record_core_types.specs.Guarantees.{IsCalled}
 use Rattle.record_faults.specs.declared.fault.Failure.{Failure}
 use Rattle.record_faults.specs.Faults.{◌>>=◌, Gives}
 use Rattle.record_faults.proofs.Chains.{bind_ok, got, passed}
-use Rattle.record_imports.specs.Meaning.{Roles, world_id, role_of, is_of_other, target, no_role, unfit, meaningless, fitting, kept, import_of}
+use Rattle.record_imports.specs.declared.others.OtherModules.{OtherModules}
+use Rattle.record_imports.specs.Others.{is_unknown}
+use Rattle.record_imports.specs.Meaning.{Roles, world_id, role_of, unless_unknown, known_role, target, no_role, unfit, meaningless, fitting, kept, import_of}
 use Rattle.record_imports.specs.Guarantees.{IsChecked}
 
 -- ---- steps
@@ -62,41 +64,45 @@ concluded (Err e) value answer read is h = subst (λ a. Gives (λ x. x) a read) 
 
 -- ---- an import that was read
 
--- a role that resolves, where roles of other modules resolve to nothing
-pub unless_other : (b : Bool) (o : Option Import) (x : Import) → (if b then None else o) ≡ Some x → (b ≡ false) × (o ≡ Some x)
-unless_other true o x e = absurd cc
-unless_other false o x e = (refl, e)
-
-pub record Passes (r : Resolved) (table : Roles) (core : CoreModule) (i : CoreImport) (import : Import) : Type 0 where
+pub record Passes (r : Resolved) (others : OtherModules) (table : Roles) (core : CoreModule) (i : CoreImport) (import : Import) : Type 0 where
   pub ty : ExternType
   pub typed : extern_type core i.entity ≡ Some ty
   pub role : ImportRole
   pub has : role_of table i ≡ Some role
-  pub own : is_of_other role ≡ false
+  pub known : is_unknown others role ≡ false
   pub means : resolved_import r i.field role (Some ty) ≡ Some import
   pub fits : fits_import r.resolve world_id core import i.entity ≡ true
+
+-- a role that is known
+pub is_known : (others : OtherModules) (role : ImportRole) (o : Option ImportRole) → option_and_then (unless_unknown others) o ≡ Some role → (o ≡ Some role) × (is_unknown others role ≡ false)
+is_known others role None e = absurd cc
+is_known others role (Some other) e = by (is_unknown others other) refl e
+  where
+    by : (b : Bool) → is_unknown others other ≡ b → (if b then None else Some other) ≡ Some role → (Some other ≡ Some role) × (is_unknown others role ≡ false)
+    by true is e = absurd cc
+    by false is e = let same : other ≡ role = cc (e) in (e, ap (is_unknown others) (sym same) ∙ is)
 
 abbrev pub after_role : Resolved → CoreModule → CoreImport → ExternType → ImportRole → Result Import Failure
 after_role r core i ty role = ok_or (target r i role ty) (meaningless i role) >>= λ import. fitting r core i import
 
-abbrev pub after_type : Resolved → Roles → CoreModule → CoreImport → ExternType → Result Import Failure
-after_type r table core i ty = ok_or (role_of table i) (no_role i) >>= λ role. after_role r core i ty role
+abbrev pub after_type : Resolved → OtherModules → Roles → CoreModule → CoreImport → ExternType → Result Import Failure
+after_type r others table core i ty = ok_or (known_role others table i) (no_role i) >>= λ role. after_role r core i ty role
 
-pub import_passes : (r : Resolved) (table : Roles) (core : CoreModule) (i : CoreImport) (import : Import) → import_of r table core i ≡ Ok import → Passes r table core i import
+pub import_passes : (r : Resolved) (others : OtherModules) (table : Roles) (core : CoreModule) (i : CoreImport) (import : Import) → import_of r others table core i ≡ Ok import → Passes r others table core i import
 unfolding import_of
-import_passes r table core i import e =
-    let a = bind_ok (ok_or (extern_type core i.entity) (unfit i)) (after_type r table core i) import e in
-    let b = bind_ok (ok_or (role_of table i) (no_role i)) (after_role r core i a.0) import a.2 in
+import_passes r others table core i import e =
+    let a = bind_ok (ok_or (extern_type core i.entity) (unfit i)) (after_type r others table core i) import e in
+    let b = bind_ok (ok_or (known_role others table i) (no_role i)) (after_role r core i a.0) import a.2 in
+    let k = is_known others b.0 (role_of table i) (got (known_role others table i) (no_role i) b.0 b.1) in
     let c = bind_ok (ok_or (target r i b.0 a.0) (meaningless i b.0)) (fitting r core i) import b.2 in
     let p = passed (fits_import r.resolve world_id core c.0 i.entity) c.0 import (unfit i) c.2 in
-    let m = unless_other (is_of_other b.0) (resolved_import r i.field b.0 (Some a.0)) c.0 (got (target r i b.0 a.0) (meaningless i b.0) c.0 c.1) in
     record {
       ty = a.0;
       typed = got (extern_type core i.entity) (unfit i) a.0 a.1;
       role = b.0;
-      has = got (role_of table i) (no_role i) b.0 b.1;
-      own = m.0;
-      means = m.1 ∙ ap Some p.1;
+      has = k.0;
+      known = k.1;
+      means = got (target r i b.0 a.0) (meaningless i b.0) c.0 c.1 ∙ ap Some p.1;
       fits = ap (λ (x : Import). fits_import r.resolve world_id core x i.entity) (sym p.1) ∙ p.0;
     }
 
@@ -209,9 +215,9 @@ is_called r core (imports.InterfaceFunc key id function abi) entity own fits =
 is_called r core import entity own fits = tt
 
 -- an import that was read is checked
-pub is_checked : (r : Resolved) (table : Roles) (core : CoreModule) (i : CoreImport) (import : Import) → import_of r table core i ≡ Ok import → HasNamed r.resolve import → IsChecked r.resolve import
-is_checked r table core i import e named =
-    let p = import_passes r table core i import e in
+pub is_checked : (r : Resolved) (others : OtherModules) (table : Roles) (core : CoreModule) (i : CoreImport) (import : Import) → import_of r others table core i ≡ Ok import → HasNamed r.resolve import → IsChecked r.resolve import
+is_checked r others table core i import e named =
+    let p = import_passes r others table core i import e in
     record {
       present = named.used;
       called = is_called r core import i.entity (subst (λ o. IfSome o (IsOwn r)) p.means (role_own r i.field p.role (Some p.ty))) p.fits;

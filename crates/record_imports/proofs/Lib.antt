@@ -1,5 +1,5 @@
 mod Groups
 mod Checking
 mod Fields
-mod Refusing
+pub mod Refusing
 mod Worked

@@ -1,17 +1,19 @@
 -- The roles of the imports of small modules, worked: a world that imports one function "f", with no parameter and no result.
-use Rattle.std.proofs.Common.{◌≡◌, ℕ, List, [], ◌∷◌, Option, Some, None, Result, Ok, refl, false}
-use Rattle.std.specs.Prelude.{codes}
+use Rattle.std.proofs.Common.{◌≡◌, ℕ, List, [], ◌∷◌, Option, Some, None, Result, Ok, refl, true, false}
+use Rattle.std.specs.Prelude.{codes, ⊤}
 use Rattle.core_sections.specs.Entries.{no_entries}
 use Rattle.core_sections.specs.declared.core_module.CoreModule.{CoreModule}
 use Rattle.core_sections.specs.declared.entries.CoreImport.{CoreImport}
 use Rattle.core_sections.specs.declared.entries.EntityType.{EntityType}
 use Rattle.core_sections.specs.declared.entries.EntityType.TheVariants as entities
 use Rattle.core_sections.specs.declared.entries.ValType.TheVariants as values
+use Rattle.core_types.specs.declared.types.ValType.TheVariants as numbers
 use Rattle.wit_data.specs.Values.{values_from}
 use Rattle.wit_data.specs.declared.functions.AbiVariant.TheVariants.{GuestImport}
 use Rattle.wit_data.specs.declared.functions.FunctionKind.TheVariants as forms
 use Rattle.wit_data.specs.declared.worlds.WorldItem.TheVariants as items
 use Rattle.wit_data.specs.declared.worlds.WorldKey.TheVariants as keys
+use Rattle.comp_roles.specs.declared.imports.Import.{Import}
 use Rattle.comp_roles.specs.declared.imports.Import.TheVariants as imports
 use Rattle.comp_roles.specs.declared.imports.ImportInstance.{ImportInstance}
 use Rattle.comp_roles.specs.declared.imports.ImportInstance.TheVariants as instances
@@ -23,6 +25,7 @@ use Rattle.record_resolve.specs.declared.resolving.Resolved.{Resolved}
 use Rattle.record_faults.specs.declared.fault.Failure.{Failure}
 use Rattle.record_faults.specs.declared.fault.Refusal.TheVariants as refusals
 use Rattle.record_faults.proofs.Chains.{refused}
+use Rattle.record_imports.specs.declared.others.OtherModules.{OtherModules}
 use Rattle.record_imports.specs.Meaning.{Roles, import_of}
 use Rattle.record_imports.specs.Grouping.{group_after}
 use Rattle.record_imports.specs.Memories.{memories_fit}
@@ -43,6 +46,13 @@ small = record {
   imported_keys = [];
   exported_keys = [];
 }
+
+-- a main module with no adapter, and an adapter or a library beside one of these
+abbrev alone : OtherModules
+alone = record { has_main = false; adapters = [] }
+
+abbrev beside : List ℕ → OtherModules
+beside name = record { has_main = true; adapters = (name, tt) ∷ [] }
 
 -- the roles of the imports of fields of one module
 abbrev of : List ℕ → ImportRole → ImportName × ImportRole
@@ -65,11 +75,11 @@ abbrev Answer : Type 0
 Answer = Result (List (List ℕ × ImportInstance)) Failure
 
 abbrev answered : Roles → List CoreImport → Answer
-answered table is = imports_of small table (importing is)
+answered table is = imports_of small alone table (importing is)
 
 calls_f : answered (of (codes "a") (calls (codes "f")) ∷ []) (import (codes "a") (entities.Function 0) ∷ [])
     ≡ Ok ((codes "m", instances.Names ((codes "a", imports.WorldFunc (keys.Name (codes "f")) (codes "f") GuestImport) ∷ [])) ∷ [])
-unfolding imports_of group_after import_of memories_fit values_from
+unfolding imports_of group_after import_of values_from
 calls_f = refl
 
 has_no_role : answered (of (codes "a") (calls (codes "f")) ∷ []) (import (codes "b") (entities.Function 0) ∷ []) ≡ refused (refusals.RoleMissing (codes "m") (codes "b"))
@@ -80,9 +90,21 @@ calls_nothing : answered (of (codes "a") (calls (codes "g")) ∷ []) (import (co
 unfolding imports_of group_after import_of
 calls_nothing = refl
 
-of_an_adapter : answered (of (codes "a") (roles.AdapterExport (codes "x") (codes "f")) ∷ []) (import (codes "a") (entities.Function 0) ∷ []) ≡ refused (refusals.RoleMissing (codes "m") (codes "a"))
+of_no_adapter : answered (of (codes "a") (roles.AdapterExport (codes "x") (codes "f")) ∷ []) (import (codes "a") (entities.Function 0) ∷ []) ≡ refused (refusals.RoleMissing (codes "m") (codes "a"))
+unfolding imports_of group_after import_of
+of_no_adapter = refl
+
+abbrev answered_beside : Roles → List CoreImport → Answer
+answered_beside table is = imports_of small (beside (codes "x")) table (importing is)
+
+of_an_adapter : answered_beside (of (codes "a") (roles.AdapterExport (codes "x") (codes "f")) ∷ []) (import (codes "a") (entities.Function 1) ∷ [])
+    ≡ Ok ((codes "m", instances.Names ((codes "a", imports.AdapterExport (codes "x") (codes "f") (record { params = numbers.I32 ∷ []; results = [] })) ∷ [])) ∷ [])
 unfolding imports_of group_after import_of
 of_an_adapter = refl
+
+no_function : answered_beside (of (codes "a") (roles.AdapterExport (codes "x") (codes "f")) ∷ []) (import (codes "a") (memory 1 None) ∷ []) ≡ refused (refusals.CoreType (codes "a"))
+unfolding imports_of group_after import_of
+no_function = refl
 
 twice_there : answered (of (codes "a") (calls (codes "f")) ∷ []) (import (codes "a") (entities.Function 0) ∷ import (codes "a") (entities.Function 0) ∷ [])
     ≡ refused (refusals.ImportTwice (codes "m") (codes "a"))
@@ -97,20 +119,27 @@ is_no_memory : answered (of (codes "a") roles.Memory ∷ []) (import (codes "a")
 unfolding imports_of group_after import_of
 is_no_memory = refl
 
+-- ---- memories
+
+abbrev importing_memory : List ℕ → ℕ → Option ℕ → List ℕ × Import
+importing_memory field least most = (field, imports.MainModuleMemory (record { minimum = least; maximum = most }))
+
+abbrev both : List ℕ × Import → List ℕ × Import → Result ⊤ Failure
+both first second = memories_fit ((codes "m", instances.Names (first ∷ second ∷ [])) ∷ [])
+
 -- the first memory has one page at least and two at most
-takes_more : answered (of (codes "a") roles.Memory ∷ of (codes "b") roles.Memory ∷ []) (import (codes "a") (memory 1 (Some 2)) ∷ import (codes "b") (memory 1 (Some 3)) ∷ [])
-    ≡ Ok ((codes "m", instances.Names ((codes "a", imports.MainModuleMemory (record { minimum = 1; maximum = Some 2 })) ∷ (codes "b", imports.MainModuleMemory (record { minimum = 1; maximum = Some 3 })) ∷ [])) ∷ [])
-unfolding imports_of group_after import_of memories_fit
+takes_more : both (importing_memory (codes "a") 1 (Some 2)) (importing_memory (codes "b") 1 (Some 3)) ≡ Ok tt
+unfolding memories_fit
 takes_more = refl
 
-needs_more : answered (of (codes "a") roles.Memory ∷ of (codes "b") roles.Memory ∷ []) (import (codes "a") (memory 1 (Some 2)) ∷ import (codes "b") (memory 2 None) ∷ []) ≡ refused (refusals.CoreType (codes "b"))
-unfolding imports_of group_after import_of memories_fit
+needs_more : both (importing_memory (codes "a") 1 (Some 2)) (importing_memory (codes "b") 2 None) ≡ refused (refusals.CoreType (codes "b"))
+unfolding memories_fit
 needs_more = refl
 
-takes_less : answered (of (codes "a") roles.Memory ∷ of (codes "b") roles.Memory ∷ []) (import (codes "a") (memory 1 (Some 2)) ∷ import (codes "b") (memory 0 (Some 1)) ∷ []) ≡ refused (refusals.CoreType (codes "b"))
-unfolding imports_of group_after import_of memories_fit
+takes_less : both (importing_memory (codes "a") 1 (Some 2)) (importing_memory (codes "b") 0 (Some 1)) ≡ refused (refusals.CoreType (codes "b"))
+unfolding memories_fit
 takes_less = refl
 
-has_no_greatest : answered (of (codes "a") roles.Memory ∷ of (codes "b") roles.Memory ∷ []) (import (codes "a") (memory 1 None) ∷ import (codes "b") (memory 0 (Some 9)) ∷ []) ≡ refused (refusals.CoreType (codes "b"))
-unfolding imports_of group_after import_of memories_fit
+has_no_greatest : both (importing_memory (codes "a") 1 None) (importing_memory (codes "b") 0 (Some 9)) ≡ refused (refusals.CoreType (codes "b"))
+unfolding memories_fit
 has_no_greatest = refl

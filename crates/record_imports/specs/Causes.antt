@@ -1,6 +1,6 @@
 -- When each refusal of core imports is right: what is wrong with the imports of the module, or with their roles. (The roles
 -- are this project's own; what they require of types is from the core standard and the Canonical ABI.)
-use Rattle.std.specs.Prelude.{◌≡◌, ℕ, true, false, List, [], ◌∷◌, ◌++◌, Some, None, Ok, Contains}
+use Rattle.std.specs.Prelude.{◌≡◌, ℕ, true, false, List, ◌∷◌, ◌++◌, Some, None, Contains}
 use Rattle.std.specs.List.{flat_map}
 use Rattle.core_types.specs.declared.types.MemoryType.{MemoryType}
 use Rattle.core_sections.specs.declared.core_module.CoreModule.{CoreModule}
@@ -11,46 +11,41 @@ use Rattle.comp_roles.specs.declared.imports.Import.{Import}
 use Rattle.comp_roles.specs.declared.imports.Import.TheVariants as imports
 use Rattle.comp_roles.specs.declared.imports.ImportInstance.{ImportInstance}
 use Rattle.record_values.specs.declared.roles.ImportRole.{ImportRole}
-use Rattle.record_values.specs.declared.roles.ImportRole.TheVariants as roles
 use Rattle.record_resolve.specs.declared.resolving.Resolved.{Resolved}
 use Rattle.record_role_targets.specs.Imports.{resolved_import}
 use Rattle.record_core_types.specs.Fitting.{fits_import}
 use Rattle.record_core_types.specs.Offered.{extern_type}
 use Rattle.record_faults.specs.declared.fault.Refusal.{Refusal}
 use Rattle.record_faults.specs.declared.fault.Refusal.TheVariants as refusals
-use Rattle.record_imports.specs.declared.grouping.Group.{Group}
-use Rattle.record_imports.specs.Meaning.{Roles, world_id, role_of, is_of_other, is_memory}
-use Rattle.record_imports.specs.Grouping.{groups_after, instances_of}
+use Rattle.record_imports.specs.declared.others.OtherModules.{OtherModules}
+use Rattle.record_imports.specs.Others.{is_unknown}
+use Rattle.record_imports.specs.Meaning.{Roles, world_id, role_of, is_by_type}
 use Rattle.record_imports.specs.Memories.{fits_memory}
 
--- these are the imports of the module, group by group, each with its role
-pub record AreImports (r : Resolved) (table : Roles) (core : CoreModule) (modules : List (List ℕ × ImportInstance)) : Type 0 where
-  pub groups : List Group
-  pub grouped : groups_after r table core [] core.imports ≡ Ok groups
-  pub are : modules ≡ instances_of groups
-
-pub data ImportCause (r : Resolved) (table : Roles) (core : CoreModule) : Refusal → Type 0 where
+pub data ImportCause (r : Resolved) (others : OtherModules) (table : Roles) (core : CoreModule) : Refusal → Type 0 where
   -- two core imports have one module and field
   twice : (i j : CoreImport) (before between after : List CoreImport) → core.imports ≡ before ++ i ∷ between ++ j ∷ after
-      → i.«module» ≡ j.«module» → i.field ≡ j.field → ImportCause r table core (refusals.ImportTwice j.«module» j.field)
+      → i.«module» ≡ j.«module» → i.field ≡ j.field → ImportCause r others table core (refusals.ImportTwice j.«module» j.field)
   -- the type of a core import is not made of numbers and references to any function, or its limits don't fit in 32 bits
-  untyped : (i : CoreImport) → Contains core.imports i → extern_type core i.entity ≡ None → ImportCause r table core (refusals.CoreType i.field)
+  untyped : (i : CoreImport) → Contains core.imports i → extern_type core i.entity ≡ None → ImportCause r others table core (refusals.CoreType i.field)
   -- a core import has no role
-  no_role : (i : CoreImport) → Contains core.imports i → role_of table i ≡ None → ImportCause r table core (refusals.RoleMissing i.«module» i.field)
-  -- its role is an export of another module
-  of_other : (i : CoreImport) (role : ImportRole) → Contains core.imports i → role_of table i ≡ Some role → is_of_other role ≡ true
-      → ImportCause r table core (refusals.RoleMissing i.«module» i.field)
+  no_role : (i : CoreImport) → Contains core.imports i → role_of table i ≡ None → ImportCause r others table core (refusals.RoleMissing i.«module» i.field)
+  -- its role is an export of another module that this one may not import, or that isn't there
+  of_other : (i : CoreImport) (role : ImportRole) → Contains core.imports i → role_of table i ≡ Some role → is_unknown others role ≡ true
+      → ImportCause r others table core (refusals.RoleMissing i.«module» i.field)
   -- what its role names is not in the world
-  nothing_there : (i : CoreImport) (role : ImportRole) → Contains core.imports i → role_of table i ≡ Some role → is_memory role ≡ false
-      → resolved_import r i.field role (extern_type core i.entity) ≡ None → ImportCause r table core (refusals.RoleMissing i.«module» i.field)
-  -- its role is a memory, and the import is not
-  no_memory : (i : CoreImport) → Contains core.imports i → role_of table i ≡ Some roles.Memory
-      → resolved_import r i.field roles.Memory (extern_type core i.entity) ≡ None → ImportCause r table core (refusals.CoreType i.field)
+  nothing_there : (i : CoreImport) (role : ImportRole) → Contains core.imports i → role_of table i ≡ Some role → is_by_type role ≡ false
+      → resolved_import r i.field role (extern_type core i.entity) ≡ None → ImportCause r others table core (refusals.RoleMissing i.«module» i.field)
+  -- its role is a memory, and the import is not, or a function of an adapter, and the import is none
+  of_another_kind : (i : CoreImport) (role : ImportRole) → Contains core.imports i → role_of table i ≡ Some role → is_by_type role ≡ true
+      → resolved_import r i.field role (extern_type core i.entity) ≡ None → ImportCause r others table core (refusals.CoreType i.field)
   -- its type is not that of its role
-  unfit : (i : CoreImport) (role : ImportRole) (import : Import) → Contains core.imports i → role_of table i ≡ Some role → is_of_other role ≡ false
+  unfit : (i : CoreImport) (role : ImportRole) (import : Import) → Contains core.imports i → role_of table i ≡ Some role
       → resolved_import r i.field role (extern_type core i.entity) ≡ Some import → fits_import r.resolve world_id core import i.entity ≡ false
-      → ImportCause r table core (refusals.CoreType i.field)
+      → ImportCause r others table core (refusals.CoreType i.field)
+
+-- where these imports include a memory, the first that does gives it
+pub data MemoryCause (modules : List (List ℕ × ImportInstance)) : Refusal → Type 0 where
   -- a memory is imported, and the first that is doesn't fit it
-  unfit_memory : (modules : List (List ℕ × ImportInstance)) (first ty : MemoryType) (i : CoreUse) → AreImports r table core modules
-      → imported_memory modules ≡ Some first → Contains (flat_map imports_from modules) i → i.role ≡ imports.MainModuleMemory ty
-      → fits_memory first ty ≡ false → ImportCause r table core (refusals.CoreType i.field)
+  unfit_memory : (first ty : MemoryType) (i : CoreUse) → imported_memory modules ≡ Some first → Contains (flat_map imports_from modules) i → i.role ≡ imports.MainModuleMemory ty
+      → fits_memory first ty ≡ false → MemoryCause modules (refusals.CoreType i.field)

@@ -1,4 +1,4 @@
--- What holds of the imports of a main module that were read.
+-- What holds of the imports of a module that were read.
 use Rattle.std.specs.Prelude.{ℕ, List, map}
 use Rattle.std.specs.List.{AllByRecursion, IsDistinct, flat_map}
 use Rattle.std.specs.Map.{keys_of}

@@ -1,16 +1,15 @@
--- The roles of the core imports of a main module, by module and field.
+-- The roles of the core imports of a module, by module and field.
 use Rattle.std.specs.Prelude.{ℕ, List, [], Result, Ok}
 use Rattle.core_sections.specs.declared.core_module.CoreModule.{CoreModule}
 use Rattle.comp_roles.specs.declared.imports.ImportInstance.{ImportInstance}
 use Rattle.record_resolve.specs.declared.resolving.Resolved.{Resolved}
 use Rattle.record_faults.specs.declared.fault.Failure.{Failure}
 use Rattle.record_faults.specs.Faults.{◌>>=◌}
+use Rattle.record_imports.specs.declared.others.OtherModules.{OtherModules}
 use Rattle.record_imports.specs.Meaning.{Roles}
 use Rattle.record_imports.specs.Grouping.{groups_after, instances_of}
-use Rattle.record_imports.specs.Memories.{memories_fit}
 
-unfoldable pub imports_of : Resolved → Roles → CoreModule → Result (List (List ℕ × ImportInstance)) Failure
-imports_of r table core = do
-  groups ← groups_after r table core [] core.imports
-  _ ← memories_fit (instances_of groups)
+unfoldable pub imports_of : Resolved → OtherModules → Roles → CoreModule → Result (List (List ℕ × ImportInstance)) Failure
+imports_of r others table core = do
+  groups ← groups_after r others table core [] core.imports
   Ok (instances_of groups)

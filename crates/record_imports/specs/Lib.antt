@@ -1,3 +1,4 @@
+pub mod Others
 pub mod Meaning
 pub mod Grouping
 pub mod Memories

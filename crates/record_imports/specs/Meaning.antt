@@ -1,10 +1,11 @@
--- The role of one core import of a main module (the roles are this project's own; what they require is from the Canonical
+-- The role of one core import of a module (the roles are this project's own; what they require is from the Canonical
 -- ABI: `canon lower` and the built-in functions).
 --
 -- An import must have a role, the role must resolve in the world, and the import must have the type that the resolved role
--- requires.
+-- requires. A role that is an export of another module must be one that the module may import, of a module that is there.
 use Rattle.std.specs.Prelude.{Bool, true, false, List, Option, Some, None, ok_or, Result, Ok, Err, ⊤, if◌then◌else◌}
 use Rattle.std.specs.Map.{lookup}
+use Rattle.std.specs.Option.{option_and_then}
 use Rattle.core_sections.specs.declared.core_module.CoreModule.{CoreModule}
 use Rattle.core_sections.specs.declared.entries.CoreImport.{CoreImport}
 use Rattle.wit_data.specs.declared.ids.WorldId.{WorldId}
@@ -22,6 +23,8 @@ use Rattle.record_faults.specs.declared.fault.Failure.{Failure}
 use Rattle.record_faults.specs.declared.fault.Failure.TheVariants as failures
 use Rattle.record_faults.specs.declared.fault.Refusal.TheVariants as refusals
 use Rattle.record_faults.specs.Faults.{◌>>=◌}
+use Rattle.record_imports.specs.declared.others.OtherModules.{OtherModules}
+use Rattle.record_imports.specs.Others.{is_unknown}
 
 -- the roles of core imports, by module and field
 abbrev pub Roles : Type 0
@@ -36,19 +39,22 @@ world_id = record { index = 0 }
 abbrev pub role_of : Roles → CoreImport → Option ImportRole
 role_of table i = lookup (is_same_import (record { «module» = i.«module»; field = i.field })) table
 
--- an export of another module; for a main module alone there is no other
-abbrev pub is_of_other : ImportRole → Bool
-is_of_other (roles.MainExport name kind) = true
-is_of_other (roles.AdapterExport adapter name) = true
-is_of_other role = false
+-- the role of an import, unless it names an export of another module that the module may not import, or that isn't there
+abbrev pub unless_unknown : OtherModules → ImportRole → Option ImportRole
+unless_unknown others role = if is_unknown others role then None else Some role
 
-abbrev pub is_memory : ImportRole → Bool
-is_memory roles.Memory = true
-is_memory role = false
+abbrev pub known_role : OtherModules → Roles → CoreImport → Option ImportRole
+known_role others table i = option_and_then (unless_unknown others) (role_of table i)
+
+-- a role that the type of the import resolves: main's memory, or a function that an adapter exports
+abbrev pub is_by_type : ImportRole → Bool
+is_by_type roles.Memory = true
+is_by_type (roles.AdapterExport adapter name) = true
+is_by_type role = false
 
 -- what a role resolves to, for an import of this type
 abbrev pub target : Resolved → CoreImport → ImportRole → ExternType → Option Import
-target r i role ty = if is_of_other role then None else resolved_import r i.field role (Some ty)
+target r i role ty = resolved_import r i.field role (Some ty)
 
 -- ---- refusals
 
@@ -58,9 +64,10 @@ no_role i = failures.Refused (refusals.RoleMissing i.«module» i.field)
 abbrev pub unfit : CoreImport → Failure
 unfit i = failures.Refused (refusals.CoreType i.field)
 
--- The role of a memory doesn't resolve where the import is no memory, any other where what it names does not exist.
+-- The role of a memory doesn't resolve where the import is no memory, that of a function of an adapter where it is no function, and
+-- any other where what it names does not exist.
 abbrev pub meaningless : CoreImport → ImportRole → Failure
-meaningless i role = if is_memory role then unfit i else no_role i
+meaningless i role = if is_by_type role then unfit i else no_role i
 
 -- ---- the import
 
@@ -74,9 +81,9 @@ kept value (Ok u) = Ok value
 kept value (Err e) = Err e
 
 -- The resolved role of a core import. Its type is made of numbers and references to any function only, with limits of 32 bits.
-unfoldable pub import_of : Resolved → Roles → CoreModule → CoreImport → Result Import Failure
-import_of r table core i = do
+unfoldable pub import_of : Resolved → OtherModules → Roles → CoreModule → CoreImport → Result Import Failure
+import_of r others table core i = do
   ty ← ok_or (extern_type core i.entity) (unfit i)
-  role ← ok_or (role_of table i) (no_role i)
+  role ← ok_or (known_role others table i) (no_role i)
   import ← ok_or (target r i role ty) (meaningless i role)
   fitting r core i import

@@ -12,6 +12,7 @@ ghost use Rattle.record_imports.specs.Grouping.{positions_of, fields_in, with_fi
 ghost use Rattle.record_imports.specs.Guarantees.{IsChecked, AreGood};
 
 use crate::meaning::import_of;
+use crate::others::OtherModules;
 use comp_lists::{Keyed, Text};
 use comp_roles::Import;
 use core_sections::{CoreImport, CoreModule};
@@ -151,6 +152,7 @@ fn imported_twice<T>(alloc: Global, import: &CoreImport) -> Result<T, Failure>
 fn add_import(
     alloc: Global,
     resolved: &Resolved,
+    others: &OtherModules,
     roles: &Keyed<ImportName, ImportRole>,
     core: &CoreModule,
     grouping: Grouping,
@@ -159,7 +161,7 @@ fn add_import(
     requires sound { IsSound resolved.now.resolve }
     requires indexed { grouping.positions ≡ positions_of 0 grouping.groups.items }
     requires good { AreGood resolved.now.resolve grouping.groups.items }
-    ensures exact { Gives (λ g. g.groups.items) result (group_after resolved.now roles.now core.now grouping.groups.items import.now) }
+    ensures exact { Gives (λ g. g.groups.items) result (group_after resolved.now others.now roles.now core.now grouping.groups.items import.now) }
     ensures indexed { IfOk result (λ g. g.positions ≡ positions_of 0 g.groups.items) }
     ensures good { IfOk result (λ g. AreGood resolved.now.resolve g.groups.items) }
 {
@@ -168,7 +170,7 @@ fn add_import(
     }
     let module = import.module.clone(alloc)?;
     let field = import.field.clone(alloc)?;
-    let role = import_of(alloc, resolved, roles, core, import)?;
+    let role = import_of(alloc, resolved, others, roles, core, import)?;
     Ok(put_field(alloc, grouping, module, field, role)?)
 }
 
@@ -176,11 +178,12 @@ fn add_import(
 fn group_imports(
     alloc: Global,
     resolved: &Resolved,
+    others: &OtherModules,
     roles: &Keyed<ImportName, ImportRole>,
     core: &CoreModule,
 ) -> Result<Grouping, Failure>
     requires { IsSound resolved.now.resolve }
-    ensures exact { Gives (λ g. g.groups.items) result (groups_after resolved.now roles.now core.now [] core.now.imports) }
+    ensures exact { Gives (λ g. g.groups.items) result (groups_after resolved.now others.now roles.now core.now [] core.now.imports) }
     ensures indexed { IfOk result (λ g. g.positions ≡ positions_of 0 g.groups.items) }
     ensures good { IfOk result (λ g. AreGood resolved.now.resolve g.groups.items) }
 {
@@ -189,7 +192,7 @@ fn group_imports(
         groups: Vec::new(alloc),
     };
     for import in core.imports.as_slice() {
-        grouping = add_import(alloc, resolved, roles, core, grouping, import)?;
+        grouping = add_import(alloc, resolved, others, roles, core, grouping, import)?;
     }
     Ok(grouping)
 }
@@ -216,14 +219,15 @@ fn into_groups(grouping: Grouping) -> Vec<Group>
 pub(crate) fn read_groups(
     alloc: Global,
     resolved: &Resolved,
+    others: &OtherModules,
     roles: &Keyed<ImportName, ImportRole>,
     core: &CoreModule,
 ) -> Result<Vec<Group>, Failure>
     requires { IsSound resolved.now.resolve }
-    ensures exact { Gives (λ g. g.items) result (groups_after resolved.now roles.now core.now [] core.now.imports) }
+    ensures exact { Gives (λ g. g.items) result (groups_after resolved.now others.now roles.now core.now [] core.now.imports) }
     ensures apart { IfOk result (λ g. IsDistinct bytes_eq (keys_of (instances_of g.items))) }
     ensures good { IfOk result (λ g. AreGood resolved.now.resolve g.items) }
 {
-    let grouping = group_imports(alloc, resolved, roles, core)?;
+    let grouping = group_imports(alloc, resolved, others, roles, core)?;
     Ok(into_groups(grouping))
 }

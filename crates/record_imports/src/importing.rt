@@ -18,7 +18,7 @@ ghost use Rattle.record_imports.specs.Guarantees.{AreGood, AreChecked, HasDistin
 ghost use Rattle.record_imports.specs.Causes.{ImportCause};
 
 use crate::grouping::{Group, read_groups};
-use crate::memories::check_memories;
+use crate::others::OtherModules;
 use comp_lists::{Keyed, Text};
 use comp_roles::{ImportInstance, ImportMap};
 use core_sections::CoreModule;
@@ -50,33 +50,31 @@ fn map_of(alloc: Global, resolved: &Resolved, groups: Vec<Group>) -> Result<Impo
     Ok(ImportMap { modules })
 }
 
-/// The roles of the core imports, where all imports of the memory accept that of the first.
+/// The roles of the core imports.
 #[tactic(auto, unfolding(crate::specs::Importing::imports_of))]
 fn read_all(
     alloc: Global,
     resolved: &Resolved,
+    others: &OtherModules,
     roles: &Keyed<ImportName, ImportRole>,
     core: &CoreModule,
 ) -> Result<ImportMap, Failure>
     requires { IsSound resolved.now.resolve }
-    ensures exact { Gives (λ m. m.modules) result (imports_of resolved.now roles.now core.now) }
+    ensures exact { Gives (λ m. m.modules) result (imports_of resolved.now others.now roles.now core.now) }
     ensures checks { IfOk result (λ m. AreChecked resolved.now.resolve m.modules) }
 {
-    let groups = read_groups(alloc, resolved, roles, core)?;
-    let map = map_of(alloc, resolved, groups)?;
-    check_memories(alloc, &map)?;
-    Ok(map)
+    let groups = read_groups(alloc, resolved, others, roles, core)?;
+    Ok(map_of(alloc, resolved, groups)?)
 }
 
-/// The roles of the core imports of a main module, by module and field, in the order in which the
-/// modules and their fields first occur.
+/// The roles of the core imports of a module, by module and field, in the order in which the modules
+/// and their fields first occur.
 ///
 /// An import that has no role, whose role names what the world does not have, or whose role is an
-/// export of another module is refused as one without a role (`RoleMissing`). One whose type is not
-/// that of its role, or has anything but numbers, references to any function and limits of 32 bits, is
-/// refused by its field (`CoreType`), and so is the import of a memory that the memory of the first
-/// such import doesn't fit (core standard, validation: matching of limits). A module and field that are
-/// imported twice are refused by both names (`ImportTwice`). The only other refusal is out of memory.
+/// export of another module that isn't among these, is refused as one without a role (`RoleMissing`). One whose type is not that of its role, or has anything but numbers,
+/// references to any function and limits of 32 bits, is refused by its field (`CoreType`). A module and
+/// field that are imported twice are refused by both names (`ImportTwice`). The only other refusal is
+/// out of memory. What main and the adapters export is not looked at here.
 ///
 /// What the imports name exists in the resolve, and the world imports each root function under its
 /// name, and each interface of which a function is called, which has that function.
@@ -84,18 +82,19 @@ fn read_all(
 pub fn read_imports(
     alloc: Global,
     resolved: &Resolved,
+    others: &OtherModules,
     roles: &Keyed<ImportName, ImportRole>,
     core: &CoreModule,
 ) -> Result<ImportMap, Failure>
     requires { IsSound resolved.now.resolve }
-    ensures exact { Gives (λ m. m.modules) result (imports_of resolved.now roles.now core.now) }
+    ensures exact { Gives (λ m. m.modules) result (imports_of resolved.now others.now roles.now core.now) }
     ensures present { IfOk result (λ m. AllByRecursion (λ i. HasRole resolved.now.resolve i.role) (flat_map imports_from m.modules)) }
     ensures called { IfOk result (λ m. AllByRecursion (λ i. IsCalled resolved.now.resolve world_id i.role) (flat_map imports_from m.modules)) }
     ensures apart { IfOk result (λ m. IsDistinct bytes_eq (keys_of m.modules)) }
     ensures fields { IfOk result (λ m. AllByRecursion HasDistinctFields m.modules) }
-    ensures refused { IsOk result → (f : RefusalRecord) → ImportCause resolved.now roles.now core.now f → ⊥ }
-    ensures cause { IfErr result (λ e. (f : RefusalRecord) → e ≡ Refused f → ImportCause resolved.now roles.now core.now f) }
+    ensures refused { IsOk result → (f : RefusalRecord) → ImportCause resolved.now others.now roles.now core.now f → ⊥ }
+    ensures cause { IfErr result (λ e. (f : RefusalRecord) → e ≡ Refused f → ImportCause resolved.now others.now roles.now core.now f) }
 {
-    let map = read_all(alloc, resolved, roles, core)?;
+    let map = read_all(alloc, resolved, others, roles, core)?;
     Ok(map)
 }

@@ -1,20 +1,20 @@
-//! The roles of the core imports of a main module.
+//! The roles of the core imports of a module.
 //!
 //! A record gives each core import a role, by the import's module and field; the resolve that was made
 //! of the record's world has the functions, types and interfaces that the roles name. [`read_imports`]
 //! combines the two: each import must have a role, the role must resolve in that world, and the import
-//! must have the core type that the resolved role requires. No module and field may be imported twice,
-//! and where the memory is imported several times, the first import gives it, and the others must
-//! accept it.
+//! must have the core type that the resolved role requires. No module and field may be imported twice.
+//! Where a main module imports its memory several times, the first import gives it, and the others must
+//! accept it: [`check_memories`] looks at that.
 //!
 //! [`read_imports`] returns exactly what `specs/Importing.antt` gives, unless it runs out of memory;
 //! what the imports name exists in the resolve, and no module and no field of one occurs twice. Each
 //! refusal has its cause, and where a cause holds the call does not succeed: `specs/Causes.antt` lists
 //! the causes, in words that don't follow the code. A role that is an export of another module is
-//! refused: for a main module alone there is no other. The callers of this crate decide how imports are
-//! satisfied.
+//! refused where the module may not import it, or that module isn't there; the callers of this crate
+//! compare the types, and decide how imports are satisfied.
 //!
-//! In reading order: `meaning` (one import), `grouping` (the imports of each module), `memories`,
+//! In reading order: `others` (exports of other modules), `meaning` (one import), `grouping` (the imports of each module), `memories`,
 //! `importing`.
 #![tactic(auto)]
 
@@ -22,5 +22,8 @@ mod grouping;
 mod importing;
 mod meaning;
 mod memories;
+mod others;
 
 pub use importing::read_imports;
+pub use memories::check_memories;
+pub use others::OtherModules;

@@ -1,14 +1,17 @@
 //! The role of one core import.
 
 ghost use Rattle.std.specs.Prelude.{◌≡◌, Err, ok_or, IfOk};
-ghost use Rattle.std.specs.Option.{IfSome};
+ghost use Rattle.std.specs.Map.{lookup};
+ghost use Rattle.std.specs.Option.{option_copied, option_and_then};
+ghost use Rattle.record_values.specs.Names.{is_same_import};
 ghost use Rattle.wit_data.specs.Sound.{IsSound};
 ghost use Rattle.record_role_targets.specs.Named.{HasNamed};
 ghost use Rattle.record_core_types.specs.Offered.{extern_type};
 ghost use Rattle.record_faults.specs.Faults.{Gives};
-ghost use Rattle.record_imports.specs.Meaning.{is_of_other, target, no_role, unfit, meaningless, fitting, kept, import_of};
+ghost use Rattle.record_imports.specs.Meaning.{unless_unknown, target, no_role, unfit, meaningless, fitting, kept, import_of};
 ghost use Rattle.record_imports.specs.Guarantees.{IsChecked};
 
+use crate::others::{OtherModules, is_unknown};
 use comp_lists::Keyed;
 use comp_roles::{ExternType, Import};
 use core_sections::{CoreImport, CoreModule};
@@ -44,7 +47,7 @@ fn meaningless<T>(alloc: Global, import: &CoreImport, role: &ImportRole) -> Resu
     ensures { Gives (λ x. x) result (Err (meaningless import.now role.now)) }
 {
     match role {
-        ImportRole::Memory => unfit(alloc, import),
+        ImportRole::Memory | ImportRole::AdapterExport { .. } => unfit(alloc, import),
         _ => no_role(alloc, import),
     }
 }
@@ -69,33 +72,19 @@ fn name_of(alloc: Global, import: &CoreImport) -> Result<ImportName, AllocError>
     })
 }
 
-/// Whether a role is an export of another module.
-fn is_of_other(role: &ImportRole) -> bool
-    ensures { result ≡ is_of_other role.now }
+/// The role that a name has, unless it is an export of another module that isn't known.
+fn known_role<'a>(
+    others: &OtherModules,
+    roles: &'a Keyed<ImportName, ImportRole>,
+    name: &ImportName,
+) -> Option<&'a ImportRole>
+    ensures { option_copied result ≡ option_and_then (unless_unknown others.now) (lookup (is_same_import name.now) roles.now) }
 {
-    match role {
-        ImportRole::MainExport { .. } => true,
-        ImportRole::AdapterExport { .. } => true,
-        _ => false,
+    let role = roles.get(name)?;
+    if is_unknown(others, role) {
+        return None;
     }
-}
-
-/// What a role resolves to for an import of a type, if it resolves.
-fn target(
-    alloc: Global,
-    resolved: &Resolved,
-    import: &CoreImport,
-    role: &ImportRole,
-    ty: &ExternType,
-) -> Result<Option<Import>, AllocError>
-    requires { IsSound resolved.now.resolve }
-    ensures exact { IfOk result (λ m. m ≡ target resolved.now import.now role.now ty.now) }
-    ensures present { IfOk result (λ m. IfSome m (HasNamed resolved.now.resolve)) }
-{
-    if is_of_other(role) {
-        return Ok(None);
-    }
-    resolved_import(alloc, resolved, &import.field, role, Some(ty))
+    Some(role)
 }
 
 /// What the role of an import resolves to.
@@ -110,7 +99,7 @@ fn meaning_of(
     ensures exact { Gives (λ i. i) result (ok_or (target resolved.now import.now role.now ty.now) (meaningless import.now role.now)) }
     ensures present { IfOk result (HasNamed resolved.now.resolve) }
 {
-    match target(alloc, resolved, import, role, ty)? {
+    match resolved_import(alloc, resolved, &import.field, role, Some(ty))? {
         Some(meaning) => Ok(meaning),
         None => meaningless(alloc, import, role),
     }
@@ -150,17 +139,18 @@ fn unless_refused<T: Drop>(value: T, step: Result<(), Failure>) -> Result<T, Fai
 fn read_import(
     alloc: Global,
     resolved: &Resolved,
+    others: &OtherModules,
     roles: &Keyed<ImportName, ImportRole>,
     core: &CoreModule,
     import: &CoreImport,
 ) -> Result<Import, Failure>
     requires { IsSound resolved.now.resolve }
-    ensures exact { Gives (λ i. i) result (import_of resolved.now roles.now core.now import.now) }
+    ensures exact { Gives (λ i. i) result (import_of resolved.now others.now roles.now core.now import.now) }
     ensures present { IfOk result (HasNamed resolved.now.resolve) }
 {
     let ty = typed(alloc, core, import)?;
     let name = name_of(alloc, import)?;
-    let Some(role) = roles.get(&name) else {
+    let Some(role) = known_role(others, roles, &name) else {
         return no_role(alloc, import);
     };
     let meaning = meaning_of(alloc, resolved, import, role, &ty)?;
@@ -176,14 +166,15 @@ fn read_import(
 pub(crate) fn import_of(
     alloc: Global,
     resolved: &Resolved,
+    others: &OtherModules,
     roles: &Keyed<ImportName, ImportRole>,
     core: &CoreModule,
     import: &CoreImport,
 ) -> Result<Import, Failure>
     requires { IsSound resolved.now.resolve }
-    ensures exact { Gives (λ i. i) result (import_of resolved.now roles.now core.now import.now) }
+    ensures exact { Gives (λ i. i) result (import_of resolved.now others.now roles.now core.now import.now) }
     ensures checks { IfOk result (IsChecked resolved.now.resolve) }
 {
-    let meaning = read_import(alloc, resolved, roles, core, import)?;
+    let meaning = read_import(alloc, resolved, others, roles, core, import)?;
     Ok(meaning)
 }

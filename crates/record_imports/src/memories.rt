@@ -1,9 +1,12 @@
 //! Whether all imports of the memory accept the one that is given to the first.
 
-ghost use Rattle.std.specs.Prelude.{◌≡◌, map, Err};
+ghost use Rattle.std.specs.Prelude.{◌≡◌, map, Err, IfErr, IsOk};
 ghost use Rattle.comp_roles.specs.Borrowed.{core_import};
 ghost use Rattle.comp_roles.specs.Lookups.{memory_of_import};
 ghost use Rattle.record_faults.specs.Faults.{Gives};
+ghost use Rattle.record_faults.specs.declared.fault.Refusal.{Refusal as RefusalRecord};
+ghost use Rattle.record_faults.specs.declared.fault.Failure.TheVariants.{Refused};
+ghost use Rattle.record_imports.specs.Causes.{MemoryCause};
 ghost use Rattle.record_imports.specs.Memories.{fits_maximum, fits_memory, takes, unfit_memory, all_take, memories_fit};
 
 use comp_lists::Text;
@@ -61,10 +64,9 @@ fn all_take(alloc: Global, first: MemoryType, imports: &[NamedImport<'_>]) -> Re
     Ok(())
 }
 
-/// Whether all imports of the memory accept that of the first. The refusal names the field of an import
-/// that doesn't.
+/// Whether all imports of the memory accept that of the first.
 #[tactic(auto, unfolding(crate::specs::Memories::memories_fit))]
-pub(crate) fn check_memories(alloc: Global, map: &ImportMap) -> Result<(), Failure>
+fn compare_memories(alloc: Global, map: &ImportMap) -> Result<(), Failure>
     ensures { Gives (λ x. x) result (memories_fit map.now.modules) }
 {
     let Some(first) = map.imported_memory() else {
@@ -72,4 +74,16 @@ pub(crate) fn check_memories(alloc: Global, map: &ImportMap) -> Result<(), Failu
     };
     let imports = map.imports(alloc)?;
     all_take(alloc, first, imports.as_slice())
+}
+
+/// Whether all imports of a main module that are its memory accept that of the first. The refusal names
+/// the field of an import that doesn't (`CoreType`); the only other one is out of memory.
+#[tactic(auto, using(crate::proofs::Refusing::no_memory_cause, crate::proofs::Refusing::has_memory_cause))]
+pub fn check_memories(alloc: Global, map: &ImportMap) -> Result<(), Failure>
+    ensures exact { Gives (λ x. x) result (memories_fit map.now.modules) }
+    ensures refused { IsOk result → (f : RefusalRecord) → MemoryCause map.now.modules f → ⊥ }
+    ensures cause { IfErr result (λ e. (f : RefusalRecord) → e ≡ Refused f → MemoryCause map.now.modules f) }
+{
+    let compared = compare_memories(alloc, map)?;
+    Ok(compared)
 }

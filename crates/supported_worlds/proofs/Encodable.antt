@@ -13,6 +13,7 @@ use Rattle.supported_worlds.specs.Apart.{AreApart}
 use Rattle.supported_worlds.specs.Causes.{role_left_out}
 use Rattle.supported_worlds.specs.Guarantees.{IsSoundModule, HasSoundParts}
 use Rattle.supported_worlds.specs.LeftOut.{items_of, left_out, required_of, all_required}
+use Rattle.supported_worlds.specs.Links.{AreLinked}
 use Rattle.supported_worlds.specs.Modules.{module_of}
 use Rattle.supported_worlds.proofs.Fresh.{distinct}
 use Rattle.supported_worlds.proofs.Keys.{are_once}
@@ -44,13 +45,13 @@ all_pass p h =
     (each (λ i. role_left_out p i.role ≡ None) (λ a. imports_of a.1.info) p.adapters
     (AllByRecursion-weaker (λ a (e : IsAdapterEncoded p a). let m = e.roles in imports_pass p a.1.info.imports.modules m.groups) p.adapters h.adapters))
 
-whole_is_encodable : (p : WorldParts) → HasSoundParts p → IsEncoded p → AreApart p → IsEncodable (whole_of p)
-whole_is_encodable p present encoded apart =
+whole_is_encodable : (p : WorldParts) → HasSoundParts p → AreLinked p → IsEncoded p → AreApart p → IsEncodable (whole_of p)
+whole_is_encodable p present linked encoded apart =
     let world = items_of p in
     let once = are_once (all_required p) world encoded.once in
     let order = ordered p.resolve world encoded.order in
     record {
-      valid = whole_is_world p present encoded apart;
+      valid = whole_is_world p present linked encoded apart;
       sound = present.sound;
       tables = whole_has_tables p (whole_of p) refl;
       resources = encoded.resources;
@@ -63,5 +64,5 @@ whole_is_encodable p present encoded apart =
     }
 
 -- the encoder takes the world of these parts
-pub is_encodable : (p : WorldParts) (w : ComponentWorld) → HasSoundParts p → None ≡ left_out p → AreApart p → w ≡ whole_of p → IsEncodable w
-is_encodable p w present none apart made = subst IsEncodable (sym made) (whole_is_encodable p present (all_encoded p (sym none)) apart)
+pub is_encodable : (p : WorldParts) (w : ComponentWorld) → HasSoundParts p → AreLinked p → None ≡ left_out p → AreApart p → w ≡ whole_of p → IsEncodable w
+is_encodable p w present linked none apart made = subst IsEncodable (sym made) (whole_is_encodable p present linked (all_encoded p (sym none)) apart)

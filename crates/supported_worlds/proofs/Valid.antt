@@ -10,6 +10,7 @@ use Rattle.std.proofs.lemmas.Slice.Eq.{bytes_eq-Decides}
 use Rattle.comp_lists.specs.Found.{found}
 use Rattle.comp_lists.proofs.Lists.{AllByRecursion-front, AllByRecursion-back, AllByRecursion-at, AllByRecursion-weaker}
 use Rattle.comp_lists.proofs.Lookups.{some_of}
+use Rattle.standard_kinds.specs.declared.kinds.ExportKind.TheVariants as exported_kinds
 use Rattle.wit_data.specs.Keys.{is_same_key}
 use Rattle.wit_data.specs.declared.functions.AbiVariant.TheVariants.{GuestImport, GuestExport, GuestImportAsync}
 use Rattle.wit_data.specs.declared.functions.Function.{Function}
@@ -30,10 +31,11 @@ use Rattle.comp_roles.specs.declared.imports.Import.{Import}
 use Rattle.comp_roles.specs.declared.imports.Import.TheVariants as imports
 use Rattle.comp_roles.specs.declared.imports.ImportInstance.{ImportInstance}
 use Rattle.comp_roles.specs.declared.imports.ImportInstance.TheVariants as instances
+use Rattle.comp_roles.specs.declared.offered.ExternType.{ExternType}
 use Rattle.comp_roles.specs.declared.offered.ImportType.{ImportType}
 use Rattle.world_values.specs.Items.{no_items, functions_of, functions_in, function_in, function_of_item, root_function_at}
 use Rattle.world_values.specs.Mentions.{interface_in, interfaces_of, same_interface}
-use Rattle.comp_worlds.specs.Typed.{post_return_type, type_of_import, type_of_export, FitsImport, FitsExport}
+use Rattle.comp_worlds.specs.Typed.{post_return_type, type_of_import, type_of_export, FitsRole, FitsImport, FitsExport}
 use Rattle.comp_worlds.specs.WorldContents.{root_function, exported_item, core_name_in, keys_required}
 use Rattle.comp_worlds.specs.Worlds.{IsWorld, IsUserModule, IsImportItem, IsExportItem, IsResource, IsImportRole, IsImportGroup, IsOwnResource, IsForOwnKey, ExportsFunctionOf, IsExportRole, IsRequired}
 use Rattle.comp_worlds.specs.Uses.{imports_of}
@@ -49,6 +51,7 @@ use Rattle.supported_worlds.specs.Distinct.{are_apart}
 use Rattle.std.proofs.lemmas.List.Elements.{Contains-append_left, Contains-append_right}
 use Rattle.supported_worlds.specs.Apart.{FieldsApart, GroupsApart, ModulesApart, AreApart}
 use Rattle.supported_worlds.specs.LeftOut.{items_of, import_item_left_out, export_item_left_out, export_left_out, all_required, required_of, unless}
+use Rattle.supported_worlds.specs.Links.{IsRoleLinked, IsTypeLinked, IsImportLinked, IsLinked, AreLinked}
 use Rattle.supported_worlds.specs.Modules.{UserModule, main_of, module_of}
 use Rattle.supported_worlds.specs.Causes.{role_left_out, own_role_out}
 use Rattle.supported_worlds.specs.Placed.{places_of, is_resource, is_droppable, is_resource_at, is_own_resource}
@@ -186,7 +189,7 @@ AreKnown p owed = (key : WorldKey) → Contains owed key → Contains (keys_requ
 
 -- ---- the world
 
-module _ (p : WorldParts) (present : HasSoundParts p) (encoded : IsEncoded p) (apart : AreApart p) where
+module _ (p : WorldParts) (present : HasSoundParts p) (linked : AreLinked p) (encoded : IsEncoded p) (apart : AreApart p) where
   imports_are : AllByRecursion (IsImportItem p.resolve) (items_of p).imports
   imports_are = import_items p.resolve (items_of p).imports encoded.imports present.named.imports present.listed
 
@@ -245,21 +248,25 @@ module _ (p : WorldParts) (present : HasSoundParts p) (encoded : IsEncoded p) (a
         required = known key (own_key owed key id what h);
       }
 
-  import_role : (owed : List WorldKey) → AreKnown p owed → (role : Import) → role_left_out p role ≡ None → own_role_out p owed role ≡ None → IsCalled p.resolve p.world role → IsImportRole (whole_of p) role
-  import_role owed known (imports.WorldFunc (keys.Name text) name GuestImport) h own called =
+  import_role : (owed : List WorldKey) → AreKnown p owed → (role : Import) → role_left_out p role ≡ None → own_role_out p owed role ≡ None → IsCalled p.resolve p.world role → IsRoleLinked (whole_of p) role → IsImportRole (whole_of p) role
+  import_role owed known (imports.WorldFunc (keys.Name text) name GuestImport) h own called there =
       (name_there text (items_of p).imports (subst (λ (o : Option Function). IsSome o) (imported_is (keys.Name text)) called.1), called.0, refl)
-  import_role owed known (imports.WorldFunc (keys.Interface id) name GuestImportAsync) h own called = nothing _ h
-  import_role owed known (imports.InterfaceFunc key id name GuestImport) h own called =
+  import_role owed known (imports.WorldFunc (keys.Interface id) name GuestImportAsync) h own called there = nothing _ h
+  import_role owed known (imports.InterfaceFunc key id name GuestImport) h own called there =
       (entry_there key id (items_of p).imports (sym (interface_is key) ∙ called.0), function_there name (functions_of p.resolve id) called.1, refl)
-  import_role owed known (imports.ImportedResourceDrop key interface id) h own called =
+  import_role owed known (imports.ImportedResourceDrop key interface id) h own called there =
       let places = places_of p.resolve.types (items_of p).imports in
       let root = length (items_of p).imports in
       let b = both (option_map_or is_resource (slice_get p.resolve.types id.index) false) (nat_le (get_or places id.index 0) root) (passes (is_droppable p.resolve.types places root id) (codes "imported-drop") h) in
       dropped p.resolve.types id.index b.0
-  import_role owed known (imports.ExportedResourceDrop key id) h own called = own_resource owed known key id (codes "exported-drop") own
-  import_role owed known (imports.ExportedResourceRep key id) h own called = own_resource owed known key id (codes "exported-rep") own
-  import_role owed known (imports.ExportedResourceNew key id) h own called = own_resource owed known key id (codes "exported-new") own
-  import_role owed known role h own called = nothing _ h
+  import_role owed known (imports.ExportedResourceDrop key id) h own called there = own_resource owed known key id (codes "exported-drop") own
+  import_role owed known (imports.ExportedResourceRep key id) h own called there = own_resource owed known key id (codes "exported-rep") own
+  import_role owed known (imports.ExportedResourceNew key id) h own called there = own_resource owed known key id (codes "exported-new") own
+  import_role owed known (imports.MainModuleMemory type) h own called there = there
+  import_role owed known (imports.MainModuleExport name exported_kinds.Func) h own called there = record { type = there.type; offered = there.offered; of_kind = there.of_kind; given = tt }
+  import_role owed known (imports.MainModuleExport name exported_kinds.Memory) h own called there = record { type = there.type; offered = there.offered; of_kind = there.of_kind; given = tt }
+  import_role owed known (imports.AdapterExport adapter name type) h own called there = there
+  import_role owed known role h own called there = nothing _ h
 
   for_own_key : (owed : List WorldKey) (role : Import) → own_role_out p owed role ≡ None → IsForOwnKey owed role
   for_own_key owed (imports.ExportedResourceDrop key id) h = own_key owed key id (codes "exported-drop") h
@@ -268,21 +275,24 @@ module _ (p : WorldParts) (present : HasSoundParts p) (encoded : IsEncoded p) (a
   for_own_key owed role h = tt
 
   field_roles : (owed : List WorldKey) → AreKnown p owed → (name : List ℕ) (fields : List (List ℕ × Import)) → AllByRecursion (λ f. role_left_out p f.1 ≡ None) fields → AllByRecursion (λ f. own_role_out p owed f.1 ≡ None) fields
-      → AllByRecursion (λ i. IsCalled p.resolve p.world i.role) (imports_from (name, instances.Names fields)) → AllByRecursion (λ f. IsImportRole (whole_of p) f.1) fields
-  field_roles owed known name [] h own called = tt
-  field_roles owed known name (f ∷ fields) h own called = (import_role owed known f.1 h.0 own.0 called.0, field_roles owed known name fields h.1 own.1 called.1)
+      → AllByRecursion (λ i. IsCalled p.resolve p.world i.role) (imports_from (name, instances.Names fields)) → AllByRecursion (λ i. IsRoleLinked (whole_of p) i.role) (imports_from (name, instances.Names fields))
+      → AllByRecursion (λ f. IsImportRole (whole_of p) f.1) fields
+  field_roles owed known name [] h own called there = tt
+  field_roles owed known name (f ∷ fields) h own called there = (import_role owed known f.1 h.0 own.0 called.0 there.0, field_roles owed known name fields h.1 own.1 called.1 there.1)
 
   import_group : (owed : List WorldKey) → AreKnown p owed → (group : List ℕ × ImportInstance) → group_out p group ≡ None → own_group_out p owed group ≡ None → FieldsApart group.1 → AllByRecursion (λ i. IsCalled p.resolve p.world i.role) (imports_from group)
-      → IsImportGroup (whole_of p) group
-  import_group owed known (name, instances.Names fields) h own alone called = (alone, field_roles owed known name fields (none_picked (λ f. role_left_out p f.1) fields h) (none_picked (λ f. own_role_out p owed f.1) fields own) called)
-  import_group owed known (name, instances.Whole which) h own alone called = nothing _ h
+      → AllByRecursion (λ i. IsRoleLinked (whole_of p) i.role) (imports_from group) → IsImportGroup (whole_of p) group
+  import_group owed known (name, instances.Names fields) h own alone called there = (alone, field_roles owed known name fields (none_picked (λ f. role_left_out p f.1) fields h) (none_picked (λ f. own_role_out p owed f.1) fields own) called there)
+  import_group owed known (name, instances.Whole which) h own alone called there = nothing _ h
 
   import_groups : (owed : List WorldKey) → AreKnown p owed → (groups : List (List ℕ × ImportInstance)) → AllByRecursion (λ g. group_out p g ≡ None) groups → AllByRecursion (λ g. own_group_out p owed g ≡ None) groups → AllByRecursion (λ g. FieldsApart g.1) groups
-      → AllByRecursion (λ i. IsCalled p.resolve p.world i.role) (flat_map imports_from groups) → AllByRecursion (IsImportGroup (whole_of p)) groups
-  import_groups owed known [] h own alone called = tt
-  import_groups owed known (g ∷ groups) h own alone called = (
-    import_group owed known g h.0 own.0 alone.0 (AllByRecursion-front (λ i. IsCalled p.resolve p.world i.role) (imports_from g) (flat_map imports_from groups) called),
-    import_groups owed known groups h.1 own.1 alone.1 (AllByRecursion-back (λ i. IsCalled p.resolve p.world i.role) (imports_from g) (flat_map imports_from groups) called),
+      → AllByRecursion (λ i. IsCalled p.resolve p.world i.role) (flat_map imports_from groups) → AllByRecursion (λ i. IsRoleLinked (whole_of p) i.role) (flat_map imports_from groups) → AllByRecursion (IsImportGroup (whole_of p)) groups
+  import_groups owed known [] h own alone called there = tt
+  import_groups owed known (g ∷ groups) h own alone called there = (
+    import_group owed known g h.0 own.0 alone.0 (AllByRecursion-front (λ i. IsCalled p.resolve p.world i.role) (imports_from g) (flat_map imports_from groups) called)
+        (AllByRecursion-front (λ i. IsRoleLinked (whole_of p) i.role) (imports_from g) (flat_map imports_from groups) there),
+    import_groups owed known groups h.1 own.1 alone.1 (AllByRecursion-back (λ i. IsCalled p.resolve p.world i.role) (imports_from g) (flat_map imports_from groups) called)
+        (AllByRecursion-back (λ i. IsRoleLinked (whole_of p) i.role) (imports_from g) (flat_map imports_from groups) there),
   )
 
   export_role : (role : Export) → export_left_out p.resolve.types role ≡ None → IsLifted p.resolve p.world role → IsExportRole (whole_of p) role
@@ -305,23 +315,38 @@ module _ (p : WorldParts) (present : HasSoundParts p) (encoded : IsEncoded p) (a
   export_roles [] h lifted = tt
   export_roles (e ∷ all) h lifted = (export_role e.1 h.0 lifted.0, export_roles all h.1 lifted.1)
 
-  -- the role of an import or an export requires a type, which is that of the import or the export
-  import_typed : (role : Import) → IsImportRole (whole_of p) role → IsSome (type_of_import p.resolve (items_of p) role)
-  import_typed (imports.WorldFunc (keys.Name text) function abi) h =
-      mapped_there (called_type p.resolve abi) (root_function_at (items_of p).imports (keys.Name text)) (name_at text (items_of p).imports h.0.0 apart.items.imports h.0.1 h.0.2)
-  import_typed (imports.InterfaceFunc key id function abi) h =
-      mapped_there (called_type p.resolve abi) (found function (functions_of p.resolve id)) (found_there function (functions_of p.resolve id) h.1.0 h.1.1 h.1.2)
-  import_typed (imports.ImportedResourceDrop key interface id) h = refl
-  import_typed (imports.ExportedResourceDrop key id) h = refl
-  import_typed (imports.ExportedResourceRep key id) h = refl
-  import_typed (imports.ExportedResourceNew key id) h = refl
-  import_typed role h = absurd h
+  -- the role of an import requires a type, which is that of the import, or what main offers matches it
+  of_type : (asked : Option ExternType) (type : ExternType) → IsSome asked → ((ty : ExternType) → asked ≡ Some ty → ty ≡ type) → asked ≡ Some type
+  of_type asked type there fits = let typed = some_of asked there in typed.1 ∙ ap Some (fits typed.0 typed.1)
 
-  found_import : (m : ValidatedModule) → AllByRecursion (IsImportGroup (whole_of p)) m.imports.modules → (i : ImportType) → HasFoundImport p.resolve (items_of p) m i → FitsImport p.resolve (items_of p) m i
-  found_import m groups i h =
+  abbrev IsOfType : Import → ExternType → Type 0
+  IsOfType role type = (ty : ExternType) → type_of_import p.resolve (items_of p) role ≡ Some ty → ty ≡ type
+
+  fits_role : (role : Import) (type : ExternType) → IsImportRole (whole_of p) role → IsOfType role type → IsTypeLinked (whole_of p) role type → FitsRole (whole_of p) role type
+  fits_role (imports.WorldFunc (keys.Name text) function abi) type h fits there =
+      of_type (type_of_import p.resolve (items_of p) (imports.WorldFunc (keys.Name text) function abi)) type
+      (mapped_there (called_type p.resolve abi) (root_function_at (items_of p).imports (keys.Name text)) (name_at text (items_of p).imports h.0.0 apart.items.imports h.0.1 h.0.2)) fits
+  fits_role (imports.InterfaceFunc key id function abi) type h fits there =
+      of_type (type_of_import p.resolve (items_of p) (imports.InterfaceFunc key id function abi)) type
+      (mapped_there (called_type p.resolve abi) (found function (functions_of p.resolve id)) (found_there function (functions_of p.resolve id) h.1.0 h.1.1 h.1.2)) fits
+  fits_role (imports.ImportedResourceDrop key interface id) type h fits there = of_type (type_of_import p.resolve (items_of p) (imports.ImportedResourceDrop key interface id)) type refl fits
+  fits_role (imports.ExportedResourceDrop key id) type h fits there = of_type (type_of_import p.resolve (items_of p) (imports.ExportedResourceDrop key id)) type refl fits
+  fits_role (imports.ExportedResourceRep key id) type h fits there = of_type (type_of_import p.resolve (items_of p) (imports.ExportedResourceRep key id)) type refl fits
+  fits_role (imports.ExportedResourceNew key id) type h fits there = of_type (type_of_import p.resolve (items_of p) (imports.ExportedResourceNew key id)) type refl fits
+  fits_role (imports.MainModuleMemory memory) type h fits there = of_type (type_of_import p.resolve (items_of p) (imports.MainModuleMemory memory)) type refl fits
+  fits_role (imports.MainModuleExport name kind) type h fits there = there
+  fits_role (imports.AdapterExport adapter name function) type h fits there = of_type (type_of_import p.resolve (items_of p) (imports.AdapterExport adapter name function)) type refl fits
+  fits_role role type h fits there = absurd h
+
+  found_import : (m : ValidatedModule) → AllByRecursion (IsImportGroup (whole_of p)) m.imports.modules → (i : ImportType) → HasFoundImport p.resolve (items_of p) m i → IsImportLinked (whole_of p) m i → FitsImport (whole_of p) m i
+  found_import m groups i h there =
       let right = role_right (whole_of p) m.imports.modules i.module_name i.field h.role groups h.has_role in
-      let typed = some_of (type_of_import p.resolve (items_of p) h.role) (import_typed h.role right) in
-      record { role = h.role; has_role = h.has_role; fits = typed.1 ∙ ap Some (h.fits typed.0 typed.1) }
+      record { role = h.role; has_role = h.has_role; fits = fits_role h.role i.ty right h.fits (there h.role h.has_role) }
+
+  found_imports : (m : ValidatedModule) → AllByRecursion (IsImportGroup (whole_of p)) m.imports.modules → (all : List ImportType) → AllByRecursion (HasFoundImport p.resolve (items_of p) m) all → AllByRecursion (IsImportLinked (whole_of p) m) all
+      → AllByRecursion (FitsImport (whole_of p) m) all
+  found_imports m groups [] h there = tt
+  found_imports m groups (i ∷ all) h there = (found_import m groups i h.0 there.0, found_imports m groups all h.1 there.1)
 
   function_found : (key : WorldKey) (id : InterfaceId) (name : List ℕ) → ExportsFunctionOf (whole_of p) key id name → IsSome (found name (functions_of p.resolve id))
   function_found key id name h = let has = h.has in found_there name (functions_of p.resolve id) has.0 has.1 has.2
@@ -362,16 +387,16 @@ module _ (p : WorldParts) (present : HasSoundParts p) (encoded : IsEncoded p) (a
   keys_kept m [] h = tt
   keys_kept m (k ∷ ks) h = (required m k h.0, keys_kept m ks h.1)
 
-  module_is : (m : UserModule) → IsSoundModule p.resolve p.world (items_of p) m → IsModuleEncoded p m → GroupsApart m.info.imports.modules → AreKnown p m.keys → IsUserModule (whole_of p) m.info m.keys
-  module_is m ok is alone known =
-      let groups = import_groups m.keys known m.info.imports.modules is.groups is.own_groups alone.fields ok.called in
+  module_is : (m : UserModule) → IsSoundModule p.resolve p.world (items_of p) m → IsModuleEncoded p m → GroupsApart m.info.imports.modules → AreKnown p m.keys → IsLinked (whole_of p) m.info → IsUserModule (whole_of p) m.info m.keys
+  module_is m ok is alone known there =
+      let groups = import_groups m.keys known m.info.imports.modules is.groups is.own_groups alone.fields ok.called there.roles in
       let roles = export_roles m.info.exports.exports is.export_roles ok.lifted in
       record {
         core = ok.core;
         modules_apart = alone.modules;
         import_roles = groups;
         own_keys = AllByRecursion-weaker (λ i h. for_own_key m.keys i.role h) (imports_of m.info) (own_pass p m.keys m.info.imports.modules is.own_groups);
-        imported = AllByRecursion-weaker (found_import m.info groups) m.info.imported ok.imported;
+        imported = found_imports m.info groups m.info.imported ok.imported there.types;
         export_roles = roles;
         exported = offered_exports m.info m.info.exports.exports roles ok.exported;
         required = keys_kept m.info m.keys ok.kept;
@@ -380,15 +405,15 @@ module _ (p : WorldParts) (present : HasSoundParts p) (encoded : IsEncoded p) (a
   main_is : IsUserModule (whole_of p) p.main p.main_exports
   main_is =
       let alone = apart.modules.main in
-      module_is (main_of p) present.main encoded.main alone (λ key there. Contains-append_left p.main_exports (flat_map (λ a. a.1.required_exports) p.adapters) key there)
+      module_is (main_of p) present.main encoded.main alone (λ key there. Contains-append_left p.main_exports (flat_map (λ a. a.1.required_exports) p.adapters) key there) linked.main
 
   adapters_are : (all : List (List ℕ × WorldAdapter)) → AllByRecursion (λ a. IsSoundModule p.resolve p.world (items_of p) (module_of a)) all → AllByRecursion (IsAdapterEncoded p) all
-      → AllByRecursion (λ a. GroupsApart a.1.info.imports.modules) all → AreKnown p (flat_map (λ a. a.1.required_exports) all) → AllByRecursion (λ a. IsUserModule (whole_of p) a.1.info a.1.required_exports) all
-  adapters_are [] ok is alone known = tt
-  adapters_are (a ∷ all) ok is alone known =
+      → AllByRecursion (λ a. GroupsApart a.1.info.imports.modules) all → AreKnown p (flat_map (λ a. a.1.required_exports) all) → AllByRecursion (λ a. IsLinked (whole_of p) a.1.info) all → AllByRecursion (λ a. IsUserModule (whole_of p) a.1.info a.1.required_exports) all
+  adapters_are [] ok is alone known links = tt
+  adapters_are (a ∷ all) ok is alone known links =
       let here = is.0 in (
-        module_is (module_of a) ok.0 here.roles alone.0 (λ key there. known key (Contains-append_left a.1.required_exports (flat_map (λ a. a.1.required_exports) all) key there)),
-        adapters_are all ok.1 is.1 alone.1 (λ key there. known key (Contains-append_right a.1.required_exports (flat_map (λ a. a.1.required_exports) all) key there)),
+        module_is (module_of a) ok.0 here.roles alone.0 (λ key there. known key (Contains-append_left a.1.required_exports (flat_map (λ a. a.1.required_exports) all) key there)) links.0,
+        adapters_are all ok.1 is.1 alone.1 (λ key there. known key (Contains-append_right a.1.required_exports (flat_map (λ a. a.1.required_exports) all) key there)) links.1,
       )
 
   pub whole_is_world : IsWorld (whole_of p)
@@ -403,9 +428,10 @@ module _ (p : WorldParts) (present : HasSoundParts p) (encoded : IsEncoded p) (a
     exports_named = let n = encoded.named in n.each;
     exported_interfaces_apart = let n = encoded.named in n.apart;
     main = main_is;
+    main_first = linked.main_first;
     adapters =
         let others = apart.modules.adapters in
-        adapters_are p.adapters present.adapters encoded.adapters others.groups (λ key there. Contains-append_right p.main_exports (flat_map (λ a. a.1.required_exports) p.adapters) key there);
+        adapters_are p.adapters present.adapters encoded.adapters others.groups (λ key there. Contains-append_right p.main_exports (flat_map (λ a. a.1.required_exports) p.adapters) key there) linked.adapters;
     adapters_apart = let others = apart.modules.adapters in others.names;
     keys_apart = let once = are_once (all_required p) (items_of p) encoded.once in distinct is_same_key (all_required p) once.keys_apart;
   }

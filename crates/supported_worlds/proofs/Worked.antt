@@ -2,6 +2,7 @@
 use Rattle.std.proofs.Common.{◌≡◌, ℕ, List, [], ◌∷◌, ◌++◌, map, Option, Some, None, refl}
 use Rattle.std.specs.Prelude.{codes, replicate}
 use Rattle.standard_kinds.specs.declared.kinds.Primitive.TheVariants as prims
+use Rattle.standard_kinds.specs.declared.kinds.ExportKind.TheVariants as given
 use Rattle.wit_data.specs.declared.functions.AbiVariant.TheVariants.{GuestImport, GuestExport, GuestImportAsync, GuestExportAsync}
 use Rattle.wit_data.specs.declared.functions.Function.{Function}
 use Rattle.wit_data.specs.declared.functions.FunctionKind.{FunctionKind}
@@ -440,6 +441,19 @@ async_interface_call_is_reported = refl
 
 exported_form_of_interface_is_none : import_left_out [] [] 0 (imports.InterfaceFunc f an_interface (codes "f") GuestExport) ≡ Some (codes "interface-func")
 exported_form_of_interface_is_none = refl
+
+-- what main exports is given to others where it is a function or a memory
+function_of_main_is_encoded : import_left_out [] [] 0 (imports.MainModuleExport (codes "x") given.Func) ≡ None
+function_of_main_is_encoded = refl
+
+memory_of_main_is_encoded : import_left_out [] [] 0 (imports.MainModuleExport (codes "x") given.Memory) ≡ None
+memory_of_main_is_encoded = refl
+
+global_of_main_is_reported : import_left_out [] [] 0 (imports.MainModuleExport (codes "x") given.Global) ≡ Some (codes "main-export")
+global_of_main_is_reported = refl
+
+table_of_main_is_reported : import_left_out [] [] 0 (imports.MainModuleExport (codes "x") given.Table) ≡ Some (codes "main-export")
+table_of_main_is_reported = refl
 
 -- the drop of a resource, and of what is none
 drop_is_encoded : import_left_out (of_world kinds.Resource ∷ []) (0 ∷ []) 0 (imports.ImportedResourceDrop f None a_type) ≡ None

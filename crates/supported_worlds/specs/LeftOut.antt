@@ -2,13 +2,15 @@
 -- types and of synchronous functions, exported interfaces of types of their own and of synchronous functions made of these and of
 -- named types of interfaces that are imported or exported, types that it imports, in their order and with all resources of the root
 -- among them, core imports and exports with the role of such a function, core imports that drop a resource, or make or read a handle of
--- one that their module has to export, and core exports that are a post-return, a destructor, a memory or a realloc; of main and of
--- adapters, and of libraries without arguments. All else is left out, and reported by the name of its kind. (The names are those of
--- this project's record.)
+-- one that their module has to export, or are main's memory, a function or a memory that main exports or a function that an adapter
+-- exports, and core exports that are a post-return, a destructor, a memory or a realloc; of main and of adapters, and of libraries
+-- without arguments. All else is left out, and reported by the name of its kind. (The names are those of this project's record.)
 use Rattle.std.specs.Prelude.{ℕ, Bool, ◌++◌, ◌==◌, List, length, codes, Option, Some, None, Result, Ok, Err, get_or, if◌then◌else◌}
 use Rattle.std.specs.List.{flat_map}
 use Rattle.std.specs.Map.{lookup}
 use Rattle.std.specs.Option.{option_or}
+use Rattle.standard_kinds.specs.declared.kinds.ExportKind.{ExportKind}
+use Rattle.standard_kinds.specs.declared.kinds.ExportKind.TheVariants as exported
 use Rattle.wit_data.specs.Keys.{is_same_key}
 use Rattle.wit_data.specs.declared.functions.AbiVariant.TheVariants.{GuestImport, GuestExport, GuestImportAsync}
 use Rattle.wit_data.specs.declared.functions.FunctionKind.{FunctionKind}
@@ -112,8 +114,15 @@ resources_left_out types entries = unless (are_in_place types 0 (imported_number
 
 -- ---- roles
 
+-- an export of main that has this role, unless it is a function or a memory
+abbrev pub given_left_out : ExportKind → Import → Option (List ℕ)
+given_left_out exported.Func role = None
+given_left_out exported.Memory role = None
+given_left_out kind role = Some (import_kind role)
+
 -- an import of a module, unless it is a function at the root or of an interface that is called synchronously, or drops a resource, by the
--- places of the types, and that of the root; or has a role that an exported resource may have
+-- places of the types, and that of the root; or has a role that an exported resource may have; or is main's memory, a function or a
+-- memory that main exports, or a function that an adapter exports
 abbrev pub import_left_out : List TypeDef → List ℕ → ℕ → Import → Option (List ℕ)
 import_left_out types places root (imports.WorldFunc (keys.Name text) name GuestImport) = None
 import_left_out types places root (imports.WorldFunc key name GuestImportAsync) = Some (codes "async")
@@ -123,6 +132,9 @@ import_left_out types places root (imports.ImportedResourceDrop key interface id
 import_left_out types places root (imports.ExportedResourceDrop key id) = None
 import_left_out types places root (imports.ExportedResourceRep key id) = None
 import_left_out types places root (imports.ExportedResourceNew key id) = None
+import_left_out types places root (imports.MainModuleMemory type) = None
+import_left_out types places root (imports.MainModuleExport name kind) = given_left_out kind (imports.MainModuleExport name kind)
+import_left_out types places root (imports.AdapterExport adapter name type) = None
 import_left_out types places root role = Some (import_kind role)
 
 -- such a role, unless it is of a resource of an interface that the module has to export at the key

@@ -11,5 +11,6 @@ pub mod Once
 pub mod Places
 pub mod PlaceTables
 pub mod Guarantees
+pub mod Links
 pub mod Apart
 pub mod Causes

@@ -15,6 +15,7 @@ ghost use Rattle.supported_worlds.specs.LeftOut.{items_of, all_required, twice_l
 ghost use Rattle.supported_worlds.specs.Once.{IsRequiredOnce};
 ghost use Rattle.world_values.specs.Mentions.{same_interface, interfaces_of};
 ghost use Rattle.supported_worlds.specs.Guarantees.{HasSoundParts};
+ghost use Rattle.supported_worlds.specs.Links.{AreLinked};
 ghost use Rattle.supported_worlds.specs.Placed.{places_of};
 ghost use Rattle.supported_worlds.specs.PlaceTables.{ArePlaces};
 
@@ -210,7 +211,8 @@ fn left_out(alloc: Global, parts: &WorldParts) -> Result<Option<&'static str>, A
 /// The world of these parts, unless something of it is left out.
 #[tactic(auto, unfolding(crate::specs::LeftOut::encoded), using(crate::proofs::Encodable::all_roles, crate::proofs::Encodable::is_encodable, comp_worlds::proofs::WholeTables::whole_has_tables))]
 fn unless_left_out(alloc: Global, parts: WorldParts) -> Result<ComponentWorld, Failure>
-    requires { HasSoundParts parts }
+    requires sound { HasSoundParts parts }
+    requires linked { AreLinked parts }
     ensures exact { Gives (λ w. w) result (encoded parts) }
     ensures valid { IfOk result IsEncodable }
     ensures tables { IfOk result HasTables }
@@ -250,7 +252,8 @@ fn unless_left_out(alloc: Global, parts: WorldParts) -> Result<ComponentWorld, F
 /// exported interface names, beside the refusal's text.
 #[tactic(auto, using(crate::proofs::Reporting::no_cause, crate::proofs::Reporting::has_cause))]
 pub fn encoded_world(alloc: Global, parts: WorldParts) -> Result<ComponentWorld, Failure>
-    requires { HasSoundParts parts }
+    requires sound { HasSoundParts parts }
+    requires linked { AreLinked parts }
     ensures exact { Gives (λ w. w) result (encoded parts) }
     ensures valid { IfOk result IsEncodable }
     ensures tables { IfOk result HasTables }

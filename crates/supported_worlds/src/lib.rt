@@ -4,8 +4,9 @@
 //! encoded yet: synchronous functions at the world's root, imported interfaces of types and of
 //! synchronous functions, exported interfaces of types of their own and of synchronous functions, imported
 //! types and resources, main and adapters, among them libraries without arguments, core imports of these
-//! modules with the role of such a function, of the drop of a resource, or of a handle of an exported one
-//! whose interface the module itself has to export, and core exports with the role of such a function, of its
+//! modules with the role of such a function, of the drop of a resource, of a handle of an exported one
+//! whose interface the module itself has to export, of main's memory, or of a function or a memory that
+//! main, or a function that an adapter, gives to others, and core exports with the role of such a function, of its
 //! post-return, of a destructor, of a memory or of a realloc. An exported interface may use, beside its own
 //! types, the named types and the resources of interfaces that the world imports or exports. What is required
 //! of one module is required of no other. All else is
@@ -16,7 +17,8 @@
 //! and else as `world-func`.
 //!
 //! Every world that is returned satisfies `comp_worlds`' `IsEncodable` and `HasTables`. What must be known of the parts for
-//! that is `specs/Guarantees.antt`; that no key occurs twice in a table follows from the tables themselves.
+//! that is `specs/Guarantees.antt`, and `specs/Links.antt` of what the modules give to each other; that no key occurs twice in a table
+//! follows from the tables themselves.
 //!
 //! In reading order: `kinds` (the names of roles' kinds), `sets` (whether no interface is imported or
 //! exported twice, which have to be exported, and whether nothing has to be twice), `places` (the places of

@@ -8,5 +8,5 @@ abbrev pub invariant-loop-name : goal.invariant-loop-name
 invariant-loop-name l =
     goal.iterator-loop-name.can_next l.name-iterator ×
     goal.iterator-loop-name.is_finite l.name-iterator ×
-    AdaptersSoFar l.resolved l.adapters l.name-iterator l.made ×
+    AdaptersSoFar l.resolved l.reach l.adapters l.name-iterator l.made ×
     IsDistinct bytes_eq (keys_of l.adapters)

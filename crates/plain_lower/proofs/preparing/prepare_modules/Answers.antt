@@ -4,11 +4,11 @@ use Rattle.plain_lower.proofs.Whole.{world_caused, world_refused}
 use Rattle.plain_lower.proofs.preparing.prepare_modules.Goals as goal
 
 pub returns-in-Ok-clause-cause : goal.returns-in-Ok-clause-cause
-returns-in-Ok-clause-cause c = world_caused c.args.resolved c.args.main.now c.args.adapters.now c.in-Ok.parts c.encoded_world.result c.in-Ok.ensures.exact c.encoded_world.ensures.cause
+returns-in-Ok-clause-cause c = world_caused c.args.resolved c.args.main.now c.args.adapters.now c.in-Ok.parts c.linked_world.result c.in-Ok.ensures.exact c.linked_world.ensures.cause
 
 pub returns-in-Ok-clause-refused : goal.returns-in-Ok-clause-refused
 returns-in-Ok-clause-refused c =
-    world_refused c.args.resolved c.args.main.now c.args.adapters.now c.in-Ok.parts c.encoded_world.result c.in-Ok.ensures.exact (c.in-Ok.ensures.refused refl) c.encoded_world.ensures.refused
+    world_refused c.args.resolved c.args.main.now c.args.adapters.now c.in-Ok.parts c.linked_world.result c.in-Ok.ensures.exact (c.in-Ok.ensures.refused refl) c.linked_world.ensures.refused
 
 pub returns-in-Err-clause-cause : goal.returns-in-Err-clause-cause
 returns-in-Err-clause-cause c = λ f e. of_parts f (c.in-Err.ensures.cause f e)

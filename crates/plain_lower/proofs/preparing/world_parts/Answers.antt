@@ -1,17 +1,18 @@
 use Rattle.std.proofs.Common.{ap, ◌∙◌}
 use Rattle.wit_data.specs.declared.resolve.Resolve.{Resolve}
 use Rattle.plain_lower.specs.Preparing.{world_with}
+use Rattle.plain_lower.specs.Reach.{reach_of}
 use Rattle.plain_lower.proofs.Adding.{parts_made, parts_sound}
 use Rattle.plain_lower.proofs.preparing.world_parts.Goals as goal
 
 pub returns-in-Ok-clause-exact : goal.returns-in-Ok-clause-exact
 returns-in-Ok-clause-exact c =
-    parts_made c.args.resolved c.args.main.now c.args.adapters.now c.in-Ok.modules c.put_together.result c.in-Ok.ensures.ok
+    parts_made c.args.resolved (reach_of c.args.adapters.now) c.args.main.now c.args.adapters.now c.in-Ok.modules c.put_together.result c.in-Ok.ensures.ok
     (c.put_together.ensures ∙ ap (λ (x : Resolve). world_with x c.in-Ok.modules.main c.in-Ok.modules.adapters c.args.main.now.own.roles.context_slot_1) c.into_resolve.ensures)
 
 pub returns-in-Ok-clause-sound : goal.returns-in-Ok-clause-sound
 returns-in-Ok-clause-sound c =
-    parts_sound c.args.resolved c.args.main.now c.args.adapters.now c.in-Ok.modules c.put_together.result c.requires c.in-Ok.ensures.ok
+    parts_sound c.args.resolved (reach_of c.args.adapters.now) c.args.main.now c.args.adapters.now c.in-Ok.modules c.put_together.result c.requires c.in-Ok.ensures.ok
     (c.put_together.ensures ∙ ap (λ (x : Resolve). world_with x c.in-Ok.modules.main c.in-Ok.modules.adapters c.args.main.now.own.roles.context_slot_1) c.into_resolve.ensures)
 
 pub returns-in-Ok-clause-refused : goal.returns-in-Ok-clause-refused

@@ -1,0 +1,268 @@
+-- What modules import from each other is refused exactly where a cause holds.
+use Rattle.std.proofs.Common.{arith, ◌≡◌, ◌∙◌, ◌&&◌, inl, inr, ℕ, Bool, true, false, List, [], ◌∷◌, Option, Some, None, Result, Ok, Err, refl, sym, ap, subst, true≢false}
+use Rattle.std.specs.Prelude.{⊤, ◌≢◌, Contains, codes, if◌then◌else◌}
+use Rattle.std.proofs.lemmas.List.Elements.{Contains-append_right}
+use Rattle.comp_lists.specs.Found.{found}
+use Rattle.comp_lists.proofs.Lists.{AllByRecursion-contains}
+use Rattle.core_types.specs.declared.types.FuncType.{FuncType}
+use Rattle.core_types.specs.declared.types.MemoryType.{MemoryType}
+use Rattle.core_types.specs.contracts.types.FuncTypePartialEq.TheImpl as same_function
+use Rattle.standard_kinds.specs.declared.kinds.ExportKind.{ExportKind}
+use Rattle.standard_kinds.specs.contracts.kinds.ExportKindPartialEq.TheImpl as same_kind
+use Rattle.comp_roles.specs.CoreImports.{CoreImport, role_at}
+use Rattle.comp_roles.specs.Lookups.{memory_of_import, imported_memory, first_memory}
+use Rattle.comp_roles.specs.Matching.{kind_of, matches, has_numbers}
+use Rattle.comp_roles.specs.declared.imports.Import.{Import}
+use Rattle.comp_roles.specs.declared.imports.Import.TheVariants as imports
+use Rattle.comp_roles.specs.declared.offered.ExternType.{ExternType}
+use Rattle.comp_roles.specs.declared.offered.ExternType.TheVariants as externs
+use Rattle.comp_roles.specs.declared.offered.ImportType.{ImportType}
+use Rattle.comp_worlds.specs.Offered.{OffersMatching, AdapterOffers, MemoryMatches}
+use Rattle.comp_worlds.specs.Uses.{imports_of}
+use Rattle.comp_worlds.specs.WorldTables.{whole_of}
+use Rattle.comp_worlds.specs.Worlds.{IsNotOfMain}
+use Rattle.comp_worlds.specs.declared.world.ValidatedModule.{ValidatedModule}
+use Rattle.comp_worlds.specs.declared.world.WorldAdapter.{WorldAdapter}
+use Rattle.comp_worlds.specs.declared.world.WorldParts.{WorldParts}
+use Rattle.record_faults.specs.declared.fault.Failure.{Failure}
+use Rattle.record_faults.specs.declared.fault.Failure.TheVariants as failures
+use Rattle.record_faults.specs.declared.fault.Refusal.{Refusal}
+use Rattle.record_faults.specs.declared.fault.Refusal.TheVariants as refusals
+use Rattle.record_faults.specs.Faults.{◌>>=◌}
+use Rattle.record_faults.proofs.Chains.{refused, same_refusal, bind_err}
+use Rattle.record_imports.specs.Memories.{memories_fit}
+use Rattle.record_imports.proofs.Refusing.{has_memory_cause, no_memory_cause}
+use Rattle.supported_worlds.specs.Links.{HasItem, IsRoleLinked}
+use Rattle.plain_lower.specs.Giving.{importer_of, passes_if, exports_name, not_offered, memory_matches, memory_given, offered_given, export_given, is_function, offered_function, of_adapter, adapter_export_given, role_given, match_given, type_given}
+use Rattle.plain_lower.specs.LinkCauses.{NotOffered, not_exported, not_given, RoleCause, unmatched_memory, own_export, not_of_main, of_another_kind, for_main_or_libraries, no_adapter, not_of_adapter, of_another_type, with_references, TypeCause, not_there, unmatched, GivenCause, by_role, by_type, LinkCause, memories, to_main, own_memory, to_adapter}
+use Rattle.plain_lower.specs.Linking.{each_passes, import_given, typed_given, module_given, adapter_given, no_own_memory, links_pass}
+use Rattle.plain_lower.specs.Reports.{missing, unfit}
+use Rattle.plain_lower.specs.declared.giving.Importer.{Importer}
+use Rattle.plain_lower.specs.declared.giving.Importer.TheVariants as importers
+use Rattle.plain_lower.proofs.Linked.{NotOwn, role_linked, not_of_main as is_not_of_main, type_linked, PassesAll, links_hold}
+use Rattle.plain_lower.proofs.SameTypes.{same_kinds, same_functions}
+
+-- ---- checks that fail
+
+failed_if : (b : Bool) (failure : Failure) (f : Refusal) → passes_if b failure ≡ refused f → (b ≡ false) × (failure ≡ failures.Refused f)
+failed_if true failure f e = absurd cc
+failed_if false failure f e = (refl, cc)
+
+-- what is reported is what is refused
+reported : (P : Refusal → Type 0) (g f : Refusal) → failures.Refused g ≡ failures.Refused f → P g → P f
+reported P g f e h = subst P (same_refusal g f e) h
+
+-- the first that fails
+one_fails : {X : Type 0} (check : X → Result ⊤ Failure) (xs : List X) (f : Refusal) → each_passes check xs ≡ refused f → (x : X) × Contains xs x × (check x ≡ refused f)
+one_fails check [] f e = absurd cc
+one_fails check (x ∷ xs) f e = elim (bind_err (check x) (λ _. each_passes check xs) (failures.Refused f) e) [
+  | inl h ↦ (x, (0, omega arith, refl), h)
+  | inr a ↦ let k = one_fails check xs f a.2 in (k.0, Contains-append_right (x ∷ []) xs k.0 k.1, k.2)
+]
+
+none-some : {X : Type 0} (o : Option X) (x : X) → o ≡ None → o ≡ Some x → ⊥
+none-some o x a b = absurd cc
+
+same_some : {X : Type 0} (o : Option X) (x y : X) → o ≡ Some x → o ≡ Some y → x ≡ y
+same_some o x y a b = cc
+
+adapter_is_main : importers.Adapter ≡ importers.Main → ⊥
+adapter_is_main e = absurd cc
+
+library_is_main : importers.Library ≡ importers.Main → ⊥
+library_is_main e = absurd cc
+
+left_false : (b : Bool) → (b && true) ≡ false → b ≡ false
+left_false true h = absurd (true≢false h)
+left_false false h = refl
+
+-- ---- names that are not offered
+
+abbrev chosen : Bool → List ℕ → List ℕ → Result ⊤ Failure
+chosen b from field = Err (if b then unfit field else missing from field)
+
+not_offered_caused : (m : ValidatedModule) (name from field : List ℕ) (f : Refusal) → found name m.offered ≡ None → not_offered m name from field ≡ refused f → NotOffered m name from field f
+not_offered_caused m name from field f none e = by (exports_name m.bytes name) refl e
+  where
+    by : (b : Bool) → exports_name m.bytes name ≡ b → chosen b from field ≡ refused f → NotOffered m name from field f
+    by true is e = reported (NotOffered m name from field) (refusals.CoreType field) f (cc (e)) (not_given none is)
+    by false is e = reported (NotOffered m name from field) (refusals.RoleMissing from field) f (cc (e)) (not_exported none is)
+
+-- nothing is offered there
+is_none : (m : ValidatedModule) (name from field : List ℕ) (f : Refusal) → NotOffered m name from field f → found name m.offered ≡ None
+is_none m name from field f (not_exported none e) = none
+is_none m name from field f (not_given none e) = none
+
+module _ (p : WorldParts) where
+  -- ---- roles that are refused
+
+  module _ (importer : Importer) (i : CoreImport) (f : Refusal) where
+    memory_fails : (required : MemoryType) → (importer ≡ importers.Main → ⊥) → i.role ≡ imports.MainModuleMemory required → (o : Option (List ℕ × MemoryType)) → first_memory p.main.exports.exports ≡ o
+        → passes_if (memory_matches required o) (unfit i.field) ≡ refused f → RoleCause p importer i f
+    memory_fails required other role None is e = absurd cc
+    memory_fails required other role (Some m) is e =
+        let h = failed_if (memory_matches required (Some m)) (unfit i.field) f e in
+        reported (RoleCause p importer i) (refusals.CoreType i.field) f h.1 (unmatched_memory required m.1 m.0 other role is h.0)
+
+    memory_refused : (required : MemoryType) → i.role ≡ imports.MainModuleMemory required → (from : Importer) → importer ≡ from → memory_given from p.main i.field required ≡ refused f → RoleCause p importer i f
+    memory_refused required role importers.Main is e = absurd cc
+    memory_refused required role importers.Adapter is e = memory_fails required (λ main. adapter_is_main (sym is ∙ main)) role (first_memory p.main.exports.exports) refl e
+    memory_refused required role importers.Library is e = memory_fails required (λ main. library_is_main (sym is ∙ main)) role (first_memory p.main.exports.exports) refl e
+
+    item_fails : (name : List ℕ) (kind : ExportKind) → i.role ≡ imports.MainModuleExport name kind → (o : Option ExternType) → found name p.main.offered ≡ o
+        → offered_given p.main i.module_name i.field name kind o ≡ refused f → RoleCause p importer i f
+    item_fails name kind role None is e = not_of_main name kind f role (not_offered_caused p.main name i.module_name i.field f is e)
+    item_fails name kind role (Some type) is e =
+        let h = failed_if (same_kind.eq-value.it (kind_of type) kind) (unfit i.field) f e in
+        reported (RoleCause p importer i) (refusals.CoreType i.field) f h.1 (of_another_kind name kind type role is (λ same. true≢false (sym (same_kinds (kind_of type) kind same) ∙ h.0)))
+
+    export_refused : (name : List ℕ) (kind : ExportKind) → i.role ≡ imports.MainModuleExport name kind → (from : Importer) → importer ≡ from → export_given from p.main i.module_name i.field name kind ≡ refused f
+        → RoleCause p importer i f
+    export_refused name kind role importers.Main is e = reported (RoleCause p importer i) (refusals.RoleMissing i.module_name i.field) f (cc (e)) (own_export name kind is role)
+    export_refused name kind role importers.Adapter is e = item_fails name kind role (found name p.main.offered) refl e
+    export_refused name kind role importers.Library is e = item_fails name kind role (found name p.main.offered) refl e
+
+    module _ (adapter name : List ℕ) (required : FuncType) (role : i.role ≡ imports.AdapterExport adapter name required) where
+      function_fails : (of : WorldAdapter) (item : ExternType) → found adapter p.adapters ≡ Some of → found name of.info.offered ≡ Some item → is_function required item ≡ false → RoleCause p importer i (refusals.CoreType i.field)
+      function_fails of (externs.Func g) named is h = by (has_numbers required) refl
+        where
+          by : (b : Bool) → has_numbers required ≡ b → RoleCause p importer i (refusals.CoreType i.field)
+          by true numbers =
+              let other : same_function.eq-value.it g required ≡ false = left_false (same_function.eq-value.it g required) (ap (λ b. same_function.eq-value.it g required && b) (sym numbers) ∙ h) in
+              of_another_type adapter name required of (externs.Func g) role named is (λ same. true≢false (sym (same_functions g required same) ∙ other))
+          by false numbers = with_references adapter name required role numbers
+      function_fails of item named is h = of_another_type adapter name required of item role named is (λ same. absurd cc)
+
+      offered_fails : (of : WorldAdapter) (o : Option ExternType) → found adapter p.adapters ≡ Some of → found name of.info.offered ≡ o → offered_function of.info i.module_name i.field name required o ≡ refused f → RoleCause p importer i f
+      offered_fails of None named is e = not_of_adapter adapter name required of f role named (not_offered_caused of.info name i.module_name i.field f is e)
+      offered_fails of (Some item) named is e =
+          let h = failed_if (is_function required item) (unfit i.field) f e in
+          reported (RoleCause p importer i) (refusals.CoreType i.field) f h.1 (function_fails of item named is h.0)
+
+      adapter_fails : (o : Option WorldAdapter) → found adapter p.adapters ≡ o → of_adapter o i.module_name i.field name required ≡ refused f → RoleCause p importer i f
+      adapter_fails None named e = reported (RoleCause p importer i) (refusals.RoleMissing i.module_name i.field) f (cc (e)) (no_adapter adapter name required role named)
+      adapter_fails (Some of) named e = offered_fails of (found name of.info.offered) named refl e
+
+      adapter_refused : (from : Importer) → importer ≡ from → adapter_export_given from (found adapter p.adapters) i.module_name i.field name required ≡ refused f → RoleCause p importer i f
+      adapter_refused importers.Adapter is e = reported (RoleCause p importer i) (refusals.RoleMissing i.module_name i.field) f (cc (e)) (for_main_or_libraries adapter name required is role)
+      adapter_refused importers.Main is e = adapter_fails (found adapter p.adapters) refl e
+      adapter_refused importers.Library is e = adapter_fails (found adapter p.adapters) refl e
+
+    role_refused : (role : Import) → i.role ≡ role → role_given importer p.main p.adapters i.module_name i.field role ≡ refused f → RoleCause p importer i f
+    role_refused (imports.MainModuleMemory required) is e = memory_refused required is importer refl e
+    role_refused (imports.MainModuleExport name kind) is e = export_refused name kind is importer refl e
+    role_refused (imports.AdapterExport adapter name required) is e = adapter_refused adapter name required is importer refl e
+    role_refused role is e = absurd cc
+
+  -- ---- types that are refused
+
+  match_fails : (m : ValidatedModule) (i : ImportType) (f : Refusal) (name : List ℕ) (kind : ExportKind) → role_at m.imports.modules i.module_name i.field ≡ Some (imports.MainModuleExport name kind)
+      → (o : Option ExternType) → found name p.main.offered ≡ o → match_given p.main i name o ≡ refused f → TypeCause p m i f
+  match_fails m i f name kind role None is e = not_there name kind f role (not_offered_caused p.main name i.module_name i.field f is e)
+  match_fails m i f name kind role (Some type) is e =
+      let h = failed_if (matches i.ty type) (unfit i.field) f e in
+      reported (TypeCause p m i) (refusals.CoreType i.field) f h.1 (unmatched name kind type role is h.0)
+
+  type_refused : (m : ValidatedModule) (i : ImportType) (f : Refusal) (o : Option Import) → role_at m.imports.modules i.module_name i.field ≡ o → type_given p.main i o ≡ refused f → TypeCause p m i f
+  type_refused m i f (Some (imports.MainModuleExport name kind)) is e = match_fails m i f name kind is (found name p.main.offered) refl e
+  type_refused m i f o is e = absurd cc
+
+  -- ---- modules that are refused
+
+  module_refused : (importer : Importer) (m : ValidatedModule) (f : Refusal) → module_given importer p.main p.adapters m ≡ refused f → GivenCause p importer m f
+  module_refused importer m f e = elim (bind_err (each_passes (import_given importer p.main p.adapters) (imports_of m)) (λ _. each_passes (typed_given p.main m.imports.modules) m.imported) (failures.Refused f) e) [
+    | inl h ↦ let one = one_fails (import_given importer p.main p.adapters) (imports_of m) f h in by_role one.0 f one.1 (role_refused importer one.0 f one.0.role refl one.2)
+    | inr a ↦ let one = one_fails (typed_given p.main m.imports.modules) m.imported f a.2 in by_type one.0 f one.1 (type_refused m one.0 f (role_at m.imports.modules one.0.module_name one.0.field) refl one.2)
+  ]
+
+  own_refused : (f : Refusal) (o : Option MemoryType) → imported_memory p.main.imports.modules ≡ o → no_own_memory o ≡ refused f → LinkCause p f
+  own_refused f None is e = absurd cc
+  own_refused f (Some type) is e = reported (LinkCause p) (refusals.LeftOut (codes "memory")) f (cc (e)) (own_memory type is)
+
+  links_refused : (f : Refusal) → links_pass p ≡ refused f → LinkCause p f
+  unfolding links_pass
+  links_refused f e =
+      let last : Result ⊤ Failure = no_own_memory (imported_memory p.main.imports.modules) in
+      let others : Result ⊤ Failure = each_passes (adapter_given p.main p.adapters) p.adapters in
+      elim (bind_err (memories_fit p.main.imports.modules) (λ _. module_given importers.Main p.main p.adapters p.main >>= λ _. others >>= λ _. last) (failures.Refused f) e) [
+        | inl h ↦ memories f (has_memory_cause p.main.imports.modules (failures.Refused f) (λ other. h) f refl)
+        | inr a ↦ elim (bind_err (module_given importers.Main p.main p.adapters p.main) (λ _. others >>= λ _. last) (failures.Refused f) a.2) [
+          | inl h ↦ to_main f (module_refused importers.Main p.main f h)
+          | inr b ↦ elim (bind_err others (λ _. last) (failures.Refused f) b.2) [
+            | inl h ↦
+                let one = one_fails (adapter_given p.main p.adapters) p.adapters f h in
+                to_adapter one.0 f one.1 (module_refused (importer_of one.0.1.library_info) one.0.1.info f one.2)
+            | inr c ↦ own_refused f (imported_memory p.main.imports.modules) refl c.2
+          ]
+        ]
+      ]
+
+  pub has_cause : (e : Failure) → (e ≢ failures.Memory → links_pass p ≡ Err e) → (f : Refusal) → e ≡ failures.Refused f → LinkCause p f
+  has_cause failures.Memory h f is = absurd cc
+  has_cause (failures.Refused x) h f is = links_refused f (h (λ m. cc) ∙ ap (λ (y : Failure). Err y) is)
+
+  -- ---- where all pass there is no cause
+
+  module _ (importer : Importer) (i : CoreImport) (other : NotOwn importer i.role) (pass : import_given importer p.main p.adapters i ≡ Ok tt) where
+    other_as : (role : Import) → i.role ≡ role → NotOwn importer role
+    other_as role is main = ap memory_of_import (sym is) ∙ other main
+
+    linked_as : (role : Import) → i.role ≡ role → IsRoleLinked (whole_of p) role
+    linked_as role is = role_linked p importer i.module_name i.field role tt (other_as role is) (ap (role_given importer p.main p.adapters i.module_name i.field) (sym is) ∙ pass)
+
+    not_own : (role : Import) → importer ≡ importers.Main → i.role ≡ role → IsNotOfMain role
+    not_own role main is =
+        is_not_of_main p i.module_name i.field role tt (λ _. other_as role is main)
+        (ap (λ (from : Importer). role_given from p.main p.adapters i.module_name i.field role) (sym main) ∙ (ap (role_given importer p.main p.adapters i.module_name i.field) (sym is) ∙ pass))
+
+    no_adapters : (adapter name : List ℕ) (required : FuncType) → importer ≡ importers.Adapter → i.role ≡ imports.AdapterExport adapter name required → ⊥
+    no_adapters adapter name required plain is =
+        let role : Import = imports.AdapterExport adapter name required in
+        let e : role_given importers.Adapter p.main p.adapters i.module_name i.field role ≡ Ok tt =
+        ap (λ (from : Importer). role_given from p.main p.adapters i.module_name i.field role) (sym plain) ∙ (ap (role_given importer p.main p.adapters i.module_name i.field) (sym is) ∙ pass) in
+        absurd cc
+
+    no_role_cause : (f : Refusal) → RoleCause p importer i f → ⊥
+    no_role_cause f (unmatched_memory required memory name elsewhere is first fails) =
+        let h : MemoryMatches (whole_of p) required = linked_as (imports.MainModuleMemory required) is in true≢false (sym (h.matching name memory first) ∙ fails)
+    no_role_cause f (own_export name kind main is) = not_own (imports.MainModuleExport name kind) main is
+    no_role_cause f (not_of_main name kind g is none) =
+        let h : HasItem p.main name kind = linked_as (imports.MainModuleExport name kind) is in none-some (found name p.main.offered) h.type (is_none p.main name i.module_name i.field g none) h.offered
+    no_role_cause f (of_another_kind name kind type is there differs) =
+        let h : HasItem p.main name kind = linked_as (imports.MainModuleExport name kind) is in
+        differs (ap kind_of (same_some (found name p.main.offered) type h.type there h.offered) ∙ h.of_kind)
+    no_role_cause f (for_main_or_libraries adapter name required plain is) = no_adapters adapter name required plain is
+    no_role_cause f (no_adapter adapter name required is none) =
+        let h : AdapterOffers (whole_of p) adapter name required = linked_as (imports.AdapterExport adapter name required) is in none-some (found adapter p.adapters) h.of none h.named
+    no_role_cause f (not_of_adapter adapter name required of g is named none) =
+        let h : AdapterOffers (whole_of p) adapter name required = linked_as (imports.AdapterExport adapter name required) is in
+        let same : of ≡ h.of = same_some (found adapter p.adapters) of h.of named h.named in
+        none-some (found name of.info.offered) (externs.Func required) (is_none of.info name i.module_name i.field g none) (ap (λ (a : WorldAdapter). found name a.info.offered) same ∙ h.offered)
+    no_role_cause f (of_another_type adapter name required of type is named there differs) =
+        let h : AdapterOffers (whole_of p) adapter name required = linked_as (imports.AdapterExport adapter name required) is in
+        let same : of ≡ h.of = same_some (found adapter p.adapters) of h.of named h.named in
+        differs (same_some (found name of.info.offered) type (externs.Func required) there (ap (λ (a : WorldAdapter). found name a.info.offered) same ∙ h.offered))
+    no_role_cause f (with_references adapter name required is references) =
+        let h : AdapterOffers (whole_of p) adapter name required = linked_as (imports.AdapterExport adapter name required) is in true≢false (sym h.numbers ∙ references)
+
+  no_type_cause : (m : ValidatedModule) (i : ImportType) (f : Refusal) → typed_given p.main m.imports.modules i ≡ Ok tt → TypeCause p m i f → ⊥
+  no_type_cause m i f pass (not_there name kind g role none) =
+      let h : OffersMatching p.main name i.ty = type_linked p m i tt pass (imports.MainModuleExport name kind) role in none-some (found name p.main.offered) h.type (is_none p.main name i.module_name i.field g none) h.offered
+  no_type_cause m i f pass (unmatched name kind type role there fails) =
+      let h : OffersMatching p.main name i.ty = type_linked p m i tt pass (imports.MainModuleExport name kind) role in
+      let same : type ≡ h.type = same_some (found name p.main.offered) type h.type there h.offered in
+      true≢false (sym h.matching ∙ (ap (matches i.ty) (sym same) ∙ fails))
+
+  no_given_cause : (importer : Importer) (m : ValidatedModule) (f : Refusal) → PassesAll p importer m → GivenCause p importer m f → ⊥
+  no_given_cause importer m f h (by_role i g there c) =
+      no_role_cause importer i (AllByRecursion-contains (λ x. NotOwn importer x.role) (imports_of m) i h.others there) (AllByRecursion-contains (λ x. import_given importer p.main p.adapters x ≡ Ok tt) (imports_of m) i h.by_role there) g c
+  no_given_cause importer m f h (by_type i g there c) =
+      no_type_cause m i g (AllByRecursion-contains (λ x. typed_given p.main m.imports.modules x ≡ Ok tt) m.imported i h.by_type there) c
+
+  pub no_cause : (t : ⊤) → links_pass p ≡ Ok t → (f : Refusal) → LinkCause p f → ⊥
+  no_cause t e f (memories g c) = let h = links_hold p t e in no_memory_cause p.main.imports.modules tt h.memories g c
+  no_cause t e f (to_main g c) = let h = links_hold p t e in no_given_cause importers.Main p.main g h.main c
+  no_cause t e f (own_memory type is) = let h = links_hold p t e in none-some (imported_memory p.main.imports.modules) type h.none is
+  no_cause t e f (to_adapter a g there c) =
+      let h = links_hold p t e in
+      no_given_cause (importer_of a.1.library_info) a.1.info g (AllByRecursion-contains (λ x. PassesAll p (importer_of x.1.library_info) x.1.info) p.adapters a h.adapters there) c

@@ -1,0 +1,54 @@
+-- What the modules of a world give to each other: main its memory and its exports, and adapters their functions. (Which module may
+-- import which is this project's own.)
+use Rattle.std.specs.Prelude.{ℕ, List, [], ◌∷◌, Option, Some, None, Result, Ok, Err, codes, ⊤}
+use Rattle.core_types.specs.declared.types.MemoryType.{MemoryType}
+use Rattle.comp_roles.specs.CoreImports.{CoreImport, role_at}
+use Rattle.comp_roles.specs.Lookups.{imported_memory}
+use Rattle.comp_roles.specs.declared.imports.ImportInstance.{ImportInstance}
+use Rattle.comp_roles.specs.declared.offered.ImportType.{ImportType}
+use Rattle.comp_worlds.specs.Uses.{imports_of}
+use Rattle.comp_worlds.specs.declared.world.ValidatedModule.{ValidatedModule}
+use Rattle.comp_worlds.specs.declared.world.WorldAdapter.{WorldAdapter}
+use Rattle.comp_worlds.specs.declared.world.WorldParts.{WorldParts}
+use Rattle.record_faults.specs.declared.fault.Failure.{Failure}
+use Rattle.record_faults.specs.Faults.{◌>>=◌}
+use Rattle.record_imports.specs.Memories.{memories_fit}
+use Rattle.plain_lower.specs.Giving.{importer_of, role_given, type_given}
+use Rattle.plain_lower.specs.Reports.{left_out}
+use Rattle.plain_lower.specs.declared.giving.Importer.{Importer}
+use Rattle.plain_lower.specs.declared.giving.Importer.TheVariants as importers
+
+-- each of these passes a check; the refusal is that of the first that doesn't
+abbrev pub each_passes : {X : Type 0} → (X → Result ⊤ Failure) → List X → Result ⊤ Failure
+each_passes check [] = Ok tt
+each_passes check (x ∷ xs) = check x >>= λ _. each_passes check xs
+
+-- an import is given what its role names
+abbrev pub import_given : Importer → ValidatedModule → List (List ℕ × WorldAdapter) → CoreImport → Result ⊤ Failure
+import_given importer main adapters i = role_given importer main adapters i.module_name i.field i.role
+
+-- and what main gives matches its type
+abbrev pub typed_given : ValidatedModule → List (List ℕ × ImportInstance) → ImportType → Result ⊤ Failure
+typed_given main modules i = type_given main i (role_at modules i.module_name i.field)
+
+-- all imports of a module are given what they ask for
+abbrev pub module_given : Importer → ValidatedModule → List (List ℕ × WorldAdapter) → ValidatedModule → Result ⊤ Failure
+module_given importer main adapters m = do
+  _ ← each_passes (import_given importer main adapters) (imports_of m)
+  each_passes (typed_given main m.imports.modules) m.imported
+
+abbrev pub adapter_given : ValidatedModule → List (List ℕ × WorldAdapter) → List ℕ × WorldAdapter → Result ⊤ Failure
+adapter_given main adapters a = module_given (importer_of a.1.library_info) main adapters a.1.info
+
+-- main imports no memory: it would be given its own, which is not encoded yet
+abbrev pub no_own_memory : Option MemoryType → Result ⊤ Failure
+no_own_memory None = Ok tt
+no_own_memory (Some type) = Err (left_out (codes "memory"))
+
+-- the imports of main, and then those of the adapters in order; where main imports its memory several times, the first import gives it
+unfoldable pub links_pass : WorldParts → Result ⊤ Failure
+links_pass p = do
+  _ ← memories_fit p.main.imports.modules
+  _ ← module_given importers.Main p.main p.adapters p.main
+  _ ← each_passes (adapter_given p.main p.adapters) p.adapters
+  no_own_memory (imported_memory p.main.imports.modules)

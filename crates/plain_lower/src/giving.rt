@@ -1,0 +1,279 @@
+//! What a core import is given that is main's memory, an export of main or a function of an adapter: whether its module may import
+//! it, whether it is there, and whether it is what the import asks for.
+
+ghost use Rattle.std.specs.Prelude.{◌≡◌, Ok};
+ghost use Rattle.std.specs.Option.{option_copied};
+ghost use Rattle.comp_roles.specs.Borrowed.{lent_pair};
+ghost use Rattle.record_faults.specs.Faults.{Gives};
+ghost use Rattle.plain_lower.specs.Giving.{importer_of, exports_name, not_offered, memory_matches, memory_given, item_given, export_given, is_function, function_given, of_adapter, adapter_export_given, role_given, type_given};
+
+use crate::reports::{missing, unfit};
+use comp_lists::{Keyed, Text};
+use comp_roles::{ExternType, Import, ImportType, LibraryInfo, has_numbers};
+use comp_worlds::{ValidatedModule, WorldAdapter};
+use core_sections::{SectionFault, read_module};
+use core_types::{FuncType, MemoryType};
+use record_faults::Failure;
+use standard_kinds::ExportKind;
+use std::alloc::Global;
+
+/// Which module imports something.
+#[derive(Clone, Copy)]
+pub(crate) enum Importer {
+    Main,
+    /// An adapter that is no library.
+    Adapter,
+    Library,
+}
+
+/// Which of these an adapter is.
+pub(crate) fn importer_of(info: &Option<LibraryInfo>) -> Importer
+    ensures { result ≡ importer_of info.now }
+{
+    match info {
+        Some(_) => Importer::Library,
+        None => Importer::Adapter,
+    }
+}
+
+// ---- names that are not offered
+
+/// Whether the module of these bytes exports a name.
+fn exports_name(alloc: Global, bytes: &[u8], name: &Text) -> Result<bool, Failure>
+    ensures { Gives (λ b. b) result (Ok (exports_name bytes.now name.now)) }
+{
+    match read_module(alloc, bytes) {
+        Ok(core) => {
+            let there = core.exports.contains_key(name);
+            drop(core);
+            Ok(there)
+        }
+        Err(SectionFault::Memory) => Err(Failure::Memory),
+        Err(_) => Ok(false),
+    }
+}
+
+/// Refuses an import of a name that a module doesn't offer: by its type, where the module exports the name, and else as one of
+/// nothing.
+fn not_offered(
+    alloc: Global,
+    source: &ValidatedModule,
+    name: &Text,
+    from: &str,
+    field: &str,
+) -> Result<(), Failure>
+    ensures { Gives (λ x. x) result (not_offered source.now name.now from.now field.now) }
+{
+    if exports_name(alloc, source.bytes.as_slice(), name)? {
+        unfit(alloc, field)
+    } else {
+        missing(alloc, from, field)
+    }
+}
+
+// ---- main's memory
+
+/// Whether an offered memory, if there is one, may be given where one of this type is imported.
+fn memory_matches(required: MemoryType, offered: Option<(&str, MemoryType)>) -> bool
+    ensures { result ≡ memory_matches required (lent_pair offered.entry) }
+{
+    match offered {
+        Some((_, memory)) => ExternType::Memory(required).is_matched_by(&ExternType::Memory(
+            memory,
+        )),
+        None => true,
+    }
+}
+
+fn check_memory(
+    alloc: Global,
+    importer: Importer,
+    main: &ValidatedModule,
+    field: &str,
+    required: MemoryType,
+) -> Result<(), Failure>
+    ensures { Gives (λ x. x) result (memory_given importer main.now field.now required) }
+{
+    match importer {
+        Importer::Main => Ok(()),
+        Importer::Adapter | Importer::Library => {
+            if memory_matches(required, main.exports.memory()) {
+                Ok(())
+            } else {
+                unfit(alloc, field)
+            }
+        }
+    }
+}
+
+// ---- exports of main
+
+fn check_item(
+    alloc: Global,
+    main: &ValidatedModule,
+    from: &str,
+    field: &str,
+    name: &Text,
+    kind: ExportKind,
+) -> Result<(), Failure>
+    ensures { Gives (λ x. x) result (item_given main.now from.now field.now name.now kind) }
+{
+    match main.offered.get(name) {
+        Some(ty) => {
+            if ty.kind() == kind {
+                Ok(())
+            } else {
+                unfit(alloc, field)
+            }
+        }
+        None => not_offered(alloc, main, name, from, field),
+    }
+}
+
+fn check_export(
+    alloc: Global,
+    importer: Importer,
+    main: &ValidatedModule,
+    from: &str,
+    field: &str,
+    name: &Text,
+    kind: ExportKind,
+) -> Result<(), Failure>
+    ensures { Gives (λ x. x) result (export_given importer main.now from.now field.now name.now kind) }
+{
+    match importer {
+        Importer::Main => missing(alloc, from, field),
+        Importer::Adapter | Importer::Library => check_item(alloc, main, from, field, name, kind),
+    }
+}
+
+// ---- functions of adapters
+
+/// Whether what is offered is a function of this type, which has numbers alone.
+fn is_function(required: &FuncType, offered: &ExternType) -> bool
+    ensures { result ≡ is_function required.now offered.now }
+{
+    match offered {
+        ExternType::Func(function) => function == required && has_numbers(required),
+        _ => false,
+    }
+}
+
+fn check_function(
+    alloc: Global,
+    source: &ValidatedModule,
+    from: &str,
+    field: &str,
+    name: &Text,
+    required: &FuncType,
+) -> Result<(), Failure>
+    ensures { Gives (λ x. x) result (function_given source.now from.now field.now name.now required.now) }
+{
+    match source.offered.get(name) {
+        Some(ty) => {
+            if is_function(required, ty) {
+                Ok(())
+            } else {
+                unfit(alloc, field)
+            }
+        }
+        None => not_offered(alloc, source, name, from, field),
+    }
+}
+
+fn check_adapter(
+    alloc: Global,
+    adapter: Option<&WorldAdapter>,
+    from: &str,
+    field: &str,
+    name: &Text,
+    required: &FuncType,
+) -> Result<(), Failure>
+    ensures { Gives (λ x. x) result (of_adapter (option_copied adapter.entry) from.now field.now name.now required.now) }
+{
+    match adapter {
+        Some(adapter) => check_function(alloc, &adapter.info, from, field, name, required),
+        None => missing(alloc, from, field),
+    }
+}
+
+fn check_adapter_export(
+    alloc: Global,
+    importer: Importer,
+    adapter: Option<&WorldAdapter>,
+    from: &str,
+    field: &str,
+    name: &Text,
+    required: &FuncType,
+) -> Result<(), Failure>
+    ensures { Gives (λ x. x) result (adapter_export_given importer (option_copied adapter.entry) from.now field.now name.now required.now) }
+{
+    match importer {
+        Importer::Adapter => missing(alloc, from, field),
+        Importer::Main | Importer::Library => {
+            check_adapter(alloc, adapter, from, field, name, required)
+        }
+    }
+}
+
+// ---- one import
+
+/// Refuses an import, by its role, that isn't given what the role names.
+pub(crate) fn check_role(
+    alloc: Global,
+    importer: Importer,
+    main: &ValidatedModule,
+    adapters: &Keyed<Text, WorldAdapter>,
+    from: &str,
+    field: &str,
+    role: &Import,
+) -> Result<(), Failure>
+    ensures { Gives (λ x. x) result (role_given importer main.now adapters.now from.now field.now role.now) }
+{
+    match role {
+        Import::MainModuleMemory(ty) => check_memory(alloc, importer, main, field, *ty),
+        Import::MainModuleExport { name, kind } => {
+            check_export(alloc, importer, main, from, field, name, *kind)
+        }
+        Import::AdapterExport { adapter, func, ty } => check_adapter_export(
+            alloc,
+            importer,
+            adapters.get(adapter),
+            from,
+            field,
+            func,
+            ty,
+        ),
+        _ => Ok(()),
+    }
+}
+
+/// Refuses an import that is an export of main which doesn't match it.
+pub(crate) fn check_type(
+    alloc: Global,
+    main: &ValidatedModule,
+    role: Option<&Import>,
+    import: &ImportType,
+) -> Result<(), Failure>
+    ensures { Gives (λ x. x) result (type_given main.now import.now (option_copied role.entry)) }
+{
+    match role {
+        Some(Import::MainModuleExport { name, .. }) => match main.offered.get(name) {
+            Some(ty) => {
+                if import.ty.is_matched_by(ty) {
+                    Ok(())
+                } else {
+                    unfit(alloc, import.field.as_str())
+                }
+            }
+            None => not_offered(
+                alloc,
+                main,
+                name,
+                import.module_name.as_str(),
+                import.field.as_str(),
+            ),
+        },
+        _ => Ok(()),
+    }
+}
