@@ -47,3 +47,4 @@ mod CrossedDestructors
 mod WorkedHandles
 mod WorkedUsers
 mod WorkedGiven
+mod CrossedMemories

@@ -48,16 +48,16 @@ use Rattle.link_laws.proofs.WorkedDrops.{none_apart, not_true}
 
 -- ---- the world
 
-abbrev memory : List ℕ
+abbrev pub memory : List ℕ
 memory = codes "memory"
 
-abbrev env : List ℕ
+abbrev pub env : List ℕ
 env = codes "env"
 
-abbrev one_page : MemoryType
+abbrev pub one_page : MemoryType
 one_page = record { minimum = 1; maximum = None }
 
-abbrev other : List ℕ
+abbrev pub other : List ℕ
 other = codes "other"
 
 -- main exports its memory, another one without a role, and the function g
@@ -92,7 +92,7 @@ adapter = record {
   library_info = None;
 }
 
-abbrev world : ComponentWorld
+abbrev pub world : ComponentWorld
 world = whole_of (record {
   resolve = record { interfaces = []; types = []; worlds = record { imports = []; exports = [] } ∷ [] };
   world = record { index = 0 };
@@ -150,18 +150,22 @@ is_world = record {
 
 -- ---- a list for it
 
-abbrev pub definitions : List Def
-definitions = map defs.Item (
+-- a list in which the adapter is given the memory that main exports under this name
+abbrev pub list_with : List ℕ → List Def
+list_with given = map defs.Item (
     items.CoreModule core
     ∷ items.CoreModule core_preamble
     ∷ items.CoreInstantiate 0 []
-    ∷ items.Alias (aliases.CoreExport kinds.Memory 0 memory)
+    ∷ items.Alias (aliases.CoreExport kinds.Memory 0 given)
     ∷ items.Alias (aliases.CoreExport kinds.Func 0 g)
     ∷ items.CoreExports (record { name = memory; kind = kinds.Memory; index = 0 } ∷ record { name = f; kind = kinds.Func; index = 0 } ∷ [])
     ∷ items.CoreInstantiate 1 (record { name = env; instance = 1 } ∷ [])
     ∷ [])
 
-abbrev both_made : List Answer
+abbrev pub definitions : List Def
+definitions = list_with memory
+
+abbrev pub both_made : List Answer
 both_made = Gives [] 0 ∷ Gives [] 0 ∷ []
 
 -- ---- it keeps the rules
@@ -169,7 +173,7 @@ both_made = Gives [] 0 ∷ Gives [] 0 ∷ []
 abbrev ds : ℕ → List Def
 ds n = take n definitions
 
-abbrev adapter_user : WorldModule
+abbrev pub adapter_user : WorldModule
 adapter_user = adapter_module (a, adapter)
 
 main_made : (n : ℕ) → slice_get (in_space spaces.CoreInstance (ds n)) 0 ≡ Some (defs.Item (items.CoreInstantiate 0 [])) → IsInstanceOf (ds n) 0 0
