@@ -17,7 +17,6 @@ use Rattle.comp_worlds.specs.ExportOrder.{exported_before, used_exports}
 use Rattle.world_values.specs.Mentions.{same_interface}
 use Rattle.std.specs.List.{list_any}
 use Rattle.std.specs.Option.{option_map}
-use Rattle.core_types.specs.declared.types.MemoryType.{MemoryType}
 use Rattle.comp_roles.specs.Lookups.{first_memory}
 use Rattle.core_options.specs.MainOptions.{memory_name, HasLowerOptions, HasLiftOptions}
 use Rattle.comp_links.specs.Lists.{required_functions}
@@ -85,7 +84,7 @@ encoded_lacks w h place (inr l) = lacks_none (export_encoding w l.required.of l.
 pub encoded_memory : (w : ComponentWorld) → IsEncoded w → (place : List ℕ) → LacksMemory w (user_imports w) (required_functions w) place → ⊥
 encoded_memory w h place l = lacks_none (memory_name w) (offered l.needed) l.none
   where
-    named : (o : Option (List ℕ × MemoryType)) → IsSome o → IsSome (option_map (λ (m : List ℕ × MemoryType). m.0) o)
+    named : {T : Type 0} (o : Option (List ℕ × T)) → IsSome o → IsSome (option_map (λ (m : List ℕ × T). m.0) o)
     named None h = h
     named (Some m) h = refl
 

@@ -1,13 +1,13 @@
 -- The list of `WorkedGiven` in which the adapter is given main's other memory, which has no role: its run ends too, but it isn't linked.
 use Rattle.comp_links.specs.Naming.{own_names}
-use Rattle.std.proofs.Common.{◌≡◌, ◌∙◌, ℕ, zero, suc, List, refl, sym, ap, subst, Option, Some, None, arith}
+use Rattle.std.proofs.Common.{◌≡◌, ◌∙◌, ℕ, zero, suc, refl, sym, ap, subst, Option, Some, None, arith}
 use Rattle.std.proofs.lemmas.Option.{none-some, same_Some}
 use Rattle.std.specs.List.{slice_get}
 use Rattle.comp_bytes.specs.declared.space.Space.TheVariants as spaces
 use Rattle.comp_roles.specs.declared.offered.ExternType.TheVariants as externs
 use Rattle.comp_roles.specs.declared.offered.ImportType.{ImportType}
 use Rattle.comp_links.specs.Modules.{WorldModule, IsModule}
-use Rattle.comp_links.specs.Targets.{UserModule, Main, Adapter, MainMemory}
+use Rattle.comp_links.specs.Targets.{Main, Adapter, MainMemory}
 use Rattle.comp_runs.specs.Machine.{Machine, Outcome, Done, export_of}
 use Rattle.comp_runs.specs.Store.{Export, ModuleInstance}
 use Rattle.comp_trees.specs.Trees.{Resource}

@@ -50,7 +50,7 @@ use Rattle.comp_terms.specs.Terms as terms
 use Rattle.comp_terms.specs.Planned.{IsExportFor, IsMemoryFor, IsOptionFor, IsTypeOf, IsTermFor, IsItemFor, IsShimFor, IsLiftFor}
 use Rattle.comp_terms.specs.Rules.{IsOfKind}
 use Rattle.comp_runs.specs.Machine.{Scope, address_at, is_of, export_named, export_in, export_of}
-use Rattle.comp_runs.specs.Instances.{type_space, of_kind, type_at}
+use Rattle.comp_runs.specs.Instances.{type_space, type_at}
 use Rattle.comp_runs.specs.Signatures.{core_signature}
 use Rattle.instance_laws.specs.Instantiated.{IsHeldAs, AreHeldAs}
 use Rattle.instance_laws.specs.InstanceEntries.{IsInstanceType, IsInstanceEntry}

@@ -23,7 +23,6 @@ use Rattle.nested_terms.specs.Naming.{import_names}
 use Rattle.nested_terms.specs.Nested.{NestedScope, function_import, with_item, IsItemRight, AreItemsRight}
 use Rattle.comp_trees.specs.DefinedTrees.{TypeTree}
 use Rattle.link_laws.specs.Composition.{at_root, item_module, item_instantiates, item_imports, item_exports, item_customs}
-use Rattle.comp_links.specs.Modules.{WorldModule, user_modules}
 use Rattle.link_laws.proofs.ModuleMarks.{bytes_listed, user_range, numbers_listed, mapped_nothing, mapped_each, read_of, reads_users}
 use Rattle.link_laws.proofs.Zips.{flat_map-marked}
 

@@ -1,20 +1,18 @@
 -- What an import matches that is to be given what another module exports, and what it finds there.
-use Rattle.std.proofs.Common.{◌≡◌, ◌∙◌, ◌++◌, ℕ, Bool, true, false, ◌&&◌, List, [], ◌∷◌, refl, sym, ap, ap₂, subst, Option, Some, None, true≢false, Contains}
+use Rattle.std.proofs.Common.{◌≡◌, ◌∙◌, ℕ, true, ◌&&◌, List, [], ◌∷◌, refl, sym, ap, ap₂, subst, Option, Some, None, true≢false, Contains}
 use Rattle.std.specs.Prelude.{nat_le}
 use Rattle.std.proofs.lemmas.Option.{none-some, same_Some}
 use Rattle.std.specs.List.{slice_get, AllByRecursion}
 use Rattle.std.specs.Option.{option_map, option_and_then}
 use Rattle.comp_lists.specs.Found.{found}
-use Rattle.comp_bytes.specs.Spaces.{kind_space}
 use Rattle.comp_bytes.specs.declared.space.Space.{Space}
 use Rattle.comp_bytes.specs.declared.space.Space.TheVariants as spaces
-use Rattle.core_types.specs.declared.types.FuncType.{FuncType}
 use Rattle.core_types.specs.declared.types.MemoryType.{MemoryType}
 use Rattle.core_runs.specs.Instances.{no_larger}
 use Rattle.core_runs.specs.Store.{Opaque}
 use Rattle.wit_data.specs.declared.worlds.WorldKey.TheVariants as keys
 use Rattle.comp_roles.specs.Lookups.{first_memory}
-use Rattle.comp_roles.specs.Matching.{kind_of, bounded_by, at_most, limits_match, matches}
+use Rattle.comp_roles.specs.Matching.{kind_of, bounded_by, at_most, matches}
 use Rattle.comp_roles.specs.declared.exports.Export.{Export as Role}
 use Rattle.comp_roles.specs.declared.exports.Export.TheVariants as exports
 use Rattle.comp_roles.specs.declared.imports.Import.{Import}
@@ -32,12 +30,12 @@ use Rattle.comp_links.proofs.Named.{listed_found, listed_there}
 use Rattle.comp_links.specs.Links.{link_of}
 use Rattle.comp_links.specs.Modules.{WorldModule, user_modules, module_found}
 use Rattle.comp_links.specs.Targets.{UserModule, Main, Adapter, ExportRef, Target, ExportOf, MainMemory}
-use Rattle.comp_runs.specs.Store.{Thing, Export, ExportedBy, Store}
+use Rattle.comp_runs.specs.Store.{Export, Store}
 use Rattle.comp_runs.specs.Machine.{Machine}
 use Rattle.comp_runs.specs.Instances.{matching, of_kind}
 use Rattle.link_laws.proofs.Given.{IsFunctionTyped}
 use Rattle.link_laws.proofs.Plain.{same_signature-refl}
-use Rattle.link_laws.proofs.Stores.{IsFunctionExported, IsMemoryExported, IsFirstMemory, IsServedIn}
+use Rattle.link_laws.proofs.Stores.{IsServedIn}
 
 -- ---- what is offered matches
 

@@ -18,7 +18,6 @@ use Rattle.core_runs.specs.Values.{same_value_type, same_value_types, same_signa
 use Rattle.wit_data.specs.declared.functions.AbiVariant.TheVariants.{GuestImport}
 use Rattle.wit_data.specs.declared.functions.Function.{Function}
 use Rattle.wit_data.specs.declared.signatures.WasmSignature.{WasmSignature}
-use Rattle.wit_data.specs.Signatures.{signature}
 use Rattle.wit_data.specs.declared.worlds.WorldItem.TheVariants as items
 use Rattle.wit_data.specs.declared.worlds.WorldKey.{WorldKey}
 use Rattle.wit_data.specs.declared.worlds.WorldKey.TheVariants as keys

@@ -1,7 +1,7 @@
 -- A worked example: a validated world of main and an adapter that imports main's memory and a function that main exports. Its list keeps
 -- the rules, and so it links.
 use Rattle.comp_links.specs.Naming.{own_names}
-use Rattle.std.proofs.Common.{inl, ◌≡◌, ◌∙◌, ℕ, List, [], ◌∷◌, refl, sym, ap, true, false, Some, None, map, take, arith}
+use Rattle.std.proofs.Common.{inl, ◌≡◌, ℕ, List, [], ◌∷◌, refl, sym, ap, false, Some, None, map, take, arith}
 use Rattle.std.specs.Prelude.{codes}
 use Rattle.std.proofs.lemmas.Option.{same_Some}
 use Rattle.std.specs.List.{IsDistinct, slice_get}
@@ -16,8 +16,7 @@ use Rattle.comp_bytes.specs.declared.def.Def.{Def}
 use Rattle.comp_bytes.specs.declared.def.Def.TheVariants as defs
 use Rattle.core_types.specs.Core.{core_preamble}
 use Rattle.core_types.specs.declared.types.MemoryType.{MemoryType}
-use Rattle.core_runs.specs.Store.{Opaque, Answer, Gives, Instantiated}
-use Rattle.comp_roles.specs.Lookups.{first_memory}
+use Rattle.core_runs.specs.Store.{Answer, Gives}
 use Rattle.comp_roles.specs.Matching.{matches}
 use Rattle.comp_roles.specs.declared.imports.Import.{Import}
 use Rattle.comp_roles.specs.declared.imports.Import.TheVariants as imports
@@ -32,7 +31,6 @@ use Rattle.comp_worlds.specs.declared.world.ValidatedModule.{ValidatedModule}
 use Rattle.comp_worlds.specs.declared.world.WorldAdapter.{WorldAdapter}
 use Rattle.comp_links.specs.Modules.{WorldModule, adapter_module}
 use Rattle.comp_links.specs.Targets.{Adapter}
-use Rattle.comp_runs.specs.Store.{ExportedBy}
 use Rattle.comp_terms.specs.Terms.{IsInstanceOf}
 use Rattle.comp_terms.specs.Terms as terms
 use Rattle.comp_terms.specs.Planned.{IsArgumentFor}
@@ -42,7 +40,7 @@ use Rattle.link_laws.specs.Linking.{outcome, Links, IsLinked}
 use Rattle.link_laws.proofs.Stores.{main_module}
 use Rattle.link_laws.proofs.Steps.{no_modules}
 use Rattle.link_laws.proofs.Runs.{composed, links}
-use Rattle.link_laws.proofs.Worked.{ended, core_function, core_export, machine_of, plain_core, a, one_apart}
+use Rattle.link_laws.proofs.Worked.{machine_of, plain_core, a, one_apart}
 use Rattle.link_laws.proofs.WorkedApart.{functions_apart, no_keys_apart}
 use Rattle.link_laws.proofs.WorkedDrops.{none_apart, not_true}
 

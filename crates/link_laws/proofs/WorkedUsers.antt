@@ -1,8 +1,7 @@
 -- A worked example: a validated world of main and an adapter, each of which has to export a function; the adapter imports one. Its list
 -- keeps the rules, and so it links.
 use Rattle.comp_links.specs.Naming.{own_names}
-use Rattle.std.proofs.Common.{inl, ◌≡◌, ℕ, suc, List, [], ◌∷◌, refl, true, false, Option, Some, None, map, take, arith}
-use Rattle.std.specs.Prelude.{codes}
+use Rattle.std.proofs.Common.{inl, ◌≡◌, ℕ, List, [], ◌∷◌, refl, true, false, Some, None, map, take, arith}
 use Rattle.std.specs.List.{IsDistinct, slice_get}
 use Rattle.std.specs.Map.{keys_of}
 use Rattle.standard_kinds.specs.declared.kinds.ExportKind.TheVariants as kinds
@@ -37,15 +36,14 @@ use Rattle.comp_worlds.specs.declared.world.ComponentWorld.{ComponentWorld}
 use Rattle.comp_worlds.specs.declared.world.ValidatedModule.{ValidatedModule}
 use Rattle.comp_worlds.specs.declared.world.WorldAdapter.{WorldAdapter}
 use Rattle.comp_inventories.specs.Inventories.{inventory, scope_of}
-use Rattle.comp_trees.specs.Trees.{FunctionTree, is_known_function}
+use Rattle.comp_trees.specs.Trees.{is_known_function}
 use Rattle.comp_trees.specs.DefinedTrees.{function_tree}
-use Rattle.comp_links.specs.Lists.{RequiredKey}
 use Rattle.comp_links.specs.Modules.{WorldModule, adapter_module}
 use Rattle.comp_links.specs.Targets.{UserModule, Main, Adapter, ExportRef, OfRoot, Lifted as LiftedFrom}
 use Rattle.comp_runs.specs.Store.{Lowering, ExportedBy, Imported, Lifting}
 use Rattle.comp_terms.specs.Terms.{IsFunctionType, IsImportedFunction, IsLowering, IsInstanceOf}
 use Rattle.comp_terms.specs.Terms as terms
-use Rattle.comp_terms.specs.Planned.{type_of_function, IsTypeOf, IsLiftFor, IsArgumentFor}
+use Rattle.comp_terms.specs.Planned.{IsTypeOf, IsLiftFor, IsArgumentFor}
 use Rattle.comp_terms.specs.Rules.{IsBuilt}
 use Rattle.comp_terms.specs.Exports.{ExportsFunction}
 use Rattle.link_laws.specs.Composition.{IsComposed}
@@ -53,7 +51,7 @@ use Rattle.link_laws.specs.Linking.{outcome, Links, IsLinked}
 use Rattle.link_laws.proofs.Stores.{main_module}
 use Rattle.link_laws.proofs.Steps.{no_modules}
 use Rattle.link_laws.proofs.Runs.{composed, links}
-use Rattle.link_laws.proofs.Worked.{Ended, ended, root_import, core_function, core_export, machine_of, plain_tree, plain_core, a, h, one_apart}
+use Rattle.link_laws.proofs.Worked.{ended, root_import, core_function, core_export, machine_of, plain_tree, plain_core, a, h, one_apart}
 use Rattle.link_laws.proofs.WorkedApart.{functions_apart, one_key_apart}
 use Rattle.link_laws.proofs.WorkedDrops.{none_apart}
 

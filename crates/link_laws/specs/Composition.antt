@@ -1,5 +1,5 @@
 -- What a list of definitions is to a validated world, as a list (component model, explainer: component definitions).
-use Rattle.std.specs.Prelude.{◌≡◌, ◌++◌, ℕ, List, [], ◌∷◌, Option, Some, None, length, map, zero, suc}
+use Rattle.std.specs.Prelude.{◌≡◌, ◌++◌, ℕ, List, [], ◌∷◌, Option, Some, None, length, zero, suc}
 use Rattle.std.specs.List.{AllZip, flat_map}
 use Rattle.comp_bytes.specs.declared.def.Item.{Item}
 use Rattle.comp_bytes.specs.declared.def.Item.TheVariants as items
