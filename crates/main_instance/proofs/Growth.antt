@@ -1,5 +1,5 @@
 -- What was made stays what it is while definitions are added.
-use Rattle.std.proofs.Common.{◌≡◌, ◌<◌, inl, inr, ℕ, Some, None, Option, List, [], ◌∷◌, sym, subst}
+use Rattle.std.proofs.Common.{◌<◌, inl, inr, ℕ, Some, None, Option, List, [], ◌∷◌, sym, subst}
 use Rattle.std.specs.List.{AllZip, AllByRecursion}
 use Rattle.comp_lists.proofs.Lists.{AllZip-weaker}
 use Rattle.comp_bytes.proofs.ItemIndices.{in_range}

@@ -1,9 +1,8 @@
 -- What imports are given of main: its memory, and what it exports.
-use Rattle.std.proofs.Common.{◌≡◌, ◌∙◌, ℕ, List, [], Option, Some, None, IsTrue, is_some, refl, sym, ap, subst, Contains, true≢false}
+use Rattle.std.proofs.Common.{◌≡◌, ℕ, List, [], Option, Some, None, is_some, refl, sym, ap, subst, Contains}
 use Rattle.std.specs.Prelude.{IsSome}
-use Rattle.std.specs.List.{AllByRecursion, flat_map}
 use Rattle.std.specs.Option.{option_map}
-use Rattle.std.proofs.lemmas.Option.{none-some, same_Some}
+use Rattle.std.proofs.lemmas.Option.{same_Some}
 use Rattle.comp_bytes.specs.Spaces.{kind_space}
 use Rattle.comp_bytes.specs.declared.def.Def.{Def}
 use Rattle.comp_bytes.specs.declared.def.Def.TheVariants as defs
@@ -20,14 +19,12 @@ use Rattle.core_types.specs.declared.types.MemoryType.{MemoryType}
 use Rattle.comp_roles.specs.CoreImports.{CoreImport}
 use Rattle.comp_roles.specs.Lookups.{first_memory}
 use Rattle.comp_roles.specs.Matching.{kind_of}
-use Rattle.comp_roles.specs.declared.imports.Import.{Import}
 use Rattle.comp_roles.specs.declared.offered.ExternType.{ExternType}
 use Rattle.comp_roles.specs.declared.offered.ExternType.TheVariants as externs
 use Rattle.comp_terms.specs.Planned.{IsItemFor}
 use Rattle.comp_terms.specs.Rules.{Grows, IsOfKind}
 use Rattle.comp_terms.specs.Terms.{Is, IsInstanceOf, IsExported}
 use Rattle.comp_terms.specs.Terms as terms
-use Rattle.comp_worlds.specs.Encodable.{IsEncodable}
 use Rattle.comp_worlds.specs.Offered.{IsGivenKind, OffersItem}
 use Rattle.comp_worlds.specs.Uses.{imports_of}
 use Rattle.comp_worlds.specs.Worlds.{IsWorld, IsNotOfMain}

@@ -1,5 +1,5 @@
 -- What is needed of an import of a function that an adapter exports: its shim, with the function's core type.
-use Rattle.std.proofs.Common.{◌≡◌, ◌∙◌, ℕ, Bool, true, false, true≢false, ◌&&◌, List, [], ◌∷◌, map, refl, sym, ap, ap₂, if◌then◌else◌, Some, None}
+use Rattle.std.proofs.Common.{◌≡◌, ℕ, Bool, true, false, true≢false, ◌&&◌, List, [], ◌∷◌, map, refl, sym, ap, ap₂, if◌then◌else◌, Some, None}
 use Rattle.std.specs.List.{list_all}
 use Rattle.core_types.specs.declared.types.FuncType.{FuncType}
 use Rattle.core_types.specs.declared.types.ValType.{ValType}
@@ -8,7 +8,7 @@ use Rattle.wit_data.specs.declared.signatures.WasmSignature.{WasmSignature}
 use Rattle.comp_roles.specs.CoreImports.{CoreImport}
 use Rattle.comp_roles.specs.CoreTypes.{value_type, core_type}
 use Rattle.comp_roles.specs.Matching.{is_number, has_numbers}
-use Rattle.shim_plan.specs.Adapted.{number_type, adapted_sig, adapted_shim, adapted_needs, adapted_with}
+use Rattle.shim_plan.specs.Adapted.{number_type, adapted_shim, adapted_needs, adapted_with}
 use Rattle.shim_plan.specs.declared.needs.NeededShim.{NeededShim}
 
 -- the signature of a function of numbers

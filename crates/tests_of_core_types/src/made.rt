@@ -4,7 +4,7 @@
 //! `h: func(u64) -> string` and an interface with `k: func(f32) -> f64`.
 
 use comp_lists::{Keyed, Seq, Text};
-use core_sections::{CoreModule, FuncType, Items, RefType, ValType};
+use core_sections::{CoreModule, FuncType, Items, ValType};
 use std::alloc::{AllocError, Global};
 use wit_data::{Function, Interface, InterfaceId, Resolve, World, WorldId, WorldItem, WorldKey};
 use wit_texts::named_function_of;
@@ -123,19 +123,18 @@ pub(crate) fn resolve(alloc: Global) -> Result<Resolve, AllocError> {
     })
 }
 
-/// The type of a letter: `i` is i32, `l` i64, `f` f32, `d` f64, and all others are references to functions.
-pub(crate) fn value(letter: char) -> ValType {
+/// The type of a letter: `i` is i32, `l` i64, `f` f32, and all others are f64.
+fn value(letter: char) -> ValType {
     match letter {
         'i' => ValType::I32,
         'l' => ValType::I64,
         'f' => ValType::F32,
-        'd' => ValType::F64,
-        _ => ValType::Ref(RefType::FuncRef),
+        _ => ValType::F64,
     }
 }
 
 /// The type of a function by the letters of its parameters, `>`, and those of its results.
-pub(crate) fn func_type(alloc: Global, letters: &str) -> Result<FuncType, AllocError> {
+fn func_type(alloc: Global, letters: &str) -> Result<FuncType, AllocError> {
     let mut params = Seq::new(alloc);
     let mut results = Seq::new(alloc);
     let mut is_after = false;

@@ -1,14 +1,13 @@
 //! The program `tests_of_core_types`: what a core module offers to others, and the core types that roles require, tested on
 //! cases from files (`test_cases` says how they are read; each file says where its expected answers are from).
 //!
-//! In reading order: `offers` (what a core module offers, and sizes), `matching` (what may be given for an import), and the
-//! core types of roles: `made` (the world they are in), `imports`, `exports` and `roles`.
+//! In reading order: `offers` (what a core module offers, and sizes), and the core types of roles: `made` (the world they
+//! are in), `imports`, `exports` and `roles`.
 #![tactic(auto)]
 
 mod exports;
 mod imports;
 mod made;
-mod matching;
 mod offers;
 mod roles;
 
@@ -21,7 +20,6 @@ use test_cases::{Beside, answer_files};
 enum Topic {
     Offers,
     Sizes,
-    Matching,
     Roles,
 }
 
@@ -30,7 +28,6 @@ impl test_cases::Topic for Topic {
         match name {
             "offers.txt" => Some(Topic::Offers),
             "sizes.txt" => Some(Topic::Sizes),
-            "matching.txt" => Some(Topic::Matching),
             "roles.txt" => Some(Topic::Roles),
             _ => None,
         }
@@ -40,7 +37,6 @@ impl test_cases::Topic for Topic {
         match self {
             Topic::Offers => offers::answer(alloc, input),
             Topic::Sizes => offers::size_answer(alloc, input),
-            Topic::Matching => matching::answer(alloc, input),
             Topic::Roles => roles::answer(alloc, input),
         }
     }

@@ -1,11 +1,12 @@
 //! The program `tests_of_roles`: canonical options, and the roles of core imports and exports, tested on cases from files
 //! (`test_cases` says how they are read; each file says where its expected answers are from).
 //!
-//! In reading order: `options`, `exports` and `imports` (look-ups in roles). Types and functions are read by `wit_texts`.
+//! In reading order: `options`, `exports` and `imports` (look-ups in roles), `matching` (what may be given for an import). Types and functions are read by `wit_texts`.
 #![tactic(auto)]
 
 mod exports;
 mod imports;
+mod matching;
 mod options;
 
 use std::alloc::{AllocError, Global};
@@ -18,6 +19,7 @@ enum Topic {
     Options,
     Exports,
     Imports,
+    Matching,
 }
 
 impl test_cases::Topic for Topic {
@@ -26,6 +28,7 @@ impl test_cases::Topic for Topic {
             "options.txt" => Some(Topic::Options),
             "exports.txt" => Some(Topic::Exports),
             "imports.txt" => Some(Topic::Imports),
+            "matching.txt" => Some(Topic::Matching),
             _ => None,
         }
     }
@@ -35,6 +38,7 @@ impl test_cases::Topic for Topic {
             Topic::Options => options::answer(alloc, given, input),
             Topic::Exports => exports::answer(alloc, given, input),
             Topic::Imports => imports::answer(alloc, given, input),
+            Topic::Matching => matching::answer(alloc, input),
         }
     }
 }

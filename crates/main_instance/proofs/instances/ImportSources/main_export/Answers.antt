@@ -1,4 +1,4 @@
-use Rattle.std.proofs.Common.{Some, ◌≡◌, rules}
+use Rattle.std.proofs.Common.{rules}
 use Rattle.comp_terms.specs.Terms.{IsInstanceOf}
 use Rattle.main_instance.proofs.OfMain.{export_given, export_grows, instance_known, instance_there}
 use Rattle.main_instance.proofs.instances.ImportSources.main_export.Goals as goal

@@ -5,12 +5,39 @@
 //! The queries are `kind` and a type, `numbers` and the letters of a function, and `match` with the type of an import, ` | ` and that of what
 //! is offered.
 
-use crate::made::{func_type, value};
+use comp_lists::Seq;
 use comp_roles::{ExternType, has_numbers};
-use core_types::{GlobalType, MemoryType, RefType, TableType, ValType};
+use core_types::{FuncType, GlobalType, MemoryType, RefType, TableType, ValType};
 use standard_kinds::ExportKind;
 use std::alloc::{AllocError, Global};
 use test_cases::word_and_rest;
+
+/// The type of a letter: `i` is i32, `l` i64, `f` f32, `d` f64, and all others are references to functions.
+fn value(letter: char) -> ValType {
+    match letter {
+        'i' => ValType::I32,
+        'l' => ValType::I64,
+        'f' => ValType::F32,
+        'd' => ValType::F64,
+        _ => ValType::Ref(RefType::FuncRef),
+    }
+}
+
+fn values(alloc: Global, letters: &str) -> Result<Seq<ValType>, AllocError> {
+    let mut types = Seq::new(alloc);
+    for letter in letters.chars() {
+        types.push(value(letter))?;
+    }
+    Ok(types)
+}
+
+/// The type of a function by the letters of its parameters, `>`, and those of its results.
+fn func_type(alloc: Global, letters: &str) -> Result<FuncType, AllocError> {
+    let (params, results) = letters.split_once(">").unwrap_or((letters, ""));
+    let params = values(alloc, params)?;
+    let results = values(alloc, results)?;
+    Ok(FuncType { params, results })
+}
 
 /// The limits of a text, as in `1-2`, or in `1-` where there is no maximum.
 fn limits(text: &str) -> MemoryType {
