@@ -49,7 +49,7 @@ use Rattle.record_core_types.specs.Guarantees.{IsCalled, IsLifted, IsKept}
 use Rattle.record_resolve.specs.Resolved.{IsNamed, AreListed}
 use Rattle.supported_worlds.specs.Distinct.{are_apart}
 use Rattle.std.proofs.lemmas.List.Elements.{Contains-append_left, Contains-append_right}
-use Rattle.supported_worlds.specs.Apart.{FieldsApart, GroupsApart, ModulesApart, AreApart}
+use Rattle.supported_worlds.specs.Apart.{FieldsApart, GroupsApart, AreApart}
 use Rattle.supported_worlds.specs.LeftOut.{items_of, import_item_left_out, export_item_left_out, export_left_out, all_required, required_of, unless}
 use Rattle.supported_worlds.specs.Links.{IsRoleLinked, IsTypeLinked, IsImportLinked, IsLinked, AreLinked}
 use Rattle.supported_worlds.specs.Modules.{UserModule, main_of, module_of}

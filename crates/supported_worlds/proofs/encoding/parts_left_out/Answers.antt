@@ -1,5 +1,4 @@
 use Rattle.std.proofs.Common.{rules}
-use Rattle.std.specs.Option.{option_copied}
 use Rattle.supported_worlds.proofs.Keys.{required_once}
 use Rattle.supported_worlds.proofs.encoding.parts_left_out.Goals as goal
 
