@@ -32,7 +32,7 @@ use Rattle.record_faults.specs.declared.fault.Failure.{Failure}
 use Rattle.record_faults.specs.Faults.{◌>>=◌}
 use Rattle.record_faults.proofs.Chains.{bind_ok}
 use Rattle.record_imports.specs.Memories.{memories_fit}
-use Rattle.supported_worlds.specs.Links.{HasItem, IsRoleLinked, IsTypeLinked, IsImportLinked, IsLinked, AreLinked}
+use Rattle.supported_worlds.specs.Links.{HasItem, IsRoleLinked, IsTypeLinked, IsImportLinked, IsModuleLinked, AreLinked}
 use Rattle.plain_lower.specs.Giving.{importer_of, passes_if, memory_matches, memory_given, offered_given, export_given, is_function, offered_function, of_adapter, adapter_export_given, role_given, match_given, type_given}
 use Rattle.plain_lower.specs.Linking.{each_passes, import_given, typed_given, module_given, adapter_given, no_own_memory, links_pass}
 use Rattle.plain_lower.specs.declared.giving.Importer.{Importer}
@@ -186,7 +186,7 @@ module _ (p : WorldParts) where
   none_of_main [] h others = tt
   none_of_main (i ∷ all) h others = (not_of_main i.module_name i.field i.role tt others.0 h.0, none_of_main all h.1 others.1)
 
-  module_linked : (importer : Importer) (m : ValidatedModule) → PassesAll importer m → IsLinked (whole_of p) m
+  module_linked : (importer : Importer) (m : ValidatedModule) → PassesAll importer m → IsModuleLinked (whole_of p) m
   module_linked importer m h = record {
     roles = roles_linked importer (imports_of m) h.by_role h.others;
     types = AllByRecursion-weaker (λ (i : ImportType) (e : typed_given p.main m.imports.modules i ≡ Ok tt). type_linked m i tt e) m.imported h.by_type;

@@ -51,7 +51,7 @@ use Rattle.supported_worlds.specs.Distinct.{are_apart}
 use Rattle.std.proofs.lemmas.List.Elements.{Contains-append_left, Contains-append_right}
 use Rattle.supported_worlds.specs.Apart.{FieldsApart, GroupsApart, AreApart}
 use Rattle.supported_worlds.specs.LeftOut.{items_of, import_item_left_out, export_item_left_out, export_left_out, all_required, required_of, unless}
-use Rattle.supported_worlds.specs.Links.{IsRoleLinked, IsTypeLinked, IsImportLinked, IsLinked, AreLinked}
+use Rattle.supported_worlds.specs.Links.{IsRoleLinked, IsTypeLinked, IsImportLinked, IsModuleLinked, AreLinked}
 use Rattle.supported_worlds.specs.Modules.{UserModule, main_of, module_of}
 use Rattle.supported_worlds.specs.Causes.{role_left_out, own_role_out}
 use Rattle.supported_worlds.specs.Placed.{places_of, is_resource, is_droppable, is_resource_at, is_own_resource}
@@ -387,7 +387,7 @@ module _ (p : WorldParts) (present : HasSoundParts p) (linked : AreLinked p) (en
   keys_kept m [] h = tt
   keys_kept m (k ∷ ks) h = (required m k h.0, keys_kept m ks h.1)
 
-  module_is : (m : UserModule) → IsSoundModule p.resolve p.world (items_of p) m → IsModuleEncoded p m → GroupsApart m.info.imports.modules → AreKnown p m.keys → IsLinked (whole_of p) m.info → IsUserModule (whole_of p) m.info m.keys
+  module_is : (m : UserModule) → IsSoundModule p.resolve p.world (items_of p) m → IsModuleEncoded p m → GroupsApart m.info.imports.modules → AreKnown p m.keys → IsModuleLinked (whole_of p) m.info → IsUserModule (whole_of p) m.info m.keys
   module_is m ok is alone known there =
       let groups = import_groups m.keys known m.info.imports.modules is.groups is.own_groups alone.fields ok.called there.roles in
       let roles = export_roles m.info.exports.exports is.export_roles ok.lifted in
@@ -408,7 +408,7 @@ module _ (p : WorldParts) (present : HasSoundParts p) (linked : AreLinked p) (en
       module_is (main_of p) present.main encoded.main alone (λ key there. Contains-append_left p.main_exports (flat_map (λ a. a.1.required_exports) p.adapters) key there) linked.main
 
   adapters_are : (all : List (List ℕ × WorldAdapter)) → AllByRecursion (λ a. IsSoundModule p.resolve p.world (items_of p) (module_of a)) all → AllByRecursion (IsAdapterEncoded p) all
-      → AllByRecursion (λ a. GroupsApart a.1.info.imports.modules) all → AreKnown p (flat_map (λ a. a.1.required_exports) all) → AllByRecursion (λ a. IsLinked (whole_of p) a.1.info) all → AllByRecursion (λ a. IsUserModule (whole_of p) a.1.info a.1.required_exports) all
+      → AllByRecursion (λ a. GroupsApart a.1.info.imports.modules) all → AreKnown p (flat_map (λ a. a.1.required_exports) all) → AllByRecursion (λ a. IsModuleLinked (whole_of p) a.1.info) all → AllByRecursion (λ a. IsUserModule (whole_of p) a.1.info a.1.required_exports) all
   adapters_are [] ok is alone known links = tt
   adapters_are (a ∷ all) ok is alone known links =
       let here = is.0 in (

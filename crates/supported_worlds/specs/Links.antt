@@ -41,12 +41,12 @@ abbrev pub IsImportLinked : ComponentWorld → ValidatedModule → ImportType �
 IsImportLinked w m i = (role : Import) → role_at m.imports.modules i.module_name i.field ≡ Some role → IsTypeLinked w role i.ty
 
 -- each import of a module is given what it asks for
-pub record IsLinked (w : ComponentWorld) (m : ValidatedModule) : Type 0 where
+pub record IsModuleLinked (w : ComponentWorld) (m : ValidatedModule) : Type 0 where
   pub roles : AllByRecursion (λ i. IsRoleLinked w i.role) (imports_of m)
   pub types : AllByRecursion (IsImportLinked w m) m.imported
 
 -- so it is for main and for each adapter
 pub record AreLinked (p : WorldParts) : Type 0 where
   pub main_first : AllByRecursion (λ i. IsNotOfMain i.role) (imports_of p.main)
-  pub main : IsLinked (whole_of p) p.main
-  pub adapters : AllByRecursion (λ a. IsLinked (whole_of p) a.1.info) p.adapters
+  pub main : IsModuleLinked (whole_of p) p.main
+  pub adapters : AllByRecursion (λ a. IsModuleLinked (whole_of p) a.1.info) p.adapters
