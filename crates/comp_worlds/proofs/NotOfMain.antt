@@ -1,5 +1,5 @@
 -- Main imports no memory.
-use Rattle.std.proofs.Common.{◌≡◌, ℕ, List, [], ◌∷◌, map, Option, None, refl}
+use Rattle.std.proofs.Common.{◌≡◌, ℕ, List, [], ◌∷◌, map, None, refl}
 use Rattle.std.specs.List.{AllByRecursion, flat_map}
 use Rattle.comp_lists.proofs.Lists.{AllByRecursion-front, AllByRecursion-back}
 use Rattle.comp_roles.specs.CoreImports.{CoreImport, fields_of, imports_from}

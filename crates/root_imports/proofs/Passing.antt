@@ -1,5 +1,5 @@
 -- The tables of the root after a type of the world was imported and recorded.
-use Rattle.std.proofs.Common.{◌≡◌, ◌∙◌, ◌<◌, ◌&&◌, ◌==◌, ◌⊎◌, inl, inr, arith, ℕ, suc, Bool, true, false, true≢false, List, map, Option, Some, None, is_some, refl, ap, sym, subst, Contains}
+use Rattle.std.proofs.Common.{◌≡◌, ◌∙◌, ◌<◌, ◌==◌, ◌⊎◌, inl, inr, arith, ℕ, suc, Bool, true, false, true≢false, List, map, Option, Some, None, is_some, refl, ap, sym, subst, Contains}
 use Rattle.std.specs.Prelude.{nat_lt, Result, Ok, Err, OnOk, OnErr}
 use Rattle.std.specs.List.{AllByRecursion}
 use Rattle.std.proofs.lemmas.Bool.{lt-ltb, ltb-true, ltb-false}

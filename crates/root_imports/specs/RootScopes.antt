@@ -1,5 +1,5 @@
 -- The root of a component as a scope of types (component model, explainer: type definitions, import definitions).
-use Rattle.std.specs.Prelude.{ℕ, ◌+◌, ◌<◌, ◌≤◌, ◌||◌, ◌^◌, ◌≡◌, true, false, List, [], Option, Some, None}
+use Rattle.std.specs.Prelude.{ℕ, ◌+◌, ◌<◌, ◌≤◌, ◌||◌, ◌^◌, ◌≡◌, true, false, List, [], Option, None}
 use Rattle.std.specs.List.{AllByRecursion}
 use Rattle.byte_encoding.specs.declared.fault.BuildFault.{BuildFault}
 use Rattle.byte_encoding.specs.declared.fault.BuildFault.TheVariants.{Memory, TooMany}
