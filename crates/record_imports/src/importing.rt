@@ -71,10 +71,11 @@ fn read_all(
 /// and their fields first occur.
 ///
 /// An import that has no role, whose role names what the world does not have, or whose role is an
-/// export of another module that isn't among these, is refused as one without a role (`RoleMissing`). One whose type is not that of its role, or has anything but numbers,
-/// references to any function and limits of 32 bits, is refused by its field (`CoreType`). A module and
-/// field that are imported twice are refused by both names (`ImportTwice`). The only other refusal is
-/// out of memory. What main and the adapters export is not looked at here.
+/// export of another module that isn't among these, is refused as one without a role (`RoleMissing`). One
+/// whose type is not that of its role, or has anything but numbers, references to any function and limits
+/// of 32 bits, is refused by its field (`CoreType`). A module and field that are imported twice are refused
+/// by both names (`ImportTwice`). The only other refusal is out of memory. What main and the adapters
+/// export is not looked at here.
 ///
 /// What the imports name exists in the resolve, and the world imports each root function under its
 /// name, and each interface of which a function is called, which has that function.
