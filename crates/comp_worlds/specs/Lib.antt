@@ -6,6 +6,7 @@ pub mod WorldContents
 pub mod Offered
 pub mod Typed
 pub mod Worlds
+pub mod Made
 pub mod Encodable
 pub mod WorldTables
 pub mod ExportOrder

@@ -5,15 +5,23 @@ use denote.Ref.{Bor}
 use Rattle.comp_lists.specs.Found.{found}
 use Rattle.comp_roles.specs.Lookups.{Exports, first_export}
 use Rattle.comp_roles.specs.Reallocs.{is_general_realloc}
+use Rattle.comp_roles.specs.declared.libraries.MainOrAdapter.{MainOrAdapter}
+use Rattle.comp_roles.specs.declared.libraries.MainOrAdapter.TheVariants as users
 use Rattle.comp_worlds.specs.declared.modules.CustomModule.{CustomModule}
 use Rattle.comp_worlds.specs.declared.modules.CustomModule.TheVariants as modules
 use Rattle.comp_worlds.specs.declared.world.ComponentWorld.{ComponentWorld}
+use Rattle.comp_worlds.specs.declared.world.ValidatedModule.{ValidatedModule}
 use Rattle.comp_worlds.specs.declared.world.WorldAdapter.{WorldAdapter}
 
 -- a module: main has no name, an adapter has one
 abbrev pub module_name : CustomModule → Option (List ℕ)
 module_name modules.Main = None
 module_name (modules.Adapter name) = Some name.now
+
+-- what validation found of a module of the world
+abbrev pub found_module : ComponentWorld → MainOrAdapter → Option ValidatedModule
+found_module w users.Main = Some w.main
+found_module w (users.Adapter name) = option_map (λ (a : WorldAdapter). a.info) (found name w.adapters)
 
 abbrev pub is_library_adapter : Option WorldAdapter → Bool
 is_library_adapter None = false

@@ -1,37 +1,43 @@
--- What user modules give to each other: main its exports and its memory to all others, and an adapter its functions (core standard:
--- imports and exports; validation: import matching).
+-- What user modules give to each other: main its exports and its memory to all others, an adapter its functions, and any module its
+-- exports to the libraries that name it in their arguments (core standard: imports and exports; validation: import matching).
 use Rattle.std.specs.Prelude.{◌≡◌, ℕ, List, Some, true}
 use Rattle.comp_lists.specs.Found.{found}
 use Rattle.core_types.specs.declared.types.FuncType.{FuncType}
 use Rattle.core_types.specs.declared.types.MemoryType.{MemoryType}
 use Rattle.standard_kinds.specs.declared.kinds.ExportKind.{ExportKind}
-use Rattle.standard_kinds.specs.declared.kinds.ExportKind.TheVariants as kinds
 use Rattle.comp_roles.specs.Lookups.{first_memory}
 use Rattle.comp_roles.specs.Matching.{kind_of, matches, has_numbers}
+use Rattle.comp_roles.specs.declared.libraries.MainOrAdapter.{MainOrAdapter}
 use Rattle.comp_roles.specs.declared.offered.ExternType.{ExternType}
 use Rattle.comp_roles.specs.declared.offered.ExternType.TheVariants as externs
+use Rattle.comp_worlds.specs.Lookups.{found_module}
 use Rattle.comp_worlds.specs.declared.world.ComponentWorld.{ComponentWorld}
 use Rattle.comp_worlds.specs.declared.world.ValidatedModule.{ValidatedModule}
 use Rattle.comp_worlds.specs.declared.world.WorldAdapter.{WorldAdapter}
-
--- kinds of exports that are given to other modules so far
-abbrev pub IsGivenKind : ExportKind → Type 0
-IsGivenKind kinds.Func = Unit {0}
-IsGivenKind kinds.Memory = Unit {0}
-IsGivenKind kind = ⊥
 
 -- a module offers an item of this kind under this name
 pub record OffersItem (m : ValidatedModule) (name : List ℕ) (kind : ExportKind) : Type 0 where
   pub type : ExternType
   pub offered : found name m.offered ≡ Some type
   pub of_kind : kind_of type ≡ kind
-  pub given : IsGivenKind kind
 
 -- what it offers under this name matches an import of this type
 pub record OffersMatching (m : ValidatedModule) (name : List ℕ) (required : ExternType) : Type 0 where
   pub type : ExternType
   pub offered : found name m.offered ≡ Some type
   pub matching : matches required type ≡ true
+
+-- the module that a library names offers an item of this kind under this name
+pub record NamedOffers (w : ComponentWorld) (which : MainOrAdapter) (name : List ℕ) (kind : ExportKind) : Type 0 where
+  pub of : ValidatedModule
+  pub named : found_module w which ≡ Some of
+  pub offers : OffersItem of name kind
+
+-- what it offers under this name matches an import of this type
+pub record NamedMatches (w : ComponentWorld) (which : MainOrAdapter) (name : List ℕ) (required : ExternType) : Type 0 where
+  pub of : ValidatedModule
+  pub named : found_module w which ≡ Some of
+  pub matches : OffersMatching of name required
 
 -- the adapter of this name offers a function of this type, of numbers alone
 pub record AdapterOffers (w : ComponentWorld) (adapter name : List ℕ) (type : FuncType) : Type 0 where

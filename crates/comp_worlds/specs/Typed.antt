@@ -1,6 +1,6 @@
 -- The core types that roles require, and the types of a module's imports and exports as validation found them (Canonical
 -- ABI: `canon lower`, `canon lift`; core standard, validation: imports and exports).
-use Rattle.std.specs.Prelude.{◌≡◌, ℕ, List, [], ◌∷◌, map, Option, Some, None, option_map}
+use Rattle.std.specs.Prelude.{◌≡◌, ◌⊎◌, ℕ, List, [], ◌∷◌, map, Option, Some, None, option_map}
 use Rattle.std.specs.Map.{lookup}
 use Rattle.comp_lists.specs.Found.{found}
 use Rattle.wit_data.specs.Keys.{is_same_key}
@@ -20,7 +20,9 @@ use Rattle.comp_roles.specs.declared.offered.ExternType.{ExternType}
 use Rattle.comp_roles.specs.declared.offered.ExternType.TheVariants as externs
 use Rattle.comp_roles.specs.declared.offered.ImportType.{ImportType}
 use Rattle.world_values.specs.Items.{functions_of, root_function_at, function_of_item}
-use Rattle.comp_worlds.specs.Offered.{OffersMatching}
+use Rattle.comp_roles.specs.declared.imports.ImportInstance.TheVariants.{Whole}
+use Rattle.comp_roles.specs.declared.libraries.MainOrAdapter.{MainOrAdapter}
+use Rattle.comp_worlds.specs.Offered.{OffersMatching, NamedMatches}
 use Rattle.comp_worlds.specs.WorldContents.{items_of}
 use Rattle.comp_worlds.specs.declared.world.ComponentWorld.{ComponentWorld}
 use Rattle.comp_worlds.specs.declared.world.ValidatedModule.{ValidatedModule}
@@ -45,8 +47,8 @@ destructor_type = externs.Func (function_type (I32 ∷ []) [])
 abbrev pub post_return_type : Resolve → Function → ExternType
 post_return_type r f = externs.Func (function_type (map value_type (signature GuestExport r.types f).results) [])
 
--- the type that the role of an import, or of an export, requires, as far as such roles are encoded; an export of main is given where
--- it matches the import
+-- the type that the role of an import, or of an export, requires, as far as such roles are encoded; an export of main and an item of an
+-- argument are given where they match the import
 abbrev pub type_of_import : Resolve → World → Import → Option ExternType
 type_of_import r items (imports.WorldFunc key function abi) = option_map (called_type r abi) (root_function_at items.imports key)
 type_of_import r items (imports.InterfaceFunc key id function abi) = option_map (called_type r abi) (found function (functions_of r id))
@@ -74,13 +76,23 @@ type_of_export r items role = None
 -- an import of this type fits a role
 abbrev pub FitsRole : ComponentWorld → Import → ExternType → Type 0
 FitsRole w (imports.MainModuleExport name kind) type = OffersMatching w.main name type
+FitsRole w (imports.Item item) type = NamedMatches w item.which item.name type
 FitsRole w role type = type_of_import w.resolve (items_of w) role ≡ Some type
 
 -- an import that validation found has a role, which it fits
-pub record FitsImport (w : ComponentWorld) (m : ValidatedModule) (i : ImportType) : Type 0 where
+pub record FitsByRole (w : ComponentWorld) (m : ValidatedModule) (i : ImportType) : Type 0 where
   pub role : Import
   pub has_role : role_at m.imports.modules i.module_name i.field ≡ Some role
   pub fits : FitsRole w role i.ty
+
+-- it is from a module for which the whole instance of another one is given, which offers what matches it
+pub record FitsInstance (w : ComponentWorld) (m : ValidatedModule) (i : ImportType) : Type 0 where
+  pub which : MainOrAdapter
+  pub whole : found i.module_name m.imports.modules ≡ Some (Whole which)
+  pub offered : NamedMatches w which i.field i.ty
+
+abbrev pub FitsImport : ComponentWorld → ValidatedModule → ImportType → Type 0
+FitsImport w m i = FitsByRole w m i ⊎ FitsInstance w m i
 
 -- an export that has a role is one that validation found, of the type that its role requires
 pub record FitsExport (r : Resolve) (items : World) (m : ValidatedModule) (e : List ℕ × Export) : Type 0 where

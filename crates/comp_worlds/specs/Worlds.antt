@@ -30,7 +30,8 @@ use Rattle.comp_roles.specs.declared.exports.Export.TheVariants as exports
 use Rattle.comp_worlds.specs.declared.world.ComponentWorld.{ComponentWorld}
 use Rattle.comp_worlds.specs.declared.world.ValidatedModule.{ValidatedModule}
 use Rattle.world_values.specs.Items.{functions_of, functions_in}
-use Rattle.comp_worlds.specs.Offered.{OffersItem, AdapterOffers, MemoryMatches}
+use Rattle.comp_worlds.specs.Lookups.{found_module}
+use Rattle.comp_worlds.specs.Offered.{OffersItem, NamedOffers, AdapterOffers, MemoryMatches}
 use Rattle.comp_worlds.specs.Typed.{FitsImport, FitsExport}
 use Rattle.comp_worlds.specs.Uses.{imports_of}
 use Rattle.comp_worlds.specs.WorldContents.{items_of, imported_functions, exported_functions, exported_item, core_name_in, interface_at, keys_required}
@@ -86,8 +87,8 @@ pub record IsOwnResource (w : ComponentWorld) (key : WorldKey) (id : TypeId) : T
   pub required : Contains (keys_required w) key
 
 -- the role of an import is a function that the world imports, at its root or in an interface, called in the right form, the drop of a
--- resource, `resource.drop`, `resource.rep` or `resource.new` of a resource of an exported interface, main's memory, or what main or an
--- adapter offers
+-- resource, `resource.drop`, `resource.rep` or `resource.new` of a resource of an exported interface, main's memory, what main or an
+-- adapter offers, or an item of an argument of a library
 abbrev pub IsImportRole : ComponentWorld → Import → Type 0
 IsImportRole w (imports.WorldFunc (keys.Name text) function abi) = Contains (imported_functions w) text × (function ≡ text) × (abi ≡ GuestImport)
 IsImportRole w (imports.InterfaceFunc key id function abi) = Contains (items_of w).imports (key, items.Interface id) × Contains (map (λ e. e.0) (functions_of w.resolve id)) function × (abi ≡ GuestImport)
@@ -98,6 +99,7 @@ IsImportRole w (imports.ExportedResourceNew key id) = IsOwnResource w key id
 IsImportRole w (imports.MainModuleMemory type) = MemoryMatches w type
 IsImportRole w (imports.MainModuleExport name kind) = OffersItem w.main name kind
 IsImportRole w (imports.AdapterExport adapter name type) = AdapterOffers w adapter name type
+IsImportRole w (imports.Item item) = NamedOffers w item.which item.name item.kind
 IsImportRole w role = ⊥
 
 -- a function of the handles of an exported resource is for the module that has to export its interface
@@ -107,16 +109,21 @@ IsForOwnKey keys (imports.ExportedResourceRep key id) = Contains keys key
 IsForOwnKey keys (imports.ExportedResourceNew key id) = Contains keys key
 IsForOwnKey keys role = Unit {0}
 
--- main imports nothing of its own, so that it can be instantiated first
+-- the roles of the imports from one module, or the module whose instance satisfies all of them
+abbrev pub IsImportGroup : ComponentWorld → List ℕ × ImportInstance → Type 0
+IsImportGroup w (name, instances.Names fields) = IsDistinct bytes_eq (map (λ f. f.0) fields) × AllByRecursion (λ f. IsImportRole w f.1) fields
+IsImportGroup w (name, instances.Whole which) = IsSome (found_module w which)
+
+-- main imports nothing of its own, and is no library, so that it can be instantiated first
 abbrev pub IsNotOfMain : Import → Type 0
 IsNotOfMain (imports.MainModuleMemory type) = ⊥
 IsNotOfMain (imports.MainModuleExport name kind) = ⊥
+IsNotOfMain (imports.Item item) = ⊥
 IsNotOfMain role = Unit {0}
 
--- the roles of the imports from one module
-abbrev pub IsImportGroup : ComponentWorld → List ℕ × ImportInstance → Type 0
-IsImportGroup w (name, instances.Names fields) = IsDistinct bytes_eq (map (λ f. f.0) fields) × AllByRecursion (λ f. IsImportRole w f.1) fields
-IsImportGroup w (name, instances.Whole which) = ⊥
+abbrev pub IsFirstGroup : List ℕ × ImportInstance → Type 0
+IsFirstGroup (name, instances.Names fields) = AllByRecursion (λ f. IsNotOfMain f.1) fields
+IsFirstGroup (name, instances.Whole which) = ⊥
 
 -- the world exports an interface at a key, with a function of this name
 pub record ExportsFunctionOf (w : ComponentWorld) (key : WorldKey) (id : InterfaceId) (name : List ℕ) : Type 0 where
@@ -167,7 +174,7 @@ pub record IsWorld (w : ComponentWorld) : Type 0 where
   pub exports_named : AllByRecursion (IsExportNamed w.resolve) (items_of w).exports
   pub exported_interfaces_apart : IsDistinct bytes_eq (flat_map (interface_text w.resolve) (items_of w).exports)
   pub main : IsUserModule w w.main w.main_exports
-  pub main_first : AllByRecursion (λ i. IsNotOfMain i.role) (imports_of w.main)
+  pub main_first : AllByRecursion IsFirstGroup w.main.imports.modules
   pub adapters : AllByRecursion (λ a. IsUserModule w a.1.info a.1.required_exports) w.adapters
   -- adapters have names of their own, and no key has to be exported twice
   pub adapters_apart : IsDistinct bytes_eq (keys_of w.adapters)

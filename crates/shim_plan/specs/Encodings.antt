@@ -4,6 +4,7 @@ use Rattle.std.specs.List.{flat_map}
 use Rattle.standard_kinds.specs.declared.kinds.StringEncoding.{StringEncoding}
 use Rattle.comp_roles.specs.CoreImports.{CoreImport}
 use Rattle.comp_roles.specs.declared.libraries.MainOrAdapter.{MainOrAdapter}
+use Rattle.comp_worlds.specs.Lookups.{found_module}
 use Rattle.comp_worlds.specs.Uses.{imports_of}
 use Rattle.comp_worlds.specs.declared.lowerings.Lowering.{Lowering}
 use Rattle.comp_worlds.specs.declared.lowerings.Lowering.TheVariants as lowerings
@@ -12,7 +13,7 @@ use Rattle.comp_worlds.specs.declared.world.ValidatedModule.{ValidatedModule}
 use Rattle.shim_plan.specs.declared.fault.ShimFault.{ShimFault}
 use Rattle.shim_plan.specs.declared.fault.ShimFault.TheVariants as faults
 use Rattle.shim_plan.specs.declared.calls.FunctionCall.{FunctionCall}
-use Rattle.shim_plan.specs.Needed.{call_of, lowering_of_call, encoding_of_call, found_module}
+use Rattle.shim_plan.specs.Needed.{call_of, lowering_of_call, encoding_of_call}
 
 -- the place of a core import: `module::field`
 abbrev pub place_of : CoreImport → List ℕ

@@ -24,7 +24,7 @@ use Rattle.comp_roles.specs.declared.libraries.MainOrAdapter.TheVariants as user
 use Rattle.comp_options.specs.Options.{needs}
 use Rattle.comp_options.specs.declared.required.RequiredOptions.{RequiredOptions}
 use Rattle.comp_worlds.specs.Imported.{is_same_import_key}
-use Rattle.comp_worlds.specs.Lookups.{resolved_realloc}
+use Rattle.comp_worlds.specs.Lookups.{found_module, resolved_realloc}
 use Rattle.comp_worlds.specs.Lowerings.{is_same_lowering}
 use Rattle.comp_worlds.specs.Uses.{imports_of}
 use Rattle.comp_worlds.specs.WorldContents.{name_at}
@@ -33,7 +33,6 @@ use Rattle.comp_worlds.specs.declared.lowerings.Lowering.{Lowering}
 use Rattle.comp_worlds.specs.declared.lowerings.Lowering.TheVariants as lowerings
 use Rattle.comp_worlds.specs.declared.world.ComponentWorld.{ComponentWorld}
 use Rattle.comp_worlds.specs.declared.world.ValidatedModule.{ValidatedModule}
-use Rattle.comp_worlds.specs.declared.world.WorldAdapter.{WorldAdapter}
 use Rattle.shim_plan.specs.Adapted.{Adapted, adapted_of, adapted_needs}
 use Rattle.shim_plan.specs.declared.calls.FunctionCall.{FunctionCall}
 use Rattle.shim_plan.specs.declared.kinds.ShimKind.TheVariants as kinds
@@ -56,11 +55,6 @@ module_of_name (Some name) = users.Adapter name
 abbrev pub module_text : MainOrAdapter → List ℕ
 module_text users.Main = codes "main"
 module_text (users.Adapter name) = name
-
--- what validation found of a module of the world
-abbrev pub found_module : ComponentWorld → MainOrAdapter → Option ValidatedModule
-found_module w users.Main = Some w.main
-found_module w (users.Adapter name) = option_map (λ (a : WorldAdapter). a.info) (found name w.adapters)
 
 -- ---- reallocs
 

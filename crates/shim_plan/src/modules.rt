@@ -2,6 +2,7 @@
 
 ghost use Rattle.std.specs.Prelude.{◌≡◌, IfOk};
 ghost use Rattle.std.specs.Option.{option_copied};
+ghost use Rattle.comp_worlds.specs.Lookups as lookups;
 ghost use Rattle.comp_worlds.specs.Lookups.{module_name, lent_export};
 ghost use Rattle.shim_plan.specs.Needed as specs;
 
@@ -24,7 +25,7 @@ pub(crate) fn found_module<'a>(
     world: &'a ComponentWorld,
     which: &MainOrAdapter,
 ) -> Option<&'a ValidatedModule>
-    ensures { option_copied result ≡ specs.found_module world.now which.now }
+    ensures { option_copied result ≡ lookups.found_module world.now which.now }
 {
     match which {
         MainOrAdapter::Main => Some(&world.main),

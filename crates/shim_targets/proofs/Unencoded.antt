@@ -18,7 +18,8 @@ use Rattle.comp_worlds.specs.declared.lowerings.LoweringKey.{LoweringKey}
 use Rattle.comp_worlds.specs.declared.world.ComponentWorld.{ComponentWorld}
 use Rattle.comp_worlds.specs.declared.world.ValidatedModule.{ValidatedModule}
 use Rattle.shim_plan.specs.Encodings.{place_of, unencoded_if, unencoded_lowering, unencoded_import, unencoded_in, unencoded}
-use Rattle.shim_plan.specs.Needed.{lowering_of_call, found_module}
+use Rattle.comp_worlds.specs.Lookups.{found_module}
+use Rattle.shim_plan.specs.Needed.{lowering_of_call}
 use Rattle.world_shims.specs.WorldShims.{modules_in}
 use Rattle.comp_links.specs.Links.{module_of}
 use Rattle.comp_links.specs.Modules.{UserImport, module_found, user_imports}

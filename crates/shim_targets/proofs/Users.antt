@@ -17,7 +17,8 @@ use Rattle.comp_worlds.specs.Worlds.{IsWorld, IsUserModule}
 use Rattle.comp_worlds.specs.declared.world.ComponentWorld.{ComponentWorld}
 use Rattle.comp_worlds.specs.declared.world.ValidatedModule.{ValidatedModule}
 use Rattle.comp_worlds.specs.declared.world.WorldAdapter.{WorldAdapter}
-use Rattle.shim_plan.specs.Needed.{found_module, needs_of, needed}
+use Rattle.comp_worlds.specs.Lookups.{found_module}
+use Rattle.shim_plan.specs.Needed.{needs_of, needed}
 use Rattle.shim_plan.specs.declared.needs.NeededShim.{NeededShim}
 use Rattle.world_shims.specs.WorldShims.{adapter_at, modules_in}
 use Rattle.comp_links.specs.Links.{module_of}
