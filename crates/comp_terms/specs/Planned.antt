@@ -15,9 +15,10 @@ use Rattle.comp_bytes.specs.declared.def.Def.TheVariants as defs
 use Rattle.standard_kinds.specs.declared.kinds.ExportKind.TheVariants as kinds
 use Rattle.core_types.specs.declared.types.MemoryType.{MemoryType}
 use Rattle.comp_roles.specs.Lookups.{first_memory}
-use Rattle.comp_roles.specs.CoreImports.{fields_of}
 use Rattle.comp_roles.specs.declared.imports.Import.{Import}
 use Rattle.comp_roles.specs.declared.imports.ImportInstance.{ImportInstance}
+use Rattle.comp_roles.specs.declared.imports.ImportInstance.TheVariants as instances
+use Rattle.comp_roles.specs.declared.libraries.MainOrAdapter.{MainOrAdapter}
 use Rattle.comp_worlds.specs.declared.world.ComponentWorld.{ComponentWorld}
 use Rattle.wit_data.specs.declared.functions.Function.{Function as WitFunction}
 use Rattle.comp_trees.specs.Trees.{FunctionTree}
@@ -26,12 +27,12 @@ use Rattle.comp_links.specs.Targets.{UserModule, ExportRef, WorldFunction, Targe
 use Rattle.comp_links.specs.Targets as targets
 use Rattle.comp_links.specs.Modules.{IsModule, function_imported}
 use Rattle.comp_links.specs.Lists.{IsOriginOf, resource_of}
-use Rattle.comp_links.specs.Links.{link_of}
+use Rattle.comp_links.specs.Links.{link_of, module_of}
 use Rattle.comp_links.specs.Roles.{IsSuppliedImport}
 use Rattle.shim_plan.specs.declared.shims.Shim.{Shim}
 use Rattle.world_shims.specs.WorldShims.{shims_of}
 use Rattle.comp_terms.specs.Generated.{shims_number, Purpose, target_of, HasPurpose}
-use Rattle.comp_terms.specs.Terms.{CoreExport, TermOption, Term, IsExported, IsLifting, Is}
+use Rattle.comp_terms.specs.Terms.{CoreExport, TermOption, Term, IsInstanceOf, IsExported, IsLifting, Is}
 use Rattle.comp_terms.specs.Terms as terms
 
 -- an export of a user module
@@ -115,10 +116,21 @@ pub record IsInlineInstanceFor (w : ComponentWorld) (of : UserModule) (ds : List
   pub made : IsAt ds spaces.CoreInstance index (defs.Item (items.CoreExports entries))
   pub each : AllZip (IsEntryFor w of ds) entries fields
 
+-- the core instance is one of this user module
+pub record IsInstanceFor (w : ComponentWorld) (ds : List Def) (index : ℕ) (which : MainOrAdapter) : Type 0 where
+  pub number : ℕ
+  pub of : IsModule w number (module_of which)
+  pub is : IsInstanceOf ds index number
+
+-- it satisfies the imports of a user module from one other
+abbrev pub SatisfiesImports : ComponentWorld → UserModule → List Def → ℕ → ImportInstance → Type 0
+SatisfiesImports w of ds index (instances.Names fields) = IsInlineInstanceFor w of ds index fields
+SatisfiesImports w of ds index (instances.Whole which) = IsInstanceFor w ds index which
+
 -- the argument has what the imports from this module are given
 pub record IsArgumentFor (w : ComponentWorld) (of : UserModule) (ds : List Def) (a : CoreArgument) (group : List ℕ × ImportInstance) : Type 0 where
   pub named : a.name ≡ group.0
-  pub serves : IsInlineInstanceFor w of ds a.instance (fields_of group.1)
+  pub serves : SatisfiesImports w of ds a.instance group.1
 
 -- ---- what the fixup is given
 

@@ -38,8 +38,8 @@ use Rattle.comp_trees.specs.Trees.{Origin, Resource, ImportedAt, DefinedAt, Reso
 use Rattle.comp_trees.specs.DefinedTrees.{TypeTree, OfValues, OfOthers, defined_tree, function_tree}
 use Rattle.comp_trees.specs.Members.{AreMembersRight, exports_name}
 use Rattle.comp_inventories.specs.Inventories.{OfInstances, ImportedInstance, NestedInstance, surroundings_of, inventory, scope_of}
+use Rattle.comp_roles.specs.Matching.{kind_of}
 use Rattle.comp_roles.specs.declared.offered.ExternType.{ExternType}
-use Rattle.comp_roles.specs.declared.offered.ExternType.TheVariants as externs
 use Rattle.wit_data.specs.declared.worlds.WorldItem.{WorldItem}
 use Rattle.wit_data.specs.declared.worlds.WorldItem.TheVariants as world_items
 use Rattle.wit_data.specs.declared.worlds.WorldKey.{WorldKey}
@@ -132,12 +132,6 @@ pub record InstantiatesFixup (w : ComponentWorld) (earlier : List Def) (number :
 abbrev pub InstantiatesModule : ComponentWorld → List Def → ℕ → List CoreArgument → Type 0
 InstantiatesModule w earlier number arguments = InstantiatesUser w earlier number arguments ⊎ InstantiatesShims w earlier number arguments ⊎ InstantiatesFixup w earlier number arguments
 
--- a function, or a memory
-abbrev pub IsOfKind : ExportKind → ExternType → Type 0
-IsOfKind kinds.Func (externs.Func type) = Unit {0}
-IsOfKind kinds.Memory (externs.Memory type) = Unit {0}
-IsOfKind kind type = ⊥
-
 -- an alias of a core export: what validation found among the exports of a user module
 pub record AliasesUser (w : ComponentWorld) (earlier : List Def) (kind : ExportKind) (instance : ℕ) (name : List ℕ) : Type 0 where
   pub number : ℕ
@@ -146,7 +140,7 @@ pub record AliasesUser (w : ComponentWorld) (earlier : List Def) (kind : ExportK
   pub is : Is earlier spaces.CoreInstance instance (InstanceTerm number)
   pub listed : slice_get (user_modules w) number ≡ Some of
   pub offered : found name of.found.offered ≡ Some type
-  pub of_kind : IsOfKind kind type
+  pub of_kind : kind_of type ≡ kind
 
 -- an alias of a shim, by its place
 pub record AliasesShim (w : ComponentWorld) (earlier : List Def) (kind : ExportKind) (instance : ℕ) (name : List ℕ) : Type 0 where

@@ -4,6 +4,7 @@ use Rattle.std.specs.Cmp.Lexicographic.{pointwise}
 use Rattle.core_types.specs.contracts.types.FuncTypePartialEq.TheImpl as same_function
 use Rattle.core_types.specs.contracts.types.ValTypePartialEq.TheImpl as same_value
 use Rattle.core_types.specs.declared.types.FuncType.{FuncType}
+use Rattle.core_types.specs.declared.types.GlobalType.{GlobalType}
 use Rattle.core_types.specs.declared.types.ValType.{ValType}
 use Rattle.comp_roles.specs.Matching.{kind_of, matches}
 use Rattle.comp_roles.specs.declared.offered.ExternType.{ExternType}
@@ -50,6 +51,10 @@ matched_function (externs.Func g) f e = ap externs.Func (one_function g f e)
 matched_function (externs.Table t) f e = absurd (true≢false (sym e))
 matched_function (externs.Memory m) f e = absurd (true≢false (sym e))
 matched_function (externs.Global g) f e = absurd (true≢false (sym e))
+
+-- a global is given for an import of its own type alone, so that both hold values of one type
+pub matched_value : (g h : GlobalType) → matches (externs.Global g) (externs.Global h) ≡ true → g.val_type ≡ h.val_type
+matched_value g h e = search rules
 
 -- what is given is of the kind of the import
 pub matched_kind : (required offered : ExternType) → matches required offered ≡ true → kind_of required ≡ kind_of offered

@@ -29,7 +29,7 @@ found-all {X} P name (z ∷ xs) x h e = by (λ g. found-all P name xs x h.1 g) (
 -- a role that is found is one of a world
 group_right : (w : ComponentWorld) (name field : List ℕ) (instance : ImportInstance) (role : Import) → IsImportGroup w (name, instance) → found field (fields_of instance) ≡ Some role → IsImportRole w role
 group_right w name field (instances.Names fields) role h e = (found-all (λ f. IsImportRole w f.1) field fields role h.1 e).1
-group_right w name field (instances.Whole which) role h e = absurd h
+group_right w name field (instances.Whole which) role h e = absurd (none-some role e)
 
 pub role_right : (w : ComponentWorld) (roles : List (List ℕ × ImportInstance)) (name field : List ℕ) (role : Import) → AllByRecursion (IsImportGroup w) roles → role_at roles name field ≡ Some role → IsImportRole w role
 role_right w roles name field role h e =

@@ -12,6 +12,7 @@ use Rattle.comp_lists.proofs.Lists.{AllZip-at, AllZip-weaker, there}
 use Rattle.comp_bytes.specs.Spaces.{kind_space, is_space, space_of, items_in}
 use Rattle.comp_bytes.specs.ItemIndices.{in_space, IsAt}
 use Rattle.core_types.specs.declared.types.FuncType.{FuncType}
+use Rattle.core_types.specs.declared.types.ValType.{ValType}
 use Rattle.core_types.specs.declared.types.MemoryType.{MemoryType}
 use Rattle.core_runs.specs.Store.{Func, Now, signature_of}
 use Rattle.comp_bytes.specs.declared.space.Space.{Space}
@@ -31,6 +32,7 @@ use Rattle.comp_trees.specs.DefinedScopes.{Denotes}
 use Rattle.comp_inventories.specs.Inventories.{TypeEntry, OfInstances, FunctionEntry, InstanceEntry, entry_tree, no_function, inventory, scope_of}
 use Rattle.comp_worlds.specs.declared.world.ComponentWorld.{ComponentWorld}
 use Rattle.comp_runs.specs.Store.{Thing, Export, HeldOption, HeldEncoding, HeldMemory, HeldRealloc, HeldPostReturn, HeldAsync, HeldCallback, Lowering, ExportedBy, Function, Imported, Lifting, TypeItem, TreeOf, tree_held, Store}
+use Rattle.comp_roles.specs.Matching.{kind_of}
 use Rattle.comp_roles.specs.declared.offered.ExternType.{ExternType}
 use Rattle.comp_roles.specs.declared.offered.ExternType.TheVariants as externs
 use Rattle.wit_data.specs.declared.ids.TypeId.{TypeId}
@@ -48,7 +50,6 @@ use Rattle.comp_terms.specs.Generated.{shims_number, fixup_number}
 use Rattle.comp_terms.specs.Terms.{CoreExport, TermOption, Term, Is, IsFunctionType, IsImportedFunction, IsInstanceOf, IsExported, IsOption, IsLowering, IsOfResource, intrinsic_of, IsLifting}
 use Rattle.comp_terms.specs.Terms as terms
 use Rattle.comp_terms.specs.Planned.{IsExportFor, IsMemoryFor, IsOptionFor, IsTypeOf, IsTermFor, IsItemFor, IsShimFor, IsLiftFor}
-use Rattle.comp_terms.specs.Rules.{IsOfKind}
 use Rattle.comp_runs.specs.Machine.{Scope, address_at, is_of, export_named, export_in, export_of}
 use Rattle.comp_runs.specs.Instances.{type_space, type_at}
 use Rattle.comp_runs.specs.Signatures.{core_signature}
@@ -57,7 +58,7 @@ use Rattle.instance_laws.specs.InstanceEntries.{IsInstanceType, IsInstanceEntry}
 use Rattle.instance_laws.proofs.Held.{trees_of_held, held_of_entries, IsTypeThere, type_there as held_at, item_of_functions}
 use Rattle.link_laws.proofs.Zips.{AllZip-filter, AllZip-back, mapped_some, filter-both, found-zip, found-each}
 use Rattle.link_laws.proofs.Plain.{named_main}
-use Rattle.link_laws.proofs.Stores.{IsOpaqueOf, IsUserItem, IsUserExport, IsUserInstance, ShimsAt, AreModuleExports, IsModuleInstance, NamesUser, IsLoweredItem, IsTypeAt, IsResourceItem, IsLiftedItem, IsAliasedItem, DefIs, Means, makes, IsTypeEntry, entry_of, IsFunctionEntry, IsInstanceThing, IsLoweredFor, IsFunctionOf, IsFunctionExported, IsMemoryExported, IsServedAs, IsServedIn, main_module, IsShimGivenAt, IsShimGiven, MayHaveShims, AreShims, IsFirstMemory, IsHeldOption, IsOptionHeld, IsCoreExportAt, IsLiftedFrom, Agrees}
+use Rattle.link_laws.proofs.Stores.{IsOpaqueOf, IsUserItem, IsUserExport, IsUserInstance, ShimsAt, AreModuleExports, IsModuleInstance, NamesUser, IsLoweredItem, IsTypeAt, IsResourceItem, IsLiftedItem, IsAliasedItem, DefIs, Means, makes, IsTypeEntry, entry_of, IsFunctionEntry, IsInstanceThing, IsLoweredFor, IsFunctionOf, IsFunctionExported, IsItemTyped, IsItemExported, IsServedAs, IsServedIn, main_module, IsShimGivenAt, IsShimGiven, MayHaveShims, AreShims, IsFirstMemory, IsHeldOption, IsOptionHeld, IsCoreExportAt, IsLiftedFrom, Agrees}
 
 makes-space : (space : Space) (d : Def) → is_space space (space_of d) ≡ true → makes d ≡ true
 makes-space space d e = by (space_of d) e
@@ -75,10 +76,10 @@ found_name name es e h = (found-each (λ (e : Export). e.name) (λ (e : Export).
     all_there (e ∷ es) = (tt, all_there es)
 
 -- exports of a user instance by their names, with the types that validation found
-abbrev IsOfType : Store → ℕ → Export → ExternType → Type 0
+abbrev pub IsOfType : Store → ℕ → Export → ExternType → Type 0
 IsOfType s user e type = (e.space ≡ type_space type) × IsUserItem s user e type
 
-exports_named : (s : Store) (user : ℕ) (es : List Export) (os : List (List ℕ × ExternType)) → AllZip (IsUserExport s user) es os →
+pub exports_named : (s : Store) (user : ℕ) (es : List Export) (os : List (List ℕ × ExternType)) → AllZip (IsUserExport s user) es os →
     AllZip (λ (x : List ℕ × Export) (z : List ℕ × ExternType). (x.0 ≡ z.0) × IsOfType s user x.1 z.1) (map (λ (e : Export). (e.name, e)) es) os
 exports_named s user [] [] k = tt
 exports_named s user (e ∷ es) (o ∷ os) k = ((k.0.named, (k.0.space, k.0.is)), exports_named s user es os k.1)
@@ -112,35 +113,47 @@ same_type_at {things} {s} {kind} {t} {u} h k =
     ap (function_in_tree u) (same_Some (TreeOf (OfFunctions t)) (TreeOf (OfFunctions u)) both)
 
 -- what validation found of a kind
-type_of_function_kind : (type : ExternType) → IsOfKind kinds.Func type → (t : FuncType) × (type ≡ externs.Func t)
-type_of_function_kind (externs.Func t) h = (t, refl)
-type_of_function_kind type h = absurd h
+type_of_function_kind : (type : ExternType) → kind_of type ≡ kinds.Func → (t : FuncType) × (type ≡ externs.Func t)
+type_of_function_kind (externs.Func t) e = (t, refl)
+type_of_function_kind (externs.Table t) e = cc
+type_of_function_kind (externs.Memory t) e = cc
+type_of_function_kind (externs.Global t) e = cc
 
-type_of_memory_kind : (type : ExternType) → IsOfKind kinds.Memory type → (t : MemoryType) × (type ≡ externs.Memory t)
-type_of_memory_kind (externs.Memory t) h = (t, refl)
-type_of_memory_kind type h = absurd h
+-- the type of an item in the space of memories
+memory_of_space : (type : ExternType) → type_space type ≡ spaces.CoreMemory → (t : MemoryType) × (type ≡ externs.Memory t)
+memory_of_space (externs.Memory t) e = (t, refl)
+memory_of_space (externs.Func t) e = cc
+memory_of_space (externs.Table t) e = cc
+memory_of_space (externs.Global t) e = cc
 
-pub space_of_kind : (kind : ExportKind) (type : ExternType) → IsOfKind kind type → type_space type ≡ kind_space kind
-space_of_kind kinds.Func (externs.Func t) h = refl
-space_of_kind kinds.Memory (externs.Memory t) h = refl
-space_of_kind kind type h = absurd h
+pub space_of_kind : (kind : ExportKind) (type : ExternType) → kind_of type ≡ kind → type_space type ≡ kind_space kind
+space_of_kind kind (externs.Func t) e = ap kind_space e
+space_of_kind kind (externs.Table t) e = ap kind_space e
+space_of_kind kind (externs.Memory t) e = ap kind_space e
+space_of_kind kind (externs.Global t) e = ap kind_space e
+
+-- what is at the address of an export that is no function
+item_typed : (s : Store) (user : ℕ) (e : Export) (type : ExternType) → (kind_of type ≡ kinds.Func → ⊥) → IsUserItem s user e type → IsItemTyped s e.address type
+item_typed s user e (externs.Func t) other h = absurd (other refl)
+item_typed s user e (externs.Table t) other h = h
+item_typed s user e (externs.Memory t) other h = h
+item_typed s user e (externs.Global t) other h = h
 
 -- an export is equal to the record of its parts
 pub by_parts : (e : Export) (space : Space) (name : List ℕ) → e.space ≡ space → e.name ≡ name → e ≡ record { space = space; name = name; address = e.address }
 by_parts e space name same_space same_name = rw (← same_space, ← same_name) refl
 
--- a memory that is found by its name is found among the memories
-memory_named : (name : List ℕ) (es : List Export) (e : Export) → export_named name es ≡ Some e → e.space ≡ spaces.CoreMemory → export_of spaces.CoreMemory name es ≡ Some e
-memory_named name [] e h memory = h
-memory_named name (x ∷ es) e h memory = by (bytes_eq name x.name) (export_in spaces.CoreMemory x) refl refl (λ k. memory_named name es e k memory) h
+-- an export that is found by its name is found among those of its space
+pub named_in_space : (space : Space) → is_space space (Some space) ≡ true → (name : List ℕ) (es : List Export) (e : Export) → export_named name es ≡ Some e → e.space ≡ space → export_of space name es ≡ Some e
+named_in_space space own name [] e h same = h
+named_in_space space own name (x ∷ es) e h same = by (bytes_eq name x.name) (export_in space x) refl refl (λ k. named_in_space space own name es e k same) h
   where
-    by : (named inside : Bool) → bytes_eq name x.name ≡ named → export_in spaces.CoreMemory x ≡ inside → (export_named name es ≡ Some e → export_of spaces.CoreMemory name es ≡ Some e) → cond named (Some x) (export_named name es) ≡ Some e →
-        export_of spaces.CoreMemory name (x ∷ es) ≡ Some e
+    by : (named inside : Bool) → bytes_eq name x.name ≡ named → export_in space x ≡ inside → (export_named name es ≡ Some e → export_of space name es ≡ Some e) → cond named (Some x) (export_named name es) ≡ Some e → export_of space name (x ∷ es) ≡ Some e
     by true true n i rest k = rw (i, n) k
     by false true n i rest k = rw (i, n) (rest k)
     by false false n i rest k = rw i (rest k)
     by true false n i rest k =
-        let is : export_in spaces.CoreMemory x ≡ true = ap (λ (y : Export). export_in spaces.CoreMemory y) (same_Some x e k) ∙ ap (λ space. is_space spaces.CoreMemory (Some space)) memory in
+        let is : export_in space x ≡ true = ap (λ (y : Export). export_in space y) (same_Some x e k) ∙ (ap (λ other. is_space space (Some other)) same ∙ own) in
         absurd (true≢false (sym is ∙ i))
 
 -- ---- instances of modules by their numbers
@@ -200,33 +213,31 @@ pub record IsFunctionTyped (s : Store) (address : ℕ) (type : FuncType) : Type 
   pub present : slice_get s.code.functions address ≡ Some function
   pub typed : signature_of function ≡ type
 
--- a memory is of one kind, and so is a core function
-pub memory_kind : (kind : ExportKind) → kind_space kind ≡ spaces.CoreMemory → kind ≡ kinds.Memory
-memory_kind kinds.Memory e = refl
-memory_kind kinds.Func e = cc
-memory_kind kinds.Table e = cc
-memory_kind kinds.Global e = cc
-
--- tables and globals have no rule yet
-not_table : (kind : ExportKind) → kind_space kind ≡ spaces.CoreTable → (type : ExternType) → IsOfKind kind type → ⊥
-not_table kinds.Table e type h = h
-not_table kinds.Func e type h = cc
-not_table kinds.Memory e type h = cc
-not_table kinds.Global e type h = cc
-
-not_global : (kind : ExportKind) → kind_space kind ≡ spaces.CoreGlobal → (type : ExternType) → IsOfKind kind type → ⊥
-not_global kinds.Global e type h = h
-not_global kinds.Func e type h = cc
-not_global kinds.Memory e type h = cc
-not_global kinds.Table e type h = cc
-
+-- a core function is of one kind
 pub func_kind : (kind : ExportKind) → kind_space kind ≡ spaces.CoreFunc → kind ≡ kinds.Func
 func_kind kinds.Func e = refl
 func_kind kinds.Table e = cc
 func_kind kinds.Memory e = cc
 func_kind kinds.Global e = cc
 
-module _ {w : ComponentWorld} {earlier : List Def} {c : Scope} {s : Store} (a : Agrees w earlier c s) where
+-- a table is no function, nor is a memory or a global
+pub table_apart : spaces.CoreTable ≡ spaces.CoreFunc → ⊥
+table_apart e = cc
+
+pub memory_apart : spaces.CoreMemory ≡ spaces.CoreFunc → ⊥
+memory_apart e = cc
+
+pub global_apart : spaces.CoreGlobal ≡ spaces.CoreFunc → ⊥
+global_apart e = cc
+
+-- a table or a global is no memory
+no_table_memory : (kind : ExportKind) → kind ≡ kinds.Memory → spaces.CoreTable ≡ kind_space kind → ⊥
+no_table_memory kind same e = let no : spaces.CoreTable ≡ spaces.CoreMemory = e ∙ ap kind_space same in cc
+
+no_global_memory : (kind : ExportKind) → kind ≡ kinds.Memory → spaces.CoreGlobal ≡ kind_space kind → ⊥
+no_global_memory kind same e = let no : spaces.CoreGlobal ≡ spaces.CoreMemory = e ∙ ap kind_space same in cc
+
+module _ {w : ComponentWorld} {earlier : List Def} {c : Scope} {s : Store} {g : List ValType} (a : Agrees w earlier c s g) where
   defined_there : (space : Space) (index : ℕ) → index < items_in space earlier → (d : Def) × (slice_get (in_space space earlier) index ≡ Some d)
   defined_there space index l =
       let counted : length (in_space space earlier) ≡ items_in space earlier = length-filter (λ d. is_space space (space_of d)) earlier in
@@ -402,7 +413,7 @@ module _ {w : ComponentWorld} {earlier : List Def} {c : Scope} {s : Store} (a : 
   function_exported {index} {e} {export_ref} function asked h =
       let from : WorldModule = asked.of.world_module in
       let x : IsCoreExportAt from c.items s index e = exported_there from asked.of.listed h in
-      let type : (t : FuncType) × (x.type ≡ externs.Func t) = type_of_function_kind x.type (subst (λ kind. IsOfKind kind x.type) function x.of_kind) in
+      let type : (t : FuncType) × (x.type ≡ externs.Func t) = type_of_function_kind x.type (x.of_kind ∙ function) in
       let opaque : IsOpaqueOf s x.export.address type.0 (ExportedBy x.user x.export.name) = subst (IsUserItem s x.user x.export) type.1 x.item in
       let renamed : IsOpaqueOf s x.export.address type.0 (ExportedBy x.user export_ref.name) = subst (λ t. IsOpaqueOf s x.export.address type.0 (ExportedBy x.user t)) (x.named ∙ asked.named) opaque in (
         x.address,
@@ -418,42 +429,47 @@ module _ {w : ComponentWorld} {earlier : List Def} {c : Scope} {s : Store} (a : 
         },
       )
 
-  -- an alias of a memory that a user module exports is that memory
-  memory_aliased : {index : ℕ} {e : CoreExport} {export_ref : ExportRef} → e.kind ≡ kinds.Memory → IsExportFor w e export_ref → IsExported earlier index e →
-      (x : ℕ) × (address_at spaces.CoreMemory index c.items ≡ Some x) × IsMemoryExported w s x export_ref
-  memory_aliased {index} {e} {export_ref} memory asked h =
+  -- an alias of an export of a user module that is no function is that item
+  item_aliased : {index : ℕ} {e : CoreExport} {export_ref : ExportRef} → (e.kind ≡ kinds.Func → ⊥) → IsExportFor w e export_ref → IsExported earlier index e →
+      (x : ℕ) × (address_at (kind_space e.kind) index c.items ≡ Some x) × IsItemExported w s (kind_space e.kind) x export_ref
+  item_aliased {index} {e} {export_ref} other asked h =
       let from : WorldModule = asked.of.world_module in
+      let space : Space = kind_space e.kind in
       let x : IsCoreExportAt from c.items s index e = exported_there from asked.of.listed h in
-      let type : (t : MemoryType) × (x.type ≡ externs.Memory t) = type_of_memory_kind x.type (subst (λ kind. IsOfKind kind x.type) memory x.of_kind) in
-      let space : x.export.space ≡ spaces.CoreMemory = x.space ∙ (space_of_kind e.kind x.type x.of_kind ∙ ap kind_space memory) in
-      let exported : Export = record { space = spaces.CoreMemory; name = export_ref.name; address = x.address } in
+      let in_space : type_space x.type ≡ space = space_of_kind e.kind x.type x.of_kind in
+      let exported : Export = record { space = space; name = export_ref.name; address = x.address } in
       let whole : x.export ≡ exported =
-      by_parts x.export spaces.CoreMemory export_ref.name space (x.named ∙ asked.named) ∙ ap (λ n. record { space = spaces.CoreMemory; name = export_ref.name; address = n }) x.is in
-      let there : export_named export_ref.name x.of.instance.exports ≡ Some exported =
-      ap (λ n. export_named n x.of.instance.exports) (sym asked.named) ∙ (x.found ∙ ap (λ (y : Export). Some y) whole) in
-      let present : slice_get s.code.memories x.export.address ≡ Some type.0 = subst (IsUserItem s x.user x.export) type.1 x.item in (
+      by_parts x.export space export_ref.name (x.space ∙ in_space) (x.named ∙ asked.named) ∙ ap (λ n. record { space = space; name = export_ref.name; address = n }) x.is in (
         x.address,
-        subst (λ kind. address_at (kind_space kind) index c.items ≡ Some x.address) memory x.at,
+        x.at,
         record {
           number = e.of;
           of = asked.of;
           user = x.user;
           instance = x.of;
-          exported = memory_named export_ref.name x.of.instance.exports exported there refl;
-          type = type.0;
-          is = subst (λ n. slice_get s.code.memories n ≡ Some type.0) x.is present;
-          offered = ap (λ n. found n from.found.offered) (sym asked.named) ∙ x.offered ∙ ap (λ (t : ExternType). Some t) type.1;
+          exported = ap (λ n. export_named n x.of.instance.exports) (sym asked.named) ∙ (x.found ∙ ap (λ (y : Export). Some y) whole);
+          type = x.type;
+          in_space = in_space;
+          is = subst (λ n. IsItemTyped s n x.type) x.is (item_typed s x.user x.export x.type (λ f. other (sym x.of_kind ∙ f)) x.item);
+          offered = ap (λ n. found n from.found.offered) (sym asked.named) ∙ x.offered;
         },
       )
+
+  item_in : (space : Space) {index : ℕ} {e : CoreExport} {export_ref : ExportRef} → (space ≡ spaces.CoreFunc → ⊥) → space ≡ kind_space e.kind → IsExportFor w e export_ref → IsExported earlier index e →
+      (x : ℕ) × (address_at space index c.items ≡ Some x) × IsItemExported w s space x export_ref
+  item_in space {index} {e} {export_ref} other same asked h =
+      subst (λ in_space. (x : ℕ) × (address_at in_space index c.items ≡ Some x) × IsItemExported w s in_space x export_ref) (sym same) (item_aliased (λ f. other (same ∙ ap kind_space f)) asked h)
 
   -- an alias of the first memory that main exports is that memory
   memory_exported : {index : ℕ} {e : CoreExport} → e.kind ≡ kinds.Memory → IsMemoryFor w e → IsExported earlier index e →
       (x : ℕ) × (address_at spaces.CoreMemory index c.items ≡ Some x) × IsFirstMemory w s x
   memory_exported {index} {e} memory asked h =
-      let named : IsExportFor w e (record { of = targets.Main; name = e.name }) = record { of = asked.of; named = refl } in
-      let x : (x : ℕ) × (address_at spaces.CoreMemory index c.items ≡ Some x) × IsMemoryExported w s x (record { of = targets.Main; name = e.name }) = memory_aliased memory named h in
+      let ref : ExportRef = record { of = targets.Main; name = e.name } in
+      let named : IsExportFor w e ref = record { of = asked.of; named = refl } in
+      let x : (x : ℕ) × (address_at spaces.CoreMemory index c.items ≡ Some x) × IsItemExported w s spaces.CoreMemory x ref = item_in spaces.CoreMemory memory_apart (sym (ap kind_space memory)) named h in
       let m = x.2 in
-      let is_main : (m.number ≡ 0) × (main_module w ≡ m.of.world_module) = named_main w m.number m.of in (
+      let is_main : (m.number ≡ 0) × (main_module w ≡ m.of.world_module) = named_main w m.number m.of in
+      let type : (t : MemoryType) × (m.type ≡ externs.Memory t) = memory_of_space m.type m.in_space in (
         x.0,
         x.1,
         record {
@@ -465,11 +481,11 @@ module _ {w : ComponentWorld} {earlier : List Def} {c : Scope} {s : Store} (a : 
             instance = m.instance.instance;
             present = m.instance.present;
             of = m.instance.of ∙ is_main.0;
-            exported = m.exported;
+            exported = named_in_space spaces.CoreMemory refl e.name m.instance.instance.exports (record { space = spaces.CoreMemory; name = e.name; address = x.0 }) m.exported refl;
           };
-          held = m.type;
-          present = m.is;
-          offered = ap (λ (o : WorldModule). found e.name o.found.offered) is_main.1 ∙ m.offered;
+          held = type.0;
+          present = subst (IsItemTyped s x.0) type.1 m.is;
+          offered = ap (λ (o : WorldModule). found e.name o.found.offered) is_main.1 ∙ (m.offered ∙ ap (λ (t : ExternType). Some t) type.1);
         },
       )
 
@@ -627,63 +643,37 @@ module _ {w : ComponentWorld} {earlier : List Def} {c : Scope} {s : Store} (a : 
   target_there index MainMemory h = absurd (no_memory index h.term h.is h.asked)
   target_there index Unlinked h = absurd h.asked
 
-  -- the memory that a target names has an address
-  exported_memory_there : (index : ℕ) (export_ref : ExportRef) (term : Term) → Is earlier spaces.CoreMemory index term → IsTermFor w (ExportOf export_ref) term →
-      (x : ℕ) × (address_at spaces.CoreMemory index c.items ≡ Some x) × IsMemoryExported w s x export_ref
-  exported_memory_there index export_ref (terms.Exported e) is asked = memory_aliased (memory_kind e.kind (sym is.0)) asked is.1
-  exported_memory_there index export_ref term is asked = absurd asked
+  -- so has the memory, the table or the global
+  memory_target_there : (index : ℕ) (target : Target) (term : Term) → Is earlier spaces.CoreMemory index term → IsTermFor w target term → (x : ℕ) × (address_at spaces.CoreMemory index c.items ≡ Some x) × IsServedIn w s spaces.CoreMemory x target
+  memory_target_there index (ExportOf export_ref) (terms.Exported e) is asked = item_in spaces.CoreMemory memory_apart is.0 asked is.1
+  memory_target_there index MainMemory (terms.Exported e) is asked = memory_exported asked.1 asked.0 is.1
+  memory_target_there index (Lowered function options) (terms.Lowering origin type written) is asked = absurd is
+  memory_target_there index (OfResource function id) (terms.OfResource same resource) is asked = absurd is
+  memory_target_there index (Lifted entry options) (terms.Lifting e written type) is asked = absurd is
+  memory_target_there index target term is asked = absurd asked
 
-  main_memory_there : (index : ℕ) (term : Term) → Is earlier spaces.CoreMemory index term → IsTermFor w MainMemory term → (x : ℕ) × (address_at spaces.CoreMemory index c.items ≡ Some x) × IsFirstMemory w s x
-  main_memory_there index (terms.Exported e) is asked = memory_exported asked.1 asked.0 is.1
-  main_memory_there index term is asked = absurd asked
+  table_target_there : (index : ℕ) (target : Target) (term : Term) → Is earlier spaces.CoreTable index term → IsTermFor w target term → (x : ℕ) × (address_at spaces.CoreTable index c.items ≡ Some x) × IsServedIn w s spaces.CoreTable x target
+  table_target_there index (ExportOf export_ref) (terms.Exported e) is asked = item_in spaces.CoreTable table_apart is.0 asked is.1
+  table_target_there index MainMemory (terms.Exported e) is asked = absurd (no_table_memory e.kind asked.1 is.0)
+  table_target_there index (Lowered function options) (terms.Lowering origin type written) is asked = absurd is
+  table_target_there index (OfResource function id) (terms.OfResource same resource) is asked = absurd is
+  table_target_there index (Lifted entry options) (terms.Lifting e written type) is asked = absurd is
+  table_target_there index target term is asked = absurd asked
 
-  -- a memory is none of the functions that other targets name
-  no_memory_lowered : (index : ℕ) (function : WorldFunction) (options : List TargetOption) (term : Term) → Is earlier spaces.CoreMemory index term → IsTermFor w (Lowered function options) term → ⊥
-  no_memory_lowered index function options (terms.Lowering origin type written) is asked = is
-  no_memory_lowered index function options term is asked = asked
-
-  no_memory_of_resource : (index : ℕ) (function : ResourceFunction) (id : TypeId) (term : Term) → Is earlier spaces.CoreMemory index term → IsTermFor w (OfResource function id) term → ⊥
-  no_memory_of_resource index function id (terms.OfResource same resource) is asked = is
-  no_memory_of_resource index function id term is asked = asked
-
-  no_memory_lift : (index : ℕ) (entry : ExportRef) (options : List TargetOption) (term : Term) → Is earlier spaces.CoreMemory index term → IsTermFor w (Lifted entry options) term → ⊥
-  no_memory_lift index entry options (terms.Lifting e written type) is asked = is
-  no_memory_lift index entry options term is asked = asked
-
-  memory_target_there : (index : ℕ) (target : Target) → IsItemFor w earlier spaces.CoreMemory index target → (x : ℕ) × (address_at spaces.CoreMemory index c.items ≡ Some x) × IsServedIn w s spaces.CoreMemory x target
-  memory_target_there index (ExportOf export_ref) h = exported_memory_there index export_ref h.term h.is h.asked
-  memory_target_there index MainMemory h = main_memory_there index h.term h.is h.asked
-  memory_target_there index (Lowered function options) h = absurd (no_memory_lowered index function options h.term h.is h.asked)
-  memory_target_there index (OfResource function id) h = absurd (no_memory_of_resource index function id h.term h.is h.asked)
-  memory_target_there index (Lifted entry options) h = absurd (no_memory_lift index entry options h.term h.is h.asked)
-  memory_target_there index target h = absurd h.asked
-
-  -- the kind of what an alias of a user module names is one that has a rule
-  aliased_kind : {index : ℕ} {e : CoreExport} {of : UserModule} → IsModule w e.of of → IsExported earlier index e → (type : ExternType) × IsOfKind e.kind type
-  aliased_kind m h = let x = exported_there m.world_module m.listed h in (x.type, x.of_kind)
-
-  no_table : (index : ℕ) (target : Target) (term : Term) → Is earlier spaces.CoreTable index term → IsTermFor w target term → ⊥
-  no_table index (ExportOf export_ref) (terms.Exported e) is asked = let k = aliased_kind asked.of is.1 in not_table e.kind (sym is.0) k.0 k.1
-  no_table index MainMemory (terms.Exported e) is asked = let k = aliased_kind asked.0.of is.1 in not_table e.kind (sym is.0) k.0 k.1
-  no_table index (Lowered function options) (terms.Lowering origin type written) is asked = is
-  no_table index (OfResource function id) (terms.OfResource same resource) is asked = is
-  no_table index (Lifted entry options) (terms.Lifting e written type) is asked = is
-  no_table index target term is asked = asked
-
-  no_global : (index : ℕ) (target : Target) (term : Term) → Is earlier spaces.CoreGlobal index term → IsTermFor w target term → ⊥
-  no_global index (ExportOf export_ref) (terms.Exported e) is asked = let k = aliased_kind asked.of is.1 in not_global e.kind (sym is.0) k.0 k.1
-  no_global index MainMemory (terms.Exported e) is asked = let k = aliased_kind asked.0.of is.1 in not_global e.kind (sym is.0) k.0 k.1
-  no_global index (Lowered function options) (terms.Lowering origin type written) is asked = is
-  no_global index (OfResource function id) (terms.OfResource same resource) is asked = is
-  no_global index (Lifted entry options) (terms.Lifting e written type) is asked = is
-  no_global index target term is asked = asked
+  global_target_there : (index : ℕ) (target : Target) (term : Term) → Is earlier spaces.CoreGlobal index term → IsTermFor w target term → (x : ℕ) × (address_at spaces.CoreGlobal index c.items ≡ Some x) × IsServedIn w s spaces.CoreGlobal x target
+  global_target_there index (ExportOf export_ref) (terms.Exported e) is asked = item_in spaces.CoreGlobal global_apart is.0 asked is.1
+  global_target_there index MainMemory (terms.Exported e) is asked = absurd (no_global_memory e.kind asked.1 is.0)
+  global_target_there index (Lowered function options) (terms.Lowering origin type written) is asked = absurd is
+  global_target_there index (OfResource function id) (terms.OfResource same resource) is asked = absurd is
+  global_target_there index (Lifted entry options) (terms.Lifting e written type) is asked = absurd is
+  global_target_there index target term is asked = absurd asked
 
   -- the item that a target names has an address, in the space of its kind
   pub item_there : (kind : ExportKind) (index : ℕ) (target : Target) → IsItemFor w earlier (kind_space kind) index target → (x : ℕ) × (address_at (kind_space kind) index c.items ≡ Some x) × IsServedIn w s (kind_space kind) x target
   item_there kinds.Func index target h = target_there index target h
-  item_there kinds.Memory index target h = memory_target_there index target h
-  item_there kinds.Table index target h = absurd (no_table index target h.term h.is h.asked)
-  item_there kinds.Global index target h = absurd (no_global index target h.term h.is h.asked)
+  item_there kinds.Memory index target h = memory_target_there index target h.term h.is h.asked
+  item_there kinds.Table index target h = table_target_there index target h.term h.is h.asked
+  item_there kinds.Global index target h = global_target_there index target h.term h.is h.asked
 
   -- so has a shim for what the target names
   pub shim_there : {space : Space} {index : ℕ} {target : Target} (h : IsShimFor w earlier space index target) → (x : ℕ) × (address_at spaces.CoreFunc index c.items ≡ Some x) × IsShimGiven w a.shims x target

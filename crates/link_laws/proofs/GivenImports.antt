@@ -1,5 +1,5 @@
 -- What the arguments of a user module's instantiation are, and what its imports find among them.
-use Rattle.std.proofs.Common.{◌≡◌, ◌∙◌, inl, inr, ℕ, List, [], ◌∷◌, map, refl, sym, ap, subst, Option, Some, None, true}
+use Rattle.std.proofs.Common.{◌≡◌, ◌∙◌, inl, inr, ℕ, List, [], ◌∷◌, map, refl, sym, ap, subst, Option, Some, None, true, Contains}
 use Rattle.std.proofs.lemmas.Option.{same_Some, none-some}
 use Rattle.std.specs.List.{AllZip, AllByRecursion}
 use Rattle.std.specs.Option.{option_map, option_and_then}
@@ -7,6 +7,7 @@ use Rattle.comp_lists.specs.Found.{found}
 use Rattle.comp_lists.proofs.Lists.{AllZip-weaker}
 use Rattle.comp_bytes.specs.Spaces.{kind_space}
 use Rattle.core_types.specs.declared.types.FuncType.{FuncType}
+use Rattle.core_types.specs.declared.types.ValType.{ValType}
 use Rattle.core_runs.specs.Store.{Opaque}
 use Rattle.comp_bytes.specs.declared.space.Space.{Space}
 use Rattle.comp_bytes.specs.declared.space.Space.TheVariants as spaces
@@ -25,20 +26,22 @@ use Rattle.comp_roles.specs.CoreImports.{fields_of}
 use Rattle.comp_roles.specs.CoreTypes.{called_type, core_type}
 use Rattle.comp_roles.specs.Matching.{matches}
 use Rattle.comp_worlds.proofs.Matched.{matched_function}
-use Rattle.comp_worlds.specs.Typed.{drop_type, handle_type, type_of_import, FitsRole}
+use Rattle.comp_worlds.specs.Typed.{drop_type, handle_type, type_of_import, FitsRole, FitsInstance}
 use Rattle.comp_worlds.specs.WorldContents.{items_of}
 use Rattle.comp_worlds.specs.Worlds.{IsWorld, IsImportRole, IsImportGroup}
 use Rattle.comp_roles.specs.declared.imports.Import.{Import}
 use Rattle.comp_roles.specs.declared.imports.Import.TheVariants as imports
 use Rattle.comp_roles.specs.declared.imports.ImportInstance.{ImportInstance}
 use Rattle.comp_roles.specs.declared.imports.ImportInstance.TheVariants as instances
+use Rattle.comp_roles.specs.declared.libraries.MainOrAdapter.{MainOrAdapter}
 use Rattle.comp_worlds.specs.declared.world.ComponentWorld.{ComponentWorld}
+use Rattle.comp_worlds.specs.declared.world.ValidatedModule.{ValidatedModule}
 use Rattle.comp_runs.specs.Store.{Thing, Export, CoreItem, Lowering, IntrinsicOf, ExportedBy, Store}
 use Rattle.comp_roles.specs.declared.offered.ExternType.{ExternType}
 use Rattle.comp_roles.specs.declared.offered.ExternType.TheVariants as externs
 use Rattle.comp_roles.specs.declared.offered.ImportType.{ImportType}
-use Rattle.comp_links.specs.Targets.{UserModule, Main, Adapter, ExportRef, WorldFunction, TargetOption, Target, OfRoot, OfInterface, Lowered, ResourceFunction, New, Rep, Drop}
-use Rattle.comp_links.specs.Modules.{WorldModule, user_modules}
+use Rattle.comp_links.specs.Targets.{UserModule, Main, Adapter, ExportRef, WorldFunction, TargetOption, Target, OfRoot, OfInterface, Lowered, ResourceFunction, New, Rep, Drop, ExportOf}
+use Rattle.comp_links.specs.Modules.{WorldModule, user_modules, IsModule}
 use Rattle.comp_links.specs.Lists.{resource_of}
 use Rattle.comp_links.specs.Links.{lower_options, link_of, link_in, link_at, module_of}
 use Rattle.shim_plan.specs.declared.kinds.ShimKind.{ShimKind}
@@ -48,17 +51,17 @@ use Rattle.world_shims.specs.WorldShims.{type_of_shim}
 use Rattle.comp_terms.specs.Generated.{interface_imported, role_of_kind, export_of_kind, IsShimOf, Purpose, OfImport, OfExport, target_of, HasPurpose}
 use Rattle.comp_terms.specs.Terms.{intrinsic_of}
 use Rattle.comp_terms.specs.Planned.{IsItemFor, IsShimFor, IsGivenFor, IsEntryFor, IsArgumentFor}
-use Rattle.comp_runs.specs.Machine.{Scope, Machine, address_at, all_some}
-use Rattle.comp_runs.specs.Instances.{given_to}
+use Rattle.comp_runs.specs.Machine.{Scope, Machine, address_at, all_some, export_named}
+use Rattle.comp_runs.specs.Instances.{given_to, type_space}
 use Rattle.comp_runs.specs.Signatures.{core_signature}
 use Rattle.comp_runs.specs.Running.{core_argument}
 use Rattle.link_laws.proofs.Zips.{all_some-zip, found-zip, mapped_some}
 use Rattle.comp_worlds.proofs.Roles.{bound_some}
-use Rattle.link_laws.proofs.Plain.{IsGivenImport, lowered_type, function_type_in, fields_right}
+use Rattle.link_laws.proofs.Plain.{HasRole, IsGivenImport, lowered_type, function_type_in}
 use Rattle.comp_links.proofs.Named.{one_module, listed_there}
-use Rattle.link_laws.proofs.Given.{thing_there, item_there, shim_there, shim_typed, IsFunctionTyped}
-use Rattle.link_laws.proofs.Offering.{offered_matches, HasType, export_typed, main_memory_typed, finds_given}
-use Rattle.link_laws.proofs.Stores.{IsOpaqueOf, IsNamedEntry, IsInlineInstance, ShimsAt, IsFunctionOf, IsServedAs, IsServedIn, resource_core, IsShimGiven, Serves, IsPlanned, Agrees}
+use Rattle.link_laws.proofs.Given.{thing_there, item_there, shim_there, shim_typed, user_there, found_name, by_parts, IsOfType, exports_named, IsFunctionTyped}
+use Rattle.link_laws.proofs.Offering.{named_found, named_matches, offered_matches, HasType, export_typed, main_memory_typed, AreTypesOf, finds_given}
+use Rattle.link_laws.proofs.Stores.{IsOpaqueOf, IsItemTyped, IsUserItem, IsUserExport, IsInstance, IsUserInstance, IsNamedEntry, IsInlineInstance, ShimsAt, IsFunctionOf, IsItemExported, IsServedAs, IsServedIn, resource_core, IsShimGiven, Serves, IsPlanned, HasGlobals, Agrees}
 
 -- ---- the core types of what is given
 
@@ -91,6 +94,7 @@ module _ (w : ComponentWorld) (ok : IsWorld w) (s : Store) (of : UserModule) whe
   served_opaque address (imports.ExportedResourceNew key id) type right fits h = resource_opaque s address New (resource_of w id) type fits h
   served_opaque address (imports.MainModuleMemory memory) type right fits h = absurd h
   served_opaque address (imports.MainModuleExport name kind) type right fits h = absurd (none-some (externs.Func type) fits)
+  served_opaque address (imports.Item item) type right fits h = absurd (none-some (externs.Func type) fits)
   served_opaque address (imports.AdapterExport adapter name function) type right fits h =
       let e : ExportRef = record { of = Adapter adapter; name = name } in
       let from : WorldModule = h.of.world_module in
@@ -100,44 +104,48 @@ module _ (w : ComponentWorld) (ok : IsWorld w) (s : Store) (of : UserModule) whe
       (ExportedBy h.user name, subst (λ t. IsOpaqueOf s address t (ExportedBy h.user name)) (ap (function_type_in type) (sym typed)) h.is)
   served_opaque address role type right fits h = absurd right
 
+-- what serves a role matches an import that fits the role
+module _ (w : ComponentWorld) (ok : IsWorld w) (s : Store) (globals : List ValType) (typed : AllByRecursion (HasGlobals w globals) s.module_instances) (of : UserModule) where
   opaque_typed : (address : ℕ) (type : FuncType) → (item : CoreItem) × IsOpaqueOf s address type item → IsFunctionTyped s address type
   opaque_typed address type o = record { function = Opaque o.1.what type; present = o.1.present; typed = refl }
 
   -- what has a core type of functions is a function
   function_typed : (space : Space) (address : ℕ) (role : Import) (type : FuncType) → IsImportRole w role → type_of_import w.resolve (items_of w) role ≡ Some (externs.Func type) → (IsServedIn w s spaces.CoreMemory address (link_of w of role) → ⊥) →
-      IsServedIn w s space address (link_of w of role) → HasType s space address (externs.Func type)
-  function_typed spaces.CoreFunc address role type right fits no_memory h = opaque_typed address type (served_opaque address role type right fits h)
+      IsServedIn w s space address (link_of w of role) → HasType s globals space address (externs.Func type)
+  function_typed spaces.CoreFunc address role type right fits no_memory h = opaque_typed address type (served_opaque w ok s of address role type right fits h)
   function_typed spaces.CoreMemory address role type right fits no_memory h = absurd (no_memory h)
   function_typed space address role type right fits no_memory h = absurd h
 
-  -- what serves a role matches an import that fits the role
-  pub role_typed : (space : Space) (address : ℕ) (role : Import) (type : ExternType) → IsImportRole w role → FitsRole w role type → IsServedIn w s space address (link_of w of role) → HasType s space address type
+  pub role_typed : (space : Space) (address : ℕ) (role : Import) (type : ExternType) → IsImportRole w role → FitsRole w role type → IsServedIn w s space address (link_of w of role) → HasType s globals space address type
   role_typed space address (imports.WorldFunc (keys.Name text) function abi) type right fits h =
       let x : (f : Function) × (root_function_at (items_of w).imports (keys.Name text) ≡ Some f) × (called_type w.resolve abi f ≡ type) =
       mapped_some (called_type w.resolve abi) (root_function_at (items_of w).imports (keys.Name text)) type fits in
       let core : FuncType = core_type (signature abi w.resolve.types x.0) in
-      subst (HasType s space address) x.2 (function_typed space address (imports.WorldFunc (keys.Name text) function abi) core right (fits ∙ ap (λ (t : ExternType). Some t) (sym x.2)) (λ no. no) h)
+      subst (HasType s globals space address) x.2 (function_typed space address (imports.WorldFunc (keys.Name text) function abi) core right (fits ∙ ap (λ (t : ExternType). Some t) (sym x.2)) (λ no. no) h)
   role_typed space address (imports.InterfaceFunc key id function abi) type right fits h =
       let x : (f : Function) × (found function (functions_of w.resolve id) ≡ Some f) × (called_type w.resolve abi f ≡ type) =
       mapped_some (called_type w.resolve abi) (found function (functions_of w.resolve id)) type fits in
       let core : FuncType = core_type (signature abi w.resolve.types x.0) in
-      subst (HasType s space address) x.2 (function_typed space address (imports.InterfaceFunc key id function abi) core right (fits ∙ ap (λ (t : ExternType). Some t) (sym x.2)) (λ no. no) h)
+      subst (HasType s globals space address) x.2 (function_typed space address (imports.InterfaceFunc key id function abi) core right (fits ∙ ap (λ (t : ExternType). Some t) (sym x.2)) (λ no. no) h)
   role_typed space address (imports.ImportedResourceDrop key interface id) type right fits h =
-      subst (HasType s space address) (same_Some drop_type type fits) (function_typed space address (imports.ImportedResourceDrop key interface id) (resource_core Drop) right refl (λ no. no) h)
+      subst (HasType s globals space address) (same_Some drop_type type fits) (function_typed space address (imports.ImportedResourceDrop key interface id) (resource_core Drop) right refl (λ no. no) h)
   role_typed space address (imports.ExportedResourceDrop key id) type right fits h =
-      subst (HasType s space address) (same_Some drop_type type fits) (function_typed space address (imports.ExportedResourceDrop key id) (resource_core Drop) right refl (λ no. no) h)
+      subst (HasType s globals space address) (same_Some drop_type type fits) (function_typed space address (imports.ExportedResourceDrop key id) (resource_core Drop) right refl (λ no. no) h)
   role_typed space address (imports.ExportedResourceRep key id) type right fits h =
-      subst (HasType s space address) (same_Some handle_type type fits) (function_typed space address (imports.ExportedResourceRep key id) (resource_core Rep) right refl (λ no. no) h)
+      subst (HasType s globals space address) (same_Some handle_type type fits) (function_typed space address (imports.ExportedResourceRep key id) (resource_core Rep) right refl (λ no. no) h)
   role_typed space address (imports.ExportedResourceNew key id) type right fits h =
-      subst (HasType s space address) (same_Some handle_type type fits) (function_typed space address (imports.ExportedResourceNew key id) (resource_core New) right refl (λ no. no) h)
+      subst (HasType s globals space address) (same_Some handle_type type fits) (function_typed space address (imports.ExportedResourceNew key id) (resource_core New) right refl (λ no. no) h)
   role_typed space address (imports.MainModuleMemory memory) type right fits h =
-      subst (HasType s space address) (same_Some (externs.Memory memory) type fits) (main_memory_typed w ok s space address memory right h)
+      subst (HasType s globals space address) (same_Some (externs.Memory memory) type fits) (main_memory_typed w ok s globals typed space address memory right h)
   role_typed space address (imports.MainModuleExport name kind) type right fits h =
       let e : ExportRef = record { of = Main; name = name } in
-      export_typed w ok s space address e type (λ m listed same t offered. offered_matches w ok of (imports.MainModuleExport name kind) e right refl m listed same t offered type fits) h
+      export_typed w ok s globals typed space address e type (λ m listed same t offered. offered_matches w ok of (imports.MainModuleExport name kind) e right refl m listed same t offered type fits) h
+  role_typed space address (imports.Item item) type right fits h =
+      let e : ExportRef = record { of = module_of item.which; name = item.name } in
+      export_typed w ok s globals typed space address e type (λ m listed same t offered. offered_matches w ok of (imports.Item item) e right refl m listed same t offered type fits) h
   role_typed space address (imports.AdapterExport adapter name function) type right fits h =
       let e : ExportRef = record { of = Adapter adapter; name = name } in
-      export_typed w ok s space address e type (λ m listed same t offered. offered_matches w ok of (imports.AdapterExport adapter name function) e right refl m listed same t offered type fits) h
+      export_typed w ok s globals typed space address e type (λ m listed same t offered. offered_matches w ok of (imports.AdapterExport adapter name function) e right refl m listed same t offered type fits) h
   role_typed space address role type right fits h = absurd right
 
 -- what a shim hands on to is opaque, and has the shim's core type
@@ -206,6 +214,7 @@ lowered_call w of (imports.ExportedResourceNew key id) right f options is = cc
 lowered_call w of (imports.MainModuleMemory memory) right f options is = cc
 lowered_call w of (imports.MainModuleExport name kind) right f options is = cc
 lowered_call w of (imports.AdapterExport adapter name function) right f options is = cc
+lowered_call w of (imports.Item item) right f options is = cc
 lowered_call w of role right f options is = absurd right
 
 -- the core type of calls of what a target names
@@ -241,30 +250,44 @@ shim_fits w ok shim (OfExport e) stands of role right same type fits =
 
 -- The item is what an import of this role, of this user module, is to be given, or a shim for that; and it matches each import that
 -- fits the role.
-pub record IsRoleServed (w : ComponentWorld) (shims : Option ShimsAt) (s : Store) (of : UserModule) (space : Space) (address : ℕ) (role : Import) : Type 0 where
+pub record IsRoleServed (w : ComponentWorld) (shims : Option ShimsAt) (s : Store) (globals : List ValType) (of : UserModule) (space : Space) (address : ℕ) (role : Import) : Type 0 where
   pub serves : Serves w shims s space address (link_of w of role)
-  pub typed : (type : ExternType) → FitsRole w role type → HasType s space address type
+  pub typed : (type : ExternType) → FitsRole w role type → HasType s globals space address type
 
 -- the item of the export is so for this field of a user module's imports
-pub record IsFieldExport (w : ComponentWorld) (shims : Option ShimsAt) (s : Store) (of : UserModule) (e : Export) (field : List ℕ × Import) : Type 0 where
+pub record IsFieldExport (w : ComponentWorld) (shims : Option ShimsAt) (s : Store) (globals : List ValType) (of : UserModule) (e : Export) (field : List ℕ × Import) : Type 0 where
   pub named : e.name ≡ field.0
-  pub is : IsRoleServed w shims s of e.space e.address field.1
+  pub is : IsRoleServed w shims s globals of e.space e.address field.1
 
--- the argument has an export for each field of this module, as planned
-pub record IsOffered (w : ComponentWorld) (shims : Option ShimsAt) (s : Store) (of : UserModule) (a : List ℕ × List Export) (group : List ℕ × ImportInstance) : Type 0 where
+-- these are all exports of an instance of this user module
+pub record AreAllOf (w : ComponentWorld) (s : Store) (es : List Export) (which : MainOrAdapter) : Type 0 where
+  pub number : ℕ
+  pub of : IsModule w number (module_of which)
+  pub user : ℕ
+  pub instance : IsInstance s user number
+  pub same : instance.instance.exports ≡ es
+  pub each : AllZip (IsUserExport s user) es of.world_module.found.offered
+
+-- exports satisfy the imports of a user module from one other: there is one for each field, or they are all of an instance
+abbrev pub SatisfyImports : ComponentWorld → Option ShimsAt → Store → List ValType → UserModule → List Export → ImportInstance → Type 0
+SatisfyImports w shims s globals of es (instances.Names fields) = AllZip (IsFieldExport w shims s globals of) es fields
+SatisfyImports w shims s globals of es (instances.Whole which) = AreAllOf w s es which
+
+-- the argument has such exports for the imports from this module, as planned
+pub record IsOffered (w : ComponentWorld) (shims : Option ShimsAt) (s : Store) (globals : List ValType) (of : UserModule) (a : List ℕ × List Export) (group : List ℕ × ImportInstance) : Type 0 where
   pub named : a.0 ≡ group.0
-  pub each : AllZip (IsFieldExport w shims s of) a.1 (fields_of group.1)
+  pub satisfy : SatisfyImports w shims s globals of a.1 group.1
 
 -- what a user module is given
-module _ {w : ComponentWorld} {earlier : List Def} {c : Scope} {s : Store} (a : Agrees w earlier c s) (ok : IsWorld w) (of : UserModule) where
+module _ {w : ComponentWorld} {earlier : List Def} {c : Scope} {s : Store} {globals : List ValType} (a : Agrees w earlier c s globals) (ok : IsWorld w) (of : UserModule) where
   item_served : (kind : ExportKind) (index : ℕ) (role : Import) → IsImportRole w role → IsItemFor w earlier (kind_space kind) index (link_of w of role) →
-      (x : ℕ) × (address_at (kind_space kind) index c.items ≡ Some x) × IsRoleServed w a.shims s of (kind_space kind) x role
+      (x : ℕ) × (address_at (kind_space kind) index c.items ≡ Some x) × IsRoleServed w a.shims s globals of (kind_space kind) x role
   item_served kind index role right h =
       let x = item_there a kind index (link_of w of role) h in
-      (x.0, x.1, record { serves = inl x.2; typed = λ type fits. role_typed w ok s of (kind_space kind) x.0 role type right fits x.2 })
+      (x.0, x.1, record { serves = inl x.2; typed = λ type fits. role_typed w ok s globals a.with_globals of (kind_space kind) x.0 role type right fits x.2 })
 
   shim_served : (index : ℕ) (role : Import) → IsImportRole w role → IsShimFor w earlier spaces.CoreFunc index (link_of w of role) →
-      (x : ℕ) × (address_at spaces.CoreFunc index c.items ≡ Some x) × IsRoleServed w a.shims s of spaces.CoreFunc x role
+      (x : ℕ) × (address_at spaces.CoreFunc index c.items ≡ Some x) × IsRoleServed w a.shims s globals of spaces.CoreFunc x role
   shim_served index role right h =
       let x : (x : ℕ) × (address_at spaces.CoreFunc index c.items ≡ Some x) × IsShimGiven w a.shims x (link_of w of role) = shim_there a h in
       let y : (x : ℕ) × (address_at spaces.CoreFunc index c.items ≡ Some x) × IsFunctionTyped s x (type_of_shim h.shim) = shim_typed a h.place h.shim h.listed h.is in
@@ -274,38 +297,48 @@ module _ {w : ComponentWorld} {earlier : List Def} {c : Scope} {s : Store} (a : 
         x.1,
         record {
           serves = inr (refl, x.2);
-          typed = λ type fits. subst (HasType s spaces.CoreFunc x.0) (sym (shim_fits w ok h.shim h.purpose h.stands_for of role right h.same type fits)) typed;
+          typed = λ type fits. subst (HasType s globals spaces.CoreFunc x.0) (sym (shim_fits w ok h.shim h.purpose h.stands_for of role right h.same type fits)) typed;
         },
       )
 
   -- what is given for an import is the item that the link table names, or a shim
   role_there : (kind : ExportKind) (index : ℕ) (role : Import) → IsImportRole w role → IsGivenFor w earlier (kind_space kind) index (link_of w of role) →
-      (x : ℕ) × (address_at (kind_space kind) index c.items ≡ Some x) × IsRoleServed w a.shims s of (kind_space kind) x role
+      (x : ℕ) × (address_at (kind_space kind) index c.items ≡ Some x) × IsRoleServed w a.shims s globals of (kind_space kind) x role
   role_there kind index role right (inl h) = item_served kind index role right h
   role_there kind index role right (inr h) =
       let function : kind_space kind ≡ spaces.CoreFunc = h.in_space in
       let shim : IsShimFor w earlier spaces.CoreFunc index (link_of w of role) = subst (λ space. IsShimFor w earlier space index (link_of w of role)) function h in
-      subst (λ space. (x : ℕ) × (address_at space index c.items ≡ Some x) × IsRoleServed w a.shims s of space x role) (sym function) (shim_served index role right shim)
+      subst (λ space. (x : ℕ) × (address_at space index c.items ≡ Some x) × IsRoleServed w a.shims s globals of space x role) (sym function) (shim_served index role right shim)
 
   -- the entries of an inline instance, as they were put into the store
   fields_there : (es : List CoreInlineExport) (xs : List Export) (fs : List (List ℕ × Import)) → AllByRecursion (λ f. IsImportRole w f.1) fs → AllZip (IsEntryFor w of earlier) es fs → AllZip (IsNamedEntry c.items) es xs →
-      AllZip (IsFieldExport w a.shims s of) xs fs
+      AllZip (IsFieldExport w a.shims s globals of) xs fs
   fields_there [] [] [] r h n = tt
   fields_there (e ∷ es) (x ∷ xs) (f ∷ fs) r h n =
-      let i : (y : ℕ) × (address_at (kind_space e.kind) e.index c.items ≡ Some y) × IsRoleServed w a.shims s of (kind_space e.kind) y f.1 = role_there e.kind e.index f.1 r.0 h.0.serves in
+      let i : (y : ℕ) × (address_at (kind_space e.kind) e.index c.items ≡ Some y) × IsRoleServed w a.shims s globals of (kind_space e.kind) y f.1 = role_there e.kind e.index f.1 r.0 h.0.serves in
       let same : i.0 ≡ x.address = same_Some i.0 x.address (sym i.1 ∙ n.0.at) in
-      let served : IsRoleServed w a.shims s of (kind_space e.kind) x.address f.1 = subst (λ y. IsRoleServed w a.shims s of (kind_space e.kind) y f.1) same i.2 in
-      (record { named = n.0.named ∙ h.0.named; is = subst (λ space. IsRoleServed w a.shims s of space x.address f.1) (sym n.0.space) served }, fields_there es xs fs r.1 h.1 n.1)
+      let served : IsRoleServed w a.shims s globals of (kind_space e.kind) x.address f.1 = subst (λ y. IsRoleServed w a.shims s globals of (kind_space e.kind) y f.1) same i.2 in
+      (record { named = n.0.named ∙ h.0.named; is = subst (λ space. IsRoleServed w a.shims s globals of space x.address f.1) (sym n.0.space) served }, fields_there es xs fs r.1 h.1 n.1)
   fields_there [] (x ∷ xs) fs r h n = absurd n
   fields_there (e ∷ es) [] fs r h n = absurd n
   fields_there [] [] (f ∷ fs) r h n = absurd h
   fields_there (e ∷ es) (x ∷ xs) [] r h n = absurd h
 
-  module _ (m : Machine) (items : m.scope.items ≡ c.items) (instances : m.store.core_instances ≡ s.core_instances) where
-    argument_there : (x : CoreArgument) (g : List ℕ × ImportInstance) → IsImportGroup w g → IsArgumentFor w of earlier x g → (y : List ℕ × List Export) × (core_argument m x ≡ Some y) × IsOffered w a.shims s of y g
-    argument_there x g right h =
+  module _ (m : Machine) (items : m.scope.items ≡ c.items) (instances_same : m.store.core_instances ≡ s.core_instances) where
+    abbrev pub OffersFor : CoreArgument → List ℕ × ImportInstance → Type 0
+    OffersFor x g = (y : List ℕ × List Export) × (core_argument m x ≡ Some y) × IsOffered w a.shims s globals of y g
+
+    argument_there : (x : CoreArgument) (g : List ℕ × ImportInstance) → IsImportGroup w g → IsArgumentFor w of earlier x g → OffersFor x g
+    argument_there x (name, instances.Names fields) right h =
         let b : (y : ℕ) × (address_at spaces.CoreInstance x.instance c.items ≡ Some y) × IsInlineInstance c.items s h.serves.entries y = thing_there a h.serves.made in
-        ((x.name, b.2.exports), rw (items, b.1, instances, b.2.present) refl, record { named = h.named; each = fields_there h.serves.entries b.2.exports (fields_of g.1) (fields_right w g right) h.serves.each b.2.each })
+        ((x.name, b.2.exports), rw (items, b.1, instances_same, b.2.present) refl, record { named = h.named; satisfy = fields_there h.serves.entries b.2.exports fields right.1 h.serves.each b.2.each })
+    argument_there x (name, instances.Whole which) right h =
+        let listed = h.serves.of.listed in
+        let u : (y : ℕ) × (address_at spaces.CoreInstance x.instance c.items ≡ Some y) × IsUserInstance s h.serves.number h.serves.of.world_module y = user_there a h.serves.of.world_module listed h.serves.is in (
+          (x.name, u.2.exports),
+          rw (items, u.1, instances_same, u.2.present) refl,
+          record { named = h.named; satisfy = record { number = h.serves.number; of = h.serves.of; user = u.2.user; instance = u.2.is; same = u.2.same; each = u.2.each } },
+        )
 
     abbrev IsArgument : CoreArgument → List ℕ × ImportInstance → Type 0
     IsArgument x g = IsImportGroup w g × IsArgumentFor w of earlier x g
@@ -318,8 +351,8 @@ module _ {w : ComponentWorld} {earlier : List Def} {c : Scope} {s : Store} (a : 
 
     -- the arguments of the module's instantiation
     pub arguments_there : (xs : List CoreArgument) (gs : List (List ℕ × ImportInstance)) → AllByRecursion (IsImportGroup w) gs → AllZip (IsArgumentFor w of earlier) xs gs →
-        (ys : List (List ℕ × List Export)) × (all_some (map (core_argument m) xs) ≡ Some ys) × AllZip (IsOffered w a.shims s of) ys gs
-    arguments_there xs gs r h = all_some-zip (IsOffered w a.shims s of) (core_argument m) IsArgument (λ x g k. argument_there x g k.0 k.1) xs gs (with_groups xs gs r h)
+        (ys : List (List ℕ × List Export)) × (all_some (map (core_argument m) xs) ≡ Some ys) × AllZip (IsOffered w a.shims s globals of) ys gs
+    arguments_there xs gs r h = all_some-zip (IsOffered w a.shims s globals of) (core_argument m) IsArgument (λ x g k. argument_there x g k.0 k.1) xs gs (with_groups xs gs r h)
 
 -- ---- what the imports of a user module find
 
@@ -328,34 +361,89 @@ linked_in : (w : ComponentWorld) (of : UserModule) (instance : ImportInstance) (
 linked_in w of (instances.Names fields) field role e = ap (option_map (link_of w of)) e
 linked_in w of (instances.Whole which) field role e = absurd (none-some role e)
 
-module _ (w : ComponentWorld) (shims : Option ShimsAt) (of : WorldModule) (m : Machine) where
-  -- an export serves the role of a field; the exports of an argument serve those of a module's imports
+-- an item of an instance of a user module is what the link table names
+served_of : (w : ComponentWorld) (s : Store) (es : List Export) (which : MainOrAdapter) (all : AreAllOf w s es which) (name : List ℕ) (e : Export) (type : ExternType) → export_named name es ≡ Some e → e.name ≡ name → found name all.of.world_module.found.offered ≡ Some type →
+    e.space ≡ type_space type → IsUserItem s all.user e type → IsServedIn w s e.space e.address (ExportOf (record { of = module_of which; name = name }))
+served_of w s es which all name e type there named offered space item = by type space item offered
+  where
+    ref : ExportRef
+    ref = record { of = module_of which; name = name }
+
+    exported : (space : Space) → e.space ≡ space → export_named name all.instance.instance.exports ≡ Some (record { space = space; name = name; address = e.address })
+    exported space same = ap (export_named name) all.same ∙ (there ∙ ap (λ (x : Export). Some x) (by_parts e space name same named))
+
+    other : (type : ExternType) → found name all.of.world_module.found.offered ≡ Some type → e.space ≡ type_space type → IsItemTyped s e.address type → IsItemExported w s (type_space type) e.address ref
+    other type offered same item =
+        record { number = all.number; of = all.of; user = all.user; instance = all.instance; exported = exported (type_space type) same; type = type; in_space = refl; is = item; offered = offered }
+
+    by : (type : ExternType) → e.space ≡ type_space type → IsUserItem s all.user e type → found name all.of.world_module.found.offered ≡ Some type → IsServedIn w s e.space e.address (ExportOf ref)
+    by (externs.Func t) same item offered =
+        subst (λ space. IsServedIn w s space e.address (ExportOf ref)) (sym same)
+        (record { number = all.number; of = all.of; user = all.user; instance = all.instance; type = t; is = subst (λ n. IsOpaqueOf s e.address t (ExportedBy all.user n)) named item; offered = offered })
+    by (externs.Table t) same item offered = subst (λ space. IsServedIn w s space e.address (ExportOf ref)) (sym same) (other (externs.Table t) offered same item)
+    by (externs.Memory t) same item offered = subst (λ space. IsServedIn w s space e.address (ExportOf ref)) (sym same) (other (externs.Memory t) offered same item)
+    by (externs.Global t) same item offered = subst (λ space. IsServedIn w s space e.address (ExportOf ref)) (sym same) (other (externs.Global t) offered same item)
+
+module _ (w : ComponentWorld) (ok : IsWorld w) (shims : Option ShimsAt) (of : WorldModule) (m : Machine) (globals : List ValType) (typed : AllByRecursion (HasGlobals w globals) m.store.module_instances) (types : AreTypesOf globals m.now) where
+  -- an export serves the role of a field; the exports of an argument satisfy a module's imports
   abbrev IsFor : Export → Import → Type 0
-  IsFor e role = IsRoleServed w shims m.store of.of e.space e.address role
+  IsFor e role = IsRoleServed w shims m.store globals of.of e.space e.address role
 
   abbrev AreFor : List Export → ImportInstance → Type 0
-  AreFor es instance = AllZip (IsFieldExport w shims m.store of.of) es (fields_of instance)
+  AreFor es instance = SatisfyImports w shims m.store globals of.of es instance
 
-  fields_named : (es : List Export) (fs : List (List ℕ × Import)) → AllZip (IsFieldExport w shims m.store of.of) es fs →
+  fields_named : (es : List Export) (fs : List (List ℕ × Import)) → AllZip (IsFieldExport w shims m.store globals of.of) es fs →
       AllZip (λ (x : List ℕ × Export) (z : List ℕ × Import). (x.0 ≡ z.0) × IsFor x.1 z.1) (map (λ (e : Export). (e.name, e)) es) fs
   fields_named [] [] h = tt
   fields_named (e ∷ es) (f ∷ fs) h = ((h.0.named, h.0.is), fields_named es fs h.1)
   fields_named [] (f ∷ fs) h = absurd h
   fields_named (e ∷ es) [] h = absurd h
 
-  groups_named : (arguments : List (List ℕ × List Export)) (gs : List (List ℕ × ImportInstance)) → AllZip (IsOffered w shims m.store of.of) arguments gs →
+  groups_named : (arguments : List (List ℕ × List Export)) (gs : List (List ℕ × ImportInstance)) → AllZip (IsOffered w shims m.store globals of.of) arguments gs →
       AllZip (λ (x : List ℕ × List Export) (z : List ℕ × ImportInstance). (x.0 ≡ z.0) × AreFor x.1 z.1) arguments gs
-  groups_named arguments gs h = AllZip-weaker (λ a g o. (o.named, o.each)) arguments gs h
+  groups_named arguments gs h = AllZip-weaker (λ a g o. (o.named, o.satisfy)) arguments gs h
 
-  -- each import of the module finds what was planned for it
-  pub given_there : (arguments : List (List ℕ × List Export)) → AllZip (IsOffered w shims m.store of.of) arguments of.found.imports.modules → (i : ImportType) → IsGivenImport w of.found i →
-      (t : Thing) × (given_to m arguments i ≡ Some t) × IsPlanned w shims m.store of t i
-  given_there arguments h i p =
+  -- the exports of an argument have one that serves a role
+  field_found : (es : List Export) (instance : ImportInstance) (field : List ℕ) (role : Import) → AreFor es instance → found field (fields_of instance) ≡ Some role → (e : Export) × (export_named field es ≡ Some e) × IsFor e role
+  field_found es (instances.Names fields) field role h there = found-zip IsFor field (map (λ (e : Export). (e.name, e)) es) fields role (fields_named es fields h) there
+  field_found es (instances.Whole which) field role h there = absurd (none-some role there)
+
+  abbrev GivenThere : List (List ℕ × List Export) → ImportType → Type 0
+  GivenThere arguments i = (t : Thing) × (given_to m arguments i ≡ Some t) × IsPlanned w shims m.store of t i
+
+  -- an import that has a role finds what was planned for it
+  role_given : (arguments : List (List ℕ × List Export)) → AllZip (IsOffered w shims m.store globals of.of) arguments of.found.imports.modules → (i : ImportType) → HasRole w of.found i → GivenThere arguments i
+  role_given arguments h i p =
       let roles : List (List ℕ × ImportInstance) = of.found.imports.modules in
       let g = bound_some (λ (o : ImportInstance). found i.field (fields_of o)) (found i.module_name roles) p.role p.has_role in
       let a = found-zip AreFor i.module_name arguments roles g.0 (groups_named arguments roles h) g.1 in
-      let e = found-zip IsFor i.field (map (λ (e : Export). (e.name, e)) a.0) (fields_of g.0) p.role (fields_named a.0 (fields_of g.0) a.2) g.2 in
+      let e = field_found a.0 g.0 i.field p.role a.2 g.2 in
       let x : Export = e.0 in
       let t : Thing = record { space = x.space; address = x.address } in
       let said : link_at w of i.module_name i.field ≡ Some (link_of w of.of p.role) = ap (option_and_then (link_in w of.of i.field)) g.1 ∙ linked_in w of.of g.0 i.field p.role g.2 in
-      (t, rw (a.1, e.1) (finds_given m x i.ty (e.2.typed i.ty p.fits)), record { target = link_of w of.of p.role; said = said; serves = e.2.serves })
+      (t, rw (a.1, e.1) (finds_given m globals types x i.ty (e.2.typed i.ty p.fits)), record { target = link_of w of.of p.role; said = said; serves = e.2.serves })
+
+  -- so does one for which a whole instance is given
+  whole_given : (arguments : List (List ℕ × List Export)) → AllZip (IsOffered w shims m.store globals of.of) arguments of.found.imports.modules → (i : ImportType) → FitsInstance w of.found i → GivenThere arguments i
+  whole_given arguments h i p =
+      let roles : List (List ℕ × ImportInstance) = of.found.imports.modules in
+      let a = found-zip AreFor i.module_name arguments roles (instances.Whole p.which) (groups_named arguments roles h) p.whole in
+      let all : AreAllOf w m.store a.0 p.which = a.2 in
+      let from : WorldModule = all.of.world_module in
+      let listed : Contains (user_modules w) from = listed_there (user_modules w) all.number from all.of.listed in
+      let at : from.found ≡ p.offered.of = named_found w ok from listed p.which all.of.same p.offered.of p.offered.named in
+      let type : ExternType = p.offered.matches.type in
+      let offered : found i.field from.found.offered ≡ Some type = ap (λ (o : ValidatedModule). found i.field o.offered) at ∙ p.offered.matches.offered in
+      let e = found-zip (IsOfType m.store all.user) i.field (map (λ (y : Export). (y.name, y)) a.0) from.found.offered type (exports_named m.store all.user a.0 from.found.offered all.each) offered in
+      let x : Export = e.0 in
+      let t : Thing = record { space = x.space; address = x.address } in
+      let ref : ExportRef = record { of = module_of p.which; name = i.field } in
+      let served : IsServedIn w m.store x.space x.address (ExportOf ref) = served_of w m.store a.0 p.which all i.field x type e.1 (found_name i.field a.0 x e.1) offered e.2.0 e.2.1 in
+      let has : HasType m.store globals x.space x.address i.ty =
+      export_typed w ok m.store globals typed x.space x.address ref i.ty (λ other listed_other same t there. named_matches w ok p.which i.field i.ty p.offered other listed_other same t there) served in
+      (t, rw (a.1, e.1) (finds_given m globals types x i.ty has), record { target = ExportOf ref; said = ap (option_and_then (link_in w of.of i.field)) p.whole; serves = inl served })
+
+  -- each import of the module finds what was planned for it
+  pub given_there : (arguments : List (List ℕ × List Export)) → AllZip (IsOffered w shims m.store globals of.of) arguments of.found.imports.modules → (i : ImportType) → IsGivenImport w of.found i → GivenThere arguments i
+  given_there arguments h i (inl p) = role_given arguments h i p
+  given_there arguments h i (inr p) = whole_given arguments h i p

@@ -1,6 +1,6 @@
 -- An instance of a core module runs, and the store agrees with the longer list: of a user module, of the shims, and of the fixup.
 use Rattle.std.proofs.Common.{arith, ◌≤◌, ◌+◌, ◌^◌, inl, inr, ◌≡◌, ◌∙◌, ℕ, zero, suc, ◌<◌, Bool, false, List, [], ◌∷◌, ◌++◌, length, map, filter, refl, sym, ap, ap₂, subst, append-nil, append_assoc, Option, Some, None, cond}
-use Rattle.std.proofs.lemmas.List.{map-append, length-replicate}
+use Rattle.std.proofs.lemmas.List.{map-append, length-map, length-replicate}
 use Rattle.std.proofs.lemmas.Option.{none-some, same_Some, slice_get-map}
 use Rattle.std.specs.Option.{option_map}
 use Rattle.std.specs.Prelude.{Contains, codes}
@@ -32,26 +32,27 @@ use Rattle.comp_terms.specs.Rules.{InstantiatesUser, InstantiatesShims, Instanti
 use Rattle.comp_runs.specs.Machine.{Scope, Machine, address_at, is_of, all_some}
 use Rattle.comp_runs.specs.Instances.{ExportTypes, exported_by, with_exports, with_module_instance, given_to, new_user, ModuleMeaning, OfUser, OfGenerated}
 use Rattle.comp_runs.specs.Running.{core_argument, run}
-use Rattle.instance_laws.proofs.Held.{keeps_same, keeps_more, keeps_grown}
-use Rattle.link_laws.proofs.Outcomes.{machine, no_answers, IsNow, IsGood, good_answered, Continues, quiet, users_among, seen_by, Steps, few, one_event, cells, length-cells}
+use Rattle.instance_laws.proofs.Held.{KeepsEntries, keeps_same, keeps_more, keeps_grown}
+use Rattle.link_laws.proofs.Outcomes.{machine, no_answers, IsNow, IsGood, good_answered, Continues, quiet, users_among, seen_by, Steps, few, one_event, cells, types-cells}
 use Rattle.link_laws.proofs.Steps.{filter-push, with_thing, numbered_at, given_same, export_beside, not_last, agrees_with}
 use Rattle.shim_runs.proofs.Placed.{shims_kept}
 use Rattle.shim_runs.proofs.ShimInstance.{shims_run}
 use Rattle.shim_runs.proofs.FixupInstance.{fixup_run}
 use Rattle.world_shims.proofs.Numbered.{shims_numbered}
 use Rattle.shim_plan.specs.declared.shims.Shim.{Shim}
-use Rattle.core_runs.specs.Instances.{empty_table}
+use Rattle.core_types.specs.declared.types.ValType.{ValType}
+use Rattle.core_runs.specs.Instances.{empty_table, type_of}
 use Rattle.std.proofs.lemmas.Bool.{lt-ltb, le-ltb}
 use Rattle.std.proofs.lemmas.List.Elements.{filter_map-append, Contains-append_left, Contains-append_right}
 use Rattle.link_laws.specs.Composition.{GeneratedModules, generated_sections, at_root, item_instantiates}
 use Rattle.link_laws.specs.Linking.{module_meanings}
 use Rattle.link_laws.proofs.Zips.{all_some-each}
-use Rattle.link_laws.proofs.Stores.{IsOpaqueOf, ShimsAt, IsModuleInstance, IsInlineInstance, IsFilledWith, AreFilled, AreShims, IsServedAs, IsNamedEntry, ExportsShims, MayHaveShims, IsPlanned, IsPlannedUser, NumberedFrom, AreResources, Agrees}
+use Rattle.link_laws.proofs.Stores.{IsOpaqueOf, ShimsAt, IsModuleInstance, IsInlineInstance, IsFilledWith, AreFilled, AreShims, IsServedAs, IsNamedEntry, ExportsShims, MayHaveShims, IsPlanned, IsPlannedUser, NumberedFrom, AreResources, HasGlobalType, HasGlobals, Agrees}
 use Rattle.link_laws.proofs.Given.{thing_there, target_there, user_below, apart, not_shims, not_fixup, of_shims, module_there, address_there}
 use Rattle.link_laws.proofs.GivenImports.{purpose_opaque, IsOffered, arguments_there, given_there}
 use Rattle.link_laws.proofs.Plain.{only, nothing_in, IsRightModule, module_right, IsGivenImport, given_imports}
-use Rattle.link_laws.proofs.UserExports.{Exports, Alike, all_exports, all_alike, same_exports, each_export}
-use Rattle.link_laws.proofs.Kept.{IsFilledWith-kept, ShimsKept, shims_same, MayHaveShims-kept, Keeps, things_kept, IsPlannedUser-kept, AreKeyExports-kept, AreResources-kept}
+use Rattle.link_laws.proofs.UserExports.{Exports, Alike, all_exports, all_alike, same_exports, each_export, all_globals, each_global}
+use Rattle.link_laws.proofs.Kept.{sizes_kept, sizes_set, HasGlobals-kept, IsFilledWith-kept, ShimsKept, shims_same, MayHaveShims-kept, Keeps, things_kept, IsPlannedUser-kept, AreKeyExports-kept, AreResources-kept}
 
 -- ---- generated modules
 
@@ -156,7 +157,7 @@ mapped_twice (e ∷ es) = ap (λ l. Some e.address ∷ l) (mapped_twice es)
 abbrev IsFilling : ComponentWorld → Store → Shim → Export → Type 0
 IsFilling w s shim e = IsActual s.code shim e × IsFilledWith w s shim e.address
 
-module _ {w : ComponentWorld} {earlier : List Def} {c : Scope} {s : Store} (a : Agrees w earlier c s) (g : ℕ) (gen : GeneratedModules) where
+module _ {w : ComponentWorld} {earlier : List Def} {c : Scope} {s : Store} {g : List ValType} (a : Agrees w earlier c s g) (gen : GeneratedModules) where
   -- a core module has the address of its number
   module_address : (number : ℕ) → number < items_in spaces.CoreModule earlier → address_at spaces.CoreModule number c.items ≡ Some number
   module_address number l =
@@ -178,14 +179,14 @@ module _ {w : ComponentWorld} {earlier : List Def} {c : Scope} {s : Store} (a : 
       let more : Exports m0 m1 = all_exports user es m0 in
       let own : List Export = exported_by user es m0 in
       let below : number < shims_number w = user_below w number of h.listed in
-      let args : (ys : List (List ℕ × List Export)) × (all_some (map (core_argument m0) arguments) ≡ Some ys) × AllZip (IsOffered w a.shims s of.of) ys roles =
+      let args : (ys : List (List ℕ × List Export)) × (all_some (map (core_argument m0) arguments) ≡ Some ys) × AllZip (IsOffered w a.shims s g of.of) ys roles =
       arguments_there a ok of.of m0 refl refl arguments roles right.is.import_roles h.each in
       let plain : AllByRecursion (IsGivenImport w of.found) is = given_imports w of right in
-      let found : (ts : List Thing) × (all_some (map (given_to (machine c s no_answers) args.0) is) ≡ Some ts) × AllZip (IsPlanned w a.shims s of) ts is =
-      all_some-each (IsPlanned w a.shims s of) (given_to (machine c s no_answers) args.0) is
-      (AllByRecursion-weaker (given_there w a.shims of (machine c s no_answers) args.0 args.2) is plain) in
-      let given : (now : Now) → all_some (map (given_to (machine c s now) args.0) is) ≡ Some found.0 = λ now.
-      ap (λ l. all_some l) (given_same w of.found c s now args.0 is plain) ∙ found.1 in
+      let found : (ts : List Thing) × (all_some (map (given_to m0 args.0) is) ≡ Some ts) × AllZip (IsPlanned w a.shims s of) ts is =
+      all_some-each (IsPlanned w a.shims s of) (given_to m0 args.0) is
+      (AllByRecursion-weaker (given_there w ok a.shims of m0 g a.with_globals (types-cells g) args.0 args.2) is plain) in
+      let given : (now : Now) → map type_of now.globals ≡ g → all_some (map (given_to (machine c s now) args.0) is) ≡ Some found.0 = λ now types.
+      ap (λ l. all_some l) (given_same c s now m0.now (types ∙ sym (types-cells g)) args.0 is) ∙ found.1 in
       let instance : ModuleInstance = record { module_number = number; given = found.0; exports = own } in
       let t : Thing = record { space = spaces.CoreInstance; address = length m1.store.core_instances } in
       let s' : Store = record m1.store { core_instances = m1.store.core_instances ++ own ∷ []; module_instances = m1.store.module_instances ++ instance ∷ [] } in
@@ -193,6 +194,7 @@ module _ {w : ComponentWorld} {earlier : List Def} {c : Scope} {s : Store} (a : 
       let k : Keeps c.items (c.items ++ t ∷ []) s s' = record {
         things = things_kept c.items t s;
         code = more.code;
+        tables = sizes_kept more.tables;
         memories = more.memories;
         known = more.known;
         core_instances = keeps_grown s.core_instances (m1.store.core_instances ++ own ∷ []) (own ∷ []) (ap (λ (m : Machine). m.store.core_instances ++ own ∷ []) more.same);
@@ -213,30 +215,36 @@ module _ {w : ComponentWorld} {earlier : List Def} {c : Scope} {s : Store} (a : 
       λ at e. AllByRecursion-push (ExportsShims w at) m1.store.module_instances instance (subst (AllByRecursion (ExportsShims w at)) (sym users) e) (λ is_shims. absurd (not_shims w number below is_shims)) in
       let there : MayHaveShims w s' (numbers ++ number ∷ []) a.shims =
       MayHaveShims-kept k w numbers (number ∷ []) a.shims more.tables (λ yes. not_last numbers number (shims_number w) (not_shims w number below) yes) (λ yes. not_last numbers number (fixup_number w) (not_fixup w number below) yes) exporting a.with_shims in
-      let alike : (after : Now) → length after.globals ≡ g → Alike (machine c s after) m0 = λ after count. record { store = refl; globals = count ∙ sym (length-cells g) } in
-      let new : (after : Now) → length after.globals ≡ g → new_user number es found.0 (machine c s after) ≡ machine (with_thing c t c.imports) s' (with_exports user es (machine c s after)).now = λ after count.
+      let types : List ValType = map type_of m1.now.globals in
+      let grown : KeepsEntries g types = subst (λ ts. KeepsEntries ts types) (types-cells g) (all_globals user es m0) in
+      let own_globals : HasGlobals w types instance =
+      λ other listed. subst (λ (o : WorldModule). AllZip (HasGlobalType types) own o.found.offered) (same_Some of other (sym h.listed ∙ listed)) (each_global user es m0) in
+      let globals : AllByRecursion (HasGlobals w types) (m1.store.module_instances ++ instance ∷ []) =
+      AllByRecursion-push (HasGlobals w types) m1.store.module_instances instance (subst (AllByRecursion (HasGlobals w types)) (sym users) (AllByRecursion-weaker (HasGlobals-kept w grown) s.module_instances a.with_globals)) own_globals in
+      let alike : (after : Now) → map type_of after.globals ≡ g → Alike (machine c s after) m0 = λ after count. record { store = refl; globals = count ∙ sym (types-cells g) } in
+      let new : (after : Now) → map type_of after.globals ≡ g → new_user number es found.0 (machine c s after) ≡ machine (with_thing c t c.imports) s' (with_exports user es (machine c s after)).now = λ after count.
       ap₂ (λ l m. with_module_instance (record { module_number = number; given = found.0; exports = l }) m)
       (same_exports user es (machine c s after) m0 (alike after count))
       (ap₂ (λ x y. machine x y (with_exports user es (machine c s after)).now) (ap (λ (m : Machine). m.scope) (all_exports user es (machine c s after)).same) (all_alike user es (machine c s after) m0 (alike after count)).store) in
-      let continues : Continues w gen d c s g (with_thing c t c.imports) s' (length m1.now.globals) (number ∷ []) =
-      λ e u n events questions rest go now at. rw (module_address number h.scoped, user_meaning w gen number of h.listed, args.1, given now) (
+      let continues : Continues w gen d c s g (with_thing c t c.imports) s' types (number ∷ []) =
+      λ e u n events questions rest go now at. rw (module_address number h.scoped, user_meaning w gen number of h.listed, args.1, given now at.globals) (
       good_answered e u n (events ++ (Instantiated number ∷ seen_by w rest)) questions now.answers (seen now (Instantiated number)) (machine c s now) _
       (few w number events g rest now at)
       (λ values after same_events same_moments same_globals.
-      let count : length after.globals ≡ g = same_globals ∙ at.globals in
+      let count : map type_of after.globals ≡ g = same_globals ∙ at.globals in
       let b : Machine = with_exports user es (machine c s after) in
       let added : Exports (machine c s after) b = all_exports user es (machine c s after) in
-      let is_now : IsNow (events ++ Instantiated number ∷ []) (length m1.now.globals) b.now =
-      one_event number events g (length m1.now.globals) now b.now at (ap (λ (m : Machine). m.now.events) added.same ∙ same_events) (ap (λ (m : Machine). m.now.moments) added.same ∙ same_moments) (all_alike user es (machine c s after) m0 (alike after count)).globals in
+      let is_now : IsNow (events ++ Instantiated number ∷ []) types b.now =
+      one_event number events g types now b.now at (ap (λ (m : Machine). m.now.events) added.same ∙ same_events) (ap (λ (m : Machine). m.now.moments) added.same ∙ same_moments) (all_alike user es (machine c s after) m0 (alike after count)).globals in
       subst (λ (m : Machine). IsGood e u n (events ++ (Instantiated number ∷ seen_by w rest)) questions after.answers (run (module_meanings w gen) rest m)) (sym (new after count))
       (subst (λ l. IsGood e u n (events ++ (Instantiated number ∷ seen_by w rest)) questions l (run (module_meanings w gen) rest (machine (with_thing c t c.imports) s' b.now))) (ap (λ (m : Machine). m.now.answers) added.same)
       (subst (λ l. IsGood e u n l questions b.now.answers (run (module_meanings w gen) rest (machine (with_thing c t c.imports) s' b.now))) (append_assoc events (Instantiated number ∷ []) (seen_by w rest))
       (go b.now is_now))))) in (
         with_thing c t c.imports,
         s',
-        length m1.now.globals,
-        record { continues = subst (Continues w gen d c s g (with_thing c t c.imports) s' (length m1.now.globals)) (sym (one_among w number below)) continues },
-        agrees_with a g gen d (with_thing c t c.imports) s' t a.shims here refl k
+        types,
+        record { continues = subst (Continues w gen d c s g (with_thing c t c.imports) s' types) (sym (one_among w number below)) continues },
+        agrees_with a gen d (with_thing c t c.imports) s' types t a.shims here refl k
             (record {
               space = refl;
               is = record {
@@ -256,6 +264,7 @@ module _ {w : ComponentWorld} {earlier : List Def} {c : Scope} {s : Store} (a : 
             (subst (λ (l : List (List ℕ)). NumberedFrom 0 (filter (is_of spaces.CoreModule) (c.items ++ t ∷ [])) (length l)) (ap (λ (m : Machine). m.store.core_modules) (sym more.same)) (rw (filter-push (is_of spaces.CoreModule) false c.items t refl) a.modules))
             (map-append (λ (u : ModuleInstance). u.module_number) m1.store.module_instances (instance ∷ []) ∙ ap (λ (l : List ModuleInstance). map (λ (u : ModuleInstance). u.module_number) l ++ number ∷ []) users)
             planned
+            globals
             there
             (sym (append-nil (map (λ (e : Export). e.name) c.exports)))
             (AreKeyExports-kept w k (required_keys w) c.exports a.lifted)
@@ -282,6 +291,7 @@ module _ {w : ComponentWorld} {earlier : List Def} {c : Scope} {s : Store} (a : 
       let k : Keeps c.items (c.items ++ t ∷ []) s s' = record {
         things = things_kept c.items t s;
         code = keeps_more s.code.functions r.functions;
+        tables = sizes_kept (keeps_more s.code.tables (empty_table (length shims) ∷ []));
         memories = keeps_same refl;
         known = keeps_same refl;
         core_instances = keeps_more s.core_instances (own ∷ []);
@@ -306,7 +316,7 @@ module _ {w : ComponentWorld} {earlier : List Def} {c : Scope} {s : Store} (a : 
         s',
         g,
         quiet w gen d c s g (with_thing c t c.imports) s' (none_among w number (at_least number)) (λ rest now. rw (module_address number h.scoped, shims_meaning w gen there) (r.runs now [] (run (module_meanings w gen) rest))),
-        agrees_with a g gen d (with_thing c t c.imports) s' t (Some at) new refl k
+        agrees_with a gen d (with_thing c t c.imports) s' g t (Some at) new refl k
             (record {
               space = refl;
               is = record {
@@ -324,6 +334,7 @@ module _ {w : ComponentWorld} {earlier : List Def} {c : Scope} {s : Store} (a : 
             (AllByRecursion-push (IsPlannedUser w (Some at) s') s.module_instances instance
             (AllByRecursion-weaker (IsPlannedUser-kept w k a.shims (Some at) new) s.module_instances a.served)
             (λ of listed. absurd (not_shims w number (user_below w number of listed) refl)))
+            (AllByRecursion-push (HasGlobals w g) s.module_instances instance a.with_globals (λ of listed. absurd (not_shims w number (user_below w number of listed) refl)))
             are
             (sym (append-nil (map (λ (e : Export). e.name) c.exports)))
             (AreKeyExports-kept w k (required_keys w) c.exports a.lifted)
@@ -423,6 +434,7 @@ module _ {w : ComponentWorld} {earlier : List Def} {c : Scope} {s : Store} (a : 
       k = record {
         things = things_kept c.items t s;
         code = keeps_same refl;
+        tables = sizes_set s.code.tables at.table (empty_table (length shims)) (map (λ (e : Export). Some e.address) actual) can.present (length-map actual (λ (e : Export). Some e.address) ∙ (sym (length-AllZip (IsFilling w s) shims actual filling) ∙ sym can.size));
         memories = keeps_same refl;
         known = keeps_same refl;
         core_instances = keeps_more s.core_instances ([] ∷ []);
@@ -468,7 +480,7 @@ module _ {w : ComponentWorld} {earlier : List Def} {c : Scope} {s : Store} (a : 
         s',
         g,
         quiet w gen d c s g (with_thing c t c.imports) s' (none_among w (fixup_number w) (before_next (shims_number w))) (λ rest now. rw (module_address (fixup_number w) (subst (λ n. n < items_in spaces.CoreModule earlier) h.numbered h.scoped), fixup_meaning w gen there, arguments_held now) (r.runs now (run (module_meanings w gen) rest))),
-        agrees_with a g gen d (with_thing c t c.imports) s' t a.shims here refl k
+        agrees_with a gen d (with_thing c t c.imports) s' g t a.shims here refl k
             (record {
               space = refl;
               is = record {
@@ -486,6 +498,7 @@ module _ {w : ComponentWorld} {earlier : List Def} {c : Scope} {s : Store} (a : 
             (AllByRecursion-push (IsPlannedUser w a.shims s') s.module_instances instance
             (AllByRecursion-weaker (IsPlannedUser-kept w k a.shims a.shims here) s.module_instances a.served)
             (λ of listed. absurd (not_fixup w (fixup_number w) (user_below w (fixup_number w) of listed) refl)))
+            (AllByRecursion-push (HasGlobals w g) s.module_instances instance a.with_globals (λ of listed. absurd (not_fixup w (fixup_number w) (user_below w (fixup_number w) of listed) refl)))
             (subst (MayHaveShims w s' (numbers ++ fixup_number w ∷ [])) (sym found.1) are)
             (sym (append-nil (map (λ (e : Export). e.name) c.exports)))
             (AreKeyExports-kept w k (required_keys w) c.exports a.lifted)

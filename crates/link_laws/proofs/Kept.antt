@@ -4,7 +4,7 @@ use Rattle.std.proofs.lemmas.List.Elements.{filter-append, Contains-append_left}
 use Rattle.std.proofs.lemmas.Option.{none-some, same_Some}
 use Rattle.std.proofs.lemmas.Bool.Decides.{Decides-eqb}
 use Rattle.std.specs.Prelude.{Contains}
-use Rattle.std.specs.List.{slice_get, AllByRecursion}
+use Rattle.std.specs.List.{slice_get, slice_set, AllZip, AllByRecursion}
 use Rattle.comp_lists.proofs.Lists.{slice_get-append, slice_get-end, AllZip-weaker, AllByRecursion-weaker}
 use Rattle.comp_lists.specs.Found.{found}
 use Rattle.comp_bytes.specs.Spaces.{kind_space, sort_space}
@@ -22,6 +22,7 @@ use Rattle.comp_bytes.specs.declared.def.Def.TheVariants as defs
 use Rattle.comp_bytes.specs.ItemIndices.{IsAt}
 use Rattle.comp_bytes.specs.declared.def.Argument.{Argument}
 use Rattle.core_types.specs.declared.types.FuncType.{FuncType}
+use Rattle.core_types.specs.declared.types.ValType.{ValType}
 use Rattle.comp_trees.specs.Trees.{Origin, ResourceAt, FunctionTree}
 use Rattle.comp_trees.specs.DefinedTrees.{OfValues, OfFunctions}
 use Rattle.comp_inventories.specs.Inventories.{TypeEntry, Denoting, OfInstances, FunctionEntry, InstanceEntry}
@@ -50,12 +51,32 @@ use Rattle.nested_laws.proofs.Kept.{AreGiven-kept, AreNestedExports-kept}
 use Rattle.wit_data.specs.declared.worlds.WorldItem.{WorldItem}
 use Rattle.wit_data.specs.declared.worlds.WorldItem.TheVariants as world_items
 use Rattle.link_laws.proofs.Zips.{mapped_some, AllByRecursion-join}
-use Rattle.link_laws.proofs.Stores.{IsOpaqueOf, IsUserItem, IsUserExport, IsInstance, ShimsAt, AreShimExports, AreModuleExports, IsModuleInstance, IsNamedEntry, IsTypeAt, IsHeldOption, IsArgumentHeld, ItemIs, DefIs, Means, IsEntryItem, IsTypeEntry, IsFunctionEntry, IsInstanceThing, IsFunctionExported, IsMemoryExported, IsFirstMemory, IsOptionHeld, IsLoweringOf, IsServedAs, IsShimGiven, IsServedIn, Serves, IsPlanned, IsPlannedUser, IsFilledWith, AreFilled, ExportsShims, AreShims, MayHaveShims, IsLiftedFrom, function_at_key, IsRequiredAt, IsAmong, IsTypeAmong, IsItemExport, IsKeyExport, AreKeyExports, IsDestroyedBy, IsOwnResource, IsOwnIfDefined, AreResources, HasNumber}
+use Rattle.link_laws.proofs.Stores.{IsOpaqueOf, HasSlots, IsItemTyped, IsUserItem, IsUserExport, IsInstance, ShimsAt, AreShimExports, AreModuleExports, IsModuleInstance, IsNamedEntry, IsTypeAt, IsHeldOption, IsArgumentHeld, ItemIs, DefIs, Means, IsEntryItem, IsTypeEntry, IsFunctionEntry, IsInstanceThing, IsFunctionExported, IsItemExported, HasGlobalType, HasGlobals, IsGlobalTyped, IsFirstMemory, IsOptionHeld, IsLoweringOf, IsServedAs, IsShimGiven, IsServedIn, Serves, IsPlanned, IsPlannedUser, IsFilledWith, AreFilled, ExportsShims, AreShims, MayHaveShims, IsLiftedFrom, function_at_key, IsRequiredAt, IsAmong, IsTypeAmong, IsItemExport, IsKeyExport, AreKeyExports, IsDestroyedBy, IsOwnResource, IsOwnIfDefined, AreResources, HasNumber}
+
+-- a table that is kept has as many slots as before
+pub record KeepsSizes (old new : List (List (Option ℕ))) : Type 0 where
+  pub at : (address size : ℕ) → HasSlots old address size → HasSlots new address size
+
+pub sizes_kept : {old new : List (List (Option ℕ))} → KeepsEntries old new → KeepsSizes old new
+sizes_kept k = record { at = λ address size h. record { slots = h.slots; present = k.at address h.slots h.present; counted = h.counted } }
+
+-- one table may have got other slots, as many as it had
+pub sizes_set : (tables : List (List (Option ℕ))) (n : ℕ) (old slots : List (Option ℕ)) → slice_get tables n ≡ Some old → length slots ≡ length old → KeepsSizes tables (slice_set tables n slots)
+sizes_set tables n old slots there same = record { at = λ address size h. by tables n there address size h.slots h.present h.counted }
+  where
+    by : (ts : List (List (Option ℕ))) (n : ℕ) → slice_get ts n ≡ Some old → (address size : ℕ) (own : List (Option ℕ)) → slice_get ts address ≡ Some own → length own ≡ size → HasSlots (slice_set ts n slots) address size
+    by [] n there address size own at counted = absurd (none-some own at)
+    by (t ∷ ts) zero there zero size own at counted =
+        record { slots = slots; present = refl; counted = same ∙ (ap (λ (l : List (Option ℕ)). length l) (same_Some old own (sym there ∙ at)) ∙ counted) }
+    by (t ∷ ts) zero there (suc address) size own at counted = record { slots = own; present = at; counted = counted }
+    by (t ∷ ts) (suc n) there zero size own at counted = record { slots = own; present = at; counted = counted }
+    by (t ∷ ts) (suc n) there (suc address) size own at counted = let h : HasSlots (slice_set ts n slots) address size = by ts n there address size own at counted in record { slots = h.slots; present = h.present; counted = h.counted }
 
 -- every entry of the old scope and store is unchanged in the new ones
 pub record Keeps (a b : List Thing) (s t : Store) : Type 0 where
   pub things : (space : Space) (i x : ℕ) → address_at space i a ≡ Some x → address_at space i b ≡ Some x
   pub code : KeepsEntries s.code.functions t.code.functions
+  pub tables : KeepsSizes s.code.tables t.code.tables
   pub memories : KeepsEntries s.code.memories t.code.memories
   pub known : KeepsEntries s.known t.known
   pub core_instances : KeepsEntries s.core_instances t.core_instances
@@ -76,6 +97,7 @@ pub keeps_all : (items : List Thing) (s : Store) → Keeps items items s s
 keeps_all items s = record {
   things = λ space i x e. e;
   code = keeps_same refl;
+  tables = sizes_kept (keeps_same refl);
   memories = keeps_same refl;
   known = keeps_same refl;
   core_instances = keeps_same refl;
@@ -96,6 +118,7 @@ module _ (items : List Thing) (t : Thing) (s : Store) where
   keeps_store = record {
     things = things_kept;
     code = keeps_same refl;
+    tables = sizes_kept (keeps_same refl);
     memories = keeps_same refl;
     known = keeps_same refl;
     core_instances = keeps_same refl;
@@ -110,6 +133,7 @@ module _ (items : List Thing) (t : Thing) (s : Store) where
   keeps_type item = record {
     things = things_kept;
     code = keeps_same refl;
+    tables = sizes_kept (keeps_same refl);
     memories = keeps_same refl;
     known = keeps_same refl;
     core_instances = keeps_same refl;
@@ -124,6 +148,7 @@ module _ (items : List Thing) (t : Thing) (s : Store) where
   keeps_function f = record {
     things = things_kept;
     code = keeps_same refl;
+    tables = sizes_kept (keeps_same refl);
     memories = keeps_same refl;
     known = keeps_same refl;
     core_instances = keeps_same refl;
@@ -138,6 +163,7 @@ module _ (items : List Thing) (t : Thing) (s : Store) where
   keeps_opaque item type = record {
     things = things_kept;
     code = keeps_more s.code.functions (Opaque (length s.known) type ∷ []);
+    tables = sizes_kept (keeps_same refl);
     memories = keeps_same refl;
     known = keeps_more s.known (item ∷ []);
     core_instances = keeps_same refl;
@@ -152,6 +178,7 @@ module _ (items : List Thing) (t : Thing) (s : Store) where
   keeps_core_instance es = record {
     things = things_kept;
     code = keeps_same refl;
+    tables = sizes_kept (keeps_same refl);
     memories = keeps_same refl;
     known = keeps_same refl;
     core_instances = keeps_more s.core_instances (es ∷ []);
@@ -166,6 +193,7 @@ module _ (items : List Thing) (t : Thing) (s : Store) where
   keeps_component component = record {
     things = things_kept;
     code = keeps_same refl;
+    tables = sizes_kept (keeps_same refl);
     memories = keeps_same refl;
     known = keeps_same refl;
     core_instances = keeps_same refl;
@@ -180,6 +208,7 @@ module _ (items : List Thing) (t : Thing) (s : Store) where
   keeps_module bytes = record {
     things = things_kept;
     code = keeps_same refl;
+    tables = sizes_kept (keeps_same refl);
     memories = keeps_same refl;
     known = keeps_same refl;
     core_instances = keeps_same refl;
@@ -283,10 +312,16 @@ module _ {a b : List Thing} {s t : Store} (k : Keeps a b s t) where
   IsTypeAt-kept : (kind : ℕ) (type : FunctionTree) → IsTypeAt a s kind type → IsTypeAt b t kind type
   IsTypeAt-kept kind type h = record { address = h.address; at = k.things spaces.Type kind h.address h.at; is = k.types.at h.address (TreeOf (OfFunctions type)) h.is }
 
+  IsItemTyped-kept : (address : ℕ) (type : ExternType) → IsItemTyped s address type → IsItemTyped t address type
+  IsItemTyped-kept address (externs.Table type) h = k.tables.at address type.minimum h
+  IsItemTyped-kept address (externs.Memory type) h = k.memories.at address type h
+  IsItemTyped-kept address type h = tt
+
   item_of_user-kept : (user : ℕ) (e : Export) (type : ExternType) → IsUserItem s user e type → IsUserItem t user e type
   item_of_user-kept user e (externs.Func type) h = IsOpaque-kept h
-  item_of_user-kept user e (externs.Memory type) h = k.memories.at e.address type h
-  item_of_user-kept user e type h = tt
+  item_of_user-kept user e (externs.Table type) h = IsItemTyped-kept e.address (externs.Table type) h
+  item_of_user-kept user e (externs.Memory type) h = IsItemTyped-kept e.address (externs.Memory type) h
+  item_of_user-kept user e (externs.Global type) h = tt
 
   exports-kept : (user : ℕ) (e : Export) (found : List ℕ × ExternType) → IsUserExport s user e found → IsUserExport t user e found
   exports-kept user e found h = record { named = h.named; space = h.space; is = item_of_user-kept user e found.1 h.is }
@@ -306,10 +341,19 @@ module _ {a b : List Thing} {s t : Store} (k : Keeps a b s t) where
   IsFirstMemory-kept : (w : ComponentWorld) (address : ℕ) → IsFirstMemory w s address → IsFirstMemory w t address
   IsFirstMemory-kept w address h = record { name = h.name; type = h.type; first = h.first; is = record { user = h.is.user; instance = h.is.instance; present = k.users.at h.is.user h.is.instance h.is.present; of = h.is.of; exported = h.is.exported }; held = h.held; present = k.memories.at address h.held h.present; offered = h.offered }
 
-  IsMemoryExported-kept : {w : ComponentWorld} {address : ℕ} {export_ref : ExportRef} → IsMemoryExported w s address export_ref → IsMemoryExported w t address export_ref
+  IsItemExported-kept : {w : ComponentWorld} {space : Space} {address : ℕ} {export_ref : ExportRef} → IsItemExported w s space address export_ref → IsItemExported w t space address export_ref
   unfolding IsInstance-kept
-  IsMemoryExported-kept {w} {address} h =
-      record { number = h.number; of = h.of; user = h.user; instance = IsInstance-kept h.instance; exported = h.exported; type = h.type; is = k.memories.at address h.type h.is; offered = h.offered }
+  IsItemExported-kept {w} {space} {address} h = record {
+    number = h.number;
+    of = h.of;
+    user = h.user;
+    instance = IsInstance-kept h.instance;
+    exported = h.exported;
+    type = h.type;
+    in_space = h.in_space;
+    is = IsItemTyped-kept address h.type h.is;
+    offered = h.offered;
+  }
 
   IsOptionHeld-kept : (w : ComponentWorld) (held : HeldOption) (o : TargetOption) → IsOptionHeld w s held o → IsOptionHeld w t held o
   IsOptionHeld-kept w (HeldMemory a) targets.Memory h = IsFirstMemory-kept w a h
@@ -334,7 +378,9 @@ module _ {a b : List Thing} {s t : Store} (k : Keeps a b s t) where
 
   IsServedIn-kept : (w : ComponentWorld) (space : Space) (address : ℕ) (target : Target) → IsServedIn w s space address target → IsServedIn w t space address target
   IsServedIn-kept w spaces.CoreFunc address target h = IsServedAs-kept w address target h
-  IsServedIn-kept w spaces.CoreMemory address (ExportOf export_ref) h = IsMemoryExported-kept h
+  IsServedIn-kept w spaces.CoreTable address (ExportOf export_ref) h = IsItemExported-kept h
+  IsServedIn-kept w spaces.CoreMemory address (ExportOf export_ref) h = IsItemExported-kept h
+  IsServedIn-kept w spaces.CoreGlobal address (ExportOf export_ref) h = IsItemExported-kept h
   IsServedIn-kept w spaces.CoreMemory address MainMemory h = IsFirstMemory-kept w address h
   IsServedIn-kept w space address target h = absurd h
 
@@ -485,6 +531,17 @@ module _ (w : ComponentWorld) {a b : List Thing} {s t : Store} (k : Keeps a b s 
   AreKeyExports-kept rs [] h = tt
   AreKeyExports-kept [] (e ∷ es) h = absurd h
   AreKeyExports-kept (r ∷ rs) (e ∷ es) h = (IsItemExport-kept r e (exported_item w r.key) h.0, AreKeyExports-kept rs es h.1)
+
+-- globals have the types that they had where there are more
+HasGlobalType-kept : {old new : List ValType} → KeepsEntries old new → (e : Export) (o : List ℕ × ExternType) → HasGlobalType old e o → HasGlobalType new e o
+HasGlobalType-kept {old} {new} k e (name, type) h = record { named = h.named; is = by type h.is }
+  where
+    by : (type : ExternType) → IsGlobalTyped old e.address type → IsGlobalTyped new e.address type
+    by (externs.Global global) h = k.at e.address global.val_type h
+    by type h = tt
+
+pub HasGlobals-kept : (w : ComponentWorld) {old new : List ValType} → KeepsEntries old new → (u : ModuleInstance) → HasGlobals w old u → HasGlobals w new u
+HasGlobals-kept w k u h of listed = AllZip-weaker (HasGlobalType-kept k) u.exports of.found.offered (h of listed)
 
 -- one more is that of the next key
 pub AreKeyExports-push : (w : ComponentWorld) (s : Store) (rs : List RequiredKey) (es : List Export) (r : RequiredKey) (e : Export) → AreKeyExports w s rs es → slice_get rs (length es) ≡ Some r → IsKeyExport w s r e →

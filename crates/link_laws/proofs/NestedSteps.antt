@@ -49,7 +49,7 @@ use Rattle.link_laws.specs.Composition.{GeneratedModules}
 use Rattle.link_laws.specs.Linking.{module_meanings}
 use Rattle.link_laws.proofs.Zips.{all_some-self, AllZip-back, mapped_some}
 use Rattle.link_laws.proofs.Stores.{IsComponentHeld, IsArgumentHeld, IsNestedInstance, IsFunctionEntry, IsInstanceThing, IsLiftedFrom, function_at_key, type_at_key, IsRequiredAt, IsAmong, IsTypeAmong, IsItemExport, IsKeyExport, AreResources, Agrees}
-use Rattle.link_laws.proofs.Kept.{Keeps, shims_same, address_at-append, things_kept, keeps_store, keeps_component, IsPlannedUser-kept, AreKeyExports-push, AreResources-more}
+use Rattle.link_laws.proofs.Kept.{Keeps, sizes_kept, shims_same, address_at-append, things_kept, keeps_store, keeps_component, IsPlannedUser-kept, AreKeyExports-push, AreResources-more}
 use Rattle.link_laws.proofs.GivenTypes.{exports_given}
 use Rattle.link_laws.proofs.Given.{thing_there, address_there, held_there, function_at, lift_there, found_name, by_parts}
 use Rattle.link_laws.proofs.Outcomes.{machine, no_answers, quiet, Steps}
@@ -91,7 +91,7 @@ module _ (things : List Thing) (sort : Sort) (known : (space : Space) → is_spa
       by true p false q rest k = later held y x.index (front (sort_space sort) name y held false (in_space true p) (is_named false q)) (rest k)
       by false p named q rest k = later held y x.index (other_space (sort_space sort) name y held (in_space false p)) (rest k)
 
-module _ {w : ComponentWorld} {earlier : List Def} {c : Scope} {s : Store} (a : Agrees w earlier c s) (g : ℕ) (gen : GeneratedModules) where
+module _ {w : ComponentWorld} {earlier : List Def} {c : Scope} {s : Store} {g : List ValType} (a : Agrees w earlier c s g) (gen : GeneratedModules) where
   -- ---- a nested component
 
   pub step_component : (inner : List Item) → Steps w gen earlier c s g (defs.Component inner)
@@ -100,7 +100,7 @@ module _ {w : ComponentWorld} {earlier : List Def} {c : Scope} {s : Store} (a : 
       let t : Thing = record { space = spaces.Component; address = length s.components } in
       let component : ComponentItem = record { definitions = inner; around = c.items ∷ c.around } in
       let s' : Store = record s { components = s.components ++ component ∷ [] } in
-      quiet_step a g gen d c.imports s' t (λ rest now. refl) (keeps_component c.items t s component)
+      quiet_step a gen d c.imports s' t (λ rest now. refl) (keeps_component c.items t s component)
       (record { space = refl; is = record { component = component; present = slice_get-end s.components component; same = refl } }) (tt, tt, tt) refl refl refl refl refl refl a.imports a.resources
 
   -- ---- an instance of a nested component
@@ -152,6 +152,7 @@ module _ {w : ComponentWorld} {earlier : List Def} {c : Scope} {s : Store} (a : 
       let k : Keeps c.items (c.items ++ t ∷ []) s s' = record {
         things = things_kept c.items t s;
         code = keeps_same refl;
+        tables = sizes_kept (keeps_same refl);
         memories = keeps_same refl;
         known = keeps_same refl;
         core_instances = keeps_same refl;
@@ -161,7 +162,7 @@ module _ {w : ComponentWorld} {earlier : List Def} {c : Scope} {s : Store} (a : 
         instances = keeps_more s.instances (r.exports ∷ []);
         users = keeps_same refl;
       } in
-      quiet_step a g gen d c.imports s' t (λ rest now. rw (x.1, x.2.present, held.1) (r.runs now (run (module_meanings w gen) rest))) k
+      quiet_step a gen d c.imports s' t (λ rest now. rw (x.1, x.2.present, held.1) (r.runs now (run (module_meanings w gen) rest))) k
       (record {
         space = refl;
         is = record {
@@ -187,7 +188,7 @@ module _ {w : ComponentWorld} {earlier : List Def} {c : Scope} {s : Store} (a : 
 
   -- the step of an export: it is that of the next required key
   export_step : (name : ExternName) (sort : Sort) (index address : ℕ) (r : RequiredKey) → address_at (sort_space sort) index c.items ≡ Some address → slice_get (required_keys w) (exports_in earlier) ≡ Some r →
-      IsKeyExport w s r (record { space = sort_space sort; name = name.name; address = address }) → Makes a g gen (defs.Item (items.Export name sort index None)) s (record { space = sort_space sort; address = address }) →
+      IsKeyExport w s r (record { space = sort_space sort; name = name.name; address = address }) → Makes a gen (defs.Item (items.Export name sort index None)) s (record { space = sort_space sort; address = address }) →
       is_space spaces.CoreModule (Some (sort_space sort)) ≡ false → Steps w gen earlier c s g (defs.Item (items.Export name sort index None))
   export_step name sort index address r at next is makes other =
       let d : Def = defs.Item (items.Export name sort index None) in
@@ -199,11 +200,12 @@ module _ {w : ComponentWorld} {earlier : List Def} {c : Scope} {s : Store} (a : 
         s,
         g,
         quiet w gen d c s g c' s refl (λ rest now. rw at refl),
-        agrees_with a g gen d c' s t a.shims (shims_same a.shims) refl k (record { space = refl; is = tt }) makes
+        agrees_with a gen d c' s g t a.shims (shims_same a.shims) refl k (record { space = refl; is = tt }) makes
             (rw (filter-push (is_of spaces.CoreModule) false c.items t other) a.modules)
             (sym (append-nil (map (λ (u : ModuleInstance). u.module_number) s.module_instances)))
             (AllByRecursion-weaker (IsPlannedUser-kept w k a.shims a.shims (shims_same a.shims)) s.module_instances a.served)
-            (shims_beside a g gen k [] refl refl refl)
+            a.with_globals
+            (shims_beside a gen k [] refl refl refl)
             (map-append (λ (e : Export). e.name) c.exports (x ∷ []))
             (AreKeyExports-push w s (required_keys w) c.exports r x a.lifted (ap (slice_get (required_keys w)) counted ∙ next) is)
             a.imports

@@ -1,15 +1,14 @@
 -- How a definition goes on from one state of a run to the next, whatever is answered, and what is seen of it.
-use Rattle.std.proofs.Common.{arith, ◌≤◌, ◌+◌, ◌≡◌, ◌∙◌, ℕ, zero, suc, false, List, [], ◌∷◌, ◌++◌, length, map, filter, refl, sym, ap, subst, append-nil, length-append, IsTrue}
-use Rattle.std.proofs.lemmas.List.{length-map}
+use Rattle.std.proofs.Common.{arith, ◌≤◌, ◌+◌, ◌≡◌, ◌∙◌, ℕ, suc, false, List, [], ◌∷◌, ◌++◌, length, map, filter, refl, sym, ap, ap₂, subst, append-nil, length-append, IsTrue}
 use Rattle.std.proofs.Math.Dec.{ltb}
 use Rattle.std.specs.List.{flat_map}
 use Rattle.comp_bytes.specs.declared.def.Def.{Def}
 use Rattle.comp_worlds.specs.declared.world.ComponentWorld.{ComponentWorld}
 use Rattle.comp_links.specs.Modules.{user_modules}
 use Rattle.core_types.specs.declared.types.ValType.{ValType}
-use Rattle.core_runs.specs.Values.{Value}
-use Rattle.core_types.specs.declared.types.ValType.TheVariants.{I32}
-use Rattle.core_runs.specs.Store.{Answer, Gives, Traps, Event, Instantiated, Now, Cell, Foreign}
+use Rattle.core_runs.specs.Values.{Value, I32Value, I64Value}
+use Rattle.core_runs.specs.Instances.{type_of}
+use Rattle.core_runs.specs.Store.{Answer, Gives, Traps, Event, Instantiated, Now, Cell, Kept, Foreign}
 use Rattle.core_runs.specs.Execution.{answered, seen, renewed}
 use Rattle.comp_runs.specs.Store.{Store}
 use Rattle.comp_runs.specs.Machine.{Scope, Machine, Outcome, Done, Trapped, Open, Stuck, resumed}
@@ -26,15 +25,15 @@ machine c s now = record { scope = c; store = s; now = now }
 abbrev pub no_answers : Now
 no_answers = record { globals = []; answers = []; events = []; moments = [] }
 
--- what a run has seen so far, and how many globals there are
-pub record IsNow (es : List Event) (count : ℕ) (now : Now) : Type 0 where
+-- what a run has seen so far, and the types of the globals
+pub record IsNow (es : List Event) (types : List ValType) (now : Now) : Type 0 where
   pub events : now.events ≡ es
   pub moments : length now.moments ≡ length es
-  pub globals : length now.globals ≡ count
+  pub globals : map type_of now.globals ≡ types
 
--- a run ends with this scope, this store, this many globals and these events, or with an answer that doesn't let it go to
+-- a run ends with this scope, this store, globals of these types and these events, or with an answer that doesn't let it go to
 -- its end
-abbrev pub IsGood : Scope → Store → ℕ → List Event → List (List ValType) → List Answer → Outcome → Type 0
+abbrev pub IsGood : Scope → Store → List ValType → List Event → List (List ValType) → List Answer → Outcome → Type 0
 IsGood c s g es questions answers (Done m) = (m.scope ≡ c) × (m.store ≡ s) × IsNow es g m.now
 IsGood c s g es questions answers (Trapped m) = (LetsRun questions answers → ⊥) × (length m.now.moments ≤ length es)
 IsGood c s g es questions answers (Open m) = (LetsRun questions answers → ⊥) × (length m.now.moments ≤ length es)
@@ -59,38 +58,49 @@ abbrev pub seen_by : ComponentWorld → List Def → List Event
 seen_by w ds = flat_map (λ d. events_of (users_in w d)) ds
 
 -- one call more
-one_more : (c : Scope) (s : Store) (g : ℕ) (es : List Event) (questions : List (List ValType)) (cell : ℕ) (answers : List Answer) (o : Outcome) →
+one_more : (c : Scope) (s : Store) (g : List ValType) (es : List Event) (questions : List (List ValType)) (cell : ℕ) (answers : List Answer) (o : Outcome) →
     IsGood c s g es questions answers o → IsGood c s g es ([] ∷ questions) (Gives [] cell ∷ answers) o
 one_more c s g es questions cell answers (Done m) h = h
 one_more c s g es questions cell answers (Trapped m) h = (λ l. h.0 l.1, h.1)
 one_more c s g es questions cell answers (Open m) h = (λ l. h.0 l.1, h.1)
 one_more c s g es questions cell answers Stuck h = h
 
-pub good_answered : (c : Scope) (s : Store) (g : ℕ) (es : List Event) (questions : List (List ValType)) (answers : List Answer) (now : Now) (m : Machine) (next : List Value → Machine → Outcome) →
+-- a call of the outside changes no type of a global
+type_renewed : (number : ℕ) (cell : Cell) → type_of (renewed number cell) ≡ type_of cell
+type_renewed number (Kept t (I32Value n)) = refl
+type_renewed number (Kept t (I64Value n)) = refl
+type_renewed number (Kept t v) = refl
+type_renewed number (Foreign what t) = refl
+
+types_renewed : (number : ℕ) (cells : List Cell) → map type_of (map (renewed number) cells) ≡ map type_of cells
+types_renewed number [] = refl
+types_renewed number (cell ∷ cells) = ap₂ (λ t ts. t ∷ ts) (type_renewed number cell) (types_renewed number cells)
+
+pub good_answered : (c : Scope) (s : Store) (g : List ValType) (es : List Event) (questions : List (List ValType)) (answers : List Answer) (now : Now) (m : Machine) (next : List Value → Machine → Outcome) →
     length now.moments ≤ length es →
-    ((values : List Value) (after : Now) → after.events ≡ now.events → after.moments ≡ now.moments → length after.globals ≡ length now.globals →
+    ((values : List Value) (after : Now) → after.events ≡ now.events → after.moments ≡ now.moments → map type_of after.globals ≡ map type_of now.globals →
     IsGood c s g es questions after.answers (next values (record m { now = after }))) →
     IsGood c s g es ([] ∷ questions) answers (resumed (answered [] answers now) m next)
 good_answered c s g es questions [] now m next few h = (λ l. l, few)
 good_answered c s g es questions (Traps ∷ answers) now m next few h = (λ l. l, few)
-good_answered c s g es questions (Gives [] number ∷ answers) now m next few h = one_more c s g es questions number answers _ (h [] _ refl refl (length-map now.globals (renewed number)))
+good_answered c s g es questions (Gives [] number ∷ answers) now m next few h = one_more c s g es questions number answers _ (h [] _ refl refl (types_renewed number now.globals))
 good_answered c s g es questions (Gives (v ∷ values) number ∷ answers) now m next few h = (λ l. absurd (no l.0), few)
   where
     no : IsTrue false → ⊥
     no e = cc
 
--- A definition that instantiates these user modules runs, and the rest is run from this scope, this store and this many globals.
-abbrev pub Continues : (w : ComponentWorld) (gen : GeneratedModules) (d : Def) (c : Scope) (s : Store) (g : ℕ) (c' : Scope) (s' : Store) (g' : ℕ) → List ℕ → Type 0
+-- A definition that instantiates these user modules runs, and the rest is run from this scope, this store and globals of these types.
+abbrev pub Continues : (w : ComponentWorld) (gen : GeneratedModules) (d : Def) (c : Scope) (s : Store) (g : List ValType) (c' : Scope) (s' : Store) (g' : List ValType) → List ℕ → Type 0
 Continues w gen d c s g c' s' g' users =
-    (e : Scope) (t : Store) (k : ℕ) (es : List Event) (questions : List (List ValType)) (rest : List Def) →
+    (e : Scope) (t : Store) (k : List ValType) (es : List Event) (questions : List (List ValType)) (rest : List Def) →
     ((now : Now) → IsNow (es ++ events_of users) g' now → IsGood e t k ((es ++ events_of users) ++ seen_by w rest) questions now.answers (run (module_meanings w gen) rest (machine c' s' now))) →
     (now : Now) → IsNow es g now → IsGood e t k (es ++ (events_of users ++ seen_by w rest)) (asks users ++ questions) now.answers (run (module_meanings w gen) (d ∷ rest) (machine c s now))
 
-pub record Runs (w : ComponentWorld) (gen : GeneratedModules) (d : Def) (c : Scope) (s : Store) (g : ℕ) (c' : Scope) (s' : Store) (g' : ℕ) : Type 0 where
+pub record Runs (w : ComponentWorld) (gen : GeneratedModules) (d : Def) (c : Scope) (s : Store) (g : List ValType) (c' : Scope) (s' : Store) (g' : List ValType) : Type 0 where
   pub continues : Continues w gen d c s g c' s' g' (users_in w d)
 
 -- a definition that calls nothing outside
-pub quiet : (w : ComponentWorld) (gen : GeneratedModules) (d : Def) (c : Scope) (s : Store) (g : ℕ) (c' : Scope) (s' : Store) → users_in w d ≡ [] →
+pub quiet : (w : ComponentWorld) (gen : GeneratedModules) (d : Def) (c : Scope) (s : Store) (g : List ValType) (c' : Scope) (s' : Store) → users_in w d ≡ [] →
     ((rest : List Def) (now : Now) → run (module_meanings w gen) (d ∷ rest) (machine c s now) ≡ run (module_meanings w gen) rest (machine c' s' now)) → Runs w gen d c s g c' s' g
 quiet w gen d c s g c' s' none same = record { continues = subst (Continues w gen d c s g c' s' g) (sym none) none_seen }
   where
@@ -101,18 +111,18 @@ quiet w gen d c s g c' s' none same = record { continues = subst (Continues w ge
         let plain : after es = subst after (append-nil es) go in
         subst (IsGood e t k (es ++ seen_by w rest) questions now.answers) (sym (same rest now)) (plain now at)
 
-abbrev pub Steps : ComponentWorld → GeneratedModules → List Def → Scope → Store → ℕ → Def → Type 0
-Steps w gen earlier c s g d = (c' : Scope) × (s' : Store) × (g' : ℕ) × Runs w gen d c s g c' s' g' × Agrees w (earlier ++ d ∷ []) c' s'
+abbrev pub Steps : ComponentWorld → GeneratedModules → List Def → Scope → Store → List ValType → Def → Type 0
+Steps w gen earlier c s g d = (c' : Scope) × (s' : Store) × (g' : List ValType) × Runs w gen d c s g c' s' g' × Agrees w (earlier ++ d ∷ []) c' s' g'
 
 -- the event of one more instance is among all of them
-pub few : (w : ComponentWorld) (number : ℕ) (es : List Event) (g : ℕ) (rest : List Def) (now : Now) → IsNow es g now → length (seen now (Instantiated number)).moments ≤ length (es ++ (Instantiated number ∷ seen_by w rest))
+pub few : (w : ComponentWorld) (number : ℕ) (es : List Event) (g : List ValType) (rest : List Def) (now : Now) → IsNow es g now → length (seen now (Instantiated number)).moments ≤ length (es ++ (Instantiated number ∷ seen_by w rest))
 few w number es g rest now at =
     let before : length now.moments ≡ length es = at.moments in
     let more : length (now.moments ++ now.globals ∷ []) ≡ length now.moments + 1 = length-append now.moments (now.globals ∷ []) in
     let all : length (es ++ (Instantiated number ∷ seen_by w rest)) ≡ length es + suc (length (seen_by w rest)) = length-append es (Instantiated number ∷ seen_by w rest) in
     omega (arith, before, more, all)
 
-pub one_event : (number : ℕ) (es : List Event) (g k : ℕ) (now after : Now) → IsNow es g now → after.events ≡ (seen now (Instantiated number)).events → after.moments ≡ (seen now (Instantiated number)).moments → length after.globals ≡ k →
+pub one_event : (number : ℕ) (es : List Event) (g k : List ValType) (now after : Now) → IsNow es g now → after.events ≡ (seen now (Instantiated number)).events → after.moments ≡ (seen now (Instantiated number)).moments → map type_of after.globals ≡ k →
     IsNow (es ++ Instantiated number ∷ []) k after
 one_event number es g k now after at events moments count = record {
   events = events ∙ ap (λ l. l ++ Instantiated number ∷ []) at.events;
@@ -120,12 +130,11 @@ one_event number es g k now after at events moments count = record {
   globals = count;
 }
 
--- a moment with this many globals
-pub cells : ℕ → List Cell
-cells zero = []
-cells (suc n) = Foreign 0 I32 ∷ cells n
+-- a moment with globals of these types
+pub cells : List ValType → List Cell
+cells types = map (λ t. Foreign 0 t) types
 
-pub length-cells : (n : ℕ) → length (cells n) ≡ n
+pub types-cells : (types : List ValType) → map type_of (cells types) ≡ types
 unfolding cells
-length-cells zero = refl
-length-cells (suc n) = ap suc (length-cells n)
+types-cells [] = refl
+types-cells (t ∷ types) = ap (λ ts. t ∷ ts) (types-cells types)

@@ -1,5 +1,5 @@
 -- The functions of a world, its user modules, and the core types of what these import and export.
-use Rattle.std.proofs.Common.{◌≡◌, ◌∙◌, ℕ, zero, suc, Bool, true, false, ◌&&◌, List, [], ◌∷◌, map, refl, sym, ap, subst, Some, None, eq-eqb, arith, true≢false}
+use Rattle.std.proofs.Common.{◌≡◌, ◌∙◌, ◌⊎◌, inl, inr, ℕ, zero, suc, Bool, true, false, ◌&&◌, List, [], ◌∷◌, map, refl, sym, ap, subst, Some, None, eq-eqb, arith, true≢false}
 use Rattle.std.proofs.lemmas.Option.{none-some, same_Some}
 use Rattle.std.proofs.lemmas.Slice.Eq.{bytes_eq-Decides}
 use Rattle.std.proofs.Math.Dec.{eqb-zero-suc, eqb-suc-zero}
@@ -33,12 +33,8 @@ use Rattle.comp_roles.specs.declared.offered.ExternType.{ExternType}
 use Rattle.comp_roles.specs.declared.offered.ExternType.TheVariants as externs
 use Rattle.comp_roles.specs.declared.offered.ImportType.{ImportType}
 use Rattle.comp_roles.specs.Lookups.{first_export, is_initialize, is_task_hook}
-use Rattle.comp_roles.specs.Matching.{kind_of}
-use Rattle.world_values.specs.Items.{functions_of, root_function_at}
-use Rattle.comp_worlds.proofs.Matched.{matched_kind}
 use Rattle.comp_worlds.proofs.Roles.{role_right}
-use Rattle.comp_worlds.specs.Offered.{IsGivenKind}
-use Rattle.comp_worlds.specs.Typed.{drop_type, handle_type, FitsRole, FitsImport}
+use Rattle.comp_worlds.specs.Typed.{FitsRole, FitsInstance, FitsImport}
 use Rattle.comp_worlds.specs.WorldContents.{items_of, exported_item}
 use Rattle.comp_worlds.specs.Worlds.{IsWorld, IsUserModule, IsExportItem, IsImportRole, IsImportGroup, IsExportRole}
 use Rattle.comp_worlds.specs.declared.world.ComponentWorld.{ComponentWorld}
@@ -51,7 +47,6 @@ use Rattle.comp_terms.specs.Planned.{type_of_function}
 use Rattle.comp_runs.specs.Signatures.{core_signature}
 use Rattle.comp_trees.specs.Trees.{FunctionTree}
 use Rattle.comp_trees.proofs.Signing.{signatures_of_trees}
-use Rattle.link_laws.proofs.Zips.{mapped_some}
 use Rattle.link_laws.proofs.Stores.{main_module}
 
 pub only : {X : Type 0} (x y : X) → Contains (x ∷ []) y → x ≡ y
@@ -91,7 +86,7 @@ function_key w ok key f e = by key (AllByRecursion-contains (IsExportItem w.reso
 
 -- ---- core types
 
-same_value_type-refl : (t : ValType) → same_value_type t t ≡ true
+pub same_value_type-refl : (t : ValType) → same_value_type t t ≡ true
 same_value_type-refl I32 = refl
 same_value_type-refl I64 = refl
 same_value_type-refl F32 = refl
@@ -153,53 +148,22 @@ named_main w number m = by number m.listed
 -- the roles of a group
 pub fields_right : (w : ComponentWorld) (group : List ℕ × ImportInstance) → IsImportGroup w group → AllByRecursion (λ f. IsImportRole w f.1) (fields_of group.1)
 fields_right w (name, instances.Names fields) h = h.1
-fields_right w (name, instances.Whole which) h = absurd h
-
--- types of imports that are given so far
-abbrev pub IsGivenType : ExternType → Type 0
-IsGivenType (externs.Func type) = Unit {0}
-IsGivenType (externs.Memory type) = Unit {0}
-IsGivenType type = ⊥
+fields_right w (name, instances.Whole which) h = tt
 
 -- an import of the module that has a role, which it fits
-pub record IsGivenImport (w : ComponentWorld) (m : ValidatedModule) (i : ImportType) : Type 0 where
+pub record HasRole (w : ComponentWorld) (m : ValidatedModule) (i : ImportType) : Type 0 where
   pub role : Import
   pub has_role : role_at m.imports.modules i.module_name i.field ≡ Some role
   pub right : IsImportRole w role
   pub fits : FitsRole w role i.ty
-  pub given : IsGivenType i.ty
 
-type_of_kind : (type : ExternType) → IsGivenKind (kind_of type) → IsGivenType type
-type_of_kind (externs.Func type) h = tt
-type_of_kind (externs.Memory type) h = tt
-type_of_kind type h = absurd h
-
--- the role of an import requires such a type
-import_type : (w : ComponentWorld) (role : Import) (type : ExternType) → IsImportRole w role → FitsRole w role type → IsGivenType type
-import_type w (imports.WorldFunc (keys.Name text) function abi) type right fits =
-    let x : (f : Function) × (root_function_at (items_of w).imports (keys.Name text) ≡ Some f) × (called_type w.resolve abi f ≡ type) =
-    mapped_some (called_type w.resolve abi) (root_function_at (items_of w).imports (keys.Name text)) type fits in
-    subst IsGivenType x.2 tt
-import_type w (imports.InterfaceFunc key id function abi) type right fits =
-    let x : (f : Function) × (found function (functions_of w.resolve id) ≡ Some f) × (called_type w.resolve abi f ≡ type) =
-    mapped_some (called_type w.resolve abi) (found function (functions_of w.resolve id)) type fits in
-    subst IsGivenType x.2 tt
-import_type w (imports.ImportedResourceDrop key interface id) type right fits = subst IsGivenType (same_Some drop_type type fits) tt
-import_type w (imports.ExportedResourceDrop key id) type right fits = subst IsGivenType (same_Some drop_type type fits) tt
-import_type w (imports.ExportedResourceRep key id) type right fits = subst IsGivenType (same_Some handle_type type fits) tt
-import_type w (imports.ExportedResourceNew key id) type right fits = subst IsGivenType (same_Some handle_type type fits) tt
-import_type w (imports.MainModuleMemory memory) type right fits = subst IsGivenType (same_Some (externs.Memory memory) type fits) tt
-import_type w (imports.AdapterExport adapter name function) type right fits = subst IsGivenType (same_Some (externs.Func function) type fits) tt
-import_type w (imports.MainModuleExport name kind) type right fits =
-    let same : right.type ≡ fits.type = same_Some right.type fits.type (sym right.offered ∙ fits.offered) in
-    let kind_is : kind ≡ kind_of type = sym right.of_kind ∙ (ap kind_of same ∙ sym (matched_kind type fits.type fits.matching)) in
-    type_of_kind type (subst IsGivenKind kind_is right.given)
-import_type w role type right fits = absurd right
+-- an import that has a role, or for which a whole instance is given
+abbrev pub IsGivenImport : ComponentWorld → ValidatedModule → ImportType → Type 0
+IsGivenImport w m i = HasRole w m i ⊎ FitsInstance w m i
 
 one_import : (w : ComponentWorld) (m : ValidatedModule) → AllByRecursion (IsImportGroup w) m.imports.modules → (i : ImportType) → FitsImport w m i → IsGivenImport w m i
-one_import w m roles i h =
-    let right : IsImportRole w h.role = role_right w m.imports.modules i.module_name i.field h.role roles h.has_role in
-    record { role = h.role; has_role = h.has_role; right = right; fits = h.fits; given = import_type w h.role i.ty right h.fits }
+one_import w m roles i (inl h) = inl (record { role = h.role; has_role = h.has_role; right = role_right w m.imports.modules i.module_name i.field h.role roles h.has_role; fits = h.fits })
+one_import w m roles i (inr h) = inr h
 
 -- what user modules import is given
 pub given_imports : (w : ComponentWorld) (of : WorldModule) → IsRightModule w of → AllByRecursion (IsGivenImport w of.found) of.found.imported

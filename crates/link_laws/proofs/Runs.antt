@@ -61,50 +61,50 @@ use Rattle.link_laws.proofs.NestedSteps.{step_component, step_nested, step_expor
 abbrev pub MayMake : ComponentWorld → GeneratedModules → ℕ → Type 0
 MayMake w gen n = (n < shims_number w → ⊥) → IsGenerated w gen
 
-module _ {w : ComponentWorld} {earlier : List Def} {c : Scope} {s : Store} (a : Agrees w earlier c s) (g : ℕ) (gen : GeneratedModules) where
+module _ {w : ComponentWorld} {earlier : List Def} {c : Scope} {s : Store} {g : List ValType} (a : Agrees w earlier c s g) (gen : GeneratedModules) where
   step : IsWorld w → (d : Def) → AllByRecursion (MayMake w gen) (at_root item_instantiates d) → IsRight w earlier d → Steps w gen earlier c s g d
-  step ok (defs.Item (items.CoreModule bytes)) may h = step_module a g gen bytes
-  step ok (defs.Item (items.CoreInstantiate number arguments)) may h = step_instantiate a g gen ok number arguments may.0 h
-  step ok (defs.Item (items.CoreExports entries)) may h = step_inline_instance a g gen entries h
-  step ok (defs.Item (items.Alias (aliases.CoreExport kind instance name))) may h = step_alias a g gen kind instance name h
-  step ok (defs.Item (items.Alias (aliases.Export exports.Func instance name))) may h = step_alias_function a g gen instance name h
-  step ok (defs.Item (items.Alias (aliases.Export exports.Type instance name))) may h = step_alias_type a g gen instance name h
-  step ok (defs.Item (items.Type t)) may h = step_type a g gen t h
-  step ok (defs.Item (items.InstanceType t)) may h = step_instance_type a g gen t
-  step ok (defs.Item (items.Lift core options kind)) may h = step_lift a g gen core options kind h.0 h.1 h.2
-  step ok (defs.Item (items.Lower function options)) may h = step_lower a g gen function options h.0 h.1
-  step ok (defs.Item (items.Intrinsic (intrinsics.ResourceNew type))) may h = step_new a g gen type h
-  step ok (defs.Item (items.Intrinsic (intrinsics.ResourceRep type))) may h = step_rep a g gen type h
-  step ok (defs.Item (items.Intrinsic (intrinsics.ResourceDrop type))) may h = step_drop a g gen type h
-  step ok (defs.Item (items.Import name (descriptions.Func kind))) may h = step_import a g gen name kind h
-  step ok (defs.Item (items.Import name (descriptions.TypeEqual index))) may h = step_import_type a g gen name index h.0
-  step ok (defs.Item (items.Import name descriptions.SubResource)) may h = step_import_resource a g gen name
-  step ok (defs.Item (items.Import name (descriptions.Instance index))) may h = step_import_instance a g gen name index h.outer h.members h.is h.right
-  step ok (defs.Item (items.Instantiate component arguments)) may h = step_nested a g gen component arguments h
-  step ok (defs.Item (items.Export name sorts.Func index None)) may h = step_export_function a g gen name index h
-  step ok (defs.Item (items.Export name sorts.Instance index None)) may h = step_export_instance a g gen name index h
-  step ok (defs.Item (items.Custom name contents)) may h = step_custom a g gen name contents
-  step ok (defs.Component inner) may h = step_component a g gen inner
+  step ok (defs.Item (items.CoreModule bytes)) may h = step_module a gen bytes
+  step ok (defs.Item (items.CoreInstantiate number arguments)) may h = step_instantiate a gen ok number arguments may.0 h
+  step ok (defs.Item (items.CoreExports entries)) may h = step_inline_instance a gen entries h
+  step ok (defs.Item (items.Alias (aliases.CoreExport kind instance name))) may h = step_alias a gen kind instance name h
+  step ok (defs.Item (items.Alias (aliases.Export exports.Func instance name))) may h = step_alias_function a gen instance name h
+  step ok (defs.Item (items.Alias (aliases.Export exports.Type instance name))) may h = step_alias_type a gen instance name h
+  step ok (defs.Item (items.Type t)) may h = step_type a gen t h
+  step ok (defs.Item (items.InstanceType t)) may h = step_instance_type a gen t
+  step ok (defs.Item (items.Lift core options kind)) may h = step_lift a gen core options kind h.0 h.1 h.2
+  step ok (defs.Item (items.Lower function options)) may h = step_lower a gen function options h.0 h.1
+  step ok (defs.Item (items.Intrinsic (intrinsics.ResourceNew type))) may h = step_new a gen type h
+  step ok (defs.Item (items.Intrinsic (intrinsics.ResourceRep type))) may h = step_rep a gen type h
+  step ok (defs.Item (items.Intrinsic (intrinsics.ResourceDrop type))) may h = step_drop a gen type h
+  step ok (defs.Item (items.Import name (descriptions.Func kind))) may h = step_import a gen name kind h
+  step ok (defs.Item (items.Import name (descriptions.TypeEqual index))) may h = step_import_type a gen name index h.0
+  step ok (defs.Item (items.Import name descriptions.SubResource)) may h = step_import_resource a gen name
+  step ok (defs.Item (items.Import name (descriptions.Instance index))) may h = step_import_instance a gen name index h.outer h.members h.is h.right
+  step ok (defs.Item (items.Instantiate component arguments)) may h = step_nested a gen component arguments h
+  step ok (defs.Item (items.Export name sorts.Func index None)) may h = step_export_function a gen name index h
+  step ok (defs.Item (items.Export name sorts.Instance index None)) may h = step_export_instance a gen name index h
+  step ok (defs.Item (items.Custom name contents)) may h = step_custom a gen name contents
+  step ok (defs.Component inner) may h = step_component a gen inner
   step ok _ may h = absurd h
 
 -- the calls of the outside that a list makes, in order, by their result types
 abbrev asked_by : ComponentWorld → List Def → List (List ValType)
 asked_by w ds = flat_map (λ d. asks (users_in w d)) ds
 
-abbrev Resolves : ComponentWorld → GeneratedModules → List Def → List Def → Scope → Store → ℕ → Type 0
+abbrev Resolves : ComponentWorld → GeneratedModules → List Def → List Def → Scope → Store → List ValType → Type 0
 Resolves w gen earlier rest c s g =
-    (e : Scope) × (t : Store) × (k : ℕ)
+    (e : Scope) × (t : Store) × (k : List ValType)
     × ((es : List Event) (now : Now) → IsNow es g now → IsGood e t k (es ++ seen_by w rest) (asked_by w rest) now.answers (run (module_meanings w gen) rest (machine c s now)))
-    × Agrees w (earlier ++ rest) e t
+    × Agrees w (earlier ++ rest) e t k
 
-resolves : (w : ComponentWorld) (gen : GeneratedModules) → IsWorld w → (earlier rest : List Def) (c : Scope) (s : Store) (g : ℕ) → Agrees w earlier c s → AllByRecursion (MayMake w gen) (flat_map (at_root item_instantiates) rest) → RightAfter w earlier rest → Resolves w gen earlier rest c s g
+resolves : (w : ComponentWorld) (gen : GeneratedModules) → IsWorld w → (earlier rest : List Def) (c : Scope) (s : Store) (g : List ValType) → Agrees w earlier c s g → AllByRecursion (MayMake w gen) (flat_map (at_root item_instantiates) rest) → RightAfter w earlier rest → Resolves w gen earlier rest c s g
 resolves w gen ok earlier [] c s g a may h = (c, s, g, λ es now at. (refl, refl, subst (λ l. IsNow l g now) (sym (append-nil es)) at), rw append-nil a)
 resolves w gen ok earlier (d ∷ ds) c s g a may h =
     let own : AllByRecursion (MayMake w gen) (at_root item_instantiates d) = AllByRecursion-front (MayMake w gen) (at_root item_instantiates d) (flat_map (at_root item_instantiates) ds) may in
     let later : AllByRecursion (MayMake w gen) (flat_map (at_root item_instantiates) ds) = AllByRecursion-back (MayMake w gen) (at_root item_instantiates d) (flat_map (at_root item_instantiates) ds) may in
-    let one : Steps w gen earlier c s g d = step a g gen ok d own h.0 in
+    let one : Steps w gen earlier c s g d = step a gen ok d own h.0 in
     let all : Resolves w gen (earlier ++ d ∷ []) ds one.0 one.1 one.2 = resolves w gen ok (earlier ++ d ∷ []) ds one.0 one.1 one.2 one.4 later h.1 in
-    (all.0, all.1, all.2, λ es now at. one.3.continues all.0 all.1 all.2 es (asked_by w ds) ds (λ n k. all.3 (es ++ events_of (users_in w d)) n k) now at, subst (λ l. Agrees w l all.0 all.1) (append_assoc earlier (d ∷ []) ds) all.4)
+    (all.0, all.1, all.2, λ es now at. one.3.continues all.0 all.1 all.2 es (asked_by w ds) ds (λ n k. all.3 (es ++ events_of (users_in w d)) n k) now at, subst (λ l. Agrees w l all.0 all.1 all.2) (append_assoc earlier (d ∷ []) ds) all.4)
 
 -- such lists have one entry for each instance of a user module
 module _ (w : ComponentWorld) where
@@ -222,10 +222,10 @@ composed n w ds built = record {
 no_calls : (w : ComponentWorld) → IsWorld w → start_calls w ≡ []
 no_calls w ok = ap (initialization (task_hook w)) (no_initialize w w.main.exports.exports ok.main.export_roles)
 
-start : (w : ComponentWorld) → Agrees w [] (fresh_machine []).scope (fresh_machine []).store
+start : (w : ComponentWorld) → Agrees w [] (fresh_machine []).scope (fresh_machine []).store []
 start w =
     let none : (inventory []).resources ≡ 0 = ap (λ (v : Inventory). v.resources) inventory-empty in
-    record { shims = None; with_shims = λ yes. nothing_in (shims_number w) yes; means = tt; types = subst (λ (v : Inventory). AllZip (IsTypeEntry (fresh_machine []).store) v.types []) (sym inventory-empty) tt; functions = subst (λ (v : Inventory). AllZip (IsFunctionEntry (fresh_machine []).store) v.functions []) (sym inventory-empty) tt; instances = subst (λ (v : Inventory). AllZip (IsInstanceThing (fresh_machine []).store) v.instances []) (sym inventory-empty) tt; resources = record { counted = sym none; each = tt; numbered = λ number less. let zero_is = none in absurd (omega (arith, less, zero_is)) }; modules = refl; instantiated = refl; served = tt; exports = refl; lifted = tt; imports = sym (ap (λ (v : Inventory). v.imports) inventory-empty) }
+    record { shims = None; with_shims = λ yes. nothing_in (shims_number w) yes; means = tt; types = subst (λ (v : Inventory). AllZip (IsTypeEntry (fresh_machine []).store) v.types []) (sym inventory-empty) tt; functions = subst (λ (v : Inventory). AllZip (IsFunctionEntry (fresh_machine []).store) v.functions []) (sym inventory-empty) tt; instances = subst (λ (v : Inventory). AllZip (IsInstanceThing (fresh_machine []).store) v.instances []) (sym inventory-empty) tt; resources = record { counted = sym none; each = tt; numbered = λ number less. let zero_is = none in absurd (omega (arith, less, zero_is)) }; modules = refl; instantiated = refl; served = tt; with_globals = tt; exports = refl; lifted = tt; imports = sym (ap (λ (v : Inventory). v.imports) inventory-empty) }
 
 -- where the shims are made, they are filled at the end
 filled_at_end : (w : ComponentWorld) (m : Machine) (o : Option GeneratedBytes) (g : MayBeGenerated w o) (shims : Option ShimsAt) (made : List ℕ) → made ≡ instance_order (length (user_modules w)) (modules_of w o g) → MayHaveShims w m.store made shims → (ok : IsWorld w) →
@@ -241,8 +241,8 @@ filled_at_end w m (Some b) g (Some at) made same h ok =
     (h.made, h.filled (subst (λ l. Contains l (fixup_number w)) (sym same) among), h.room)
 
 -- the end of a run is linked
-linked_at_end : (n : Naming) (w : ComponentWorld) (ds : List Def) (m : Machine) → IsWorld w → AreExportsApart n w → (built : IsBuilt n w ds) → Agrees w ds m.scope m.store → m.now.events ≡ events_of (numbers_from 0 (length (user_modules w))) → IsLinked n w (modules_of w built.generated built.are_generated) m
-linked_at_end n w ds m ok apart built a events =
+linked_at_end : (n : Naming) (w : ComponentWorld) (ds : List Def) (m : Machine) → IsWorld w → AreExportsApart n w → (built : IsBuilt n w ds) → {globals : List ValType} → Agrees w ds m.scope m.store globals → m.now.events ≡ events_of (numbers_from 0 (length (user_modules w))) → IsLinked n w (modules_of w built.generated built.are_generated) m
+linked_at_end n w ds m ok apart built {globals} a events =
     let filled : FilledAtEnd w ok m a.shims = filled_at_end w m built.generated built.are_generated a.shims (flat_map (at_root item_instantiates) ds) (instances_in_order n w ds built) a.with_shims ok in
     record {
       origins = resource_of w;
@@ -258,10 +258,10 @@ linked_at_end n w ds m ok apart built a events =
     }
 
 -- and the types that it imports are the world's
-types_at_end : (n : Naming) (w : ComponentWorld) (ds : List Def) (m : Machine) → IsBuilt n w ds → Agrees w ds m.scope m.store → TypesServed w ds m
-types_at_end n w ds m built a = ap (imported_among (in_space spaces.Type ds)) (scope_there a) ∙ types_served n w ds built.right (root_imports n w ds built)
+types_at_end : (n : Naming) (w : ComponentWorld) (ds : List Def) (m : Machine) → IsBuilt n w ds → {globals : List ValType} → Agrees w ds m.scope m.store globals → TypesServed w ds m
+types_at_end n w ds m built {globals} a = ap (imported_among (in_space spaces.Type ds)) (scope_there a) ∙ types_served n w ds built.right (root_imports n w ds built)
 
-module _ (e : Scope) (t : Store) (g : ℕ) (es : List Event) (questions : List (List ValType)) (answers : List Answer) where
+module _ (e : Scope) (t : Store) (g : List ValType) (es : List Event) (questions : List (List ValType)) (answers : List Answer) where
   not_stuck : (o : Outcome) → IsGood e t g es questions answers o → o ≡ Stuck → ⊥
   not_stuck o h same = subst (IsGood e t g es questions answers) same h
 
@@ -356,8 +356,8 @@ links n w ds ok apart built = record {
     may : AllByRecursion (MayMake w gen) (flat_map (at_root item_instantiates) ds)
     may = subst (AllByRecursion (MayMake w gen)) (sym in_order) (may_make w built.generated built.are_generated)
 
-    all : Resolves w gen [] ds (fresh_machine []).scope (fresh_machine []).store 0
-    all = resolves w gen ok [] ds (fresh_machine []).scope (fresh_machine []).store 0 (start w) may built.right
+    all : Resolves w gen [] ds (fresh_machine []).scope (fresh_machine []).store []
+    all = resolves w gen ok [] ds (fresh_machine []).scope (fresh_machine []).store [] (start w) may built.right
 
     -- each user module is instantiated, and nothing else is asked
     made : List Event
@@ -379,7 +379,7 @@ links n w ds ok apart built = record {
     seen : seen_by w ds ≡ made
     seen = seen-each w ds ∙ ap events_of users
 
-    fresh : (answers : List Answer) → IsNow [] 0 (fresh_machine answers).now
+    fresh : (answers : List Answer) → IsNow [] [] (fresh_machine answers).now
     fresh answers = record { events = refl; moments = refl; globals = refl }
 
     good : (answers : List Answer) → IsGood all.0 all.1 all.2 made (questions w) answers (outcome w gen ds answers)
@@ -387,10 +387,10 @@ links n w ds ok apart built = record {
         subst (λ q. IsGood all.0 all.1 all.2 made q answers (outcome w gen ds answers)) asked
         (subst (λ es. IsGood all.0 all.1 all.2 es (asked_by w ds) answers (outcome w gen ds answers)) seen (all.3 [] (fresh_machine answers).now (fresh answers)))
 
-    at_end : (answers : List Answer) (m : Machine) → outcome w gen ds answers ≡ Done m → Agrees w ds m.scope m.store × (m.now.events ≡ made)
+    at_end : (answers : List Answer) (m : Machine) → outcome w gen ds answers ≡ Done m → Agrees w ds m.scope m.store all.2 × (m.now.events ≡ made)
     at_end answers m done =
         let is : (m.scope ≡ all.0) × (m.store ≡ all.1) × IsNow made all.2 m.now = done_with all.0 all.1 all.2 made (questions w) answers (outcome w gen ds answers) m (good answers) done in
-        (subst (λ s. Agrees w ds m.scope s) (sym is.1) (subst (λ c. Agrees w ds c all.1) (sym is.0) all.4), is.2.events)
+        (subst (λ s. Agrees w ds m.scope s all.2) (sym is.1) (subst (λ c. Agrees w ds c all.1 all.2) (sym is.0) all.4), is.2.events)
 
     traps : (before after : List Def) → ds ≡ before ++ after → BeforeFixup w gen before → IsTrue (is_some gen.fixup) → (answers : List Answer) (m : Machine) → outcome w gen before answers ≡ Done m → (address : ℕ) → IsShim w m address → TrapsAtOnce m address
     traps before after whole unfixed fixed answers m done =
@@ -398,8 +398,8 @@ links n w ds ok apart built = record {
         let may_before : AllByRecursion (MayMake w gen) those =
         AllByRecursion-front (MayMake w gen) those (flat_map (at_root item_instantiates) after) (subst (AllByRecursion (MayMake w gen)) (ap (flat_map (at_root item_instantiates)) whole ∙ flat_map-append (at_root item_instantiates) before after) may) in
         let to : Resolves w gen [] before (fresh_machine []).scope (fresh_machine []).store 0 =
-        resolves w gen ok [] before (fresh_machine []).scope (fresh_machine []).store 0 (start w) may_before (right_before w [] before after (subst (RightAfter w []) whole built.right)) in
+        resolves w gen ok [] before (fresh_machine []).scope (fresh_machine []).store [] (start w) may_before (right_before w [] before after (subst (RightAfter w []) whole built.right)) in
         let is : (m.scope ≡ to.0) × (m.store ≡ to.1) × IsNow (seen_by w before) to.2 m.now =
         done_with to.0 to.1 to.2 (seen_by w before) (asked_by w before) answers (outcome w gen before answers) m (to.3 [] (fresh_machine answers).now (fresh answers)) done in
-        let a : Agrees w before m.scope m.store = subst (λ s. Agrees w before m.scope s) (sym is.1) (subst (λ c. Agrees w before c to.1) (sym is.0) to.4) in
+        let a : Agrees w before m.scope m.store to.2 = subst (λ s. Agrees w before m.scope s to.2) (sym is.1) (subst (λ c. Agrees w before c to.1 to.2) (sym is.0) to.4) in
         quiet_shims w m those a.shims a.instantiated a.with_shims (no_fixup_before w built.generated built.are_generated before fixed unfixed)

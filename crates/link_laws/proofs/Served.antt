@@ -51,12 +51,12 @@ use Rattle.comp_runs.specs.Store.{Thing, Export, HeldOption, HeldEncoding, HeldM
 use Rattle.comp_runs.specs.Machine.{Machine, export_in, export_of}
 use Rattle.nested_laws.proofs.Kept.{is_function}
 use Rattle.nested_laws.proofs.Exports.{front, other_space}
-use Rattle.link_laws.specs.Meeting.{CoreMeets, CoreExportMeets, task_hook, hooks_round, MemoryMeets, IsMainMemory, MeetsOption, ItemIsExport, ItemIsLowering, IsResourceHeld, ItemIsOfResource, Meets, MeetsIn, entry_kind}
+use Rattle.link_laws.specs.Meeting.{CoreMeets, CoreExportMeets, task_hook, hooks_round, ItemMeets, MemoryMeets, IsMainMemory, MeetsOption, ItemIsExport, ItemIsLowering, IsResourceHeld, ItemIsOfResource, Meets, MeetsIn, entry_kind}
 use Rattle.instance_laws.proofs.Held.{tree_of_held}
 use Rattle.link_laws.specs.Linking.{IsServed, AreServed, UsersServed, IsProvided, IsTypeProvided, DestructorMeets, IsDefined, IsNumberDefined, exports_at}
 use Rattle.link_laws.proofs.Zips.{AllByRecursion-join, each_at}
-use Rattle.link_laws.proofs.Stores.{IsOpaqueOf, ShimsAt, resource_core, IsLoweredFor, IsFunctionOf, IsFunctionExported, IsServedAs, IsServedIn, IsShimGivenAt, Serves, IsFilledWith, AreFilled, main_module, IsPlanned, IsPlannedUser, IsFirstMemory, IsOptionHeld, function_at_key, IsRequiredAt, IsFunctionExport, IsAmong, IsInterfaceExport, IsItemExport, IsKeyExport, AreKeyExports, type_at_key, IsTypeAmong, IsDestroyedBy, IsOwnResource, IsOwnIfDefined, AreResources, HasNumber}
-use Rattle.link_laws.proofs.Given.{by_parts}
+use Rattle.link_laws.proofs.Stores.{IsOpaqueOf, ShimsAt, resource_core, IsLoweredFor, IsFunctionOf, IsFunctionExported, IsItemExported, IsServedAs, IsServedIn, IsShimGivenAt, Serves, IsFilledWith, AreFilled, main_module, IsPlanned, IsPlannedUser, IsFirstMemory, IsOptionHeld, function_at_key, IsRequiredAt, IsFunctionExport, IsAmong, IsInterfaceExport, IsItemExport, IsKeyExport, AreKeyExports, type_at_key, IsTypeAmong, IsDestroyedBy, IsOwnResource, IsOwnIfDefined, AreResources, HasNumber}
+use Rattle.link_laws.proofs.Given.{by_parts, named_in_space}
 use Rattle.comp_links.proofs.Keys.{one_provider}
 use Rattle.link_laws.proofs.GivenImports.{purpose_opaque, one_purpose}
 use Rattle.comp_worlds.proofs.NotOfMain.{no_memory_imported}
@@ -272,19 +272,38 @@ module _ (w : ComponentWorld) (ok : IsWorld w) (m : Machine) where
 
   -- ---- what a user module is given
 
-  -- a memory meets what it is
-  memory_met : (address : ℕ) (target : Target) → IsServedIn w m.store spaces.CoreMemory address target → MeetsIn w m (resource_of w) spaces.CoreMemory address target
-  memory_met address (ExportOf export_ref) h = record {
+  -- an item of another space meets what it is
+  exported_meets : (space : Space) → is_space space (Some space) ≡ true → (address : ℕ) (export_ref : ExportRef) → IsItemExported w m.store space address export_ref → ItemMeets w m space address export_ref
+  exported_meets space own address export_ref h = record {
     number = h.number;
     of = h.of;
-    is = record { made = h.instance.instance; instance = h.user; present = h.instance.present; of = h.instance.of; exported = h.exported };
+    is = record {
+      made = h.instance.instance;
+      instance = h.user;
+      present = h.instance.present;
+      of = h.instance.of;
+      exported = named_in_space space own export_ref.name h.instance.instance.exports (record { space = space; name = export_ref.name; address = address }) h.exported refl;
+    };
   }
+
+  table_met : (address : ℕ) (target : Target) → IsServedIn w m.store spaces.CoreTable address target → MeetsIn w m (resource_of w) spaces.CoreTable address target
+  table_met address (ExportOf export_ref) h = exported_meets spaces.CoreTable refl address export_ref h
+  table_met address target h = absurd h
+
+  memory_met : (address : ℕ) (target : Target) → IsServedIn w m.store spaces.CoreMemory address target → MeetsIn w m (resource_of w) spaces.CoreMemory address target
+  memory_met address (ExportOf export_ref) h = exported_meets spaces.CoreMemory refl address export_ref h
   memory_met address targets.MainMemory h = memory_meets w ok m address h
   memory_met address target h = absurd h
 
+  global_met : (address : ℕ) (target : Target) → IsServedIn w m.store spaces.CoreGlobal address target → MeetsIn w m (resource_of w) spaces.CoreGlobal address target
+  global_met address (ExportOf export_ref) h = exported_meets spaces.CoreGlobal refl address export_ref h
+  global_met address target h = absurd h
+
   item_meets : (space : Space) (address : ℕ) (target : Target) → IsServedIn w m.store space address target → MeetsIn w m (resource_of w) space address target
   item_meets spaces.CoreFunc address target h = function_meets_as (record { space = spaces.CoreFunc; address = address }) address target refl (λ type item o. forwards_itself w ok m address type item o) h
+  item_meets spaces.CoreTable address target h = table_met address target h
   item_meets spaces.CoreMemory address target h = memory_met address target h
+  item_meets spaces.CoreGlobal address target h = global_met address target h
   item_meets space address target h = absurd h
 
   serves_meets : (shims : Option ShimsAt) → FilledAtEnd shims → (t : Thing) (target : Target) → Serves w shims m.store t.space t.address target → Meets w m (resource_of w) t target

@@ -78,7 +78,7 @@ use Rattle.link_laws.proofs.Outcomes.{machine, no_answers, quiet, users_among, S
 use Rattle.link_laws.proofs.Stores.{IsOpaqueOf, IsUserItem, IsUserExport, IsUserInstance, ShimsAt, IsModuleInstance, IsNamedEntry, ExportsShims, MayHaveShims, IsTypeAt, resource_core, IsResourceItem, DefIs, Means, makes, IsTypeEntry, entry_of, IsFunctionEntry, IsInstanceThing, IsPlannedUser, IsAliasedItem, IsHeldOption, NumberedFrom, Agrees, AreKeyExports, IsShimGiven, IsDestroyedBy, IsOwnResource, AreResources}
 use Rattle.link_laws.proofs.Given.{of_shims, module_there, address_there, all_held, scope_there, entry_there, held_there, type_there, instance_type_there, instance_there, imported_there, user_there, space_of_kind, offered_there, shim_there}
 use Rattle.link_laws.proofs.Plain.{only, IsGivenType, IsGivenImport}
-use Rattle.link_laws.proofs.Kept.{ShimsKept, shims_same, MayHaveShims-kept, keeps_all, IsHeldOption-kept, Keeps, address_at-append, things_kept, keeps_store, keeps_type, keeps_function, keeps_opaque, keeps_core_instance, keeps_module, Means-kept, IsTypeEntry-kept, IsFunctionEntry-kept, IsInstanceThing-kept, IsPlannedUser-kept, AreKeyExports-kept, AreResources-more, AreResources-push}
+use Rattle.link_laws.proofs.Kept.{sizes_kept, ShimsKept, shims_same, MayHaveShims-kept, keeps_all, IsHeldOption-kept, Keeps, address_at-append, things_kept, keeps_store, keeps_type, keeps_function, keeps_opaque, keeps_core_instance, keeps_module, Means-kept, IsTypeEntry-kept, IsFunctionEntry-kept, IsInstanceThing-kept, IsPlannedUser-kept, AreKeyExports-kept, AreResources-more, AreResources-push}
 
 -- a list without generated modules
 abbrev pub no_modules : GeneratedModules
@@ -153,31 +153,50 @@ options_same : (c : Scope) (s : Store) (now : Now) (os : List CanonicalOption) �
 options_same c s now [] = refl
 options_same c s now (o ∷ os) = ap₂ (λ x xs. x ∷ xs) (held_same c s now o) (options_same c s now os)
 
--- what an import of a function or a memory is given doesn't depend on what a run changes
-matching_same : (c : Scope) (s : Store) (now : Now) (type : ExternType) → IsGivenType type → (space : Space) (address : ℕ) →
-    matching (machine c s now) type (record { space = space; address = address }) ≡ matching (machine c s no_answers) type (record { space = space; address = address })
-matching_same c s now (externs.Func type) h spaces.CoreFunc address = refl
-matching_same c s now (externs.Func type) h spaces.CoreTable address = refl
-matching_same c s now (externs.Func type) h spaces.CoreMemory address = refl
-matching_same c s now (externs.Func type) h spaces.CoreGlobal address = refl
-matching_same c s now (externs.Func type) h space address = refl
-matching_same c s now (externs.Memory type) h spaces.CoreFunc address = refl
-matching_same c s now (externs.Memory type) h spaces.CoreTable address = refl
-matching_same c s now (externs.Memory type) h spaces.CoreMemory address = refl
-matching_same c s now (externs.Memory type) h spaces.CoreGlobal address = refl
-matching_same c s now (externs.Memory type) h space address = refl
-matching_same c s now type h space address = absurd h
+-- a test of the type of a global
+test_of_type : (test : ValType → Bool) (cells : List Cell) (address : ℕ) → there_is (slice_get cells address) (λ cell. test (type_of cell)) ≡ there_is (slice_get (map type_of cells) address) test
+test_of_type test [] address = refl
+test_of_type test (cell ∷ cells) zero = refl
+test_of_type test (cell ∷ cells) (suc n) = test_of_type test cells n
 
-given_one : (c : Scope) (s : Store) (now : Now) (type : ExternType) → IsGivenType type → (o : Option Thing) →
-    option_and_then (matching (machine c s now) type) o ≡ option_and_then (matching (machine c s no_answers) type) o
-given_one c s now type h None = refl
-given_one c s now type h (Some t) = matching_same c s now type h t.space t.address
+-- what an import is given doesn't depend on what a run changes, where the globals have the same types
+module _ (c : Scope) (s : Store) (now after : Now) (same : map type_of now.globals ≡ map type_of after.globals) where
+  global_same : (type : GlobalType) (address : ℕ) → matching (machine c s now) (externs.Global type) (record { space = spaces.CoreGlobal; address = address }) ≡ matching (machine c s after) (externs.Global type) (record { space = spaces.CoreGlobal; address = address })
+  global_same type address =
+      let test : ValType → Bool = λ t. same_value_type type.val_type t in
+      let thing : Thing = record { space = spaces.CoreGlobal; address = address } in
+      ap (λ b. if b then Some thing else None)
+      (test_of_type test now.globals address ∙ (ap (λ ts. there_is (slice_get ts address) test) same ∙ sym (test_of_type test after.globals address)))
 
-pub given_same : (w : ComponentWorld) (m : ValidatedModule) (c : Scope) (s : Store) (now : Now) (arguments : List (List ℕ × List Export)) (is : List ImportType) → AllByRecursion (IsGivenImport w m) is →
-    map (given_to (machine c s now) arguments) is ≡ map (given_to (machine c s no_answers) arguments) is
-given_same w m c s now arguments [] h = refl
-given_same w m c s now arguments (i ∷ is) h =
-    ap₂ (λ x xs. x ∷ xs) (given_one c s now i.ty h.0.given (argument_for arguments (kind_of i.ty) i.module_name i.field)) (given_same w m c s now arguments is h.1)
+  matching_same : (type : ExternType) (space : Space) (address : ℕ) → matching (machine c s now) type (record { space = space; address = address }) ≡ matching (machine c s after) type (record { space = space; address = address })
+  matching_same (externs.Global type) spaces.CoreGlobal address = global_same type address
+  matching_same (externs.Global type) spaces.CoreFunc address = refl
+  matching_same (externs.Global type) spaces.CoreTable address = refl
+  matching_same (externs.Global type) spaces.CoreMemory address = refl
+  matching_same (externs.Global type) space address = refl
+  matching_same (externs.Func type) spaces.CoreFunc address = refl
+  matching_same (externs.Func type) spaces.CoreTable address = refl
+  matching_same (externs.Func type) spaces.CoreMemory address = refl
+  matching_same (externs.Func type) spaces.CoreGlobal address = refl
+  matching_same (externs.Func type) space address = refl
+  matching_same (externs.Table type) spaces.CoreFunc address = refl
+  matching_same (externs.Table type) spaces.CoreTable address = refl
+  matching_same (externs.Table type) spaces.CoreMemory address = refl
+  matching_same (externs.Table type) spaces.CoreGlobal address = refl
+  matching_same (externs.Table type) space address = refl
+  matching_same (externs.Memory type) spaces.CoreFunc address = refl
+  matching_same (externs.Memory type) spaces.CoreTable address = refl
+  matching_same (externs.Memory type) spaces.CoreMemory address = refl
+  matching_same (externs.Memory type) spaces.CoreGlobal address = refl
+  matching_same (externs.Memory type) space address = refl
+
+  given_one : (type : ExternType) (o : Option Thing) → option_and_then (matching (machine c s now) type) o ≡ option_and_then (matching (machine c s after) type) o
+  given_one type None = refl
+  given_one type (Some t) = matching_same type t.space t.address
+
+  pub given_same : (arguments : List (List ℕ × List Export)) (is : List ImportType) → map (given_to (machine c s now) arguments) is ≡ map (given_to (machine c s after) arguments) is
+  given_same arguments [] = refl
+  given_same arguments (i ∷ is) = ap₂ (λ x xs. x ∷ xs) (given_one i.ty (argument_for arguments (kind_of i.ty) i.module_name i.field)) (given_same arguments is)
 
 -- the exports of an instance in a store with other instances
 module _ (s : Store) (core_instances : List (List Export)) (module_instances : List ModuleInstance) (user : ℕ) where
@@ -186,8 +205,9 @@ module _ (s : Store) (core_instances : List (List Export)) (module_instances : L
 
   item_beside : (e : Export) (type : ExternType) → IsUserItem s user e type → IsUserItem with_instances user e type
   item_beside e (externs.Func type) h = record { what = h.what; present = h.present; known = h.known }
+  item_beside e (externs.Table type) h = record { slots = h.slots; present = h.present; counted = h.counted }
   item_beside e (externs.Memory type) h = h
-  item_beside e type h = tt
+  item_beside e (externs.Global type) h = tt
 
   pub export_beside : (e : Export) (found : List ℕ × ExternType) → IsUserExport s user e found → IsUserExport with_instances user e found
   export_beside e found h = record { named = h.named; space = h.space; is = item_beside e found.1 h.is }
@@ -225,7 +245,7 @@ record HoldsResource (w : ComponentWorld) (shims : Option ShimsAt) (c : Scope) (
   pub made : (now : Now) → type_item (types.Resource destructor) (machine c s now) ≡ Some (OwnResource (resources_among s.types) held)
   pub destroyed : IsDestroyedBy w shims held e
 
-module _ {w : ComponentWorld} {earlier : List Def} {c : Scope} {s : Store} (a : Agrees w earlier c s) (g : ℕ) (gen : GeneratedModules) where
+module _ {w : ComponentWorld} {earlier : List Def} {c : Scope} {s : Store} {g : List ValType} (a : Agrees w earlier c s g) (gen : GeneratedModules) where
   abbrev FindsAlias : ℕ → List ℕ → Type 0
   FindsAlias instance name = FindsAliasIn earlier (machine c s no_answers) instance name
 
@@ -237,12 +257,12 @@ module _ {w : ComponentWorld} {earlier : List Def} {c : Scope} {s : Store} (a : 
       × AllZip (IsInstanceThing s') (instances_made (inventory earlier) d) (filter (is_of spaces.Instance) (t ∷ []))
 
   -- the step of a definition that makes an item
-  pub agrees_with : (d : Def) (c' : Scope) (s' : Store) (t : Thing) (shims : Option ShimsAt) → ShimsKept a.shims shims → c'.items ≡ c.items ++ t ∷ [] → Keeps c.items c'.items s s' →
+  pub agrees_with : (d : Def) (c' : Scope) (s' : Store) (g' : List ValType) (t : Thing) (shims : Option ShimsAt) → ShimsKept a.shims shims → c'.items ≡ c.items ++ t ∷ [] → Keeps c.items c'.items s s' →
       Means w shims (earlier ++ d ∷ []) c'.items s' d t → Makes d s' t → NumberedFrom 0 (filter (is_of spaces.CoreModule) c'.items) (length s'.core_modules) →
       map (λ (u : ModuleInstance). u.module_number) s'.module_instances ≡ map (λ (u : ModuleInstance). u.module_number) s.module_instances ++ at_root item_instantiates d →
-      AllByRecursion (IsPlannedUser w shims s') s'.module_instances → MayHaveShims w s' (flat_map (at_root item_instantiates) earlier ++ at_root item_instantiates d) shims → map (λ (e : Export). e.name) c'.exports ≡ map (λ (e : Export). e.name) c.exports ++ def_export d → AreKeyExports w s' (required_keys w) c'.exports →
-      c'.imports ≡ imports_made (inventory earlier) d → AreResources w shims s'.types (resources_made (inventory earlier) d) → Agrees w (earlier ++ d ∷ []) c' s'
-  agrees_with d c' s' t shims same grew keeps means made modules instantiated served with_shims exports lifted imports resources =
+      AllByRecursion (IsPlannedUser w shims s') s'.module_instances → AllByRecursion (HasGlobals w g') s'.module_instances → MayHaveShims w s' (flat_map (at_root item_instantiates) earlier ++ at_root item_instantiates d) shims → map (λ (e : Export). e.name) c'.exports ≡ map (λ (e : Export). e.name) c.exports ++ def_export d → AreKeyExports w s' (required_keys w) c'.exports →
+      c'.imports ≡ imports_made (inventory earlier) d → AreResources w shims s'.types (resources_made (inventory earlier) d) → Agrees w (earlier ++ d ∷ []) c' s' g'
+  agrees_with d c' s' g' t shims same grew keeps means made modules instantiated served with_globals with_shims exports lifted imports resources =
       let before : List Def = filter makes earlier in
       let old : Inventory = inventory earlier in
       let Meaning : Def → Thing → Type 0 = Means w shims (earlier ++ d ∷ []) c'.items s' in
@@ -268,6 +288,7 @@ module _ {w : ComponentWorld} {earlier : List Def} {c : Scope} {s : Store} (a : 
         modules = modules;
         instantiated = instantiated ∙ (ap (λ l. l ++ at_root item_instantiates d) a.instantiated ∙ sym (flat-push (at_root item_instantiates) earlier d));
         served = served;
+        with_globals = with_globals;
         with_shims = subst (λ l. MayHaveShims w s' l shims) (sym (flat-push (at_root item_instantiates) earlier d)) with_shims;
         exports = exports ∙ (ap (λ l. l ++ def_export d) a.exports ∙ sym (flat-push def_export earlier d));
         lifted = lifted;
@@ -297,10 +318,11 @@ module _ {w : ComponentWorld} {earlier : List Def} {c : Scope} {s : Store} (a : 
     s',
     g,
     quiet w gen d c s g (with_thing c t count) s' (ap (users_among w) none) same,
-    agrees_with d (with_thing c t count) s' t a.shims (shims_same a.shims) refl keeps means made
+    agrees_with d (with_thing c t count) s' g t a.shims (shims_same a.shims) refl keeps means made
         (rw (filter-push (is_of spaces.CoreModule) false c.items t other, modules) a.modules)
         (rw (users, none) (sym (append-nil (map (λ (u : ModuleInstance). u.module_number) s.module_instances))))
         (subst (AllByRecursion (IsPlannedUser w a.shims s')) (sym users) (AllByRecursion-weaker (IsPlannedUser-kept w keeps a.shims a.shims (shims_same a.shims)) s.module_instances a.served))
+        (subst (AllByRecursion (HasGlobals w g)) (sym users) a.with_globals)
         (shims_beside keeps (at_root item_instantiates d) none users tables)
         (rw no_export (sym (append-nil (map (λ (e : Export). e.name) c.exports))))
         (AreKeyExports-kept w keeps (required_keys w) c.exports a.lifted)
@@ -406,6 +428,7 @@ module _ {w : ComponentWorld} {earlier : List Def} {c : Scope} {s : Store} (a : 
       let k : Keeps c.items (c.items ++ t ∷ []) s s' = record {
         things = things_kept c.items t s;
         code = keeps_same refl;
+        tables = sizes_kept (keeps_same refl);
         memories = keeps_same refl;
         known = keeps_same refl;
         core_instances = keeps_same refl;
@@ -675,16 +698,24 @@ module _ {w : ComponentWorld} {earlier : List Def} {c : Scope} {s : Store} (a : 
       let t : Thing = record { space = spaces.CoreFunc; address = f.export.address } in
       quiet_step d c.imports s t (λ rest now. rw (f.is.at, f.is.present, f.found, f.space) refl) (keeps_store c.items t s)
       (record { space = refl; is = aliased_item kinds.Func instance name f d t }) (tt, tt, tt) refl refl refl refl refl refl a.imports a.resources
+  step_alias kinds.Table instance name h =
+      let d : Def = defs.Item (items.Alias (aliases.CoreExport kinds.Table instance name)) in
+      let f : FindsExport w earlier c s kinds.Table instance name = alias_found kinds.Table instance name h in
+      let t : Thing = record { space = spaces.CoreTable; address = f.export.address } in
+      quiet_step d c.imports s t (λ rest now. rw (f.is.at, f.is.present, f.found, f.space) refl) (keeps_store c.items t s)
+      (record { space = refl; is = aliased_item kinds.Table instance name f d t }) (tt, tt, tt) refl refl refl refl refl refl a.imports a.resources
   step_alias kinds.Memory instance name h =
       let d : Def = defs.Item (items.Alias (aliases.CoreExport kinds.Memory instance name)) in
       let f : FindsExport w earlier c s kinds.Memory instance name = alias_found kinds.Memory instance name h in
       let t : Thing = record { space = spaces.CoreMemory; address = f.export.address } in
       quiet_step d c.imports s t (λ rest now. rw (f.is.at, f.is.present, f.found, f.space) refl) (keeps_store c.items t s)
       (record { space = refl; is = aliased_item kinds.Memory instance name f d t }) (tt, tt, tt) refl refl refl refl refl refl a.imports a.resources
-  step_alias kinds.Table instance name (inl h) = absurd h.of_kind
-  step_alias kinds.Table instance name (inr h) = let no = h.function in cc
-  step_alias kinds.Global instance name (inl h) = absurd h.of_kind
-  step_alias kinds.Global instance name (inr h) = let no = h.function in cc
+  step_alias kinds.Global instance name h =
+      let d : Def = defs.Item (items.Alias (aliases.CoreExport kinds.Global instance name)) in
+      let f : FindsExport w earlier c s kinds.Global instance name = alias_found kinds.Global instance name h in
+      let t : Thing = record { space = spaces.CoreGlobal; address = f.export.address } in
+      quiet_step d c.imports s t (λ rest now. rw (f.is.at, f.is.present, f.found, f.space) refl) (keeps_store c.items t s)
+      (record { space = refl; is = aliased_item kinds.Global instance name f d t }) (tt, tt, tt) refl refl refl refl refl refl a.imports a.resources
 
   pub step_module : (bytes : List ℕ) → Steps w gen earlier c s g (defs.Item (items.CoreModule bytes))
   step_module bytes =
@@ -696,10 +727,11 @@ module _ {w : ComponentWorld} {earlier : List Def} {c : Scope} {s : Store} (a : 
         s',
         g,
         quiet w gen d c s g (with_thing c t c.imports) s' refl (λ rest now. refl),
-        agrees_with d (with_thing c t c.imports) s' t a.shims (shims_same a.shims) refl k (record { space = refl; is = tt }) (tt, tt, tt)
+        agrees_with d (with_thing c t c.imports) s' g t a.shims (shims_same a.shims) refl k (record { space = refl; is = tt }) (tt, tt, tt)
             (rw (filter-push (is_of spaces.CoreModule) true c.items t refl, length-append s.core_modules (bytes ∷ []), add-one (length s.core_modules)) (consecutive-push 0 (filter (is_of spaces.CoreModule) c.items) (length s.core_modules) t a.modules refl))
             (sym (append-nil (map (λ (u : ModuleInstance). u.module_number) s.module_instances)))
             (AllByRecursion-weaker (IsPlannedUser-kept w k a.shims a.shims (shims_same a.shims)) s.module_instances a.served)
+            a.with_globals
             (shims_beside k [] refl refl refl)
             (sym (append-nil (map (λ (e : Export). e.name) c.exports)))
             (AreKeyExports-kept w k (required_keys w) c.exports a.lifted)
@@ -730,6 +762,7 @@ module _ {w : ComponentWorld} {earlier : List Def} {c : Scope} {s : Store} (a : 
           modules = a.modules;
           instantiated = a.instantiated ∙ sym (flat-push (at_root item_instantiates) earlier d ∙ append-nil (flat_map (at_root item_instantiates) earlier));
           served = a.served;
+          with_globals = a.with_globals;
           with_shims = subst (λ l. MayHaveShims w s l a.shims) (sym (flat-push (at_root item_instantiates) earlier d ∙ append-nil (flat_map (at_root item_instantiates) earlier))) a.with_shims;
           exports = a.exports ∙ sym (flat-push def_export earlier d ∙ append-nil (flat_map def_export earlier));
           lifted = a.lifted;

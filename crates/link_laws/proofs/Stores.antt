@@ -12,6 +12,7 @@ use Rattle.comp_bytes.specs.declared.canon.CanonicalOption.TheVariants as option
 use Rattle.core_types.specs.declared.types.MemoryType.{MemoryType}
 use Rattle.comp_lists.specs.Found.{found}
 use Rattle.comp_roles.specs.Lookups.{first_memory}
+use Rattle.comp_roles.specs.Matching.{kind_of}
 use Rattle.comp_bytes.specs.declared.types.Alias.TheVariants as aliases
 use Rattle.comp_bytes.specs.declared.canon.Intrinsic.TheVariants as intrinsics
 use Rattle.comp_bytes.specs.declared.def.CoreInlineExport.{CoreInlineExport}
@@ -23,6 +24,7 @@ use Rattle.comp_bytes.specs.ScopeNames.{def_export}
 use Rattle.comp_bytes.specs.ItemIndices.{IsAt}
 use Rattle.comp_bytes.specs.declared.def.Argument.{Argument}
 use Rattle.core_types.specs.declared.types.FuncType.{FuncType}
+use Rattle.core_types.specs.declared.types.ValType.{ValType}
 use Rattle.core_types.specs.declared.types.ValType.TheVariants.{I32}
 use Rattle.comp_trees.specs.Trees.{Origin, Resource, ResourceAt, FunctionTree}
 use Rattle.comp_trees.specs.DefinedTrees.{OfValues, OfFunctions, TypeTree}
@@ -44,7 +46,6 @@ use Rattle.shim_runs.specs.ShimRuns.{AreShimsFrom, instance_exports}
 use Rattle.comp_terms.specs.Generated.{shims_number, fixup_number, Purpose, target_of, HasPurpose}
 use Rattle.comp_terms.specs.Terms.{CoreExport, IsInstanceOf, intrinsic_of, imports_in}
 use Rattle.comp_terms.specs.Planned.{IsTypeOf, type_of_function}
-use Rattle.comp_terms.specs.Rules.{IsOfKind}
 use Rattle.core_runs.specs.Store.{Opaque}
 use Rattle.core_runs.specs.Instances.{empty_table}
 use Rattle.comp_runs.specs.Store.{Thing, Export, HeldOption, HeldEncoding, HeldMemory, HeldRealloc, HeldPostReturn, HeldAsync, HeldCallback, CoreItem, Lowering, IntrinsicOf, ExportedBy, Function, Imported, Lifting, TypeItem, TreeOf, OwnResource, item_tree, own_resources as resources_among, ModuleInstance, Store, ComponentItem}
@@ -68,11 +69,23 @@ pub record IsOpaqueOf (s : Store) (address : ℕ) (type : FuncType) (item : Core
   pub present : slice_get s.code.functions address ≡ Some (Opaque what type)
   pub known : slice_get s.known what ≡ Some item
 
--- what is at the address of an export of this user instance: a function is opaque, and a memory has its type
+-- the table at this address has this many slots
+pub record HasSlots (tables : List (List (Option ℕ))) (address size : ℕ) : Type 0 where
+  pub slots : List (Option ℕ)
+  pub present : slice_get tables address ≡ Some slots
+  pub counted : length slots ≡ size
+
+-- what is at the address of an item that is no function: a table has as many slots as its minimum, and a memory has its type; which
+-- types globals have, the store doesn't say
+abbrev pub IsItemTyped : Store → ℕ → ExternType → Type 0
+IsItemTyped s address (externs.Table type) = HasSlots s.code.tables address type.minimum
+IsItemTyped s address (externs.Memory type) = slice_get s.code.memories address ≡ Some type
+IsItemTyped s address type = Unit {0}
+
+-- what is at the address of an export of this user instance; a function is opaque
 abbrev pub IsUserItem : Store → ℕ → Export → ExternType → Type 0
 IsUserItem s user e (externs.Func type) = IsOpaqueOf s e.address type (ExportedBy user e.name)
-IsUserItem s user e (externs.Memory type) = slice_get s.code.memories e.address ≡ Some type
-IsUserItem s user e type = Unit {0}
+IsUserItem s user e type = IsItemTyped s e.address type
 
 -- an export of this user instance, which validation found with this name and type
 pub record IsUserExport (s : Store) (user : ℕ) (e : Export) (found : List ℕ × ExternType) : Type 0 where
@@ -193,7 +206,7 @@ pub record NamesUser (w : ComponentWorld) (number : ℕ) (kind : ExportKind) (na
   pub listed : slice_get (user_modules w) number ≡ Some of
   pub type : ExternType
   pub offered : found name of.found.offered ≡ Some type
-  pub of_kind : IsOfKind kind type
+  pub of_kind : kind_of type ≡ kind
 
 -- an alias of an export of a module's instance
 pub record IsAliasedItem (w : ComponentWorld) (ds : List Def) (things : List Thing) (s : Store) (kind : ExportKind) (instance : ℕ) (name : List ℕ) (address : ℕ) : Type 0 where
@@ -301,16 +314,17 @@ pub record IsFunctionExported (w : ComponentWorld) (s : Store) (address : ℕ) (
   pub is : IsOpaqueOf s address type (ExportedBy user export_ref.name)
   pub offered : found export_ref.name of.world_module.found.offered ≡ Some (externs.Func type)
 
--- the memory is this export of a user module, of the type that validation found
-pub record IsMemoryExported (w : ComponentWorld) (s : Store) (address : ℕ) (export_ref : ExportRef) : Type 0 where
+-- the item of this space, which is none of functions, is this export of a user module, of the type that validation found
+pub record IsItemExported (w : ComponentWorld) (s : Store) (space : Space) (address : ℕ) (export_ref : ExportRef) : Type 0 where
   pub number : ℕ
   pub of : IsModule w number export_ref.of
   pub user : ℕ
   pub instance : IsInstance s user number
-  pub exported : export_of spaces.CoreMemory export_ref.name instance.instance.exports ≡ Some (record { space = spaces.CoreMemory; name = export_ref.name; address = address })
-  pub type : MemoryType
-  pub is : slice_get s.code.memories address ≡ Some type
-  pub offered : found export_ref.name of.world_module.found.offered ≡ Some (externs.Memory type)
+  pub exported : export_named export_ref.name instance.instance.exports ≡ Some (record { space = space; name = export_ref.name; address = address })
+  pub type : ExternType
+  pub in_space : type_space type ≡ space
+  pub is : IsItemTyped s address type
+  pub offered : found export_ref.name of.world_module.found.offered ≡ Some type
 
 -- the memory is what an instance of main exports under this name
 pub record IsMemoryOfMain (s : Store) (address : ℕ) (name : List ℕ) : Type 0 where
@@ -386,7 +400,9 @@ IsShimGiven w (Some at) address target = IsShimGivenAt w at address target
 -- the item of this space is what the target names
 abbrev pub IsServedIn : ComponentWorld → Store → Space → ℕ → Target → Type 0
 IsServedIn w s spaces.CoreFunc address target = IsServedAs w s address target
-IsServedIn w s spaces.CoreMemory address (ExportOf export_ref) = IsMemoryExported w s address export_ref
+IsServedIn w s spaces.CoreTable address (ExportOf export_ref) = IsItemExported w s spaces.CoreTable address export_ref
+IsServedIn w s spaces.CoreMemory address (ExportOf export_ref) = IsItemExported w s spaces.CoreMemory address export_ref
+IsServedIn w s spaces.CoreGlobal address (ExportOf export_ref) = IsItemExported w s spaces.CoreGlobal address export_ref
 IsServedIn w s spaces.CoreMemory address MainMemory = IsFirstMemory w s address
 IsServedIn w s space address target = ⊥
 
@@ -450,7 +466,7 @@ pub record IsCoreExportAt (from : WorldModule) (things : List Thing) (s : Store)
   pub at : address_at (kind_space e.kind) index things ≡ Some address
   pub type : ExternType
   pub offered : found e.name from.found.offered ≡ Some type
-  pub of_kind : IsOfKind e.kind type
+  pub of_kind : kind_of type ≡ e.kind
   pub user : ℕ
   pub of : IsInstance s user e.of
   pub export : Export
@@ -552,8 +568,21 @@ abbrev pub NumberedFrom : ℕ → List Thing → ℕ → Type 0
 NumberedFrom k [] n = k ≡ n
 NumberedFrom k (t ∷ ts) n = (t.address ≡ k) × NumberedFrom (suc k) ts n
 
--- the scope and the store are what these definitions make
-pub record Agrees (w : ComponentWorld) (earlier : List Def) (c : Scope) (s : Store) : Type 0 where
+-- a global has the type that validation found, among the types of all globals
+abbrev pub IsGlobalTyped : List ValType → ℕ → ExternType → Type 0
+IsGlobalTyped globals address (externs.Global type) = slice_get globals address ≡ Some type.val_type
+IsGlobalTyped globals address type = Unit {0}
+
+pub record HasGlobalType (globals : List ValType) (e : Export) (found : List ℕ × ExternType) : Type 0 where
+  pub named : e.name ≡ found.0
+  pub is : IsGlobalTyped globals e.address found.1
+
+-- so have those of an instance of a user module
+abbrev pub HasGlobals : ComponentWorld → List ValType → ModuleInstance → Type 0
+HasGlobals w globals u = (of : WorldModule) → slice_get (user_modules w) u.module_number ≡ Some of → AllZip (HasGlobalType globals) u.exports of.found.offered
+
+-- the scope, the store and the types of the globals are what these definitions make
+pub record Agrees (w : ComponentWorld) (earlier : List Def) (c : Scope) (s : Store) (globals : List ValType) : Type 0 where
   pub shims : Option ShimsAt
   pub means : AllZip (Means w shims earlier c.items s) (filter makes earlier) c.items
   pub types : AllZip (IsTypeEntry s) (inventory earlier).types (filter (is_of spaces.Type) c.items)
@@ -563,6 +592,7 @@ pub record Agrees (w : ComponentWorld) (earlier : List Def) (c : Scope) (s : Sto
   pub modules : NumberedFrom 0 (filter (is_of spaces.CoreModule) c.items) (length s.core_modules)
   pub instantiated : map (λ (u : ModuleInstance). u.module_number) s.module_instances ≡ flat_map (at_root item_instantiates) earlier
   pub served : AllByRecursion (IsPlannedUser w shims s) s.module_instances
+  pub with_globals : AllByRecursion (HasGlobals w globals) s.module_instances
   pub with_shims : MayHaveShims w s (flat_map (at_root item_instantiates) earlier) shims
   pub exports : map (λ (e : Export). e.name) c.exports ≡ flat_map def_export earlier
   pub lifted : AreKeyExports w s (required_keys w) c.exports

@@ -1,16 +1,18 @@
 -- What an instance of a user module adds to a machine: its exports, each at an address of its own.
-use Rattle.std.proofs.Common.{◌≡◌, ◌∙◌, ◌+◌, ℕ, List, [], ◌∷◌, ◌++◌, length, refl, sym, ap, ap₂, length-append}
-use Rattle.std.specs.List.{AllZip}
+use Rattle.std.proofs.Common.{◌≡◌, ◌∙◌, ℕ, List, [], ◌∷◌, ◌++◌, length, map, refl, sym, ap, ap₂, subst, Some, None}
+use Rattle.std.proofs.lemmas.List.{map-append, length-map, length-replicate}
+use Rattle.std.specs.List.{slice_get, AllZip}
+use Rattle.core_types.specs.declared.types.ValType.{ValType}
 use Rattle.comp_lists.proofs.Lists.{slice_get-end}
 use Rattle.core_runs.specs.Store.{Opaque, Foreign}
-use Rattle.core_runs.specs.Instances.{empty_table}
+use Rattle.core_runs.specs.Instances.{empty_table, type_of}
 use Rattle.comp_roles.specs.declared.offered.ExternType.{ExternType}
 use Rattle.comp_roles.specs.declared.offered.ExternType.TheVariants as externs
 use Rattle.comp_runs.specs.Store.{Export, CoreItem, ExportedBy, Store}
 use Rattle.comp_runs.specs.Machine.{Machine, with_opaque}
 use Rattle.comp_runs.specs.Instances.{ExportTypes, type_space, next_address, with_export, exported_by, with_exports}
-use Rattle.instance_laws.proofs.Held.{KeepsEntries, keeps_same, keeps_more, keeps_then}
-use Rattle.link_laws.proofs.Stores.{IsUserItem, IsUserExport}
+use Rattle.instance_laws.proofs.Held.{KeepsEntries, keeps_same, keeps_more, keeps_then, keeps_grown}
+use Rattle.link_laws.proofs.Stores.{HasSlots, IsUserItem, IsUserExport, IsGlobalTyped, HasGlobalType}
 
 -- a machine without its core code, its known items and its globals
 abbrev pub beside_code : Machine → Machine
@@ -36,11 +38,11 @@ one_export item (externs.Table type) m = record { same = refl; code = keeps_same
 one_export item (externs.Memory type) m = record { same = refl; code = keeps_same refl; tables = keeps_same refl; memories = keeps_more m.store.code.memories (type ∷ []); known = keeps_same refl }
 one_export item (externs.Global type) m = record { same = refl; code = keeps_same refl; tables = keeps_same refl; memories = keeps_same refl; known = keeps_more m.store.known (item ∷ []) }
 
--- ---- what is added doesn't depend on what a run changes, but for the number of globals
+-- ---- what is added doesn't depend on what a run changes, but for the types of the globals
 
 pub record Alike (m n : Machine) : Type 0 where
   pub store : m.store ≡ n.store
-  pub globals : length m.now.globals ≡ length n.now.globals
+  pub globals : map type_of m.now.globals ≡ map type_of n.now.globals
 
 one_alike : (item : CoreItem) (type : ExternType) (m n : Machine) → Alike m n → Alike (with_export item type m) (with_export item type n)
 one_alike item (externs.Func type) m n a = record { store = ap (with_opaque item type) a.store; globals = a.globals }
@@ -51,15 +53,14 @@ one_alike item (externs.Table type) m n a = record {
 one_alike item (externs.Memory type) m n a = record { store = ap (λ (s : Store). record s { code = record s.code { memories = s.code.memories ++ type ∷ [] } }) a.store; globals = a.globals }
 one_alike item (externs.Global type) m n a = record {
   store = ap (λ (s : Store). record s { known = s.known ++ item ∷ [] }) a.store;
-  globals = length-append m.now.globals (Foreign (length m.store.known) type.val_type ∷ [])
-      ∙ (ap (λ n. n + 1) a.globals ∙ sym (length-append n.now.globals (Foreign (length n.store.known) type.val_type ∷ [])));
+  globals = map-append type_of m.now.globals (Foreign (length m.store.known) type.val_type ∷ []) ∙ (ap (λ ts. ts ++ type.val_type ∷ []) a.globals ∙ sym (map-append type_of n.now.globals (Foreign (length n.store.known) type.val_type ∷ [])));
 }
 
 one_address : (type : ExternType) (m n : Machine) → Alike m n → next_address type m ≡ next_address type n
 one_address (externs.Func type) m n a = ap (λ (s : Store). length s.code.functions) a.store
 one_address (externs.Table type) m n a = ap (λ (s : Store). length s.code.tables) a.store
 one_address (externs.Memory type) m n a = ap (λ (s : Store). length s.code.memories) a.store
-one_address (externs.Global type) m n a = a.globals
+one_address (externs.Global type) m n a = sym (length-map m.now.globals type_of) ∙ (ap (λ (ts : List ValType). length ts) a.globals ∙ length-map n.now.globals type_of)
 
 module _ (user : ℕ) where
   pub all_exports : (es : ExportTypes) (m : Machine) → Exports m (with_exports user es m)
@@ -87,13 +88,15 @@ module _ (user : ℕ) where
     present = slice_get-end m.store.code.functions (Opaque (length m.store.known) type);
     known = slice_get-end m.store.known (ExportedBy user name);
   }
+  item_added name (externs.Table type) m = record { slots = empty_table type.minimum; present = slice_get-end m.store.code.tables (empty_table type.minimum); counted = length-replicate type.minimum None }
   item_added name (externs.Memory type) m = slice_get-end m.store.code.memories type
-  item_added name type m = tt
+  item_added name (externs.Global type) m = tt
 
   item_unchanged : (m n : Machine) → Exports m n → (e : Export) (type : ExternType) → IsUserItem m.store user e type → IsUserItem n.store user e type
   item_unchanged m n u e (externs.Func type) h = record { what = h.what; present = u.code.at e.address (Opaque h.what type) h.present; known = u.known.at h.what (ExportedBy user e.name) h.known }
+  item_unchanged m n u e (externs.Table type) h = record { slots = h.slots; present = u.tables.at e.address h.slots h.present; counted = h.counted }
   item_unchanged m n u e (externs.Memory type) h = u.memories.at e.address type h
-  item_unchanged m n u e type h = tt
+  item_unchanged m n u e (externs.Global type) h = tt
 
   pub each_export : (es : ExportTypes) (m : Machine) → AllZip (IsUserExport (with_exports user es m).store user) (exported_by user es m) es
   each_export [] m = tt
@@ -102,4 +105,41 @@ module _ (user : ℕ) where
       let e : Export = record { space = type_space type; name = name; address = next_address type m } in (
         record { named = refl; space = refl; is = item_unchanged next (with_exports user es next) (all_exports es next) e type (item_added name type m) },
         each_export es next,
+      )
+
+  -- ---- the globals of the exports
+
+  abbrev types_in : Machine → List ValType
+  types_in m = map type_of m.now.globals
+
+  -- there are more globals at the end, and no type has changed
+  one_global : (item : CoreItem) (type : ExternType) (m : Machine) → KeepsEntries (types_in m) (types_in (with_export item type m))
+  one_global item (externs.Func type) m = keeps_same refl
+  one_global item (externs.Table type) m = keeps_same refl
+  one_global item (externs.Memory type) m = keeps_same refl
+  one_global item (externs.Global type) m =
+      keeps_grown (types_in m) (types_in (with_export item (externs.Global type) m)) (type.val_type ∷ []) (map-append type_of m.now.globals (Foreign (length m.store.known) type.val_type ∷ []))
+
+  pub all_globals : (es : ExportTypes) (m : Machine) → KeepsEntries (types_in m) (types_in (with_exports user es m))
+  all_globals [] m = keeps_same refl
+  all_globals ((name, type) ∷ es) m = keeps_then (one_global (ExportedBy user name) type m) (all_globals es (with_export (ExportedBy user name) type m))
+
+  global_added : (item : CoreItem) (type : ExternType) (m : Machine) → IsGlobalTyped (types_in (with_export item type m)) (next_address type m) type
+  global_added item (externs.Func type) m = tt
+  global_added item (externs.Table type) m = tt
+  global_added item (externs.Memory type) m = tt
+  global_added item (externs.Global type) m =
+      subst (λ (ts : List ValType). slice_get ts (length m.now.globals) ≡ Some type.val_type) (sym (map-append type_of m.now.globals (Foreign (length m.store.known) type.val_type ∷ [])))
+      (subst (λ n. slice_get (types_in m ++ type.val_type ∷ []) n ≡ Some type.val_type) (length-map m.now.globals type_of) (slice_get-end (types_in m) type.val_type))
+
+  global_unchanged : (old new : List ValType) → KeepsEntries old new → (address : ℕ) (type : ExternType) → IsGlobalTyped old address type → IsGlobalTyped new address type
+  global_unchanged old new k address (externs.Global type) h = k.at address type.val_type h
+  global_unchanged old new k address type h = tt
+
+  pub each_global : (es : ExportTypes) (m : Machine) → AllZip (HasGlobalType (types_in (with_exports user es m))) (exported_by user es m) es
+  each_global [] m = tt
+  each_global ((name, type) ∷ es) m =
+      let next : Machine = with_export (ExportedBy user name) type m in (
+        record { named = refl; is = global_unchanged (types_in next) (types_in (with_exports user es next)) (all_globals es next) (next_address type m) type (global_added (ExportedBy user name) type m) },
+        each_global es next,
       )

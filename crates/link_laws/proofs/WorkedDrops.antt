@@ -146,12 +146,12 @@ is_world = record {
     modules_apart = one_apart root;
     import_roles = ((fields_apart, (record { present = omega arith; kind = refl }, (record { present = omega arith; kind = refl }, tt))), tt);
     own_keys = (tt, (tt, tt));
-    imported = (record { role = drop_of r 0; has_role = refl; fits = refl }, (record { role = drop_of s 1; has_role = refl; fits = refl }, tt));
+    imported = (inl (record { role = drop_of r 0; has_role = refl; fits = refl }), (inl (record { role = drop_of s 1; has_role = refl; fits = refl }), tt));
     export_roles = tt;
     exported = tt;
     required = tt;
   };
-  main_first = (tt, (tt, tt));
+  main_first = ((tt, (tt, tt)), tt);
   adapters = tt;
   adapters_apart = none_apart;
   keys_apart = no_keys_apart;

@@ -133,9 +133,9 @@ is_world = record {
     record {
       core = refl;
       modules_apart = one_apart env;
-      import_roles = ((two_apart, (memory_matches, (record { type = externs.Func plain_core; offered = refl; of_kind = refl; given = tt }, tt))), tt);
+      import_roles = ((two_apart, (memory_matches, (record { type = externs.Func plain_core; offered = refl; of_kind = refl }, tt))), tt);
       own_keys = (tt, (tt, tt));
-      imported = (record { role = memory_role; has_role = refl; fits = refl }, (record { role = function_role; has_role = refl; fits = record { type = externs.Func plain_core; offered = refl; matching = refl } }, tt));
+      imported = (inl (record { role = memory_role; has_role = refl; fits = refl }), (inl (record { role = function_role; has_role = refl; fits = record { type = externs.Func plain_core; offered = refl; matching = refl } }), tt));
       export_roles = tt;
       exported = tt;
       required = tt;

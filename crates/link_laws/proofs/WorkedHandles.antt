@@ -139,14 +139,14 @@ is_world = record {
     import_roles = ((fields_apart, (r_is_own, (r_is_own, (r_is_own, tt)))), tt);
     own_keys = ((0, omega arith, refl), ((0, omega arith, refl), ((0, omega arith, refl), tt)));
     imported = (
-      record { role = imports.ExportedResourceNew key (type_id 0); has_role = refl; fits = refl },
-      (record { role = imports.ExportedResourceRep key (type_id 0); has_role = refl; fits = refl }, (record { role = imports.ExportedResourceDrop key (type_id 0); has_role = refl; fits = refl }, tt)),
+      inl (record { role = imports.ExportedResourceNew key (type_id 0); has_role = refl; fits = refl }),
+      (inl (record { role = imports.ExportedResourceRep key (type_id 0); has_role = refl; fits = refl }), (inl (record { role = imports.ExportedResourceDrop key (type_id 0); has_role = refl; fits = refl }), tt)),
     );
     export_roles = tt;
     exported = tt;
     required = (record { exported = (0, omega arith, refl); present = tt }, tt);
   };
-  main_first = (tt, (tt, (tt, tt)));
+  main_first = ((tt, (tt, (tt, tt))), tt);
   adapters = tt;
   adapters_apart = none_apart;
   keys_apart = one_key_apart key;

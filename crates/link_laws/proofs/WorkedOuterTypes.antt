@@ -71,12 +71,12 @@ is_world = record {
     modules_apart = one_apart from_u;
     import_roles = ((one_apart f, (((1, omega arith, refl), (0, omega arith, refl), refl), tt)), tt);
     own_keys = (tt, tt);
-    imported = (record { role = f_role; has_role = refl; fits = refl }, tt);
+    imported = (inl (record { role = f_role; has_role = refl; fits = refl }), tt);
     export_roles = tt;
     exported = tt;
     required = tt;
   };
-  main_first = (tt, tt);
+  main_first = ((tt, tt), tt);
   adapters = tt;
   adapters_apart = none_apart;
   keys_apart = no_keys_apart;

@@ -143,12 +143,12 @@ is_world = record {
     modules_apart = modules_apart;
     import_roles = ((one_apart drop_r, (record { present = omega arith; kind = refl }, tt)), ((one_apart f, (((1, omega arith, refl), (0, omega arith, refl), refl), tt)), tt));
     own_keys = (tt, (tt, tt));
-    imported = (record { role = drop_role; has_role = refl; fits = refl }, (record { role = f_role; has_role = refl; fits = refl }, tt));
+    imported = (inl (record { role = drop_role; has_role = refl; fits = refl }), (inl (record { role = f_role; has_role = refl; fits = refl }), tt));
     export_roles = tt;
     exported = tt;
     required = tt;
   };
-  main_first = (tt, (tt, tt));
+  main_first = ((tt, tt), ((tt, tt), tt));
   adapters = tt;
   adapters_apart = none_apart;
   keys_apart = no_keys_apart;

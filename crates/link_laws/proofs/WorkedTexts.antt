@@ -4,7 +4,7 @@ use Rattle.std.specs.List.{IsDistinct, list_all}
 use Rattle.comp_worlds.specs.WorldContents.{items_of}
 use Rattle.wit_data.specs.Keys.{is_same_key}
 use Rattle.std.specs.Map.{keys_of}
-use Rattle.std.proofs.Common.{◌≡◌, ◌^◌, ℕ, true, false, List, [], ◌∷◌, refl, Some, None, map, arith}
+use Rattle.std.proofs.Common.{inl, ◌≡◌, ◌^◌, ℕ, true, false, List, [], ◌∷◌, refl, Some, None, map, arith}
 use Rattle.std.proofs.Math.Dec.{ltb}
 use Rattle.std.proofs.lemmas.Bool.{ltb-true, and_parts}
 use Rattle.std.specs.Fmt.{digits}
@@ -127,12 +127,12 @@ is_world = record {
     modules_apart = one_apart root;
     import_roles = ((one_apart f, (((0, omega arith, refl), refl, refl), tt)), tt);
     own_keys = (tt, tt);
-    imported = (record { role = role_f; has_role = refl; fits = refl }, tt);
+    imported = (inl (record { role = role_f; has_role = refl; fits = refl }), tt);
     export_roles = (tt, tt);
     exported = (record { type = externs.Memory memory_type; offered = refl; fits = refl }, tt);
     required = tt;
   };
-  main_first = (tt, tt);
+  main_first = ((tt, tt), tt);
   adapters = tt;
   adapters_apart = none_apart;
   keys_apart = no_keys_apart;

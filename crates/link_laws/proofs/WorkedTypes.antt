@@ -3,7 +3,7 @@ use Rattle.std.specs.List.{IsDistinct}
 use Rattle.comp_worlds.specs.WorldContents.{items_of}
 use Rattle.wit_data.specs.Keys.{is_same_key}
 use Rattle.std.specs.Map.{keys_of}
-use Rattle.std.proofs.Common.{◌≡◌, ℕ, zero, suc, false, List, [], ◌∷◌, ◌++◌, refl, Some, None, map, arith}
+use Rattle.std.proofs.Common.{inl, ◌≡◌, ℕ, zero, suc, false, List, [], ◌∷◌, ◌++◌, refl, Some, None, map, arith}
 use Rattle.std.specs.Prelude.{codes, Contains}
 use Rattle.standard_kinds.specs.declared.kinds.ExportKind.TheVariants as kinds
 use Rattle.standard_kinds.specs.declared.kinds.Primitive.{Primitive}
@@ -136,12 +136,12 @@ is_world = record {
     modules_apart = one_apart root;
     import_roles = ((one_apart f, (((0, omega arith, refl), refl, refl), tt)), tt);
     own_keys = (tt, tt);
-    imported = (record { role = imports.WorldFunc (keys.Name f) f GuestImport; has_role = refl; fits = refl }, tt);
+    imported = (inl (record { role = imports.WorldFunc (keys.Name f) f GuestImport; has_role = refl; fits = refl }), tt);
     export_roles = (((0, omega arith, refl), refl, refl), tt);
     exported = (record { type = externs.Func g_core; offered = refl; fits = refl }, tt);
     required = (record { exported = (0, omega arith, refl); present = (refl, tt) }, tt);
   };
-  main_first = (tt, tt);
+  main_first = ((tt, tt), tt);
   adapters = tt;
   adapters_apart = none_apart;
   keys_apart = one_key_apart (keys.Name g);

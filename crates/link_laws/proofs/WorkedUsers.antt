@@ -139,7 +139,7 @@ is_world = record {
       modules_apart = one_apart root;
       import_roles = ((one_apart f, (((0, omega arith, refl), refl, refl), tt)), tt);
       own_keys = (tt, tt);
-      imported = (record { role = imports.WorldFunc (keys.Name f) f GuestImport; has_role = refl; fits = refl }, tt);
+      imported = (inl (record { role = imports.WorldFunc (keys.Name f) f GuestImport; has_role = refl; fits = refl }), tt);
       export_roles = (((1, omega arith, refl), refl, refl), tt);
       exported = (record { type = externs.Func plain_core; offered = refl; fits = refl }, tt);
       required = (record { exported = (1, omega arith, refl); present = (refl, tt) }, tt);

@@ -254,7 +254,7 @@ is_world = record {
     exported = (record { type = externs.Memory memory_type; offered = refl; fits = refl }, (record { type = realloc_type; offered = refl; fits = refl }, tt));
     required = tt;
   };
-  main_first = (tt, (tt, (tt, (tt, tt))));
+  main_first = ((tt, (tt, (tt, (tt, tt)))), tt);
   adapters = tt;
   adapters_apart = tt;
   keys_apart = tt;

@@ -89,12 +89,12 @@ valid_of bytes core = record {
     modules_apart = alone (codes "$root");
     import_roles = ((alone (codes "f"), (((0, omega arith, refl), refl, refl), tt)), tt);
     own_keys = (tt, tt);
-    imported = (record { role = stub_role; has_role = refl; fits = refl }, tt);
+    imported = (inl (record { role = stub_role; has_role = refl; fits = refl }), tt);
     export_roles = tt;
     exported = tt;
     required = tt;
   };
-  main_first = (tt, tt);
+  main_first = ((tt, tt), tt);
   adapters = tt;
   adapters_apart = none;
   keys_apart = no_key;
