@@ -2,3 +2,4 @@ pub mod Roles
 pub mod WholeTables
 pub mod NotOfMain
 pub mod Matched
+pub mod Absent

@@ -7,6 +7,7 @@ pub mod Offered
 pub mod Typed
 pub mod Worlds
 pub mod Made
+pub mod Absent
 pub mod Encodable
 pub mod WorldTables
 pub mod ExportOrder

@@ -10,8 +10,8 @@
 //! needs from `comp_options`; this crate re-exports their names, so that its users need no other crate.
 //!
 //! In reading order: `lowerings` (how imported functions are lowered), `calls` (what core imports use), `world` (the
-//! validated world), `modules` (user modules by name, and which module has a module's realloc), `lower` (the
-//! trait). The tables that follow from a world are defined here (`specs/Uses.antt`, `specs/Imported.antt`) and in
+//! validated world), `modules` (user modules by name, and which module has a module's realloc), `named` (which adapters a module names),
+//! `lower` (the trait). The tables that follow from a world are defined here (`specs/Uses.antt`, `specs/Imported.antt`) and in
 //! `specs/Mentions.antt` of `world_values`, and made by `world_tables`. The look-ups across modules are defined in
 //! `specs/Lookups.antt`.
 #![tactic(auto)]
@@ -20,6 +20,7 @@ mod calls;
 mod lower;
 mod lowerings;
 mod modules;
+mod named;
 mod world;
 
 pub use calls::{Call, Uses};
@@ -34,5 +35,6 @@ pub use comp_roles::{
 pub use lower::Lower;
 pub use lowerings::{ImportedInterface, Lowering, LoweringKey};
 pub use modules::CustomModule;
+pub use named::{absent_adapter, absent_argument};
 pub use world::{ComponentWorld, ValidatedModule, WorldAdapter, WorldParts};
 pub use world_values::{EncoderOptions, ExportKey, Gathered, GatheredAdapter, Merged, Part};
