@@ -2,6 +2,7 @@
 use Rattle.std.proofs.Common.{◌≡◌, ℕ, List, inl, inr, subst, sym, Result, Ok, Err}
 use Rattle.std.specs.Prelude.{IfErr}
 use Rattle.std.specs.Result.{IsErrAnd}
+use Rattle.comp_worlds.specs.Made.{IsNotYetMade}
 use Rattle.comp_worlds.specs.declared.world.ComponentWorld.{ComponentWorld}
 use Rattle.comp_worlds.specs.declared.lower.Lower as lower
 use Rattle.comp_encoder.specs.Encoder.{Encoder, naming}
@@ -29,6 +30,7 @@ module _ {L B F : Type 0} (l : lower.Ghosts L B F) where
   from_state e w (state.NoMemory place) is h = subst (λ (x : ComponentWorld). LacksMemory x (user_imports x) (required_functions x) place) is.prepared h
   from_state e w (state.NoRealloc place) is h = subst (λ (x : ComponentWorld). LacksRealloc x (user_imports x) (required_functions x) place) is.prepared h
   from_state e w (state.NoEncoding place) is h = subst (λ x. LacksEncoding x place) is.prepared h
+  from_state e w (state.NotYetMade adapter name) is h = subst (λ x. IsNotYetMade x adapter name) is.prepared h
   from_state e w (state.LaterExport interface used) is h = subst (λ x. ExportsLater x interface used) is.prepared h
   from_state e w (state.TooMany excess) is h = h
 

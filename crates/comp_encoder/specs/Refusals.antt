@@ -3,6 +3,7 @@
 use Rattle.std.specs.Prelude.{◌≡◌, ◌≢◌, ◌≤◌, ◌^◌, ℕ, List, [], ⊤, false, ◌⊎◌, IsTrue}
 use Rattle.wit_data.specs.declared.ids.WorldId.{WorldId}
 use Rattle.wit_data.specs.declared.resolve.Resolve.{Resolve}
+use Rattle.comp_worlds.specs.Made.{IsNotYetMade}
 use Rattle.comp_worlds.specs.declared.lower.Lower as lower
 use Rattle.comp_encoder.specs.Encoder.{Encoder, main_bytes, naming}
 use Rattle.core_options.specs.Causes.{LacksMemory, LacksRealloc, LacksEncoding, ExportsLater}
@@ -17,7 +18,7 @@ use Rattle.comp_encoder.specs.declared.output.OutputFault.TheVariants as outputs
 use Rattle.core_options.specs.declared.fault.StateFault.{StateFault}
 use Rattle.core_options.specs.declared.fault.StateFault.TheVariants as state
 use Rattle.comp_encoder.specs.declared.fault.EncodeFault.{EncodeFault}
-use Rattle.comp_encoder.specs.declared.fault.EncodeFault.TheVariants.{Memory, NoModule, Lower, UnknownAdapter, CanonicalNames, NoMemory, NoRealloc, NoEncoding, LaterExport, Output, TooMany}
+use Rattle.comp_encoder.specs.declared.fault.EncodeFault.TheVariants.{Memory, NoModule, Lower, UnknownAdapter, CanonicalNames, NoMemory, NoRealloc, NoEncoding, NotYetMade, LaterExport, Output, TooMany}
 
 -- a canonical name that is shared as a fault of the encoder
 abbrev pub of_shared : {F : Type 0} → SharedName → EncodeFault F
@@ -29,6 +30,7 @@ of_state state.Memory = Memory
 of_state (state.NoMemory place) = NoMemory place
 of_state (state.NoRealloc place) = NoRealloc place
 of_state (state.NoEncoding place) = NoEncoding place
+of_state (state.NotYetMade adapter name) = NotYetMade adapter name
 of_state (state.LaterExport interface used) = LaterExport interface used
 of_state (state.TooMany excess) = TooMany excess
 
@@ -60,6 +62,7 @@ module _ {L B F : Type 0} (l : lower.Ghosts L B F) where
   IsModuleRefusal e bytes (NoMemory place) = ⊥
   IsModuleRefusal e bytes (NoRealloc place) = ⊥
   IsModuleRefusal e bytes (NoEncoding place) = ⊥
+  IsModuleRefusal e bytes (NotYetMade adapter name) = ⊥
   IsModuleRefusal e bytes (LaterExport interface used) = ⊥
   IsModuleRefusal e bytes (Output fault) = ⊥
   IsModuleRefusal e bytes (TooMany excess) = ⊥
@@ -74,6 +77,7 @@ module _ {L B F : Type 0} (l : lower.Ghosts L B F) where
   IsEncodeRefusal e (NoMemory place) = let w = l.prepared e.lower e.gathered in LacksMemory w (user_imports w) (required_functions w) place
   IsEncodeRefusal e (NoRealloc place) = let w = l.prepared e.lower e.gathered in LacksRealloc w (user_imports w) (required_functions w) place
   IsEncodeRefusal e (NoEncoding place) = LacksEncoding (l.prepared e.lower e.gathered) place
+  IsEncodeRefusal e (NotYetMade adapter name) = IsNotYetMade (l.prepared e.lower e.gathered) adapter name
   IsEncodeRefusal e (LaterExport interface used) = ExportsLater (l.prepared e.lower e.gathered) interface used
   IsEncodeRefusal e (Output fault) = IsTrue e.gathered.options.validate × IsCheckCause (naming e) (l.prepared e.lower e.gathered) fault
   IsEncodeRefusal e (TooMany excess) = 2 ^ 32 ≤ excess

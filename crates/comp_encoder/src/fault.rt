@@ -59,6 +59,13 @@ pub enum EncodeFault<F> {
     NoEncoding {
         place: Text,
     },
+    /// An adapter names another one that is not instantiated before it: in the arguments of a library, used or not. `module` is the one
+    /// that names, and `name` the other (component model: instance definitions).
+    #[error("E10 NotYetMade module={module} name={name}")]
+    NotYetMade {
+        module: Text,
+        name: Text,
+    },
     /// A required interface uses types of another exported one, which main doesn't export before it: it comes later, or is not
     /// required. Both are named as exports, with their whole version.
     #[error("E11 LaterExport interface={interface} used={used}")]
@@ -123,6 +130,7 @@ impl<F> From<StateFault> for EncodeFault<F> {
             StateFault::NoMemory { place } => EncodeFault::NoMemory { place },
             StateFault::NoRealloc { place } => EncodeFault::NoRealloc { place },
             StateFault::NoEncoding { place } => EncodeFault::NoEncoding { place },
+            StateFault::NotYetMade { module, name } => EncodeFault::NotYetMade { module, name },
             StateFault::LaterExport { interface, used } => {
                 EncodeFault::LaterExport { interface, used }
             }

@@ -9,10 +9,14 @@ use Rattle.std.specs.Str.{bytes_eq}
 use Rattle.std.proofs.lemmas.Map.Views.{lookup-from_Contains}
 use Rattle.std.proofs.lemmas.Option.{none-some, same_Some}
 use Rattle.comp_lists.specs.Found.{found}
+use Rattle.comp_roles.specs.declared.libraries.MainOrAdapter.{MainOrAdapter}
+use Rattle.comp_roles.specs.declared.libraries.MainOrAdapter.TheVariants as users
+use Rattle.comp_worlds.specs.Lookups.{found_module}
 use Rattle.comp_worlds.specs.Worlds.{IsWorld}
 use Rattle.comp_worlds.specs.declared.world.ComponentWorld.{ComponentWorld}
 use Rattle.comp_worlds.specs.declared.world.ValidatedModule.{ValidatedModule}
 use Rattle.comp_worlds.specs.declared.world.WorldAdapter.{WorldAdapter}
+use Rattle.comp_links.specs.Links.{module_of}
 use Rattle.comp_links.specs.Modules.{WorldModule, adapter_module, user_modules, module_found}
 use Rattle.comp_links.specs.Targets.{UserModule}
 
@@ -45,6 +49,14 @@ pub listed_there : (ms : List WorldModule) (number : ℕ) (m : WorldModule) → 
 listed_there [] number m e = absurd (none-some m e)
 listed_there (x ∷ ms) zero m e = (zero, omega arith, same_Some x m e)
 listed_there (x ∷ ms) (suc number) m e = let c = listed_there ms number m e in (suc c.0, (let l = c.1 in omega (arith, l)), c.2)
+
+-- a module that a library names is found by that name
+pub same_found : (w : ComponentWorld) (which : MainOrAdapter) → module_found w (module_of which) ≡ found_module w which
+same_found w users.Main = refl
+same_found w (users.Adapter name) = refl
+
+pub named_found : (w : ComponentWorld) → IsWorld w → (m : WorldModule) → Contains (user_modules w) m → (which : MainOrAdapter) → m.of ≡ module_of which → (of : ValidatedModule) → found_module w which ≡ Some of → m.found ≡ of
+named_found w h m listed which same of there = same_Some m.found of (sym (listed_found w h m listed) ∙ (ap (module_found w) same ∙ (same_found w which ∙ there)))
 
 abbrev named_module : UserModule → ValidatedModule → WorldModule
 named_module of found = record { of = of; found = found }

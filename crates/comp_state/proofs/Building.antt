@@ -1,6 +1,6 @@
 -- The steps in their order build a whole component.
 use Rattle.comp_links.specs.Naming.{Naming}
-use Rattle.std.proofs.Common.{◌≡◌, ◌∙◌, ℕ, ◌==◌, Bool, true, false, List, [], ◌∷◌, ◌++◌, length, refl, sym, ap, subst, append-nil, append_assoc, Option, Some, None, IsSome, is_some, ◌⊎◌, inl, inr, true≢false, if◌then◌else◌}
+use Rattle.std.proofs.Common.{take, zero, suc, slice_get, ◌≡◌, ◌∙◌, ℕ, ◌==◌, Bool, true, false, List, [], ◌∷◌, ◌++◌, length, refl, sym, ap, subst, append-nil, append_assoc, Option, Some, None, IsSome, is_some, ◌⊎◌, inl, inr, true≢false, if◌then◌else◌}
 use Rattle.comp_lists.proofs.Lists.{AllByRecursion-contains}
 use Rattle.comp_builder.specs.Built.{Built}
 use Rattle.comp_bytes.specs.DebugNames.{names_text}
@@ -13,9 +13,14 @@ use Rattle.comp_links.specs.Modules.{UserImport, user_imports}
 use Rattle.comp_worlds.specs.declared.world.ComponentWorld.{ComponentWorld}
 use Rattle.core_instances.specs.Instances.{instances_marked, AddsInstances}
 use Rattle.core_options.specs.Causes.{IsEncoded, IsEncodedExport, LacksEncoding, LacksMemory, LacksRealloc, NeedsLowering, NeedsLift, ImportsMemory, ExportsLater}
+use Rattle.comp_roles.specs.declared.libraries.MainOrAdapter.TheVariants as modules
+use Rattle.comp_worlds.specs.Made.{modules_named, IsMadeBefore, AreMadeAfter, IsNotYetMade}
+use Rattle.comp_worlds.specs.declared.world.WorldAdapter.{WorldAdapter}
 use Rattle.comp_worlds.specs.ExportOrder.{exported_before, used_exports}
 use Rattle.world_values.specs.Mentions.{same_interface}
-use Rattle.std.specs.List.{list_any}
+use Rattle.std.proofs.lemmas.Option.{none-some, same_Some}
+use Rattle.std.specs.List.{AllByRecursion, list_any}
+use Rattle.std.specs.Map.{keys_of}
 use Rattle.std.specs.Option.{option_map}
 use Rattle.comp_roles.specs.Lookups.{first_memory}
 use Rattle.core_options.specs.MainOptions.{memory_name, HasLowerOptions, HasLiftOptions}
@@ -104,6 +109,17 @@ encoded_realloc w h place (inr l) = let has = AllByRecursion-contains (HasLiftOp
 pub encoded_order : (w : ComponentWorld) → IsEncoded w → (interface used : List ℕ) → ExportsLater w interface used → ⊥
 encoded_order w h interface used l =
     true≢false (sym (AllByRecursion-contains (λ other. list_any (same_interface other) (exported_before w l.later.number) ≡ true) (used_exports w l.id) l.other (h.ordered.each l.later.number l.id l.later.exported) l.later.uses) ∙ l.later.later)
+
+-- where adapters are instantiated behind those that they name, none names a later one
+named_before : (names : List (List ℕ)) (adapters : List (List ℕ × WorldAdapter)) (place : ℕ) (name : List ℕ) (a : WorldAdapter) → AreMadeAfter names adapters → slice_get adapters place ≡ Some (name, a) → AllByRecursion (IsMadeBefore (names ++ take place (keys_of adapters))) (modules_named a)
+named_before names [] place name a h e = absurd (none-some (name, a) e)
+named_before names (x ∷ adapters) zero name a h e =
+    subst (λ l. AllByRecursion (IsMadeBefore l) (modules_named a)) (sym (append-nil names)) (subst (λ (b : WorldAdapter). AllByRecursion (IsMadeBefore names) (modules_named b)) (ap (λ (y : List ℕ × WorldAdapter). y.1) (same_Some x (name, a) e)) h.0)
+named_before names (x ∷ adapters) (suc place) name a h e =
+    subst (λ l. AllByRecursion (IsMadeBefore l) (modules_named a)) (append_assoc names (x.0 ∷ []) (take place (keys_of adapters))) (named_before (names ++ x.0 ∷ []) adapters place name a h.1 e)
+
+pub encoded_made : (w : ComponentWorld) → IsEncoded w → (adapter name : List ℕ) → IsNotYetMade w adapter name → ⊥
+encoded_made w h adapter name l = l.later (AllByRecursion-contains (IsMadeBefore (take l.place (keys_of w.adapters))) (modules_named l.of) (modules.Adapter name) (named_before [] w.adapters l.place adapter l.of h.made.each l.listed) l.names)
 
 -- the empty list has no imports
 pub no_definitions : (ds : List Def) → ds ≡ [] → imports_in ds ≡ 0

@@ -29,6 +29,7 @@ use Rattle.comp_bytes.specs.declared.def.Def.{Def}
 use Rattle.comp_bytes.specs.declared.def.Def.TheVariants as defs
 use Rattle.comp_bytes.specs.declared.def.Item.TheVariants as items
 use Rattle.comp_roles.specs.declared.imports.ImportInstance.{ImportInstance}
+use Rattle.comp_roles.specs.declared.imports.ImportInstance.TheVariants as instances
 use Rattle.comp_worlds.specs.declared.world.ComponentWorld.{ComponentWorld}
 use Rattle.comp_links.specs.Targets.{UserModule, ExportRef}
 use Rattle.comp_links.specs.Links.{destructor_of}
@@ -50,7 +51,11 @@ Within earlier = InScope (scope_of space_of earlier ∷ [])
 arguments_within : (w : ComponentWorld) (of : UserModule) (earlier : List Def) (as' : List CoreArgument) (gs : List (List ℕ × ImportInstance)) → AllZip (IsArgumentFor w of earlier) as' gs →
     AllByRecursion (Within earlier) (flat_map (λ a. own spaces.CoreInstance a.instance ∷ []) as')
 arguments_within w of earlier [] [] h = tt
-arguments_within w of earlier (a ∷ as') (g ∷ gs) h = (in_range h.0.serves.made, arguments_within w of earlier as' gs h.1)
+arguments_within w of earlier (a ∷ as') (g ∷ gs) h = (argument_in_range g h.0, arguments_within w of earlier as' gs h.1)
+  where
+    argument_in_range : (g : List ℕ × ImportInstance) → IsArgumentFor w of earlier a g → Within earlier (own spaces.CoreInstance a.instance)
+    argument_in_range (name, instances.Names fields) k = in_range k.serves.made
+    argument_in_range (name, instances.Whole which) k = in_range k.serves.is.made
 arguments_within w of earlier [] (g ∷ gs) h = absurd h
 arguments_within w of earlier (a ∷ as') [] h = absurd h
 

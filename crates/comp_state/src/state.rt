@@ -10,6 +10,7 @@ ghost use Rattle.comp_links.specs.Modules.{UserImport, user_imports};
 ghost use Rattle.comp_links.specs.Roles.{IsSuppliedImport};
 ghost use Rattle.comp_state.specs.Encoding.{naming_in};
 ghost use Rattle.comp_worlds.specs.ExportOrder.{AreExportsInOrder};
+ghost use Rattle.comp_worlds.specs.Made.{AreMadeInOrder};
 ghost use Rattle.comp_state.specs.declared.state.Step.TheVariants.{Started, Imported, Instantiated};
 ghost use Rattle.comp_terms.specs.Exports.{exports_in};
 ghost use Rattle.comp_terms.specs.Rules.{Grows, bytes_marked, imports_marked, exports_marked, landmarks};
@@ -150,8 +151,8 @@ impl EncodingState<'_> {
     /// module needs shims.
     ///
     /// `E9` where an import of a function has no string encoding, `E7` where a function is lowered with a memory and main exports
-    /// none, `E8` where it is lowered with a realloc and there is none for the module, and `E11` where an exported interface uses types
-    /// of another one that isn't exported before it.
+    /// none, `E8` where it is lowered with a realloc and there is none for the module, `E10` where an adapter names one that is not
+    /// instantiated before it, and `E11` where an exported interface uses types of another one that isn't exported before it.
     pub fn encode_core_instantiation(&mut self) -> Result<(), StateFault>
         requires users { AreUserModules self.old.world self.old.built.defs }
         requires imported { self.old.step ≡ Imported }
@@ -160,6 +161,7 @@ impl EncodingState<'_> {
         ensures step { OnOk result (self.new.step ≡ Instantiated) }
         ensures extends { Extends self.old.built self.new.built }
         ensures ordered { OnOk result (AreExportsInOrder self.old.world) }
+        ensures in_order { OnOk result (AreMadeInOrder self.old.world) }
         ensures added { OnOk result (AddsInstances self.old.world self.old.built.defs self.new.built.defs) }
         ensures encoded { OnOk result (AllByRecursion (λ (i : UserImport). IsSuppliedImport self.old.world i.of i.core.role) (user_imports self.old.world)) }
         ensures lowered { OnOk result (AllByRecursion (HasLowerOptions self.old.world) (user_imports self.old.world)) }

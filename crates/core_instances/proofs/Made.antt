@@ -1,16 +1,19 @@
 -- What was imported stays what it is while definitions are added, and it is what main and the fixup are given.
-use Rattle.std.proofs.Common.{◌≡◌, ◌<◌, ℕ, List, Option, Some, None, subst, sym}
+use Rattle.std.proofs.Common.{◌≡◌, ◌∙◌, ◌<◌, ℕ, List, [], Option, Some, None, ap, subst, sym}
 use Rattle.std.specs.Option.{option_copied}
 use Rattle.comp_builder.specs.Built.{Built}
 use Rattle.comp_items.specs.Items.{Extends}
 use Rattle.comp_bytes.specs.declared.def.Def.{Def}
 use Rattle.comp_items.proofs.Kept.{Longer, instance-kept}
 use Rattle.comp_items.proofs.Remembering.{longer}
+use Rattle.comp_roles.specs.declared.libraries.MainOrAdapter.{MainOrAdapter}
+use Rattle.comp_worlds.proofs.NotOfMain.{none_named}
+use Rattle.comp_worlds.specs.Made.{modules_of_imports}
 use Rattle.comp_worlds.specs.declared.world.ComponentWorld.{ComponentWorld}
 use Rattle.core_options.specs.MainOptions.{user_of, IsUser, AreUserInstances, memory_name}
 use Rattle.main_fixup.specs.Filling.{AreFillSources}
 use Rattle.main_fixup.specs.declared.sources.FillSources.{FillSources}
-use Rattle.main_instance.specs.Sources.{AreSources, IsShimInstance, IsMainInstance}
+use Rattle.main_instance.specs.Sources.{AreSources, IsShimInstance, IsMainInstance, IsMade}
 use Rattle.comp_links.specs.Targets.{Main}
 use Rattle.main_instance.specs.declared.instances.ImportSources.{ImportSources}
 use Rattle.root_imports.proofs.Finding.{FindsImports-kept}
@@ -30,9 +33,13 @@ use Rattle.core_instances.specs.declared.own_resources.DestructorSources.{Destru
 use Rattle.core_instances.specs.declared.own_resources.ShimSources.{ShimSources}
 use Rattle.core_instances.specs.Instances.{AreImportsMade}
 
+-- what names no module needs none
+none_made : {w : ComponentWorld} {ds : List Def} (main : Option ℕ) (adapters : List (List ℕ × ℕ)) (named : List MainOrAdapter) → named ≡ [] → AllByRecursion (IsMade w ds main adapters) named
+none_made {w} {ds} main adapters named none = subst (AllByRecursion (IsMade w ds main adapters)) (sym none) tt
+
 module _ {w : ComponentWorld} {met : MetTypes} {old new : Built} {maps : TypeEncodingMaps} {instances : List (InterfaceId × ℕ)} (g : Extends old new) where
-  pub sources_after : (s : ImportSources) → IsUser w s.user → AreImportsMade w s.functions.now met old.defs maps instances → AreExportsMet w met → s.shims.now ≡ shims_of w → IsShimInstance w new.defs s.shim_instance → user_of s.user.which ≡ Main → AreSources w s met new.defs maps instances
-  sources_after s user h exports planned there main = record { main = subst (λ of. IsMainInstance new.defs of s.main) (sym main) tt; user = user; exports = exports; valid = h.valid; imports = FindsImports-kept (longer g) h.imports; used = h.used; shims = planned; shim_instance = there; tables = tables_kept w met instances old new maps g h.tables; passed = h.passed }
+  pub sources_after : (s : ImportSources) → IsUser w s.user → AreImportsMade w s.functions.now met old.defs maps instances → AreExportsMet w met → s.shims.now ≡ shims_of w → IsShimInstance w new.defs s.shim_instance → user_of s.user.which ≡ Main → s.user.found.now ≡ w.main → AreSources w s met new.defs maps instances
+  sources_after s user h exports planned there main found = record { made = none_made s.main s.adapters.now (modules_of_imports s.user.found.now) (ap modules_of_imports found ∙ none_named w h.valid.valid); main = subst (λ of. IsMainInstance new.defs of s.main) (sym main) tt; user = user; exports = exports; valid = h.valid; imports = FindsImports-kept (longer g) h.imports; used = h.used; shims = planned; shim_instance = there; tables = tables_kept w met instances old new maps g h.tables; passed = h.passed }
 
   pub fills_after : (s : FillSources) → AreImportsMade w s.functions.now met old.defs maps instances → AreUserInstances w new.defs s.instances.now → option_copied s.memory ≡ memory_name w → AreFillSources w s met new.defs maps instances
   fills_after s h made memory = record { valid = h.valid; imports = FindsImports-kept (longer g) h.imports; used = h.used; memory = memory; users = made; tables = tables_kept w met instances old new maps g h.tables; passed = h.passed }

@@ -1,5 +1,5 @@
 -- The instances of the user modules: the adapters one after the other, and all of them with main.
-use Rattle.std.proofs.Common.{arith, ◌≡◌, ◌∙◌, ◌<◌, ◌≤◌, ◌+◌, ℕ, zero, suc, Bool, true, false, List, [], ◌∷◌, ◌++◌, length, length-append, map, append_assoc, append-nil, drop, refl, sym, ap, ap₂, subst, Contains, Some, None, true≢false, if◌then◌else◌, rules}
+use Rattle.std.proofs.Common.{inl, inr, ◌⊎◌, take, Option, is_some, arith, ◌≡◌, ◌∙◌, ◌<◌, ◌≤◌, ◌+◌, ℕ, zero, suc, Bool, true, false, List, [], ◌∷◌, ◌++◌, length, length-append, map, append_assoc, append-nil, drop, refl, sym, ap, ap₂, subst, Contains, Some, None, true≢false, if◌then◌else◌, rules}
 use Rattle.std.specs.Cmp.{IsEquivalence}
 use Rattle.std.specs.Cmp.Rules.{comparing}
 use Rattle.std.specs.List.{AllByRecursion, IsDistinct, flat_map, range_with_len, slice_get}
@@ -10,6 +10,7 @@ use Rattle.std.proofs.lemmas.List.{map-append}
 use Rattle.std.proofs.lemmas.Map.Views.{lookup-from_Contains}
 use Rattle.std.proofs.lemmas.Option.{none-some, same_Some, slice_get-map, slice_get_within}
 use Rattle.std.proofs.lemmas.Slice.Eq.{bytes_eq-Decides}
+use Rattle.comp_lists.proofs.Lists.{slice_get-append, AllByRecursion-back, Contains-map}
 use Rattle.comp_lists.specs.Found.{found}
 use Rattle.comp_bytes.specs.Spaces.{items_in}
 use Rattle.comp_bytes.specs.declared.def.Def.{Def}
@@ -19,6 +20,11 @@ use Rattle.comp_items.specs.Items.{Extends}
 use Rattle.comp_items.proofs.Extending.{extends_none, extends_then}
 use Rattle.comp_items.proofs.Kept.{Longer, instance-kept}
 use Rattle.comp_roles.specs.CoreImports.{CoreImport}
+use Rattle.comp_roles.specs.declared.libraries.MainOrAdapter.{MainOrAdapter}
+use Rattle.comp_roles.specs.declared.libraries.MainOrAdapter.TheVariants as modules
+use Rattle.comp_worlds.proofs.Absent.{ArePresent, IsAbsent, all_present, first_is_absent}
+use Rattle.comp_worlds.specs.Absent.{absent_module, absent_adapter}
+use Rattle.comp_worlds.specs.Made.{modules_of_arguments, modules_of_imports, modules_named, IsMadeBefore, AreMadeAfter}
 use Rattle.comp_worlds.specs.Uses.{imports_of}
 use Rattle.comp_worlds.specs.declared.world.ComponentWorld.{ComponentWorld}
 use Rattle.comp_worlds.specs.declared.world.ValidatedModule.{ValidatedModule}
@@ -33,8 +39,11 @@ use Rattle.root_imports.specs.Growing.{Grows-none, Grows-then, longer_by}
 use Rattle.core_options.specs.MainOptions.{user_of_name, user_of, IsUser, IsAdapterInstance, AreUserInstances}
 use Rattle.core_options.specs.declared.modules.UserModule.{UserModule}
 use Rattle.core_options.specs.declared.modules.UserInstances.{UserInstances}
-use Rattle.interface_needs.proofs.Lists.{all_both, contains_later}
-use Rattle.main_instance.specs.Sources.{AreSources, IsShimInstance, IsBehindMain, IsMainInstance}
+use Rattle.core_options.specs.Causes.{IsMadeRefusal, IsCause}
+use Rattle.core_options.specs.declared.fault.StateFault.{StateFault}
+use Rattle.core_options.specs.declared.fault.StateFault.TheVariants as faults
+use Rattle.interface_needs.proofs.Lists.{all_both, contains_none, contains_cons, contains_later}
+use Rattle.main_instance.specs.Sources.{AreSources, IsShimInstance, IsBehindMain, IsMainInstance, IsMade}
 use Rattle.main_instance.specs.declared.instances.ImportSources.{ImportSources}
 use Rattle.main_instance.proofs.Growth.{sources-kept}
 use Rattle.root_imports.specs.Imports.{FindsImports, FindsUsed}
@@ -68,6 +77,7 @@ pub record AdaptersSoFar (w : ComponentWorld) (old new : Built) (table : List (L
   pub grows : Grows w old.defs new.defs (map InstanceOf (range_with_len 1 (length done)))
   pub made : AreAdapterInstances w new.defs table done
   pub supplied : AreSuppliedAdapters w done
+  pub in_order : AreMadeAfter [] done
 
 pub adapters_start : (w : ComponentWorld) (old : Built) → AdaptersSoFar w old old [] 0 w.adapters
 adapters_start w old = record {
@@ -78,6 +88,7 @@ adapters_start w old = record {
   grows = Grows-none w old.defs;
   made = record { names = refl; each = λ place e h. absurd (none-some e h) };
   supplied = tt;
+  in_order = tt;
 }
 
 -- the instances that are found stay what they are
@@ -91,9 +102,121 @@ at_end [] x (suc n) y e P before last = absurd (none-some y e)
 at_end (z ∷ zs) x zero y e P before last = before 0 e
 at_end (z ∷ zs) x (suc n) y e P before last = at_end zs x n y e (λ k v. P (suc k) v) (λ k h. before (suc k) h) last
 
+there_at : {X : Type 0} (done : List X) (x : X) (rest all : List X) → done ++ x ∷ rest ≡ all → slice_get all (length done) ≡ Some x
+there_at {X = X} done x rest all e = ap (λ l. slice_get l (length done)) (sym e) ∙ first done
+  where
+    first : (xs : List X) → slice_get (xs ++ x ∷ rest) (length xs) ≡ Some x
+    first [] = refl
+    first (y ∷ ys) = first ys
+
+-- ---- the modules that an adapter names
+
+-- one more adapter, behind those that it names
+made_push : (names : List (List ℕ)) (done : Adapters) (a : List ℕ × WorldAdapter) → AreMadeAfter names done → AllByRecursion (IsMadeBefore (names ++ map (λ (x : List ℕ × WorldAdapter). x.0) done)) (modules_named a.1) → AreMadeAfter names (done ++ a ∷ [])
+made_push names [] a h before = (subst (λ l. AllByRecursion (IsMadeBefore l) (modules_named a.1)) (append-nil names) before, tt)
+made_push names (x ∷ done) a h before =
+    (h.0, made_push (names ++ x.0 ∷ []) done a h.1 (subst (λ l. AllByRecursion (IsMadeBefore l) (modules_named a.1)) (sym (append_assoc names (x.0 ∷ []) (map (λ (x : List ℕ × WorldAdapter). x.0) done))) before))
+
+-- what a table has under a name is at a place of it
+record IsEntryAt (table : List (List ℕ × ℕ)) (name : List ℕ) : Type 0 where
+  value : ℕ
+  there : found name table ≡ Some value
+  place : ℕ
+  at : slice_get table place ≡ Some (name, value)
+
+entry_at : (table : List (List ℕ × ℕ)) (name : List ℕ) → (is_some (found name table) ≡ false → ⊥) → IsEntryAt table name
+entry_at [] name h = absurd (h refl)
+entry_at (e ∷ table) name h = by (bytes_eq name e.0) refl
+  where
+    by : (b : Bool) → bytes_eq name e.0 ≡ b → IsEntryAt (e ∷ table) name
+    by true same = record { value = e.1; there = rw same refl; place = 0; at = ap (λ (n : List ℕ). Some (n, e.1)) (sym ((bytes_eq-Decides name e.0).0 same)) }
+    by false other =
+        let rest : IsEntryAt table name = entry_at table name (λ none. h (rw other none)) in
+        record { value = rest.value; there = rw other rest.there; place = suc rest.place; at = rest.at }
+
+-- a name that is not absent is in the table
+not_absent : (table : List (List ℕ × ℕ)) (name : List ℕ) → absent_module table (modules.Adapter name) ≡ None → is_some (found name table) ≡ false → ⊥
+not_absent table name e none = none-some name (sym e ∙ ap (λ b. if b then None else Some name) none)
+
+contained_at : {X : Type 0} (xs : List X) (n : ℕ) (x : X) → slice_get xs n ≡ Some x → Contains xs x
+contained_at [] n x e = absurd (none-some x e)
+contained_at (y ∷ xs) zero x e = (0, omega arith, same_Some y x e)
+contained_at (y ∷ xs) (suc n) x e = contains_later y xs x (contained_at xs n x e)
+
+-- a module that is not absent is made before
+made_before : (table : List (List ℕ × ℕ)) (done : Adapters) → map (λ (e : List ℕ × ℕ). e.0) table ≡ map (λ (a : List ℕ × WorldAdapter). a.0) done → (named : List MainOrAdapter) → ArePresent table named → AllByRecursion (IsMadeBefore (map (λ (x : List ℕ × WorldAdapter). x.0) done)) named
+made_before table done names [] h = tt
+made_before table done names (modules.Main ∷ named) h = (tt, made_before table done names named h.1)
+made_before table done names (modules.Adapter name ∷ named) h =
+    let e : IsEntryAt table name = entry_at table name (not_absent table name h.0) in
+    let c : Contains (map (λ (e : List ℕ × ℕ). e.0) table) name = Contains-map (λ (e : List ℕ × ℕ). e.0) table (name, e.value) (contained_at table e.place (name, e.value) e.at) in
+    (subst (λ l. Contains l name) names c, made_before table done names named h.1)
+
+-- its instance is there
+instance_made : (w : ComponentWorld) (ds : List Def) (main : ℕ) (table : List (List ℕ × ℕ)) (done : Adapters) (rest : Adapters) → done ++ rest ≡ w.adapters → IsInstanceOf ds main 0 → AreAdapterInstances w ds table done → (which : MainOrAdapter) → absent_module table which ≡ None → IsMade w ds (Some main) table which
+instance_made w ds main table done rest split made all modules.Main e = record { instance = main; there = refl; number = 0; of = record { world_module = record { of = Main; found = w.main }; listed = refl; same = refl }; is = made }
+instance_made w ds main table done rest split made all (modules.Adapter name) e =
+    let x : IsEntryAt table name = entry_at table name (not_absent table name e) in
+    let named : slice_get (map (λ (a : List ℕ × WorldAdapter). a.0) done) x.place ≡ Some name = ap (λ l. slice_get l x.place) (sym all.names) ∙ (slice_get-map (λ (e : List ℕ × ℕ). e.0) table x.place ∙ ap (option_map (λ (e : List ℕ × ℕ). e.0)) x.at) in
+    let a = mapped (slice_get done x.place) name (sym (slice_get-map (λ (a : List ℕ × WorldAdapter). a.0) done x.place) ∙ named) in
+    let listed : slice_get w.adapters x.place ≡ Some a.0 = ap (λ l. slice_get l x.place) (sym split) ∙ slice_get-append done rest x.place a.0 a.1 in
+    record {
+      instance = x.value;
+      there = x.there;
+      number = suc x.place;
+      of = record { world_module = adapter_module a.0; listed = slice_get-map adapter_module w.adapters x.place ∙ ap (option_map adapter_module) listed; same = ap Adapter a.2 };
+      is = all.each x.place (name, x.value) x.at;
+    }
+  where
+    mapped : (o : Option (List ℕ × WorldAdapter)) (n : List ℕ) → option_map (λ (a : List ℕ × WorldAdapter). a.0) o ≡ Some n → (a : List ℕ × WorldAdapter) × (o ≡ Some a) × (a.0 ≡ n)
+    mapped None n e = absurd (none-some n e)
+    mapped (Some a) n e = (a, refl, same_Some a.0 n e)
+
+instances_made : (w : ComponentWorld) (ds : List Def) (main : ℕ) (table : List (List ℕ × ℕ)) (done : Adapters) (rest : Adapters) → done ++ rest ≡ w.adapters → IsInstanceOf ds main 0 → AreAdapterInstances w ds table done → (named : List MainOrAdapter) → ArePresent table named → AllByRecursion (IsMade w ds (Some main) table) named
+instances_made w ds main table done rest split made all [] h = tt
+instances_made w ds main table done rest split made all (which ∷ named) h = (instance_made w ds main table done rest split made all which h.0, instances_made w ds main table done rest split made all named h.1)
+
+-- so are those of which the imports of the next adapter are given something
+pub next_made : (w : ComponentWorld) (old mid : Built) (main : ℕ) (table : List (List ℕ × ℕ)) (last : ℕ) (rest : Adapters) (a : List ℕ × WorldAdapter) → AdaptersSoFar w old mid table last (a ∷ rest) → IsInstanceOf mid.defs main 0 → absent_adapter table a.1 ≡ None →
+    AllByRecursion (IsMade w mid.defs (Some main) table) (modules_of_imports a.1.info)
+next_made w old mid main table last rest a h made named =
+    AllByRecursion-back (IsMade w mid.defs (Some main) table) (modules_of_arguments a.1.library_info) (modules_of_imports a.1.info)
+    (instances_made w mid.defs main table h.done (a ∷ rest) h.split made h.made (modules_named a.1) (all_present table a.1 named))
+
+-- an adapter that names one which is not in the table names one that comes later
+pub not_yet_made : (w : ComponentWorld) (old mid : Built) (table : List (List ℕ × ℕ)) (last : ℕ) (rest : Adapters) (a : List ℕ × WorldAdapter) → AdaptersSoFar w old mid table last (a ∷ rest) → (e : StateFault) → IsMadeRefusal table a.0 a.1 e → IsCause w e
+not_yet_made w old mid table last rest a h faults.Memory k = tt
+not_yet_made w old mid table last rest a h (faults.NotYetMade adapter name) k =
+    let absent : IsAbsent table (modules_named a.1) name = first_is_absent table a.1 name k.1 in
+    let front : take (length h.done) (keys_of w.adapters) ≡ map (λ (x : List ℕ × WorldAdapter). x.0) h.done = first_names h.done (a ∷ rest) w.adapters h.split in
+    record {
+      place = length h.done;
+      of = a.1;
+      listed = there_at h.done a rest w.adapters h.split ∙ ap (λ (n : List ℕ). Some (n, a.1)) (sym k.0);
+      names = absent.listed;
+      later = λ c. in_no_table table name absent.none (subst (λ l. Contains l name) (front ∙ sym h.made.names) c);
+    }
+  where
+    first_names : (done : Adapters) (later all : Adapters) → done ++ later ≡ all → take (length done) (keys_of all) ≡ map (λ (x : List ℕ × WorldAdapter). x.0) done
+    first_names done later all e = ap (λ (l : Adapters). take (length done) (keys_of l)) (sym e) ∙ first done
+      where
+        first : (xs : Adapters) → take (length xs) (keys_of (xs ++ later)) ≡ map (λ (x : List ℕ × WorldAdapter). x.0) xs
+        first [] = refl
+        first (x ∷ xs) = ap (λ l. x.0 ∷ l) (first xs)
+
+    in_no_table : (table : List (List ℕ × ℕ)) (name : List ℕ) → found name table ≡ None → Contains (map (λ (e : List ℕ × ℕ). e.0) table) name → ⊥
+    in_no_table [] name none c = contains_none name c
+    in_no_table (e ∷ table) name none c = by (bytes_eq name e.0) refl none (contains_cons e.0 (map (λ (e : List ℕ × ℕ). e.0) table) name c)
+      where
+        by : (b : Bool) → bytes_eq name e.0 ≡ b → (if b then Some e.1 else found name table) ≡ None → (e.0 ≡ name) ⊎ Contains (map (λ (e : List ℕ × ℕ). e.0) table) name → ⊥
+        by true same none k = none-some e.1 (sym none)
+        by false other none (inl same) = true≢false (sym ((bytes_eq-Decides name e.0).1 (sym same)) ∙ other)
+        by false other none (inr later) = in_no_table table name none later
+not_yet_made w old mid table last rest a h fault k = absurd k
+
 pub adapters_step : (w : ComponentWorld) (old mid new : Built) (table : List (List ℕ × ℕ)) (last : ℕ) (rest : Adapters) (a : List ℕ × WorldAdapter) (index : ℕ) → AdaptersSoFar w old mid table last (a ∷ rest) → Extends mid new →
-    Grows w mid.defs new.defs (InstanceOf (last + 1) ∷ []) → IsInstanceOf new.defs index (last + 1) → IsSuppliedUser w (Adapter a.0) a.1.info → AdaptersSoFar w old new (table ++ (a.0, index) ∷ []) (last + 1) rest
-adapters_step w old mid new table last rest a index h extends grows made supplied =
+    Grows w mid.defs new.defs (InstanceOf (last + 1) ∷ []) → IsInstanceOf new.defs index (last + 1) → IsSuppliedUser w (Adapter a.0) a.1.info → absent_adapter table a.1 ≡ None → AdaptersSoFar w old new (table ++ (a.0, index) ∷ []) (last + 1) rest
+adapters_step w old mid new table last rest a index h extends grows made supplied named =
     let many : length (h.done ++ a ∷ []) ≡ length h.done + 1 = length-append h.done (a ∷ []) in
     let number : 1 + length h.done ≡ last + 1 = let c = h.count in omega (arith, c) in
     let places : length table ≡ length h.done = sym (length_map table) ∙ (ap (λ (l : List (List ℕ)). length l) h.made.names ∙ length_names h.done) in
@@ -113,6 +236,7 @@ adapters_step w old mid new table last rest a index h extends grows made supplie
             (subst (λ n. IsInstanceOf new.defs index n) (let c = h.count in omega (arith, c, places)) made);
       };
       supplied = all_both (λ (x : List ℕ × WorldAdapter). IsSuppliedUser w (Adapter x.0) x.1.info) h.done (a ∷ []) h.supplied (supplied, tt);
+      in_order = made_push [] h.done a h.in_order (made_before table h.done h.made.names (modules_named a.1) (all_present table a.1 named));
     }
   where
     length_map : (es : List (List ℕ × ℕ)) → length (map (λ (e : List ℕ × ℕ). e.0) es) ≡ length es
@@ -131,6 +255,7 @@ adapters_all w old new table last rest apart h e =
       made = subst (AreAdapterInstances w new.defs table) all h.made;
       apart = apart;
       supplied = subst (AreSuppliedAdapters w) all h.supplied;
+      in_order = record { each = subst (AreMadeAfter []) all h.in_order };
     }
 
 -- ---- the next adapter
@@ -141,13 +266,6 @@ pub record IsNextAdapter (w : ComponentWorld) (table : List (List ℕ × ℕ)) (
   pub named : module_found w (Adapter a.0) ≡ Some a.1.info
   pub absent : lookup (bytes_eq a.0) table ≡ None
   pub below : last + 1 < length (user_modules w)
-
-there_at : {X : Type 0} (done : List X) (x : X) (rest all : List X) → done ++ x ∷ rest ≡ all → slice_get all (length done) ≡ Some x
-there_at {X = X} done x rest all e = ap (λ l. slice_get l (length done)) (sym e) ∙ first done
-  where
-    first : (xs : List X) → slice_get (xs ++ x ∷ rest) (length xs) ≡ Some x
-    first [] = refl
-    first (y ∷ ys) = first ys
 
 there_in : {X : Type 0} (done : List X) (x : X) (rest all : List X) → done ++ x ∷ rest ≡ all → Contains all x
 there_in {X = X} done x rest all e = subst (λ l. Contains l x) e (in_middle done)
@@ -343,8 +461,9 @@ behind_main ds own main is made = by (user_of own.user.which)
 
 -- what is there for the imports of one module is there for those of another
 pub own_sources : {w : ComponentWorld} {s : ImportSources} {met : MetTypes} {old new : Built} {maps : TypeEncodingMaps} {instances : List (InterfaceId × ℕ)} → Extends old new → AreSources w s met old.defs maps instances →
-    (own : ImportSources) → IsUser w own.user → own.functions.now ≡ s.functions.now → own.shims.now ≡ s.shims.now → own.shim_instance ≡ s.shim_instance → IsMainInstance new.defs (user_of own.user.which) own.main → AreSources w own met new.defs maps instances
-own_sources {w} {s} {met} {old} {new} {maps} {instances} g h own user functions shims instance main =
+    (own : ImportSources) → IsUser w own.user → own.functions.now ≡ s.functions.now → own.shims.now ≡ s.shims.now → own.shim_instance ≡ s.shim_instance → IsMainInstance new.defs (user_of own.user.which) own.main →
+    AllByRecursion (IsMade w new.defs own.main own.adapters.now) (modules_of_imports own.user.found.now) → AreSources w own met new.defs maps instances
+own_sources {w} {s} {met} {old} {new} {maps} {instances} g h own user functions shims instance main made =
     let k : AreSources w s met new.defs maps instances = sources-kept g h in
     record {
       valid = k.valid;
@@ -354,6 +473,7 @@ own_sources {w} {s} {met} {old} {new} {maps} {instances} g h own user functions 
       shims = shims ∙ k.shims;
       shim_instance = subst (IsShimInstance w new.defs) (sym instance) k.shim_instance;
       main = main;
+      made = made;
       tables = k.tables;
       passed = k.passed;
       exports = k.exports;

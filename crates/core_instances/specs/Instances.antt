@@ -17,6 +17,7 @@ use Rattle.wit_data.specs.declared.worlds.WorldKey.{WorldKey}
 use Rattle.comp_trees.specs.DefinedScopes.{Denotes}
 use Rattle.comp_inventories.specs.Inventories.{inventory, scope_of}
 use Rattle.comp_worlds.specs.Encodable.{IsEncodable}
+use Rattle.comp_worlds.specs.Made.{AreMadeInOrder}
 use Rattle.comp_worlds.specs.WorldContents.{exported_item, keys_required}
 use Rattle.comp_links.specs.Lists.{type_of_world}
 use Rattle.interface_needs.specs.RootNeeds.{interface_of_item}
@@ -92,12 +93,13 @@ pub record AreAdapterInstances (w : ComponentWorld) (ds : List Def) (table : Lis
   pub names : map (λ e. e.0) table ≡ map (λ a. a.0) adapters
   pub each : (place : ℕ) (e : List ℕ × ℕ) → slice_get table place ≡ Some e → IsInstanceOf ds e.1 (suc place)
 
--- all adapters have an instance, in order, and what their imports need
+-- all adapters have an instance, in order, behind those that they name, and what their imports need
 pub record AllAdapters (w : ComponentWorld) (old new : List Def) (table : List (List ℕ × ℕ)) : Type 0 where
   pub grows : Grows w old new (map InstanceOf (range_with_len 1 (length w.adapters)))
   pub made : AreAdapterInstances w new table w.adapters
   pub apart : IsDistinct bytes_eq (keys_of w.adapters)
   pub supplied : AreSuppliedAdapters w w.adapters
+  pub in_order : AreMadeInOrder w
 
 -- ---- types of exported interfaces
 

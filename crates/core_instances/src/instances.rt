@@ -8,6 +8,7 @@ ghost use Rattle.root_imports.specs.Keeping.{RootMoved};
 ghost use Rattle.comp_links.specs.Roles.{IsSuppliedImport};
 ghost use Rattle.comp_links.specs.Modules.{UserImport, user_imports};
 ghost use Rattle.comp_worlds.specs.ExportOrder.{AreExportsInOrder};
+ghost use Rattle.comp_worlds.specs.Made.{AreMadeInOrder};
 ghost use Rattle.root_imports.specs.Met.{AreExportsMet};
 ghost use Rattle.core_instances.specs.Instances.{AreImportsMade, AreUserModules, AddsInstances};
 ghost use Rattle.core_options.specs.Causes.{IsCause};
@@ -49,7 +50,8 @@ fn fill_sources<'a>(
 ///
 /// `E9` where an import of a function has no string encoding, `E7` where a function is lowered with a memory, or an import is main's
 /// memory, and main exports none,
-/// `E8` where it is lowered with a realloc and there is none for the module, and `E11` where an exported interface uses types of another
+/// `E8` where it is lowered with a realloc and there is none for the module, `E10` where an adapter names one that is not instantiated
+/// before it, and `E11` where an exported interface uses types of another
 /// one that isn't exported before it.
 pub fn encode_core_instantiation(
     root: &mut RootScope<'_, ComponentWorld>,
@@ -65,6 +67,7 @@ pub fn encode_core_instantiation(
     ensures made { IfOk result (AreUserInstances root.old.world.now root.new.items.defs) }
     ensures supplied { OnOk result (AllByRecursion (λ (i : UserImport). IsSuppliedImport root.old.world.now i.of i.core.role) (user_imports root.old.world.now)) }
     ensures lowered { OnOk result (AllByRecursion (HasLowerOptions root.old.world.now) (user_imports root.old.world.now)) }
+    ensures in_order { OnOk result (AreMadeInOrder root.old.world.now) }
     ensures cause { IfErr result (IsCause root.old.world.now) }
 {
     let shims = plan_shims(root.items.allocator(), root.world)?;
@@ -75,7 +78,15 @@ pub fn encode_core_instantiation(
     };
     define_exported_types(root, shims_made)?;
     let world = root.world;
-    let sources = sources_of(main_user(world), functions, &shims, shim_instance, None);
+    let none = Keyed::new(root.items.allocator());
+    let sources = sources_of(
+        main_user(world),
+        functions,
+        &shims,
+        shim_instance,
+        None,
+        &none,
+    );
     let instances = instantiate_users(root, &sources)?;
     let sources = fill_sources(functions, memory_name(world), &instances);
     encode_indirect_lowerings(root, &sources, &shims, shim_instance, debug_names)?;

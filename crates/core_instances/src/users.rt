@@ -12,6 +12,7 @@ ghost use Rattle.comp_links.specs.Targets.{Main};
 ghost use Rattle.comp_terms.specs.Rules.{Grows, InstanceOf, users_marked};
 ghost use Rattle.comp_terms.specs.Terms.{IsInstanceOf};
 ghost use Rattle.comp_worlds.specs.Lookups.{module_name};
+ghost use Rattle.comp_worlds.specs.Made.{AreMadeInOrder};
 ghost use Rattle.core_instances.specs.Instances.{HasUserModules, IsMainUser, IsSameUser, IsSuppliedUser, AllAdapters};
 ghost use Rattle.core_options.specs.Causes.{IsCause};
 ghost use Rattle.core_options.specs.MainOptions.{user_of, AreUserInstances};
@@ -19,7 +20,9 @@ ghost use Rattle.main_instance.specs.Sources.{AreSources};
 
 use comp_lists::{Keyed, Text};
 use comp_worlds::{ComponentWorld, CustomModule, WorldAdapter};
-use core_options::{StateFault, UserInstances, UserModule, memory_name, memory_of_main};
+use core_options::{
+    StateFault, UserInstances, UserModule, check_made, memory_name, memory_of_main,
+};
 use main_instance::ImportSources;
 use root_imports::RootScope;
 use shim_plan::Shims;
@@ -35,19 +38,22 @@ pub(crate) fn main_user(world: &ComponentWorld) -> UserModule<'_>
     }
 }
 
-/// What the imports of a user module are given: root functions that were imported, shims with their instance, and main's instance.
+/// What the imports of a user module are given: root functions that were imported, shims with their instance, and the instances of main
+/// and of the adapters that were made before.
 pub(crate) fn sources_of<'a>(
     user: UserModule<'a>,
     functions: &'a Keyed<Text, u32>,
     shims: &'a Shims,
     shim_instance: Option<u32>,
     main: Option<u32>,
+    adapters: &'a Keyed<Text, u32>,
 ) -> ImportSources<'a>
     ensures user { IsSameUser user.entry result.user }
     ensures functions { result.functions.now ≡ functions.now }
     ensures shims { result.shims.now ≡ shims.now }
     ensures instance { result.shim_instance ≡ shim_instance }
     ensures main { result.main ≡ main }
+    ensures adapters { result.adapters.now ≡ adapters.now }
 {
     ImportSources {
         user,
@@ -55,6 +61,7 @@ pub(crate) fn sources_of<'a>(
         shims,
         shim_instance,
         main,
+        adapters,
     }
 }
 
@@ -118,6 +125,8 @@ fn instantiate_main(
 }
 
 /// Makes the instances of the adapters, in order. `main` is main's instance.
+///
+/// `E10` where one names another that comes later, or itself.
 fn instantiate_adapters(
     root: &mut RootScope<'_, ComponentWorld>,
     sources: &ImportSources<'_>,
@@ -136,6 +145,7 @@ fn instantiate_adapters(
     let mut table = Keyed::new(alloc);
     let mut last: u32 = 0;
     for (name, adapter) in world.adapters.iter() {
+        check_made(alloc, &table, name, adapter)?;
         let key = name.clone(alloc)?;
         let user = next_user(last, name, adapter);
         let own = sources_of(
@@ -144,6 +154,7 @@ fn instantiate_adapters(
             sources.shims,
             sources.shim_instance,
             Some(main),
+            &table,
         );
         let index = instantiate_user(root, &own, name.as_str())?;
         table.insert(key, index)?;
@@ -155,7 +166,8 @@ fn instantiate_adapters(
 /// Makes the instances of the user modules: main's, with an alias of the memory that it exports, if it exports one, and then those of
 /// the adapters in order.
 ///
-/// `E7` where an import is main's memory and main exports none, `E9` where an import of a function has no string encoding.
+/// `E7` where an import is main's memory and main exports none, `E9` where an import of a function has no string encoding, `E10` where an
+/// adapter names one that is not instantiated before it.
 pub(crate) fn instantiate_users(
     root: &mut RootScope<'_, ComponentWorld>,
     sources: &ImportSources<'_>,
@@ -168,6 +180,7 @@ pub(crate) fn instantiate_users(
     ensures grows { OnOk result (Grows root.old.world.now root.old.items.defs root.new.items.defs (users_marked root.old.world.now)) }
     ensures made { IfOk result (AreUserInstances root.old.world.now root.new.items.defs) }
     ensures supplied { OnOk result (AllByRecursion (λ (i : UserImport). IsSuppliedImport root.old.world.now i.of i.core.role) (user_imports root.old.world.now)) }
+    ensures in_order { OnOk result (AreMadeInOrder root.old.world.now) }
     ensures cause { IfErr result (IsCause root.old.world.now) }
 {
     let main = instantiate_main(root, sources)?;

@@ -28,6 +28,7 @@ pub among_more : (w : ComponentWorld) (some all : List UserImport) (few more : L
 unfolding lowering_more lift_more
 among_more w some all few more imports exports faults.Memory h = tt
 among_more w some all few more imports exports (faults.TooMany excess) h = h
+among_more w some all few more imports exports (faults.NotYetMade adapter name) h = h
 among_more w some all few more imports exports (faults.LaterExport interface used) h = h
 among_more w some all few more imports exports (faults.NoMemory place) l = record { needed = either_more w 1 some all few more imports exports place l.needed; none = l.none }
 among_more w some all few more imports exports (faults.NoRealloc place) (inl l) = inl (record { needed = lowering_more w 2 some all imports place l.needed; none = l.none })
@@ -58,6 +59,7 @@ one_import_refused w i own set place needed named none (faults.NoMemory of) h = 
 one_import_refused w i own set place needed named none (faults.NoRealloc of) h =
     inl (record { needed = record { given = i; present = (0, omega arith, refl); needed = subst (λ n. IsTrue (needs n 2)) needed h.0; at = h.2 ∙ named }; none = none h.1 })
 one_import_refused w i own set place needed named none (faults.NoEncoding of) h = absurd h
+one_import_refused w i own set place needed named none (faults.NotYetMade adapter name) h = absurd h
 one_import_refused w i own set place needed named none (faults.LaterExport interface used) h = absurd h
 
 pub one_export_refused : (w : ComponentWorld) (r : RequiredFunction) (set : ℕ) (place : List ℕ) → set ≡ lift_needs w r.key r.function → place ≡ r.function → (e : StateFault) → IsOptionRefusal w set (lift_realloc w r.of) place e →
@@ -71,6 +73,7 @@ one_export_refused w r set place needed named (faults.NoMemory of) h = record {
 one_export_refused w r set place needed named (faults.NoRealloc of) h =
     inr (record { needed = record { required = r; present = (0, omega arith, refl); needed = subst (λ n. IsTrue (needs n 2)) needed h.0; at = h.2 ∙ named }; none = h.1 })
 one_export_refused w r set place needed named (faults.NoEncoding of) h = absurd h
+one_export_refused w r set place needed named (faults.NotYetMade adapter name) h = absurd h
 one_export_refused w r set place needed named (faults.LaterExport interface used) h = absurd h
 
 -- an import of main's memory that is refused
@@ -80,4 +83,5 @@ memory_import_refused w i path is named (faults.TooMany excess) h = h
 memory_import_refused w i path is named (faults.NoMemory place) h = record { needed = inr (inr (record { given = i; present = (0, omega arith, refl); is = is; at = h.1 ∙ named })); none = h.0 }
 memory_import_refused w i path is named (faults.NoRealloc place) h = absurd h
 memory_import_refused w i path is named (faults.NoEncoding place) h = absurd h
+memory_import_refused w i path is named (faults.NotYetMade adapter name) h = absurd h
 memory_import_refused w i path is named (faults.LaterExport interface used) h = absurd h

@@ -1,16 +1,19 @@
 -- When the encoding of a world is refused: out of memory, where a function has no string encoding, no memory or no realloc, or an import
--- of main's memory finds none
--- (Canonical ABI: `string-encoding`, `memory`, `realloc`), where an interface is exported before one that it uses, and where a count passes 32 bits (core standard, binary format: vectors).
+-- of main's memory finds none (Canonical ABI: `string-encoding`, `memory`, `realloc`), where an adapter is instantiated before one that it
+-- names, where an interface is exported before one that it uses, and where a count passes 32 bits (core standard, binary format: vectors).
 use Rattle.std.specs.Prelude.{◌≡◌, ◌≤◌, ◌^◌, ◌⊎◌, ◌++◌, ℕ, true, codes, List, Option, Some, None, Contains, IsSome, IsTrue}
 use Rattle.std.specs.List.{AllByRecursion}
 use Rattle.comp_roles.specs.CoreImports.{CoreImport}
+use Rattle.comp_worlds.specs.Absent.{absent_adapter}
 use Rattle.comp_worlds.specs.ExportOrder.{AreExportsInOrder, IsLaterExport}
+use Rattle.comp_worlds.specs.Made.{AreMadeInOrder, IsNotYetMade}
 use Rattle.comp_worlds.specs.WorldContents.{exported_item}
 use Rattle.wit_data.specs.Names.{key_text}
 use Rattle.wit_data.specs.declared.ids.InterfaceId.{InterfaceId}
 use Rattle.wit_data.specs.declared.worlds.WorldItem.TheVariants as items
 use Rattle.wit_data.specs.declared.worlds.WorldKey.{WorldKey}
 use Rattle.comp_worlds.specs.declared.world.ComponentWorld.{ComponentWorld}
+use Rattle.comp_worlds.specs.declared.world.WorldAdapter.{WorldAdapter}
 use Rattle.byte_encoding.specs.declared.fault.BuildFault.{BuildFault}
 use Rattle.byte_encoding.specs.declared.fault.BuildFault.TheVariants as build
 use Rattle.core_options.specs.declared.fault.StateFault.{StateFault}
@@ -113,6 +116,7 @@ IsCauseAmong w imports functions faults.Memory = Unit {0}
 IsCauseAmong w imports functions (faults.NoEncoding place) = LacksImportEncoding w imports place ⊎ LacksExportEncoding w functions place
 IsCauseAmong w imports functions (faults.NoMemory place) = LacksMemory w imports functions place
 IsCauseAmong w imports functions (faults.NoRealloc place) = LacksRealloc w imports functions place
+IsCauseAmong w imports functions (faults.NotYetMade adapter name) = IsNotYetMade w adapter name
 IsCauseAmong w imports functions (faults.LaterExport interface used) = ExportsLater w interface used
 IsCauseAmong w imports functions (faults.TooMany excess) = 2 ^ 32 ≤ excess
 
@@ -130,6 +134,7 @@ IsOptionRefusal w set realloc name (faults.TooMany excess) = 2 ^ 32 ≤ excess
 IsOptionRefusal w set realloc name (faults.NoMemory place) = IsTrue (needs set 1) × (memory_name w ≡ None) × (place ≡ name)
 IsOptionRefusal w set realloc name (faults.NoRealloc place) = IsTrue (needs set 2) × (realloc ≡ None) × (place ≡ name)
 IsOptionRefusal w set realloc name (faults.NoEncoding place) = ⊥
+IsOptionRefusal w set realloc name (faults.NotYetMade adapter other) = ⊥
 IsOptionRefusal w set realloc name (faults.LaterExport interface used) = ⊥
 
 -- the cause of a fault where main's memory is looked up for the import of this path
@@ -138,6 +143,12 @@ IsMemoryRefusal w path faults.Memory = Unit {0}
 IsMemoryRefusal w path (faults.TooMany excess) = 2 ^ 32 ≤ excess
 IsMemoryRefusal w path (faults.NoMemory place) = (memory_name w ≡ None) × (place ≡ path)
 IsMemoryRefusal w path fault = ⊥
+
+-- the cause of a fault where the adapter of a name is to be instantiated after those of a table: it names one that is none of them
+abbrev pub IsMadeRefusal : {V : Type 0} → List (List ℕ × V) → List ℕ → WorldAdapter → StateFault → Type 0
+IsMadeRefusal made name adapter faults.Memory = Unit {0}
+IsMadeRefusal made name adapter (faults.NotYetMade of other) = (of ≡ name) × (absent_adapter made adapter ≡ Some other)
+IsMadeRefusal made name adapter fault = ⊥
 
 -- a core import of the world, or a required function, has no string encoding
 abbrev pub LacksEncoding : ComponentWorld → List ℕ → Type 0
@@ -152,10 +163,12 @@ abbrev pub IsEncodedExport : ComponentWorld → RequiredFunction → Type 0
 IsEncodedExport w r = IsSome (export_encoding w r.of r.key r.function)
 
 -- each core import has the string encoding or the memory that it needs, each required function has a string encoding, there is what
--- lowerings and lifts need, and interfaces are exported behind those that they use
+-- lowerings and lifts need, adapters are instantiated behind those that they name, and interfaces are exported behind those that they
+-- use
 pub record IsEncoded (w : ComponentWorld) : Type 0 where
   pub imports : AllByRecursion (λ i. IsSuppliedImport w i.of i.core.role) (user_imports w)
   pub exports : AllByRecursion (IsEncodedExport w) (required_functions w)
   pub lowered : AllByRecursion (HasLowerOptions w) (user_imports w)
   pub lifted : AllByRecursion (HasLiftOptions w) (required_functions w)
+  pub made : AreMadeInOrder w
   pub ordered : AreExportsInOrder w

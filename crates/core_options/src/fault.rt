@@ -26,6 +26,10 @@ pub enum StateFault {
     /// name of a function that is lifted.
     #[error("E9 NoEncoding place={place}")]
     NoEncoding { place: Text },
+    /// An adapter names another one that is not instantiated before it: in its arguments, or as a module whose instance, or an item of
+    /// that, its imports are given. `module` is the first of them, and `name` the other (component model: instance definitions).
+    #[error("E10 NotYetMade module={module} name={name}")]
+    NotYetMade { module: Text, name: Text },
     /// A required interface uses types of another exported one, which main doesn't export before it. Both are named by the keys at
     /// which they are exported, with their whole version.
     #[error("E11 LaterExport interface={interface} used={used}")]

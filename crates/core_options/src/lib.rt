@@ -6,14 +6,16 @@
 //! `specs/MainOptions.antt`.
 //!
 //! In reading order: `fault` (why a step is refused), `modules` (user modules, and aliases of what their instances export),
-//! `options` (the options of a function).
+//! `made` (which adapters have to be instantiated before another one), `options` (the options of a function).
 #![tactic(auto)]
 
 mod fault;
+mod made;
 mod modules;
 mod options;
 
 pub use fault::StateFault;
+pub use made::check_made;
 pub use modules::{
     InstanceExport, UserInstances, UserModule, alias_if, alias_of, export_realloc_of,
     import_realloc_of,

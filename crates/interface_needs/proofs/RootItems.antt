@@ -86,7 +86,7 @@ import_used w e t c d =
 -- the role of a core import is one that a module may have
 fields_right : (w : ComponentWorld) (g : List ℕ × ImportInstance) → IsImportGroup w g → AllByRecursion (λ (f : List ℕ × Import). IsImportRole w f.1) (fields_of g.1)
 fields_right w (name, instances.Names fields) h = h.1
-fields_right w (name, instances.Whole which) h = absurd h
+fields_right w (name, instances.Whole which) h = tt
 
 -- ---- functions that are exported
 

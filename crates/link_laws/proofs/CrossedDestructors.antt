@@ -353,10 +353,10 @@ unfolding values_from digits
 shim_aliased_1 = record { place = 1; is = shims_are 4 refl; listed = omega arith; named = refl; function = refl }
 
 d_aliased : AliasesUser world (ds 9) kinds.Func 1 d
-d_aliased = record { number = 0; of = main_module world; type = externs.Func dtor_core; is = main_is 9 refl; listed = refl; offered = refl; of_kind = tt }
+d_aliased = record { number = 0; of = main_module world; type = externs.Func dtor_core; is = main_is 9 refl; listed = refl; offered = refl; of_kind = refl }
 
 e_aliased : AliasesUser world (ds 10) kinds.Func 1 e
-e_aliased = record { number = 0; of = main_module world; type = externs.Func dtor_core; is = main_is 10 refl; listed = refl; offered = refl; of_kind = tt }
+e_aliased = record { number = 0; of = main_module world; type = externs.Func dtor_core; is = main_is 10 refl; listed = refl; offered = refl; of_kind = refl }
 
 abbrev export_as : List ℕ → CoreExport
 export_as text = record { of = 0; kind = kinds.Func; name = text }

@@ -58,9 +58,9 @@ use Rattle.comp_runs.specs.Running.{core_argument}
 use Rattle.link_laws.proofs.Zips.{all_some-zip, found-zip, mapped_some}
 use Rattle.comp_worlds.proofs.Roles.{bound_some}
 use Rattle.link_laws.proofs.Plain.{HasRole, IsGivenImport, lowered_type, function_type_in}
-use Rattle.comp_links.proofs.Named.{one_module, listed_there}
+use Rattle.comp_links.proofs.Named.{one_module, named_found, listed_there}
 use Rattle.link_laws.proofs.Given.{thing_there, item_there, shim_there, shim_typed, user_there, found_name, by_parts, IsOfType, exports_named, IsFunctionTyped}
-use Rattle.link_laws.proofs.Offering.{named_found, named_matches, offered_matches, HasType, export_typed, main_memory_typed, AreTypesOf, finds_given}
+use Rattle.link_laws.proofs.Offering.{named_matches, offered_matches, HasType, export_typed, main_memory_typed, AreTypesOf, finds_given}
 use Rattle.link_laws.proofs.Stores.{IsOpaqueOf, IsItemTyped, IsUserItem, IsUserExport, IsInstance, IsUserInstance, IsNamedEntry, IsInlineInstance, ShimsAt, IsFunctionOf, IsItemExported, IsServedAs, IsServedIn, resource_core, IsShimGiven, Serves, IsPlanned, HasGlobals, Agrees}
 
 -- ---- the core types of what is given

@@ -26,8 +26,6 @@ use Rattle.comp_roles.specs.declared.offered.ExternType.{ExternType}
 use Rattle.comp_roles.specs.declared.offered.ExternType.TheVariants as externs
 use Rattle.comp_worlds.proofs.Matched.{both, matched_function, matched_value, function_itself}
 use Rattle.comp_roles.specs.declared.libraries.MainOrAdapter.{MainOrAdapter}
-use Rattle.comp_roles.specs.declared.libraries.MainOrAdapter.TheVariants as users
-use Rattle.comp_worlds.specs.Lookups.{found_module}
 use Rattle.comp_worlds.specs.Offered.{NamedMatches}
 use Rattle.comp_worlds.specs.Typed.{FitsRole, FitsExport}
 use Rattle.comp_worlds.specs.WorldContents.{items_of}
@@ -35,7 +33,7 @@ use Rattle.comp_worlds.specs.Worlds.{IsWorld, IsImportRole}
 use Rattle.comp_worlds.specs.declared.world.ComponentWorld.{ComponentWorld}
 use Rattle.comp_worlds.specs.declared.world.ValidatedModule.{ValidatedModule}
 use Rattle.comp_worlds.specs.declared.world.WorldAdapter.{WorldAdapter}
-use Rattle.comp_links.proofs.Named.{listed_found, listed_there}
+use Rattle.comp_links.proofs.Named.{listed_found, named_found, listed_there}
 use Rattle.comp_links.specs.Links.{link_of, module_of}
 use Rattle.comp_links.specs.Modules.{WorldModule, user_modules, module_found}
 use Rattle.comp_links.specs.Targets.{UserModule, Main, Adapter, ExportRef, Target, ExportOf, MainMemory}
@@ -61,18 +59,10 @@ module _ (w : ComponentWorld) (ok : IsWorld w) where
   adapter_found m listed name same a there =
       same_Some m.found a.info (sym (listed_found w ok m listed) ∙ (ap (module_found w) same ∙ ap (option_map (λ (a : WorldAdapter). a.info)) there))
 
-  -- the module that a library names
-  found_same : (which : MainOrAdapter) → module_found w (module_of which) ≡ found_module w which
-  found_same users.Main = refl
-  found_same (users.Adapter name) = refl
-
-  pub named_found : (m : WorldModule) → Contains (user_modules w) m → (which : MainOrAdapter) → m.of ≡ module_of which → (of : ValidatedModule) → found_module w which ≡ Some of → m.found ≡ of
-  named_found m listed which same of there = same_Some m.found of (sym (listed_found w ok m listed) ∙ (ap (module_found w) same ∙ (found_same which ∙ there)))
-
-  -- what it offers matches what is to be given it
+  -- what the module that a library names offers matches what is to be given it
   pub named_matches : (which : MainOrAdapter) (name : List ℕ) (type : ExternType) → NamedMatches w which name type → (m : WorldModule) → Contains (user_modules w) m → m.of ≡ module_of which → (t : ExternType) → found name m.found.offered ≡ Some t → matches type t ≡ true
   named_matches which name type h m listed same t offered =
-      let at : m.found ≡ h.of = named_found m listed which same h.of h.named in
+      let at : m.found ≡ h.of = named_found w ok m listed which same h.of h.named in
       let there : found name h.of.offered ≡ Some t = ap (λ (o : ValidatedModule). found name o.offered) (sym at) ∙ offered in
       ap (matches type) (same_Some t h.matches.type (sym there ∙ h.matches.offered)) ∙ h.matches.matching
 

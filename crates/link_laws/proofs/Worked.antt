@@ -434,7 +434,7 @@ keeps_the_rules = record {
             (
               inl (record { of = main_module one_each; listed = refl; scoped = omega arith; each = (f_offered, tt) }),
               (
-                inl (record { number = 0; of = main_module one_each; type = externs.Func plain_core; is = main_made 6 refl; listed = refl; offered = refl; of_kind = tt }),
+                inl (record { number = 0; of = main_module one_each; type = externs.Func plain_core; is = main_made 6 refl; listed = refl; offered = refl; of_kind = refl }),
                 (
                   (omega arith, tt, record { type = plain_tree; is = function_typed_later }),
                   (record { required = record { of = Main; key = keys.Name g }; function = wit_g; next = refl; item = refl; lifted = record { target = LiftedFrom (record { of = Main; name = g }) []; wit = wit_g; said = refl; exported = refl; is = g_lifted } }, tt),

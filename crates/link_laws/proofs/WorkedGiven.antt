@@ -216,7 +216,7 @@ keeps_the_rules = record {
   front = definitions;
   names = [];
   whole = refl;
-  right = (tt, (tt, (inl (record { of = main_module world; listed = refl; scoped = omega arith; each = tt }), (inl (record { number = 0; of = main_module world; type = externs.Memory one_page; is = main_made 3 refl; listed = refl; offered = refl; of_kind = tt }), (inl (record { number = 0; of = main_module world; type = externs.Func plain_core; is = main_made 4 refl; listed = refl; offered = refl; of_kind = tt }), (record { each = (record { scoped = omega arith }, (record { scoped = omega arith }, tt)); apart = two_apart }, (inl (record { of = adapter_user; listed = refl; scoped = omega arith; each = (both_given, tt) }), tt)))))));
+  right = (tt, (tt, (inl (record { of = main_module world; listed = refl; scoped = omega arith; each = tt }), (inl (record { number = 0; of = main_module world; type = externs.Memory one_page; is = main_made 3 refl; listed = refl; offered = refl; of_kind = refl }), (inl (record { number = 0; of = main_module world; type = externs.Func plain_core; is = main_made 4 refl; listed = refl; offered = refl; of_kind = refl }), (record { each = (record { scoped = omega arith }, (record { scoped = omega arith }, tt)); apart = two_apart }, (inl (record { of = adapter_user; listed = refl; scoped = omega arith; each = (both_given, tt) }), tt)))))));
   marked = refl;
   named = tt;
 }

@@ -271,15 +271,15 @@ keeps_the_rules = record {
     (
       inl (record { of = main_module world; listed = refl; scoped = omega arith; each = tt }),
       (
-        inl (record { number = 0; of = main_module world; type = externs.Memory memory_type; is = main_made 2 refl; listed = refl; offered = refl; of_kind = tt }),
+        inl (record { number = 0; of = main_module world; type = externs.Memory memory_type; is = main_made 2 refl; listed = refl; offered = refl; of_kind = refl }),
         (
           type_known,
           (
-            inl (record { number = 0; of = main_module world; type = externs.Func g_core; is = main_made 4 refl; listed = refl; offered = refl; of_kind = tt }),
+            inl (record { number = 0; of = main_module world; type = externs.Func g_core; is = main_made 4 refl; listed = refl; offered = refl; of_kind = refl }),
             (
-              inl (record { number = 0; of = main_module world; type = externs.Func r_core; is = main_made 5 refl; listed = refl; offered = refl; of_kind = tt }),
+              inl (record { number = 0; of = main_module world; type = externs.Func r_core; is = main_made 5 refl; listed = refl; offered = refl; of_kind = refl }),
               (
-                inl (record { number = 0; of = main_module world; type = externs.Func p_core; is = main_made 6 refl; listed = refl; offered = refl; of_kind = tt }),
+                inl (record { number = 0; of = main_module world; type = externs.Func p_core; is = main_made 6 refl; listed = refl; offered = refl; of_kind = refl }),
                 (
                   (omega arith, (omega arith, (omega arith, (tt, (omega arith, tt)))), record { type = g_tree; is = typed_before }),
                   (g_required, tt),

@@ -351,9 +351,9 @@ keeps_the_rules = record {
     (
       inl (record { of = main_module world; listed = refl; scoped = omega arith; each = tt }),
       (
-        inl (record { number = 0; of = main_module world; type = externs.Func plain_core; is = main_made 2 refl; listed = refl; offered = refl; of_kind = tt }),
+        inl (record { number = 0; of = main_module world; type = externs.Func plain_core; is = main_made 2 refl; listed = refl; offered = refl; of_kind = refl }),
         (
-          inl (record { number = 0; of = main_module world; type = externs.Func plain_core; is = main_made 3 refl; listed = refl; offered = refl; of_kind = tt }),
+          inl (record { number = 0; of = main_module world; type = externs.Func plain_core; is = main_made 3 refl; listed = refl; offered = refl; of_kind = refl }),
           (
             type_known,
             (

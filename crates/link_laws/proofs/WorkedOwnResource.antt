@@ -343,7 +343,7 @@ unfolding values_from digits
 shim_aliased = record { place = 0; is = shims_are 3 refl; listed = omega arith; named = refl; function = refl }
 
 d_aliased : AliasesUser world (ds 7) kinds.Func 1 d
-d_aliased = record { number = 0; of = main_module world; type = externs.Func dtor_core; is = main_is 7 refl; listed = refl; offered = refl; of_kind = tt }
+d_aliased = record { number = 0; of = main_module world; type = externs.Func dtor_core; is = main_is 7 refl; listed = refl; offered = refl; of_kind = refl }
 
 abbrev d_export : CoreExport
 d_export = record { of = 0; kind = kinds.Func; name = d }

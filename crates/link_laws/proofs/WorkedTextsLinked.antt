@@ -166,7 +166,7 @@ keeps_the_rules = record {
                 (
                   inl (record { of = main_module world; listed = refl; scoped = omega arith; each = (f_given, tt) }),
                   (
-                    inl (record { number = 0; of = main_module world; type = externs.Memory memory_type; is = main_made 8 refl; listed = refl; offered = refl; of_kind = tt }),
+                    inl (record { number = 0; of = main_module world; type = externs.Memory memory_type; is = main_made 8 refl; listed = refl; offered = refl; of_kind = refl }),
                     (
                       tt,
                       (

@@ -146,7 +146,7 @@ keeps_the_rules = record {
   front = typed_list 4;
   names = [];
   whole = refl;
-  right = (refl, (p_imported, (f_known, (record { type = f_tree; is = f_typed }, (tt, ((record { origin = root_import 1; type = f_tree; is = f_imported }, tt), (record { each = (record { scoped = omega arith }, tt); apart = one_apart f }, (inl (record { of = main_module world; listed = refl; scoped = omega arith; each = (f_offered, tt) }), (inl (record { number = 0; of = main_module world; type = externs.Func g_core; is = main_made 8 refl; listed = refl; offered = refl; of_kind = tt }), (refl, (g_known, ((omega arith, tt, record { type = g_tree; is = g_typed }), (g_required, tt)))))))))))));
+  right = (refl, (p_imported, (f_known, (record { type = f_tree; is = f_typed }, (tt, ((record { origin = root_import 1; type = f_tree; is = f_imported }, tt), (record { each = (record { scoped = omega arith }, tt); apart = one_apart f }, (inl (record { of = main_module world; listed = refl; scoped = omega arith; each = (f_offered, tt) }), (inl (record { number = 0; of = main_module world; type = externs.Func g_core; is = main_made 8 refl; listed = refl; offered = refl; of_kind = refl }), (refl, (g_known, ((omega arith, tt, record { type = g_tree; is = g_typed }), (g_required, tt)))))))))))));
   marked = refl;
   named = tt;
 }

@@ -317,7 +317,7 @@ keeps_the_rules = record {
   front = definitions;
   names = [];
   whole = refl;
-  right = (known, (record { type = plain_tree; is = typed_1 }, (tt, (tt, (inl (record { of = main_module world; listed = refl; scoped = omega arith; each = tt }), ((record { origin = root_import 0; type = plain_tree; is = f_imported }, tt), (record { each = (record { scoped = omega arith }, tt); apart = one_apart f }, (inl (record { of = adapter_user; listed = refl; scoped = omega arith; each = (f_offered, tt) }), (inl (record { number = 0; of = main_module world; type = externs.Func plain_core; is = main_made 8 refl; listed = refl; offered = refl; of_kind = tt }), ((omega arith, tt, record { type = plain_tree; is = typed_9 }), (g_required, (inl (record { number = 1; of = adapter_user; type = externs.Func plain_core; is = adapter_made 11 refl; listed = refl; offered = refl; of_kind = tt }), ((omega arith, tt, record { type = plain_tree; is = typed_12 }), (h_required, tt))))))))))))));
+  right = (known, (record { type = plain_tree; is = typed_1 }, (tt, (tt, (inl (record { of = main_module world; listed = refl; scoped = omega arith; each = tt }), ((record { origin = root_import 0; type = plain_tree; is = f_imported }, tt), (record { each = (record { scoped = omega arith }, tt); apart = one_apart f }, (inl (record { of = adapter_user; listed = refl; scoped = omega arith; each = (f_offered, tt) }), (inl (record { number = 0; of = main_module world; type = externs.Func plain_core; is = main_made 8 refl; listed = refl; offered = refl; of_kind = refl }), ((omega arith, tt, record { type = plain_tree; is = typed_9 }), (g_required, (inl (record { number = 1; of = adapter_user; type = externs.Func plain_core; is = adapter_made 11 refl; listed = refl; offered = refl; of_kind = refl }), ((omega arith, tt, record { type = plain_tree; is = typed_12 }), (h_required, tt))))))))))))));
   marked = refl;
   named = tt;
 }

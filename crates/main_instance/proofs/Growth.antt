@@ -13,6 +13,8 @@ use Rattle.comp_bytes.specs.Spaces.{items_in, kind_space}
 use Rattle.comp_builder.specs.Built.{Built}
 use Rattle.comp_roles.specs.declared.imports.Import.{Import}
 use Rattle.comp_roles.specs.declared.imports.ImportInstance.{ImportInstance}
+use Rattle.comp_roles.specs.declared.imports.ImportInstance.TheVariants as instances
+use Rattle.comp_roles.specs.declared.libraries.MainOrAdapter.{MainOrAdapter}
 use Rattle.comp_worlds.specs.declared.world.ComponentWorld.{ComponentWorld}
 use Rattle.comp_links.specs.Targets.{UserModule, Main, Adapter, Target}
 use Rattle.core_options.specs.MainOptions.{user_of}
@@ -21,7 +23,7 @@ use Rattle.root_imports.specs.declared.met_types.MetTypes.{MetTypes}
 use Rattle.comp_links.specs.Links.{link_of}
 use Rattle.comp_terms.specs.Terms.{CoreExport, Term, IsInstanceOf, Is}
 use Rattle.comp_terms.specs.Terms as terms
-use Rattle.comp_terms.specs.Planned.{IsItemFor, IsShimFor, IsGivenFor, IsEntryFor, IsInlineInstanceFor, IsArgumentFor}
+use Rattle.comp_terms.specs.Planned.{IsItemFor, IsShimFor, IsGivenFor, IsEntryFor, IsInlineInstanceFor, SatisfiesImports, IsArgumentFor}
 use Rattle.comp_terms.specs.Rules.{IsEntry}
 use Rattle.wit_types.specs.declared.maps.TypeEncodingMaps.{TypeEncodingMaps}
 use Rattle.comp_items.specs.Items.{Extends}
@@ -31,7 +33,8 @@ use Rattle.comp_items.proofs.Kept.{Longer, at-kept, instance-kept, exported-kept
 use Rattle.root_imports.proofs.Growth.{tables_kept}
 use Rattle.root_imports.proofs.Finding.{FindsImports-kept}
 use Rattle.main_instance.specs.declared.instances.ImportSources.{ImportSources}
-use Rattle.main_instance.specs.Sources.{AreSources, IsShimInstance, IsBehindMain, IsMainInstance}
+use Rattle.comp_worlds.specs.Made.{modules_of_imports}
+use Rattle.main_instance.specs.Sources.{AreSources, IsShimInstance, IsBehindMain, IsMainInstance, IsMade}
 
 pub ruleset growing = (extends_none, extends_same, extends_then)
 
@@ -55,8 +58,12 @@ module _ {w : ComponentWorld} {old new : List Def} (g : Longer old new) where
   pub IsInlineInstanceFor-kept : {of : UserModule} {b : ℕ} {fields : List (List ℕ × Import)} → IsInlineInstanceFor w of old b fields → IsInlineInstanceFor w of new b fields
   IsInlineInstanceFor-kept {of} {b} {fields} h = record { entries = h.entries; made = at-kept g h.made; each = AllZip-weaker (λ x y. IsEntryFor-kept) h.entries fields h.each }
 
+  satisfied-kept : {of : UserModule} {index : ℕ} (group : ImportInstance) → SatisfiesImports w of old index group → SatisfiesImports w of new index group
+  satisfied-kept (instances.Names fields) h = IsInlineInstanceFor-kept h
+  satisfied-kept (instances.Whole which) h = record { number = h.number; of = h.of; is = instance-kept g h.is }
+
   pub IsArgumentFor-kept : {of : UserModule} {a : CoreArgument} {group : List ℕ × ImportInstance} → IsArgumentFor w of old a group → IsArgumentFor w of new a group
-  IsArgumentFor-kept h = record { named = h.named; serves = IsInlineInstanceFor-kept h.serves }
+  IsArgumentFor-kept {of} {a} {group} h = record { named = h.named; serves = satisfied-kept group.1 h.serves }
 
 -- ---- the sources hold what they held
 
@@ -72,8 +79,12 @@ main_instance-kept : {old new : List Def} (of : UserModule) (instance : Option �
 main_instance-kept Main instance g h = tt
 main_instance-kept (Adapter name) instance g h = behind_main-kept instance g h
 
+pub made-kept : (w : ComponentWorld) {old new : List Def} (main : Option ℕ) (adapters : List (List ℕ × ℕ)) → Longer old new → (named : List MainOrAdapter) → AllByRecursion (IsMade w old main adapters) named → AllByRecursion (IsMade w new main adapters) named
+made-kept w main adapters g [] h = tt
+made-kept w main adapters g (which ∷ named) h = (record { instance = h.0.instance; there = h.0.there; number = h.0.number; of = h.0.of; is = instance-kept g h.0.is }, made-kept w main adapters g named h.1)
+
 pub sources-kept : {w : ComponentWorld} {s : ImportSources} {met : MetTypes} {old new : Built} {maps : TypeEncodingMaps} {instances : List (InterfaceId × ℕ)} → Extends old new → AreSources w s met old.defs maps instances → AreSources w s met new.defs maps instances
-sources-kept {w} {s} {met} {old} {new} {maps} {instances} g h = record { valid = h.valid; user = h.user; imports = FindsImports-kept (longer g) h.imports; used = h.used; shims = h.shims; shim_instance = shim_instance-kept w s.shim_instance (longer g) h.shim_instance; main = main_instance-kept (user_of s.user.which) s.main (longer g) h.main; tables = tables_kept w met instances old new maps g h.tables; passed = h.passed; exports = h.exports }
+sources-kept {w} {s} {met} {old} {new} {maps} {instances} g h = record { valid = h.valid; user = h.user; imports = FindsImports-kept (longer g) h.imports; used = h.used; shims = h.shims; shim_instance = shim_instance-kept w s.shim_instance (longer g) h.shim_instance; main = main_instance-kept (user_of s.user.which) s.main (longer g) h.main; made = made-kept w s.main s.adapters.now (longer g) (modules_of_imports s.user.found.now) h.made; tables = tables_kept w met instances old new maps g h.tables; passed = h.passed; exports = h.exports }
 
 -- ---- the entries of an inline instance name items
 

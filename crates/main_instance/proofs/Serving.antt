@@ -76,6 +76,7 @@ module _ (w : ComponentWorld) (of : User) (m : ValidatedModule) (there : module_
   unencoded i needs (faults.NoEncoding place) h = one_import_lacks w (record { of = of; core = i }) place needs (encoding_found i.role None h.0) h.1
   unencoded i needs (faults.NoMemory place) h = absurd h
   unencoded i needs (faults.NoRealloc place) h = absurd h
+  unencoded i needs (faults.NotYetMade adapter name) h = absurd h
   unencoded i needs (faults.LaterExport interface used) h = absurd h
   unencoded i needs (faults.TooMany excess) h = absurd h
 
@@ -255,8 +256,11 @@ each_encoded : (w : ComponentWorld) (of : User) (ds : List Def) (as' : List Core
     AllByRecursion (λ (i : CoreImport). IsSuppliedImport w of i.role) (flat_map imports_from gs)
 each_encoded w of ds [] [] h = tt
 each_encoded w of ds (a ∷ as') (g ∷ gs) h =
-    all_both (λ (i : CoreImport). IsSuppliedImport w of i.role) (imports_from g) (flat_map imports_from gs)
-    (fields_encoded w of ds g.0 h.0.serves.entries (fields_of g.1) h.0.serves.each) (each_encoded w of ds as' gs h.1)
+    all_both (λ (i : CoreImport). IsSuppliedImport w of i.role) (imports_from g) (flat_map imports_from gs) (group_encoded a g h.0) (each_encoded w of ds as' gs h.1)
+  where
+    group_encoded : (a : CoreArgument) (g : List ℕ × ImportInstance) → IsArgumentFor w of ds a g → AllByRecursion (λ (i : CoreImport). IsSuppliedImport w of i.role) (imports_from g)
+    group_encoded a (name, instances.Names fields) k = fields_encoded w of ds name k.serves.entries fields k.serves.each
+    group_encoded a (name, instances.Whole which) k = tt
 each_encoded w of ds [] (g ∷ gs) h = absurd h
 each_encoded w of ds (a ∷ as') [] h = absurd h
 

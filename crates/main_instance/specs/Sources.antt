@@ -10,13 +10,18 @@ use Rattle.wit_data.specs.declared.worlds.WorldItem.TheVariants as items
 use Rattle.wit_data.specs.declared.worlds.WorldKey.{WorldKey}
 use Rattle.wit_types.specs.declared.maps.TypeEncodingMaps.{TypeEncodingMaps}
 use Rattle.world_values.specs.Items.{functions_of}
+use Rattle.comp_lists.specs.Found.{found}
 use Rattle.comp_roles.specs.CoreImports.{CoreImport}
+use Rattle.comp_roles.specs.declared.libraries.MainOrAdapter.{MainOrAdapter}
+use Rattle.comp_roles.specs.declared.libraries.MainOrAdapter.TheVariants as users
 use Rattle.comp_worlds.specs.Encodable.{IsEncodable}
 use Rattle.comp_worlds.specs.ExportOrder.{required_interfaces}
+use Rattle.comp_worlds.specs.Made.{modules_of_imports}
 use Rattle.comp_worlds.specs.WorldContents.{items_of}
 use Rattle.comp_worlds.specs.Worlds.{IsOwnResource}
 use Rattle.comp_worlds.specs.declared.world.ComponentWorld.{ComponentWorld}
-use Rattle.comp_links.specs.Modules.{UserImport}
+use Rattle.comp_links.specs.Links.{module_of}
+use Rattle.comp_links.specs.Modules.{UserImport, IsModule}
 use Rattle.comp_links.specs.Roles.{is_used_of}
 use Rattle.comp_links.specs.Targets.{UserModule as User, Main, Adapter}
 use Rattle.comp_terms.specs.Generated.{shims_number}
@@ -67,6 +72,19 @@ abbrev pub IsMainInstance : List Def → User → Option ℕ → Type 0
 IsMainInstance ds Main instance = Unit {0}
 IsMainInstance ds (Adapter name) instance = IsBehindMain ds instance
 
+-- the instance of a module, from main's and from those of adapters by their names
+abbrev pub instance_in : Option ℕ → List (List ℕ × ℕ) → MainOrAdapter → Option ℕ
+instance_in main adapters users.Main = main
+instance_in main adapters (users.Adapter name) = found name adapters
+
+-- the module that a library names has an instance
+pub record IsMade (w : ComponentWorld) (ds : List Def) (main : Option ℕ) (adapters : List (List ℕ × ℕ)) (which : MainOrAdapter) : Type 0 where
+  pub instance : ℕ
+  pub there : instance_in main adapters which ≡ Some instance
+  pub number : ℕ
+  pub of : IsModule w number (module_of which)
+  pub is : IsInstanceOf ds instance number
+
 -- the kind of the shim for calls of a function that an adapter exports
 abbrev pub adapter_kind : List ℕ → List ℕ → ShimKind
 adapter_kind adapter function = kinds_of_shims.Adapter adapter function
@@ -80,6 +98,7 @@ pub record AreSources (w : ComponentWorld) (s : ImportSources) (met : MetTypes) 
   pub shims : s.shims.now ≡ shims_of w
   pub shim_instance : IsShimInstance w ds s.shim_instance
   pub main : IsMainInstance ds (user_of s.user.which) s.main
+  pub made : AllByRecursion (IsMade w ds s.main s.adapters.now) (modules_of_imports s.user.found.now)
   pub tables : AreTablesRight w met instances ds maps
   pub passed : ArePassed w met
   pub exports : AreExportsMet w met

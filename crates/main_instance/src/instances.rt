@@ -51,6 +51,8 @@ pub struct ImportSources<'a> {
     pub shim_instance: Option<u32>,
     /// Main's instance, where these are the imports of another module.
     pub main: Option<u32>,
+    /// The instances of the adapters that were made before, by their names.
+    pub adapters: &'a Keyed<Text, u32>,
 }
 
 impl ImportSources<'_> {
@@ -282,6 +284,10 @@ impl ImportSources<'_> {
                 let index = self.adapter_export(root, adapter, func)?;
                 Ok((ExportKind::Func, index))
             }
+            Import::Item(item) => {
+                let index = self.item(root, item)?;
+                Ok((item.kind, index))
+            }
             _ => unreachable!(),
         }
     }
@@ -352,7 +358,7 @@ impl ImportSources<'_> {
         Ok(CoreArgument { name, instance })
     }
 
-    /// Makes the inline instance for the imports from one module.
+    /// What satisfies the imports from one module: an inline instance, or the instance of another module.
     fn argument(
         &self,
         root: &mut RootScope<'_, ComponentWorld>,
@@ -369,11 +375,11 @@ impl ImportSources<'_> {
     {
         match instance {
             ImportInstance::Names(fields) => self.inline_instance(root, module, fields),
-            ImportInstance::Whole(_) => unreachable!(),
+            ImportInstance::Whole(which) => Ok(self.whole_instance(root.items.allocator(), module, which)?),
         }
     }
 
-    /// Makes an inline instance for each module that the user module imports from, in order.
+    /// The argument for each module that the user module imports from, in order.
     pub fn arguments(
         &self,
         root: &mut RootScope<'_, ComponentWorld>,

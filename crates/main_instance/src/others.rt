@@ -1,21 +1,22 @@
-//! What the imports of a user module are given that other user modules export: main's memory, what main exports, and functions that
-//! adapters export.
+//! What the imports of a user module are given that other user modules export: main's memory, what main exports, functions that
+//! adapters export, and the instances and items that the arguments of a library name.
 //!
 //! Core standard, execution: module instances, instantiation.
 #![tactic(auto, using(crate::proofs::Growth::growing))]
 
-ghost use Rattle.std.specs.Prelude.{◌≡◌, [], IfOk, IfErr, OnOk, IsSome};
+ghost use Rattle.std.specs.Prelude.{◌≡◌, [], Some, IfOk, IfErr, OnOk, IsSome};
 ghost use Rattle.comp_bytes.specs.Spaces.{kind_space};
 ghost use Rattle.comp_bytes.specs.declared.space.Space.TheVariants.{CoreFunc, CoreMemory};
 ghost use Rattle.comp_items.specs.Items.{Extends};
+ghost use Rattle.comp_links.specs.Links.{module_of};
 ghost use Rattle.comp_links.specs.Roles.{field_path};
 ghost use Rattle.comp_links.specs.Targets.{Main, Adapter, ExportOf, MainMemory};
 ghost use Rattle.comp_roles.specs.Lookups.{first_memory};
 ghost use Rattle.comp_terms.specs.Planned.{IsItemFor, IsShimFor};
 ghost use Rattle.comp_terms.specs.Rules.{Grows};
-ghost use Rattle.comp_worlds.specs.Offered.{OffersItem};
+ghost use Rattle.comp_worlds.specs.Offered.{OffersItem, NamedOffers};
 ghost use Rattle.core_options.specs.Causes.{IsMemoryRefusal};
-ghost use Rattle.main_instance.specs.Sources.{AreSources, IsBehindMain, adapter_kind};
+ghost use Rattle.main_instance.specs.Sources.{AreSources, IsBehindMain, IsMade, instance_in, adapter_kind};
 ghost use Rattle.root_imports.specs.RootScopes.{IsRefusal};
 ghost use Rattle.shim_plan.specs.Plans.{shim_of};
 ghost use Rattle.world_shims.specs.WorldShims.{shims_of};
@@ -23,8 +24,9 @@ ghost use Rattle.world_shims.specs.WorldShims.{shims_of};
 use crate::calls::{CorePlace, path_of_import};
 use crate::instances::ImportSources;
 use byte_encoding::BuildFault;
+use comp_bytes::CoreArgument;
 use comp_lists::Text;
-use comp_worlds::ComponentWorld;
+use comp_worlds::{ComponentWorld, Item, MainOrAdapter};
 use core_options::{StateFault, memory_name, memory_of_main};
 use root_imports::RootScope;
 use shim_plan::ShimKind;
@@ -110,5 +112,53 @@ impl ImportSources<'_> {
             Some(index) => Ok(index),
             None => unreachable!(),
         }
+    }
+
+    /// The instance of a module that is named.
+    fn instance_of(&self, which: &MainOrAdapter) -> u32
+        requires there { IsSome (instance_in self.now.main self.now.adapters.now which.now) }
+        ensures { instance_in self.now.main self.now.adapters.now which.now ≡ Some result }
+    {
+        match which {
+            MainOrAdapter::Main => self.main.unwrap(),
+            MainOrAdapter::Adapter(name) => *self.adapters.get(name).unwrap(),
+        }
+    }
+
+    /// An item of the instance of another module.
+    pub(crate) fn item(
+        &self,
+        root: &mut RootScope<'_, ComponentWorld>,
+        item: &Item,
+    ) -> Result<u32, BuildFault>
+        requires sources { AreSources root.old.world.now self.now root.old.met root.old.items.defs root.old.maps root.old.instances }
+        requires made { IsMade root.old.world.now root.old.items.defs self.now.main self.now.adapters.now item.now.which }
+        requires offered { NamedOffers root.old.world.now item.now.which item.now.name item.now.kind }
+        ensures same { root.new ≡ record root.old { items = root.new.items } }
+        ensures extends { Extends root.old.items root.new.items }
+        ensures grows { OnOk result (Grows root.old.world.now root.old.items.defs root.new.items.defs []) }
+        ensures given { IfOk result (λ index. IsItemFor root.old.world.now root.new.items.defs (kind_space item.now.kind) index (ExportOf (record { of = module_of item.now.which; name = item.now.name }))) }
+        ensures cause { IfErr result IsRefusal }
+    {
+        let instance = self.instance_of(&item.which);
+        let index = root
+            .items
+            .core_export(instance, item.kind, item.name.as_str())?;
+        Ok(index)
+    }
+
+    /// The instance of another module, as the argument for all imports from one.
+    pub(crate) fn whole_instance(
+        &self,
+        alloc: Global,
+        module: &Text,
+        which: &MainOrAdapter,
+    ) -> Result<CoreArgument, AllocError>
+        requires there { IsSome (instance_in self.now.main self.now.adapters.now which.now) }
+        ensures { IfOk result (λ argument. (argument.name ≡ «module».now) × (instance_in self.now.main self.now.adapters.now which.now ≡ Some argument.instance)) }
+    {
+        let name = module.clone(alloc)?;
+        let instance = self.instance_of(which);
+        Ok(CoreArgument { name, instance })
     }
 }

@@ -68,6 +68,7 @@ role_is_imported w text (imports.ExportedResourceNew key id) same h = cc
 role_is_imported w text (imports.MainModuleMemory type) same h = cc
 role_is_imported w text (imports.MainModuleExport name kind) same h = cc
 role_is_imported w text (imports.AdapterExport adapter name type) same h = cc
+role_is_imported w text (imports.Item item) same h = cc
 role_is_imported w text role same h = absurd h
 
 field_is_imported : (w : ComponentWorld) (text : List ℕ) (fs : List (List ℕ × Import)) → AllByRecursion (λ f. IsImportRole w f.1) fs → is_any_import text fs ≡ true → IsWorldImport w text
@@ -80,7 +81,7 @@ field_is_imported w text (f ∷ fs) h e = by (is_named text (imported_name f.1))
 
 instance_is_imported : (w : ComponentWorld) (text : List ℕ) (g : List ℕ × ImportInstance) → IsImportGroup w g → uses_from text g ≡ true → IsWorldImport w text
 instance_is_imported w text (name, instances.Names fields) h e = field_is_imported w text fields h.1 e
-instance_is_imported w text (name, instances.Whole which) h e = absurd h
+instance_is_imported w text (name, instances.Whole which) h e = cc
 
 groups_are_imported : (w : ComponentWorld) (text : List ℕ) (groups : List (List ℕ × ImportInstance)) → AllByRecursion (IsImportGroup w) groups → list_any (uses_from text) groups ≡ true → IsWorldImport w text
 groups_are_imported w text [] h e = cc

@@ -109,6 +109,7 @@ import_needed w ok of m name field (imports.ExportedResourceNew key id) there h 
 import_needed w ok of m name field (imports.MainModuleMemory type) there h encoding encoded memory kind is = absurd (none-some kind is)
 import_needed w ok of m name field (imports.MainModuleExport export sort) there h encoding encoded memory kind is = absurd (none-some kind is)
 import_needed w ok of m name field (imports.AdapterExport adapter function type) there h encoding encoded memory kind is = absurd (none-some kind is)
+import_needed w ok of m name field (imports.Item item) there h encoding encoded memory kind is = absurd (none-some kind is)
 import_needed w ok of m name field role there h encoding encoded memory kind is = absurd h
 
 -- an import of a module that is found

@@ -41,6 +41,7 @@ role_without w (imports.ExportedResourceNew key id) h e = refl
 role_without w (imports.MainModuleMemory type) h e = refl
 role_without w (imports.MainModuleExport name kind) h e = refl
 role_without w (imports.AdapterExport adapter name type) h e = refl
+role_without w (imports.Item item) h e = refl
 role_without w role h e = absurd h
 
 pub no_options : (w : ComponentWorld) → IsEncodable w → (i : UserImport) → Contains (user_imports w) i → needs (lower_needs w i.core.role) 1 ≡ false → lower_options w i.of i.core.role ≡ []

@@ -34,7 +34,7 @@ import_role w ok i c =
 
     group : (g : List ℕ × ImportInstance) → IsImportGroup w g → AllByRecursion (λ (i : CoreImport). IsImportRole w i.role) (imports_from g)
     group (name, instances.Names fs) h = fields name fs h.1
-    group (name, instances.Whole which) h = absurd h
+    group (name, instances.Whole which) h = tt
 
     groups : (gs : List (List ℕ × ImportInstance)) → AllByRecursion (IsImportGroup w) gs → AllByRecursion (λ (i : CoreImport). IsImportRole w i.role) (flat_map imports_from gs)
     groups [] h = tt

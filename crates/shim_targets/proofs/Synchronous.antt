@@ -35,4 +35,5 @@ role_waits w (imports.ExportedResourceNew key id) h = refl
 role_waits w (imports.MainModuleMemory type) h = refl
 role_waits w (imports.MainModuleExport name kind) h = refl
 role_waits w (imports.AdapterExport adapter name type) h = refl
+role_waits w (imports.Item item) h = refl
 role_waits w role h = absurd h

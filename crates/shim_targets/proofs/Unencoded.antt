@@ -26,7 +26,8 @@ use Rattle.comp_links.specs.Modules.{UserImport, module_found, user_imports}
 use Rattle.comp_links.specs.Roles.{needs_encoding, encoding_in, import_encoding, field_path}
 use Rattle.comp_links.specs.Targets.{UserModule}
 use Rattle.shim_targets.proofs.Lists.{IsFirstOf, first_of_flat}
-use Rattle.shim_targets.proofs.Users.{same_found, of_module}
+use Rattle.comp_links.proofs.Named.{same_found}
+use Rattle.shim_targets.proofs.Users.{of_module}
 
 missing : (i : CoreImport) (o : Option StringEncoding) (place : List ℕ) → slice_get (unencoded_if i o) 0 ≡ Some place → (o ≡ None) × (place ≡ field_path i.module_name i.field)
 missing i None place e = (refl, sym (same_Some (place_of i) place e) ∙ append_assoc i.module_name (codes "::") i.field)

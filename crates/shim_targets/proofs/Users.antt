@@ -37,10 +37,6 @@ pub forth : (which : MainOrAdapter) → which_of (module_of which) ≡ which
 forth users.Main = refl
 forth (users.Adapter name) = refl
 
-pub same_found : (w : ComponentWorld) (which : MainOrAdapter) → module_found w (module_of which) ≡ found_module w which
-same_found w users.Main = refl
-same_found w (users.Adapter name) = refl
-
 pub found_as : (w : ComponentWorld) (of : UserModule) → found_module w (which_of of) ≡ module_found w of
 found_as w Main = refl
 found_as w (Adapter name) = refl

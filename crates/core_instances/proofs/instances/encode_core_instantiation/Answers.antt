@@ -17,6 +17,7 @@ use Rattle.root_imports.specs.Growing.{Grows-then, longer_by}
 use Rattle.root_imports.specs.Keeping.{Root, RootMoved}
 use Rattle.root_imports.specs.declared.met_types.MetTypes.{MetTypes}
 use Rattle.comp_worlds.specs.ExportOrder.{AreExportsInOrder}
+use Rattle.comp_worlds.specs.Made.{AreMadeInOrder}
 use Rattle.comp_links.specs.Lists.{required_functions}
 use Rattle.core_options.specs.Causes.{IsCause, IsCauseAmong}
 use Rattle.core_options.proofs.OptionTerms.{instances_kept, refused_with}
@@ -104,7 +105,7 @@ instantiate_users-requires-clause-sources c =
     let main : IsMainUser w c.main_user.result = subst (λ x. IsMainUser x.now c.main_user.result) k.world c.main_user.ensures in
     let made : AreImportsMade w s.functions.now b.met b.items.defs b.maps b.instances = subst (λ l. AreImportsMade w l b.met b.items.defs b.maps b.instances) (sym f.functions) (made_after c.args.root.now b k c.requires.made) in
     subst (λ x. AreSources x.now s b.met b.items.defs b.maps b.instances) (sym k.world)
-    (sources_after (extends_none b.items) s (same_is_user w c.main_user.result s.user f.user (main_is_user w c.main_user.result main)) made (subst (λ x. AreExportsMet x.now b.met) a_world c.in_ok-define_exported_types.ensures.met) (f.shims ∙ c.in_ok-shims.ensures.ok) (subst (IsShimInstance w b.items.defs) (sym f.instance) there) (ap user_of_name (f.user.named ∙ main.named)))
+    (sources_after (extends_none b.items) s (same_is_user w c.main_user.result s.user f.user (main_is_user w c.main_user.result main)) made (subst (λ x. AreExportsMet x.now b.met) a_world c.in_ok-define_exported_types.ensures.met) (f.shims ∙ c.in_ok-shims.ensures.ok) (subst (IsShimInstance w b.items.defs) (sym f.instance) there) (ap user_of_name (f.user.named ∙ main.named)) (f.user.found ∙ main.found))
 
 pub instantiate_users-requires-clause-main : goal.instantiate_users-requires-clause-main
 instantiate_users-requires-clause-main c = main_same c.define_exported_types.new.root.world.now c.main_user.result c.sources_of-sources.result.user c.sources_of-sources.ensures.user c.main_user.ensures
@@ -196,6 +197,12 @@ returns-clause-lowered c =
     let world : c.instantiate_users.new.root.world ≡ c.args.root.now.world = ap (λ (r : Root). r.world) c.in_ok-instances.ensures.same ∙ k.world in
     let offered : AllByRecursion (HasShimOptions w) (shims_of w) = subst (λ x. AllByRecursion (HasShimOptions x.now) (shims_of x.now)) world c.in_ok-encode_indirect_lowerings.ensures.offered in
     all_lowered w c.requires.made.valid offered (subst (λ x. AllByRecursion (λ (i : UserImport). IsSuppliedImport x.now i.of i.core.role) (user_imports x.now)) k.world c.in_ok-instances.ensures.supplied)
+
+pub returns-clause-in_order : goal.returns-clause-in_order
+returns-clause-in_order c =
+    let w = c.args.root.now.world.now in
+    let k : RootMoved w c.args.root.now c.define_exported_types.new.root = typed c.args.root.now c.encode_shim_instantiation.new.root c.define_exported_types.new.root c.requires.made.tables c.in_ok-shim_instance.ensures.same c.in_ok-shim_instance.ensures.extends c.in_ok-define_exported_types.ensures.moved in
+    subst (λ x. AreMadeInOrder x.now) k.world c.in_ok-instances.ensures.in_order
 
 pub returns-clause-ordered : goal.returns-clause-ordered
 returns-clause-ordered c = subst (λ x. AreExportsInOrder x.now) (ap (λ (r : Root). r.world) c.in_ok-shim_instance.ensures.same) c.in_ok-define_exported_types.ensures.ordered

@@ -1,16 +1,21 @@
-use Rattle.std.proofs.Common.{◌≡◌, ◌∙◌, ◌+◌, ◌<◌, arith, ℕ, List, [], ◌∷◌, ◌++◌, None, ap, refl, subst, sym}
+use Rattle.std.proofs.Common.{◌≡◌, ◌∙◌, ◌+◌, ◌<◌, arith, ℕ, List, [], ◌∷◌, ◌++◌, Some, None, ap, refl, subst, sym}
+use Rattle.std.specs.List.{AllByRecursion}
 use Rattle.std.specs.Map.{lookup}
 use Rattle.std.specs.Str.{bytes_eq}
 use Rattle.comp_bytes.specs.Spaces.{items_in}
 use Rattle.comp_bytes.specs.declared.space.Space.TheVariants as spaces
+use Rattle.comp_worlds.specs.Made.{modules_of_imports}
+use Rattle.comp_worlds.specs.declared.world.ValidatedModule.{ValidatedModule}
 use Rattle.comp_worlds.specs.declared.world.WorldAdapter.{WorldAdapter}
 use Rattle.comp_terms.specs.Rules.{Grows, InstanceOf}
 use Rattle.comp_terms.specs.Terms.{IsInstanceOf}
 use Rattle.root_imports.specs.Keeping.{Root}
 use Rattle.core_options.specs.MainOptions.{user_of, IsUser}
-use Rattle.main_instance.specs.Sources.{AreSources}
+use Rattle.core_options.specs.Causes.{IsCause}
+use Rattle.main_instance.proofs.Serving.{handed_on}
+use Rattle.main_instance.specs.Sources.{AreSources, IsMade}
 use Rattle.core_instances.specs.Instances.{IsSuppliedUser}
-use Rattle.core_instances.proofs.UserInstances.{AdaptersSoFar, IsNextAdapter, adapters_start, adapters_step, adapters_all, next_adapter, next_supplied, next_is_user, next_there, own_sources, behind_main, same_is_user}
+use Rattle.core_instances.proofs.UserInstances.{AdaptersSoFar, IsNextAdapter, adapters_start, adapters_step, adapters_all, next_adapter, next_supplied, next_made, not_yet_made, next_is_user, next_there, own_sources, behind_main, same_is_user}
 use Rattle.comp_items.proofs.Kept.{instance-kept}
 use Rattle.comp_items.proofs.Remembering.{longer}
 use Rattle.core_instances.proofs.users.instantiate_adapters.Goals as goal
@@ -52,8 +57,13 @@ instantiate_user-requires-clause-sources c =
     let user = c.next_user-user.ensures in
     let own = c.sources_of-own.ensures in
     let is : IsUser w c.next_user-user.result = next_is_user w table last a next c.next_user-user.result user.number user.named user.found in
+    let main_made : IsInstanceOf mid.defs c.args.main 0 = instance-kept (longer before.extends) c.requires.made in
     subst (λ (r : Root). AreSources r.world.now c.sources_of-own.result r.met mid.defs r.maps r.instances) (sym c.loop-name.invariant.2)
-    (own_sources before.extends c.requires.sources c.sources_of-own.result (same_is_user w c.next_user-user.result c.sources_of-own.result.user own.user is) own.functions own.shims own.instance (behind_main mid.defs c.sources_of-own.result c.args.main own.main (instance-kept (longer before.extends) c.requires.made)))
+    (own_sources before.extends c.requires.sources c.sources_of-own.result (same_is_user w c.next_user-user.result c.sources_of-own.result.user own.user is) own.functions own.shims own.instance (behind_main mid.defs c.sources_of-own.result c.args.main own.main main_made)
+    (subst (λ o. AllByRecursion (IsMade w mid.defs o c.sources_of-own.result.adapters.now) (modules_of_imports c.sources_of-own.result.user.found.now)) (sym own.main)
+    (subst (λ t. AllByRecursion (IsMade w mid.defs (Some c.args.main) t) (modules_of_imports c.sources_of-own.result.user.found.now)) (sym own.adapters)
+    (subst (λ (m : ValidatedModule). AllByRecursion (IsMade w mid.defs (Some c.args.main) table) (modules_of_imports m)) (sym (own.user.found ∙ user.found))
+    (next_made w old mid c.args.main table last c.next.new.self a before main_made c.in_ok-check_made.ensures.made)))))
 
 pub instantiate_user-requires-clause-there : goal.instantiate_user-requires-clause-there
 instantiate_user-requires-clause-there c =
@@ -116,7 +126,7 @@ loop-name-preserved c =
     let made : IsInstanceOf new.defs index (last + 1) = subst (λ n. IsInstanceOf new.defs index n) number of.made in
     let supplied : IsSuppliedUser w (user_of v.which) v.found.now = subst (λ x. IsSuppliedUser x.now (user_of v.which) v.found.now) world of.supplied in
     let step : AdaptersSoFar w old new (table ++ (a.0, index) ∷ []) (last + 1) c.next.new.self =
-    adapters_step w old mid new table last c.next.new.self a index before of.extends grows made (next_supplied w a c.next_user-user.result v own.user user.named user.found supplied) in
+    adapters_step w old mid new table last c.next.new.self a index before of.extends grows made (next_supplied w a c.next_user-user.result v own.user user.named user.found supplied) c.in_ok-check_made.ensures.made in
     let kept : c.insert.new.self ≡ table ++ (a.0, index) ∷ [] = c.in_ok-insert.ensures.ok ∙ ap (λ (k : List ℕ). table ++ (k, index) ∷ []) c.in_ok-key.ensures in (
       tt,
       tt,
@@ -126,3 +136,15 @@ loop-name-preserved c =
 
 pub returns-clause-all : goal.returns-clause-all
 returns-clause-all c = adapters_all c.args.root.now.world.now c.args.root.now.items c.loop-name.root.items c.loop-name.table c.loop-name.last c.loop-name.name-iterator c.iter-name-items.ensures.unique c.loop-name.invariant.3 c.in-None.ensures.steps.0
+
+pub returns-in_err-check_made-clause-cause : goal.returns-in_err-check_made-clause-cause
+returns-in_err-check_made-clause-cause c =
+    let w = c.args.root.now.world.now in
+    let old = c.args.root.now.items in
+    let mid = c.loop-name.root.items in
+    let table = c.loop-name.table in
+    let last = c.loop-name.last in
+    let a : List ℕ × WorldAdapter = (c.in-Some.name.now, c.in-Some.adapter.now) in
+    let before : AdaptersSoFar w old mid table last (a ∷ c.next.new.self) = subst (AdaptersSoFar w old mid table last) c.in-Some.ensures.steps c.loop-name.invariant.3 in
+    let refused = c.in_err-check_made in
+    handed_on c.from_residual.result refused.field-0.0 (IsCause w) c.from_residual.ensures.1 (not_yet_made w old mid table last c.next.new.self a before refused.field-0.0 refused.ensures.cause)

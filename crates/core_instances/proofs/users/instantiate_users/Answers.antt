@@ -42,3 +42,11 @@ returns-clause-supplied c =
     let new = c.instantiate_adapters.new.root.items.defs in
     let all : AllAdapters w mid new c.in_ok-adapters.adapters = subst (λ (r : Root). AllAdapters r.world.now mid new c.in_ok-adapters.adapters) c.in_ok-main.ensures.same c.in_ok-adapters.ensures.all in
     all_supplied w c.in_ok-main.ensures.supplied all.supplied
+
+pub returns-clause-in_order : goal.returns-clause-in_order
+returns-clause-in_order c =
+    let w = c.args.root.now.world.now in
+    let mid = c.instantiate_main.new.root.items.defs in
+    let new = c.instantiate_adapters.new.root.items.defs in
+    let all : AllAdapters w mid new c.in_ok-adapters.adapters = subst (λ (r : Root). AllAdapters r.world.now mid new c.in_ok-adapters.adapters) c.in_ok-main.ensures.same c.in_ok-adapters.ensures.all in
+    all.in_order

@@ -11,6 +11,7 @@ use Rattle.comp_state.specs.Tables.{IsEncoding}
 use Rattle.comp_state.specs.declared.state.Step.TheVariants.{Imported, Instantiated}
 use Rattle.comp_terms.specs.Exports.{exports_in}
 use Rattle.comp_worlds.specs.ExportOrder.{AreExportsInOrder}
+use Rattle.comp_worlds.specs.Made.{AreMadeInOrder}
 use Rattle.main_exports.proofs.AtHand.{at_hand_start}
 use Rattle.comp_state.specs.declared.state.Step.{Step}
 use Rattle.comp_state.proofs.Growth.{encoding-instantiated, encoding-moved}
@@ -61,3 +62,6 @@ returns-clause-encoded c = subst (λ (e : Encoding). AllByRecursion (λ (i : Use
 
 pub returns-clause-lowered : goal.returns-clause-lowered
 returns-clause-lowered c = subst (λ (e : Encoding). AllByRecursion (HasLowerOptions e.world) (user_imports e.world)) c.self.view_is c.in_ok-users.ensures.lowered
+
+pub returns-clause-in_order : goal.returns-clause-in_order
+returns-clause-in_order c = subst (λ (e : Encoding). AreMadeInOrder e.world) c.self.view_is c.in_ok-users.ensures.in_order

@@ -1,6 +1,8 @@
 use Rattle.std.proofs.Common.{Contains, ◌∷◌, [], refl, ap, subst, rules}
+use Rattle.comp_lists.proofs.Lists.{AllByRecursion-contains}
 use Rattle.comp_links.specs.Modules.{UserImport}
 use Rattle.comp_links.specs.Roles.{field_path, is_main_memory}
+use Rattle.comp_worlds.specs.Made.{modules_of_imports}
 use Rattle.comp_worlds.specs.Uses.{imports_of}
 use Rattle.comp_worlds.specs.Worlds.{IsImportRole}
 use Rattle.core_options.proofs.Refusals.{memory_import_refused}
@@ -11,6 +13,8 @@ use Rattle.comp_roles.specs.declared.imports.Import.{Import}
 use Rattle.comp_roles.specs.CoreImports.{CoreImport}
 use Rattle.core_options.specs.MainOptions.{user_of}
 use Rattle.shim_targets.proofs.Users.{among_all}
+use Rattle.main_instance.specs.Sources.{IsMade}
+use Rattle.main_instance.proofs.OfMain.{item_named}
 use Rattle.main_instance.proofs.Serving.{handed_on, import_role, user_import}
 use Rattle.main_instance.proofs.instances.ImportSources.materialize_import.Goals as goal
 
@@ -45,6 +49,20 @@ pub main_export-requires-clause-offered : goal.main_export-requires-clause-offer
 main_export-requires-clause-offered c =
     let w = c.args.root.now.world.now in
     let it = c.in-MainModuleExport in
+    subst (λ (role : Import). IsImportRole w role) it.is (import_role w (user_of c.args.self.now.user.which) c.args.self.now.user.found.now c.requires.sources.user.named c.requires.sources.valid (record { module_name = c.args.module.now; field = c.args.field.now; role = c.args.import.now }) c.requires.present)
+
+pub item-requires-clause-made : goal.item-requires-clause-made
+item-requires-clause-made c =
+    let w = c.args.root.now.world.now in
+    let u = c.args.self.now.user in
+    let it = c.in-Item in
+    let i : CoreImport = record { module_name = c.args.module.now; field = c.args.field.now; role = c.args.import.now } in
+    AllByRecursion-contains (IsMade w c.args.root.now.items.defs c.args.self.now.main c.args.self.now.adapters.now) (modules_of_imports u.found.now) it.item.now.which c.requires.sources.made (item_named u.found.now i it.item.now it.is c.requires.present)
+
+pub item-requires-clause-offered : goal.item-requires-clause-offered
+item-requires-clause-offered c =
+    let w = c.args.root.now.world.now in
+    let it = c.in-Item in
     subst (λ (role : Import). IsImportRole w role) it.is (import_role w (user_of c.args.self.now.user.which) c.args.self.now.user.found.now c.requires.sources.user.named c.requires.sources.valid (record { module_name = c.args.module.now; field = c.args.field.now; role = c.args.import.now }) c.requires.present)
 
 pub adapter_export-requires-clause-needed : goal.adapter_export-requires-clause-needed
