@@ -2,14 +2,17 @@
 //!
 //! The input of a case is a core module in hexadecimal digits and, after a space, its records, with ` & ` between two of them, if it
 //! has any. Further modules follow after ` + `, each with its name: `NAME: MODULE` is an adapter, `library NAME: MODULE` a library without
-//! arguments. Options may be in front of all, as in `[canonical, rename a:b/c to d:e/f] 0061736d..`: `canonical`, `debug-names`,
+//! arguments, and `library NAME with ARGUMENTS: MODULE` one with them (`arguments`). Options may be in front of all, as in `[canonical, rename a:b/c to d:e/f] 0061736d..`: `canonical`, `debug-names`,
 //! `no-merge`, `memory-grow`, `unchecked` (without `validate`, which is on otherwise) and `rename NAME to NAME`. The answer is the component in hexadecimal digits, by
 //! the encoder over the lower layer by records; or the fault. `test_cases` says how the files are read; each says where its expected answers are from. The program prints the
 //! comments too, so that the file `stdout`, which its output is compared with, is the data without the inputs.
 #![tactic(auto)]
 
-use comp_encoder::{ComponentEncoder, EncodeFault, LibraryInfo};
-use comp_lists::{Keyed, Seq, Text};
+mod arguments;
+
+use arguments::library_info;
+use comp_encoder::{ComponentEncoder, EncodeFault};
+use comp_lists::{Keyed, Text};
 use plain_lower::{PlainFault, PlainLower};
 use std::alloc::{AllocError, Global};
 use std::process::ExitCode;
@@ -89,9 +92,9 @@ fn add_part(
     let (name, rest) = part.split_once(": ").unwrap_or((part, ""));
     let module = module_of(alloc, rest)?;
     match name.strip_prefix("library ") {
-        Some(name) => {
-            let arguments = Seq::new(alloc);
-            encoder.add_library(name, &module, LibraryInfo { arguments })
+        Some(library) => {
+            let (name, arguments) = library.split_once(" with ").unwrap_or((library, ""));
+            encoder.add_library(name, &module, library_info(alloc, arguments)?)
         }
         None => encoder.add_adapter(name, &module),
     }
