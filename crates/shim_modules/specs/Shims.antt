@@ -66,15 +66,15 @@ code_section shims = where_any shims (sections.Code (table_shims 0 (map (λ s. s
 
 -- what the module defines, before its exports
 abbrev pub definitions : Option MemoryType → List FuncType → List ShimFunction → List Section
-definitions memory types shims = sections.Types types ∷ function_section shims ++ table_section shims ++ memory_section memory
+definitions memory types shims = sections.Types types ∷ (function_section shims ++ (table_section shims ++ memory_section memory))
 
 -- the shims, their table, and the memory
 abbrev pub exports_of : Option MemoryType → List ShimFunction → List Export
-exports_of memory shims = shim_exports 0 shims ++ table_exports shims ++ memory_exports memory
+exports_of memory shims = shim_exports 0 shims ++ (table_exports shims ++ memory_exports memory)
 
 -- the whole, in the order of sections
 abbrev pub shim_sections : Option MemoryType → List FuncType → List ShimFunction → Bool → List Section
-shim_sections memory types shims debug_names = definitions memory types shims ++ sections.Exports (exports_of memory shims) ∷ code_section shims ++ names_of debug_names shims
+shim_sections memory types shims debug_names = definitions memory types shims ++ (sections.Exports (exports_of memory shims) ∷ (code_section shims ++ names_of debug_names shims))
 
 -- the module, where there are shims or a memory
 abbrev pub shim_module : Option MemoryType → List FuncType → List ShimFunction → Bool → Option (List Section)
