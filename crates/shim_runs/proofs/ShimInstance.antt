@@ -250,3 +250,12 @@ shim_table_there memory (s ∷ ss) functions code any = slice_get-end code.table
 -- the memory is there, where there is one
 pub shim_memory_there : (type : MemoryType) (shims : List Shim) (functions : List Func) (code : Store) → slice_get (with_shims (Some type) shims functions code).memories (length code.memories) ≡ Some type
 shim_memory_there type shims functions code = slice_get-end code.memories type
+
+-- and what was there is where it was
+pub shim_tables_kept : (shims : List Shim) (tables : List (List (Option ℕ))) (i : ℕ) (slots : List (Option ℕ)) → slice_get tables i ≡ Some slots → slice_get (with_shim_table shims tables) i ≡ Some slots
+shim_tables_kept [] tables i slots e = e
+shim_tables_kept (s ∷ ss) tables i slots e = slice_get-append tables (empty_table (length (s ∷ ss)) ∷ []) i slots e
+
+pub shim_memories_kept : (memory : Option MemoryType) (memories : List MemoryType) (i : ℕ) (type : MemoryType) → slice_get memories i ≡ Some type → slice_get (with_memory memory memories) i ≡ Some type
+shim_memories_kept None memories i type e = e
+shim_memories_kept (Some new) memories i type e = slice_get-append memories (new ∷ []) i type e
