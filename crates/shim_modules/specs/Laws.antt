@@ -1,12 +1,24 @@
 -- That modules of shims are those of which the laws of `core_runs` speak.
-use Rattle.std.specs.Prelude.{◌≡◌, Bool, List, map}
+use Rattle.std.specs.Prelude.{◌≡◌, Bool, List, [], ◌∷◌, map, Option, Some, None}
 use Rattle.core_types.specs.declared.types.FuncType.{FuncType}
+use Rattle.core_types.specs.declared.types.MemoryType.{MemoryType}
+use Rattle.core_runs.specs.Instances.{Parts}
 use Rattle.core_runs.specs.Sections.{parts_of}
 use Rattle.core_runs.specs.LawsOfInstances.{Slot, shim_of, shim_parts}
 use Rattle.shim_modules.specs.declared.shims.ShimFunction.{ShimFunction}
 use Rattle.shim_modules.specs.Shims.{shim_sections}
 
--- The parts of the module, where the shims have these types: the laws of `core_runs` on modules of shims hold of it.
+abbrev pub memories_of : Option MemoryType → List MemoryType
+memories_of None = []
+memories_of (Some type) = type ∷ []
+
+-- those of `core_runs`, and the memory where there is one; where there are no shims, there is no table
+abbrev pub module_parts : Option MemoryType → List FuncType → List Slot → Parts
+module_parts memory types [] = record (shim_parts types []) { tables = []; memories = memories_of memory }
+module_parts memory types (s ∷ ss) = record (shim_parts types (s ∷ ss)) { memories = memories_of memory }
+
+-- The parts of the module, where the shims have these types. With shims and without a memory, the laws of `core_runs` on modules
+-- of shims hold of it.
 abbrev pub ShimModulesAreShims : Type 0
 ShimModulesAreShims =
-    (types : List FuncType) (shims : List ShimFunction) (slots : List Slot) (debug_names : Bool) → map (λ s. s.code) shims ≡ map shim_of slots → parts_of (shim_sections types shims debug_names) ≡ shim_parts types slots
+    (memory : Option MemoryType) (types : List FuncType) (shims : List ShimFunction) (slots : List Slot) (debug_names : Bool) → map (λ s. s.code) shims ≡ map shim_of slots → parts_of (shim_sections memory types shims debug_names) ≡ module_parts memory types slots

@@ -7,14 +7,16 @@ ghost use Rattle.std.specs.Fmt.{decimal};
 ghost use Rattle.standard_kinds.specs.declared.kinds.ExportKind.TheVariants as kinds;
 ghost use Rattle.core_bytes.specs.declared.section.Section.TheVariants as sections;
 ghost use Rattle.core_runs.specs.Bodies as bodies;
-ghost use Rattle.shim_modules.specs.Shims.{shim_exports, table_export, shim_names, names_of};
+ghost use Rattle.shim_modules.specs.Shims.{shim_exports, exports_of, shim_names, names_of};
 
 use crate::shims::ShimFunction;
 use comp_lists::Text;
 use core_bytes::{
-    Code, ExportSection, FunctionSection, Module, ModuleNames, NameMap, Section, TableSection,
+    Code, ExportSection, FunctionSection, MemorySection, Module, ModuleNames, NameMap, Section,
+    TableSection,
 };
 use core_runs::{Shim, table_of_shims, table_shim_bodies};
+use core_types::MemoryType;
 use standard_kinds::ExportKind;
 use std::alloc::{AllocError, Global};
 
@@ -38,17 +40,44 @@ pub(crate) fn table_section(alloc: Global, count: u32) -> Result<Section, AllocE
     Ok(Section::Tables(section))
 }
 
-/// The exports: each shim under its number, and the table.
-pub(crate) fn export_section(alloc: Global, shims: &[ShimFunction]) -> Result<Section, AllocError>
+/// The one memory.
+pub(crate) fn memory_section(alloc: Global, memory_type: MemoryType) -> Result<Section, AllocError>
+    ensures { IfOk result (λ made. made ≡ sections.Memories (memory_type ∷ [])) }
+{
+    let mut section = MemorySection::new(alloc);
+    section.memory(memory_type)?;
+    Ok(Section::Memories(section))
+}
+
+/// The exports: each shim under its number; the table, where there are any; and the memory, where there is one.
+pub(crate) fn export_section(
+    alloc: Global,
+    memory: Option<MemoryType>,
+    shims: &[ShimFunction],
+) -> Result<Section, AllocError>
     requires count { length shims.now < 2 ^ 32 }
-    ensures { IfOk result (λ made. made ≡ sections.Exports (shim_exports 0 shims.now ++ table_export ∷ [])) }
+    ensures { IfOk result (λ made. made ≡ sections.Exports (exports_of memory shims.now)) }
+{
+    let mut section = exported_shims(alloc, shims)?;
+    if !shims.is_empty() {
+        section.export("$imports", ExportKind::Table, 0)?;
+    }
+    if memory.is_some() {
+        section.export("$memory", ExportKind::Memory, 0)?;
+    }
+    Ok(Section::Exports(section))
+}
+
+/// The exports of the shims.
+fn exported_shims(alloc: Global, shims: &[ShimFunction]) -> Result<ExportSection, AllocError>
+    requires count { length shims.now < 2 ^ 32 }
+    ensures { IfOk result (λ made. made ≡ shim_exports 0 shims.now) }
 {
     let mut section = ExportSection::new(alloc);
     for (number, _shim) in shims.iter().enumerate() {
         export_shim(&mut section, alloc, number as u32)?;
     }
-    section.export("$imports", ExportKind::Table, 0)?;
-    Ok(Section::Exports(section))
+    Ok(section)
 }
 
 /// Exports the shim with a number under the number's decimal digits.

@@ -1,16 +1,18 @@
 -- The exports of the instance of the shims, by their names.
-use Rattle.std.proofs.Common.{◌≡◌, ◌∙◌, ◌+◌, ◌<◌, ◌≤◌, ◌^◌, ℕ, zero, suc, Bool, true, false, List, [], ◌∷◌, ◌++◌, length, cond, Some, codes, refl, sym, ap, subst, arith}
-use Rattle.std.proofs.lemmas.Fmt.{decimal_injective}
+use Rattle.std.proofs.Common.{◌≡◌, ◌∙◌, ◌+◌, ◌<◌, ◌≤◌, ◌^◌, ℕ, zero, suc, Bool, true, false, List, [], ◌∷◌, ◌++◌, length, filter, cond, Option, Some, None, option_map, refl, sym, ap, subst, arith}
+use Rattle.std.proofs.lemmas.Fmt.{decimal_injective, decimal_is_IsNumeral}
 use Rattle.std.proofs.lemmas.Slice.Eq.{bytes_eq-Decides}
 use Rattle.std.specs.Fmt.{decimal}
 use Rattle.std.specs.List.{AllByRecursion}
+use Rattle.std.specs.Prelude.{Contains}
 use Rattle.std.specs.Str.{bytes_eq}
+use Rattle.std.specs.Str.Parse.{IsNumeral}
 use Rattle.comp_lists.proofs.Lists.{AllByRecursion-contains}
 use Rattle.comp_bytes.specs.declared.space.Space.TheVariants as spaces
 use Rattle.comp_runs.specs.Store.{Export}
-use Rattle.comp_runs.specs.Machine.{export_named}
+use Rattle.comp_runs.specs.Machine.{export_named, export_in, export_of}
 use Rattle.shim_plan.specs.declared.shims.Shim.{Shim}
-use Rattle.shim_runs.specs.ShimRuns.{shims_exported, instance_exports, ShimsAreFound}
+use Rattle.shim_runs.specs.ShimRuns.{shims_exported, table_exported, memory_name, memory_at, memory_exported, instance_exports, ShimsAreFound}
 
 -- ---- names
 
@@ -50,24 +52,86 @@ found_from place address (suc i) (s ∷ ss) rest h room =
     ∙ ap (λ n. Some (shim_export n (suc address + i))) p
     ∙ ap (λ n. Some (shim_export (place + suc i) n)) a
 
--- ---- all functions
+-- ---- behind the shims
 
--- an export of a function is that of one of so many shims
-abbrev IsOfPlace : ℕ → ℕ → Export → Type 0
-IsOfPlace count first e = e.space ≡ spaces.CoreFunc → (place : ℕ) × (place < count) × (e.address ≡ first + place)
+-- a name that is no number
+other_name : (name : List ℕ) → (IsNumeral 10 name → ⊥) → (place : ℕ) → place < 2 ^ 32 → bytes_eq name (decimal place) ≡ false
+other_name name no_numeral place small = by (bytes_eq name (decimal place)) refl
+  where
+    by : (b : Bool) → bytes_eq name (decimal place) ≡ b → b ≡ false
+    by false e = refl
+    by true e = absurd (no_numeral (subst (IsNumeral 10) (sym ((bytes_eq-Decides name (decimal place)).0 e)) (decimal_is_IsNumeral place (omega arith)).0))
 
-each_of_place : (count first k place address : ℕ) (shims : List Shim) (table : ℕ) → address ≡ first + k → k + length shims ≤ count → AllByRecursion (IsOfPlace count first) (shims_exported place address shims ++ record { space = spaces.CoreTable; name = codes "$imports"; address = table } ∷ [])
-each_of_place count first k place address [] table at room = (λ e. cc, tt)
-each_of_place count first k place address (s ∷ ss) table at room =
-    (λ e. (k, omega arith, at), each_of_place count first (k + 1) (suc place) (suc address) ss table (omega (arith, at)) (omega arith))
+-- is not that of a shim
+pub behind_shims : (name : List ℕ) → (IsNumeral 10 name → ⊥) → (place address : ℕ) (shims : List Shim) (rest : List Export) → place + length shims ≤ 2 ^ 32 → export_named name (shims_exported place address shims ++ rest) ≡ export_named name rest
+behind_shims name no_numeral place address [] rest room = refl
+behind_shims name no_numeral place address (s ∷ ss) rest room =
+    ap (λ b. cond b (Some (shim_export place address)) (export_named name (shims_exported (suc place) (suc address) ss ++ rest))) (other_name name no_numeral place (omega arith))
+    ∙ behind_shims name no_numeral (suc place) (suc address) ss rest (omega arith)
 
-pub shims_found : (shims : List Shim) (address table : ℕ) → ShimsAreFound shims address table
-shims_found shims address table = record {
+-- ---- the memory
+
+no_memory_name : IsNumeral 10 memory_name → ⊥
+no_memory_name h = let below : 36 < 10 = h.1.0 in absurd (omega (arith, below))
+
+behind_table : (shims : List Shim) (table : ℕ) (memory : Option ℕ) → export_named memory_name (table_exported shims table ++ memory_exported memory) ≡ option_map memory_at memory
+behind_table [] table None = refl
+behind_table [] table (Some address) = refl
+behind_table (s ∷ ss) table None = refl
+behind_table (s ∷ ss) table (Some address) = refl
+
+memory_is_named : (shims : List Shim) (address table : ℕ) (memory : Option ℕ) → length shims < 2 ^ 32 → export_named memory_name (instance_exports shims address table memory) ≡ option_map memory_at memory
+memory_is_named shims address table memory room =
+    behind_shims memory_name no_memory_name 0 address shims (table_exported shims table ++ memory_exported memory) (omega (arith, room))
+    ∙ behind_table shims table memory
+
+-- no shim is a memory
+memories_alone : (place address : ℕ) (shims : List Shim) (rest : List Export) → filter (export_in spaces.CoreMemory) (shims_exported place address shims ++ rest) ≡ filter (export_in spaces.CoreMemory) rest
+memories_alone place address [] rest = refl
+memories_alone place address (s ∷ ss) rest = memories_alone (suc place) (suc address) ss rest
+
+memory_behind : (shims : List Shim) (table : ℕ) (memory : Option ℕ) → export_named memory_name (filter (export_in spaces.CoreMemory) (table_exported shims table ++ memory_exported memory)) ≡ option_map memory_at memory
+memory_behind [] table None = refl
+memory_behind [] table (Some address) = refl
+memory_behind (s ∷ ss) table None = refl
+memory_behind (s ∷ ss) table (Some address) = refl
+
+memory_is_found : (shims : List Shim) (address table : ℕ) (memory : Option ℕ) → export_of spaces.CoreMemory memory_name (instance_exports shims address table memory) ≡ option_map memory_at memory
+memory_is_found shims address table memory =
+    ap (λ es. export_named memory_name es) (memories_alone 0 address shims (table_exported shims table ++ memory_exported memory))
+    ∙ memory_behind shims table memory
+
+-- ---- all exports
+
+-- an export of a function is that of one of so many shims, and one of a memory is the memory
+record IsOfPlace (count first : ℕ) (memory : Option ℕ) (e : Export) : Type 0 where
+  of_function : e.space ≡ spaces.CoreFunc → (place : ℕ) × (place < count) × (e.address ≡ first + place)
+  of_memory : e.space ≡ spaces.CoreMemory → (e.name ≡ memory_name) × (memory ≡ Some e.address)
+
+rest_of_place : (count first table : ℕ) (shims : List Shim) (memory : Option ℕ) → AllByRecursion (IsOfPlace count first memory) (table_exported shims table ++ memory_exported memory)
+rest_of_place count first table [] None = tt
+rest_of_place count first table [] (Some address) = (record { of_function = λ e. cc; of_memory = λ e. (refl, refl) }, tt)
+rest_of_place count first table (s ∷ ss) None = (record { of_function = λ e. cc; of_memory = λ e. cc }, tt)
+rest_of_place count first table (s ∷ ss) (Some address) = (record { of_function = λ e. cc; of_memory = λ e. cc }, (record { of_function = λ e. cc; of_memory = λ e. (refl, refl) }, tt))
+
+each_of_place : (count first k place address : ℕ) (shims : List Shim) (memory : Option ℕ) (rest : List Export) → address ≡ first + k → k + length shims ≤ count → AllByRecursion (IsOfPlace count first memory) rest → AllByRecursion (IsOfPlace count first memory) (shims_exported place address shims ++ rest)
+each_of_place count first k place address [] memory rest at room h = h
+each_of_place count first k place address (s ∷ ss) memory rest at room h =
+    (record { of_function = λ e. (k, omega arith, at); of_memory = λ e. cc }, each_of_place count first (k + 1) (suc place) (suc address) ss memory rest (omega (arith, at)) (omega arith) h)
+
+place_of : (shims : List Shim) (address table : ℕ) (memory : Option ℕ) (e : Export) → Contains (instance_exports shims address table memory) e → IsOfPlace (length shims) address memory e
+place_of shims address table memory e is =
+    AllByRecursion-contains (IsOfPlace (length shims) address memory) (instance_exports shims address table memory) e
+    (each_of_place (length shims) address 0 0 address shims memory (table_exported shims table ++ memory_exported memory) (omega arith) (omega arith) (rest_of_place (length shims) address table shims memory)) is
+
+pub shims_found : (shims : List Shim) (address table : ℕ) (memory : Option ℕ) → ShimsAreFound shims address table memory
+shims_found shims address table memory = record {
   found = λ place within room.
       let z : 0 + place ≡ place = omega arith in
-      subst (λ n. export_named (decimal n) (instance_exports shims address table) ≡ Some (shim_export n (address + place))) z
-      (found_from 0 address place shims (record { space = spaces.CoreTable; name = codes "$imports"; address = table } ∷ []) within (omega arith));
-  listed = λ name function is.
-      AllByRecursion-contains (IsOfPlace (length shims) address) (instance_exports shims address table) (record { space = spaces.CoreFunc; name = name; address = function })
-      (each_of_place (length shims) address 0 0 address shims table (omega arith) (omega arith)) is refl;
+      subst (λ n. export_named (decimal n) (instance_exports shims address table memory) ≡ Some (shim_export n (address + place))) z
+      (found_from 0 address place shims (table_exported shims table ++ memory_exported memory) within (omega arith));
+  listed = λ name function is. (place_of shims address table memory (record { space = spaces.CoreFunc; name = name; address = function }) is).of_function refl;
+  memory_named = memory_is_named shims address table memory;
+  memory_found = memory_is_found shims address table memory;
+  memory_listed = λ name at is. (place_of shims address table memory (record { space = spaces.CoreMemory; name = name; address = at }) is).of_memory refl;
 }

@@ -1,7 +1,5 @@
 -- What the imports of a fixup are given: the functions of `actual`, in order, and the table of the shims.
-use Rattle.std.proofs.Common.{◌≡◌, ◌∙◌, ◌+◌, ◌<◌, ◌≤◌, ◌^◌, ℕ, suc, Bool, true, false, List, [], ◌∷◌, ◌++◌, length, map, cond, if◌then◌else◌, Option, Some, None, option_map, codes, append_assoc, refl, sym, ap, subst, arith}
-use Rattle.std.proofs.lemmas.Fmt.{decimal_is_IsNumeral}
-use Rattle.std.proofs.lemmas.Slice.Eq.{bytes_eq-Decides}
+use Rattle.std.proofs.Common.{◌≡◌, ◌∙◌, ◌+◌, ◌<◌, ◌≤◌, ◌^◌, ℕ, suc, List, [], ◌∷◌, ◌++◌, length, map, cond, if◌then◌else◌, Option, Some, None, option_map, codes, append_assoc, refl, sym, ap, arith}
 use Rattle.std.specs.Fmt.{decimal}
 use Rattle.std.specs.List.{AllByRecursion, AllZip}
 use Rattle.std.specs.Option.{option_and_then}
@@ -27,28 +25,19 @@ use Rattle.comp_runs.specs.Instances.{Arguments, argument_for, of_kind, entity_k
 use Rattle.shim_plan.specs.Plans.{AreNumbered}
 use Rattle.shim_plan.specs.declared.shims.Shim.{Shim}
 use Rattle.world_shims.specs.WorldShims.{type_of_shim}
-use Rattle.shim_runs.specs.ShimRuns.{shims_exported, instance_exports, IsActual, fixup_arguments}
-use Rattle.shim_runs.proofs.Exported.{same_name, other_digits, shim_export}
+use Rattle.shim_runs.specs.ShimRuns.{table_exported, memory_exported, instance_exports, IsActual, fixup_arguments}
+use Rattle.shim_runs.proofs.Exported.{same_name, other_digits, behind_shims}
 use Rattle.shim_runs.proofs.FixupImports.{imports_of}
 
 -- ---- the table
 
-not_numeral : IsNumeral 10 (codes "$imports") → ⊥
-not_numeral h = let below : 36 < 10 = h.1.0 in absurd (omega (arith, below))
+no_table_name : IsNumeral 10 table_name → ⊥
+no_table_name h = let below : 36 < 10 = h.1.0 in absurd (omega (arith, below))
 
--- the table's name is no number
-other_than_table : (place : ℕ) → place < 2 ^ 32 → bytes_eq table_name (decimal place) ≡ false
-other_than_table place small = by (bytes_eq table_name (decimal place)) refl
-  where
-    by : (b : Bool) → bytes_eq table_name (decimal place) ≡ b → b ≡ false
-    by false e = refl
-    by true e = absurd (not_numeral (subst (IsNumeral 10) (sym ((bytes_eq-Decides table_name (decimal place)).0 e)) (decimal_is_IsNumeral place (omega arith)).0))
-
-table_found : (place address : ℕ) (shims : List Shim) (table : Export) → place + length shims ≤ 2 ^ 32 → table.name ≡ table_name → export_named table_name (shims_exported place address shims ++ table ∷ []) ≡ Some table
-table_found place address [] table room named = ap (λ b. cond b (Some table) None) (same_name table_name table.name (sym named))
-table_found place address (s ∷ ss) table room named =
-    ap (λ b. cond b (Some (shim_export place address)) (export_named table_name (shims_exported (suc place) (suc address) ss ++ table ∷ []))) (other_than_table place (omega arith))
-    ∙ table_found (suc place) (suc address) ss table (omega arith) named
+-- where there are shims, it is found behind them
+table_found : (shims : List Shim) (address table : ℕ) (memory : Option ℕ) → (shims ≡ [] → ⊥) → length shims < 2 ^ 32 → export_named table_name (instance_exports shims address table memory) ≡ Some (record { space = spaces.CoreTable; name = table_name; address = table })
+table_found [] address table memory any room = absurd (any refl)
+table_found (s ∷ ss) address table memory any room = behind_shims table_name no_table_name 0 address (s ∷ ss) (table_exported (s ∷ ss) table ++ memory_exported memory) (omega (arith, room))
 
 -- ---- the functions
 
@@ -105,12 +94,12 @@ module _ (code : Store) (whole shim : List Export) where
 abbrev pub things_given : List Export → ℕ → List Thing
 things_given actual table = map function_of actual ++ record { space = spaces.CoreTable; address = table } ∷ []
 
-pub imports_given : (code : Store) (shims : List Shim) (actual : List Export) (address table count : ℕ) → AreNumbered 0 shims → length shims < 2 ^ 32 → AllZip (IsActual code) shims actual →
-    all_some (map (argument_of (fixup_arguments shims actual address table)) (imports_of [] shims ++ entry_of instances.Shim table_name (entities.Table (table_of_shims count)) ∷ [])) ≡ Some (things_given actual table)
-imports_given code shims actual address table count numbered room each =
-    functions_given code actual (instance_exports shims address table) [] 0 shims actual [] numbered (omega arith) each tt refl
+pub imports_given : (code : Store) (shims : List Shim) (actual : List Export) (address table : ℕ) (memory : Option ℕ) (count : ℕ) → (shims ≡ [] → ⊥) → AreNumbered 0 shims → length shims < 2 ^ 32 → AllZip (IsActual code) shims actual →
+    all_some (map (argument_of (fixup_arguments shims actual address table memory)) (imports_of [] shims ++ entry_of instances.Shim table_name (entities.Table (table_of_shims count)) ∷ [])) ≡ Some (things_given actual table)
+imports_given code shims actual address table memory count any numbered room each =
+    functions_given code actual (instance_exports shims address table memory) [] 0 shims actual [] numbered (omega arith) each tt refl
     (entry_of instances.Shim table_name (entities.Table (table_of_shims count)) ∷ []) (record { space = spaces.CoreTable; address = table } ∷ [])
-    (ap (λ o. all_some (option_and_then (of_kind kinds.Table) o ∷ [])) (table_found 0 address shims (record { space = spaces.CoreTable; name = codes "$imports"; address = table }) (omega arith) refl))
+    (ap (λ o. all_some (option_and_then (of_kind kinds.Table) o ∷ [])) (table_found shims address table memory any room))
 
 -- as external values
 abbrev pub values_given : List Export → ℕ → List Given

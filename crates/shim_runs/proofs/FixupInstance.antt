@@ -180,8 +180,8 @@ abbrev fixup_made : List Shim → List Export → ℕ → Machine → Made
 fixup_made shims actual table m =
     made_with (new_frame (fixup_parts shims) (values_given actual table) m.store.code m.now) m.store.code m.now (slice_set m.store.code.tables table (map (λ a. Some a) (map (λ (e : Export). e.address) actual)))
 
-fixup_is_made : (shims : List Shim) (debug_names : Bool) (actual : List Export) (address table : ℕ) (m : Machine) → CanFix shims actual table m.store.code → IsMade (sections_of_fixup shims debug_names) (fixup_arguments shims actual address table) m (things_given actual table) (fixup_made shims actual table m) []
-fixup_is_made shims debug_names actual address table m h =
+fixup_is_made : (shims : List Shim) (debug_names : Bool) (actual : List Export) (address table : ℕ) (memory : Option ℕ) (m : Machine) → CanFix shims actual table m.store.code → IsMade (sections_of_fixup shims debug_names) (fixup_arguments shims actual address table memory) m (things_given actual table) (fixup_made shims actual table m) []
+fixup_is_made shims debug_names actual address table memory m h =
     let code = m.store.code in
     let f = fixup_with nothing_fixed shims in
     let is = fixup_is shims h.numbered h.room in
@@ -201,8 +201,8 @@ fixup_is_made shims debug_names actual address table m h =
     record {
       parts = fixup_parts shims;
       externals = values;
-      found = ap (λ l. all_some (map (argument_of (fixup_arguments shims actual address table)) l)) (imports_alone f debug_names ∙ is.entries)
-          ∙ imports_given code shims actual address table (length f.fills) h.numbered h.room h.each;
+      found = ap (λ l. all_some (map (argument_of (fixup_arguments shims actual address table memory)) l)) (imports_alone f debug_names ∙ is.entries)
+          ∙ imports_given code shims actual address table memory (length f.fills) h.any h.numbered h.room h.each;
       external_values = values_are actual table;
       parts_are = parts_are f debug_names
           ∙ ap (λ l. parts_with l (map (λ (i : Import). i.entity) (with_table f).entries) (fill_segment (table_index f) f.fills)) is.types
@@ -213,8 +213,8 @@ fixup_is_made shims debug_names actual address table m h =
       no_start = refl;
     }
 
-pub fixup_run : (shims : List Shim) (debug_names : Bool) (actual : List Export) (address table number : ℕ) (c : Scope) (s : RunStore) → CanFix shims actual table s.code → FixupRun shims debug_names actual address table number c s
-fixup_run shims debug_names actual address table number c s h =
+pub fixup_run : (shims : List Shim) (debug_names : Bool) (actual : List Export) (address table : ℕ) (memory : Option ℕ) (number : ℕ) (c : Scope) (s : RunStore) → CanFix shims actual table s.code → FixupRun shims debug_names actual address table memory number c s
+fixup_run shims debug_names actual address table memory number c s h =
     let code = s.code in
     let given = things_given actual table in
     let after : Machine → Machine = λ x. with_module_instance (record { module_number = number; given = given; exports = [] }) x in
@@ -228,7 +228,7 @@ fixup_run shims debug_names actual address table number c s h =
       given = given;
       runs = λ now next.
           let m = machine c s now in
-          made_runs (sections_of_fixup shims debug_names) number (fixup_arguments shims actual address table) m given (fixup_made shims actual table m) [] (fixup_is_made shims debug_names actual address table m h) next
+          made_runs (sections_of_fixup shims debug_names) number (fixup_arguments shims actual address table memory) m given (fixup_made shims actual table m) [] (fixup_is_made shims debug_names actual address table memory m h) next
           ∙ ap (λ l. next (after (with_rest now (code.functions ++ []) l (code.memories ++ []) (now.globals ++ [])))) (map-map (λ a. Some a) (λ (e : Export). e.address) actual)
           ∙ ap (λ l. next (after (with_rest now l slots (code.memories ++ []) (now.globals ++ [])))) (append-nil code.functions)
           ∙ ap (λ l. next (after (with_rest now code.functions slots l (now.globals ++ [])))) (append-nil code.memories)

@@ -1,8 +1,10 @@
--- A worked example: two shims of two types, made after two opaque functions, and the fixup that fills their slots with these.
-use Rattle.std.proofs.Common.{◌≡◌, ℕ, pos, Bool, true, false, List, [], ◌∷◌, Option, Some, None, codes, refl}
+-- Worked examples: two shims of two types, made after two opaque functions, and the fixup that fills their slots with these; the same
+-- with a memory; and a memory alone.
+use Rattle.std.proofs.Common.{◌≡◌, ℕ, pos, Bool, true, false, List, [], ◌∷◌, ◌++◌, Option, Some, None, option_map, codes, refl}
 use Rattle.std.specs.Fmt.{digits}
 use Rattle.comp_bytes.specs.declared.space.Space.TheVariants as spaces
 use Rattle.core_types.specs.declared.types.FuncType.{FuncType}
+use Rattle.core_types.specs.declared.types.MemoryType.{MemoryType}
 use Rattle.core_types.specs.declared.types.ValType.TheVariants.{I32}
 use Rattle.core_bytes.specs.declared.code.Instruction.TheVariants as instructions
 use Rattle.core_runs.specs.Values.{I32Value}
@@ -63,12 +65,15 @@ machine_with functions = record {
   now = now_with [] [];
 }
 
-abbrev with_shims : List Func → Bool → (Machine → Outcome) → Outcome
-with_shims functions debug_names next = instantiate_generated (sections_of_shims shims debug_names) 1 [] (machine_with functions) next
+abbrev with_shims : Option MemoryType → List Func → Bool → (Machine → Outcome) → Outcome
+with_shims memory functions debug_names next = instantiate_generated (sections_of_shims memory shims debug_names) 1 [] (machine_with functions) next
 
--- the fixup after the shims, whose functions are at 2 and 3, with this for `actual`
+-- the fixup after the shims, whose functions are at 2 and 3, with this for `actual`; a memory is at 0
+abbrev with_memory_and_fixup : Option MemoryType → Option ℕ → List Export → Bool → Outcome
+with_memory_and_fixup memory at actual debug_names = with_shims memory opaque debug_names (λ m. instantiate_generated (sections_of_fixup shims debug_names) 2 (fixup_arguments shims actual 2 0 at) m (λ after. Done after))
+
 abbrev with_fixup : List Export → Bool → Outcome
-with_fixup actual debug_names = with_shims opaque debug_names (λ m. instantiate_generated (sections_of_fixup shims debug_names) 2 (fixup_arguments shims actual 2 0) m (λ after. Done after))
+with_fixup actual debug_names = with_memory_and_fixup None None actual debug_names
 
 -- how a run ended
 record Ended : Type 0 where
@@ -112,11 +117,11 @@ first_end = Some (record {
   events = [];
 })
 
-shims_made : ended (with_shims [] false (λ m. Done m)) ≡ first_end
+shims_made : ended (with_shims None [] false (λ m. Done m)) ≡ first_end
 unfolding digits
 shims_made = refl
 
-shims_made_with_names : ended (with_shims [] true (λ m. Done m)) ≡ first_end
+shims_made_with_names : ended (with_shims None [] true (λ m. Done m)) ≡ first_end
 unfolding digits
 shims_made_with_names = refl
 
@@ -180,3 +185,50 @@ trapped = refl
 forwarded : acts (code_with (Some 1 ∷ Some 0 ∷ [])) 3 (I32Value 5 ∷ []) one_answer ≡ core.Returned [] (record { globals = []; answers = []; events = Called 0 (I32Value 5 ∷ []) ∷ []; moments = [] ∷ [] })
 unfolding acts exec
 forwarded = refl
+
+-- ---- a memory
+
+abbrev one_page : MemoryType
+one_page = record { minimum = 1; maximum = None }
+
+abbrev memory_export : Export
+memory_export = record { space = spaces.CoreMemory; name = codes "$memory"; address = 0 }
+
+abbrev memory_frame : Frame
+memory_frame = record { types = realloc_core ∷ destructor_core ∷ []; functions = 0 ∷ 1 ∷ []; tables = 0 ∷ []; globals = []; memories = 0 ∷ [] }
+
+-- the same as before, and the memory: it is exported behind the table
+abbrev end_with_memory : Option Ended
+end_with_memory = Some (record {
+  code = record { functions = realloc_function memory_frame ∷ destructor_function memory_frame ∷ []; tables = (None ∷ None ∷ []) ∷ []; memories = one_page ∷ [] };
+  instances = record { module_number = 1; given = []; exports = exported 0 1 ++ memory_export ∷ [] } ∷ [];
+  core_instances = (exported 0 1 ++ memory_export ∷ []) ∷ [];
+  events = [];
+})
+
+shims_and_memory_made : ended (with_shims (Some one_page) [] false (λ m. Done m)) ≡ end_with_memory
+unfolding digits
+shims_and_memory_made = refl
+
+-- the fixup finds the table among these exports
+abbrev tables_and_memories : Outcome → Option (List (List (Option ℕ)) × List MemoryType)
+tables_and_memories outcome = option_map (λ (e : Ended). (e.code.tables, e.code.memories)) (ended outcome)
+
+fixup_beside_memory : tables_and_memories (with_memory_and_fixup (Some one_page) (Some 0) actual false) ≡ Some ((Some 1 ∷ Some 0 ∷ []) ∷ [], one_page ∷ [])
+unfolding digits
+fixup_beside_memory = refl
+
+-- a memory alone: there is no table, and no function
+abbrev memory_alone : Option Ended
+memory_alone = Some (record {
+  code = record { functions = opaque; tables = []; memories = one_page ∷ [] };
+  instances = record { module_number = 1; given = []; exports = memory_export ∷ [] } ∷ [];
+  core_instances = (memory_export ∷ []) ∷ [];
+  events = [];
+})
+
+memory_alone_made : ended (instantiate_generated (sections_of_shims (Some one_page) [] false) 1 [] (machine_with opaque) (λ m. Done m)) ≡ memory_alone
+memory_alone_made = refl
+
+memory_alone_with_names : ended (instantiate_generated (sections_of_shims (Some one_page) [] true) 1 [] (machine_with opaque) (λ m. Done m)) ≡ memory_alone
+memory_alone_with_names = refl

@@ -1,10 +1,11 @@
 -- What a run does where the two modules that are generated for shims are instantiated, and what the shims do then (core
 -- standard: instantiation, element segments, `call_indirect`).
-use Rattle.std.specs.Prelude.{◌≡◌, ◌<◌, ◌^◌, ◌+◌, ℕ, suc, Bool, true, List, [], ◌∷◌, ◌++◌, length, map, codes, Option, Some, None, slice_get, slice_set, Contains}
+use Rattle.std.specs.Prelude.{◌≡◌, ◌<◌, ◌^◌, ◌+◌, ℕ, suc, Bool, true, List, [], ◌∷◌, ◌++◌, length, map, codes, Option, Some, None, option_map, slice_get, slice_set, Contains}
 use Rattle.std.specs.Fmt.{decimal}
 use Rattle.std.specs.List.{AllZip}
 use Rattle.comp_bytes.specs.declared.space.Space.TheVariants as spaces
 use Rattle.core_types.specs.declared.types.FuncType.{FuncType}
+use Rattle.core_types.specs.declared.types.MemoryType.{MemoryType}
 use Rattle.core_runs.specs.declared.bracket.AfterHook.TheVariants.{Nothing}
 use Rattle.core_runs.specs.Hooks.{around}
 use Rattle.core_runs.specs.Values.{Value, fit}
@@ -15,7 +16,7 @@ use Rattle.core_runs.specs.Execution.{acts}
 use Rattle.core_runs.specs.Expected.{expected}
 use Rattle.core_runs.specs.Instances.{empty_table}
 use Rattle.comp_runs.specs.Store.{Thing, Export, Store as RunStore}
-use Rattle.comp_runs.specs.Machine.{Scope, Machine, Next, export_named}
+use Rattle.comp_runs.specs.Machine.{Scope, Machine, Next, export_named, export_of}
 use Rattle.comp_runs.specs.Instances.{Arguments, with_module_instance, instantiate_generated}
 use Rattle.shim_plan.specs.Plans.{AreNumbered}
 use Rattle.shim_plan.specs.declared.shims.Shim.{Shim}
@@ -49,13 +50,27 @@ FilledShimsForward =
 
 -- ---- the instance of the shims
 
--- what it exports: each shim under the digits of its place, and the table
+-- what it exports: each shim under the digits of its place; the table, where there are shims; and the memory, where there is one
 abbrev pub shims_exported : ℕ → ℕ → List Shim → List Export
 shims_exported place address [] = []
 shims_exported place address (s ∷ ss) = record { space = spaces.CoreFunc; name = decimal place; address = address } ∷ shims_exported (suc place) (suc address) ss
 
-abbrev pub instance_exports : List Shim → ℕ → ℕ → List Export
-instance_exports shims address table = shims_exported 0 address shims ++ record { space = spaces.CoreTable; name = codes "$imports"; address = table } ∷ []
+abbrev pub table_exported : List Shim → ℕ → List Export
+table_exported [] table = []
+table_exported (s ∷ ss) table = record { space = spaces.CoreTable; name = codes "$imports"; address = table } ∷ []
+
+abbrev pub memory_name : List ℕ
+memory_name = codes "$memory"
+
+abbrev pub memory_at : ℕ → Export
+memory_at address = record { space = spaces.CoreMemory; name = memory_name; address = address }
+
+abbrev pub memory_exported : Option ℕ → List Export
+memory_exported None = []
+memory_exported (Some address) = memory_at address ∷ []
+
+abbrev pub instance_exports : List Shim → ℕ → ℕ → Option ℕ → List Export
+instance_exports shims address table memory = shims_exported 0 address shims ++ (table_exported shims table ++ memory_exported memory)
 
 -- a store with other code, and a machine of these parts
 abbrev pub with_code : RunStore → Store → RunStore
@@ -64,16 +79,31 @@ with_code s code = record s { code = code }
 abbrev pub machine : Scope → RunStore → Now → Machine
 machine c s now = record { scope = c; store = s; now = now }
 
--- the code with more functions, and a table of empty slots
-abbrev pub with_shims : List Shim → List Func → Store → Store
-with_shims shims functions code = record { functions = code.functions ++ functions; tables = code.tables ++ empty_table (length shims) ∷ []; memories = code.memories }
+-- one more table of empty slots, where there are shims
+abbrev pub with_shim_table : List Shim → List (List (Option ℕ)) → List (List (Option ℕ))
+with_shim_table [] tables = tables
+with_shim_table (s ∷ ss) tables = tables ++ empty_table (length (s ∷ ss)) ∷ []
 
--- the instance is made, whatever there was: shims with nothing in their slots, and no event
-pub record ShimsRun (shims : List Shim) (debug_names : Bool) (number : ℕ) (c : Scope) (s : RunStore) : Type 0 where
+-- one more memory, where the module has one; and the address of the next memory, which it then has
+abbrev pub with_memory : Option MemoryType → List MemoryType → List MemoryType
+with_memory None memories = memories
+with_memory (Some type) memories = memories ++ type ∷ []
+
+abbrev pub memory_address : Option MemoryType → Store → Option ℕ
+memory_address None code = None
+memory_address (Some type) code = Some (length code.memories)
+
+-- the code with more functions, and with the table and the memory
+abbrev pub with_shims : Option MemoryType → List Shim → List Func → Store → Store
+with_shims memory shims functions code = record { functions = code.functions ++ functions; tables = with_shim_table shims code.tables; memories = with_memory memory code.memories }
+
+-- The instance is made, whatever there was: shims with nothing in their slots, and no event. Where there are no shims, the address
+-- of the table is that of the next one, and nothing has it.
+pub record ShimsRun (memory : Option MemoryType) (shims : List Shim) (debug_names : Bool) (number : ℕ) (c : Scope) (s : RunStore) : Type 0 where
   pub functions : List Func
-  pub are : AreShimsFrom (with_shims shims functions s.code) (length s.code.tables) 0 (length s.code.functions) shims
-  pub runs : (now : Now) (arguments : Arguments) (next : Next) → instantiate_generated (sections_of_shims shims debug_names) number arguments (machine c s now) next
-      ≡ next (with_module_instance (record { module_number = number; given = []; exports = instance_exports shims (length s.code.functions) (length s.code.tables) }) (machine c (with_code s (with_shims shims functions s.code)) now))
+  pub are : AreShimsFrom (with_shims memory shims functions s.code) (length s.code.tables) 0 (length s.code.functions) shims
+  pub runs : (now : Now) (arguments : Arguments) (next : Next) → instantiate_generated (sections_of_shims memory shims debug_names) number arguments (machine c s now) next
+      ≡ next (with_module_instance (record { module_number = number; given = []; exports = instance_exports shims (length s.code.functions) (length s.code.tables) (memory_address memory s.code) }) (machine c (with_code s (with_shims memory shims functions s.code)) now))
 
 -- ---- the instance of the fixup
 
@@ -90,11 +120,12 @@ abbrev pub with_slots : ℕ → List Export → Store → Store
 with_slots table actual code = record code { tables = slice_set code.tables table (map (λ (e : Export). Some e.address) actual) }
 
 -- the arguments of its instance
-abbrev pub fixup_arguments : List Shim → List Export → ℕ → ℕ → Arguments
-fixup_arguments shims actual address table = (codes "actual", actual) ∷ (codes "shim", instance_exports shims address table) ∷ []
+abbrev pub fixup_arguments : List Shim → List Export → ℕ → ℕ → Option ℕ → Arguments
+fixup_arguments shims actual address table memory = (codes "actual", actual) ∷ (codes "shim", instance_exports shims address table memory) ∷ []
 
--- what is there when it is made: a table with a slot for each shim, and what each is to forward to
+-- what is there when it is made: shims, a table with a slot for each of them, and what each is to forward to
 pub record CanFix (shims : List Shim) (actual : List Export) (table : ℕ) (code : Store) : Type 0 where
+  pub any : shims ≡ [] → ⊥
   pub numbered : AreNumbered 0 shims
   pub room : length shims < 2 ^ 32
   pub each : AllZip (IsActual code) shims actual
@@ -103,15 +134,20 @@ pub record CanFix (shims : List Shim) (actual : List Export) (table : ℕ) (code
   pub size : length slots ≡ length shims
 
 -- The instance is made: each slot holds what is given for the shim of its place. There is no event, and no new function.
-pub record FixupRun (shims : List Shim) (debug_names : Bool) (actual : List Export) (address table number : ℕ) (c : Scope) (s : RunStore) : Type 0 where
+pub record FixupRun (shims : List Shim) (debug_names : Bool) (actual : List Export) (address table : ℕ) (memory : Option ℕ) (number : ℕ) (c : Scope) (s : RunStore) : Type 0 where
   pub given : List Thing
-  pub runs : (now : Now) (next : Next) → instantiate_generated (sections_of_fixup shims debug_names) number (fixup_arguments shims actual address table) (machine c s now) next
+  pub runs : (now : Now) (next : Next) → instantiate_generated (sections_of_fixup shims debug_names) number (fixup_arguments shims actual address table memory) (machine c s now) next
       ≡ next (with_module_instance (record { module_number = number; given = given; exports = [] }) (machine c (with_code s (with_slots table actual s.code)) now))
 
--- ---- the exports of the instance of the shims, by place
+-- ---- the exports of the instance of the shims
 
-pub record ShimsAreFound (shims : List Shim) (address table : ℕ) : Type 0 where
+pub record ShimsAreFound (shims : List Shim) (address table : ℕ) (memory : Option ℕ) : Type 0 where
   -- a place has the shim of its address
-  pub found : (place : ℕ) → place < length shims → length shims < 2 ^ 32 → export_named (decimal place) (instance_exports shims address table) ≡ Some (record { space = spaces.CoreFunc; name = decimal place; address = address + place })
+  pub found : (place : ℕ) → place < length shims → length shims < 2 ^ 32 → export_named (decimal place) (instance_exports shims address table memory) ≡ Some (record { space = spaces.CoreFunc; name = decimal place; address = address + place })
   -- every function among the exports is the shim of a place
-  pub listed : (name : List ℕ) (function : ℕ) → Contains (instance_exports shims address table) (record { space = spaces.CoreFunc; name = name; address = function }) → (place : ℕ) × (place < length shims) × (function ≡ address + place)
+  pub listed : (name : List ℕ) (function : ℕ) → Contains (instance_exports shims address table memory) (record { space = spaces.CoreFunc; name = name; address = function }) → (place : ℕ) × (place < length shims) × (function ≡ address + place)
+  -- the memory is found by its name where there is one, among all exports and among those of memories
+  pub memory_named : length shims < 2 ^ 32 → export_named memory_name (instance_exports shims address table memory) ≡ option_map memory_at memory
+  pub memory_found : export_of spaces.CoreMemory memory_name (instance_exports shims address table memory) ≡ option_map memory_at memory
+  -- every memory among the exports is that one
+  pub memory_listed : (name : List ℕ) (at : ℕ) → Contains (instance_exports shims address table memory) (record { space = spaces.CoreMemory; name = name; address = at }) → (name ≡ memory_name) × (memory ≡ Some at)

@@ -3,6 +3,7 @@ use Rattle.std.specs.Prelude.{ℕ, ◌≤◌, ◌^◌, ◌⊎◌, List, [], ◌�
 use Rattle.byte_encoding.specs.declared.fault.BuildFault.{BuildFault}
 use Rattle.byte_encoding.specs.declared.fault.BuildFault.TheVariants as build
 use Rattle.core_bytes.specs.declared.section.Section.{Section}
+use Rattle.core_types.specs.declared.types.MemoryType.{MemoryType}
 use Rattle.fixup_modules.specs.declared.fault.ShimFault.{ShimFault}
 use Rattle.fixup_modules.specs.declared.fault.ShimFault.TheVariants as faults
 use Rattle.shim_plan.specs.declared.shims.Shim.{Shim}
@@ -11,6 +12,11 @@ use Rattle.shim_plan.specs.declared.shims.Shim.{Shim}
 abbrev pub if_any : List Shim → List Section → Option (List Section)
 if_any [] sections = None
 if_any (s ∷ ss) sections = Some sections
+
+-- a module of these sections, where there are shims or a memory
+abbrev pub if_needed : Option MemoryType → List Shim → List Section → Option (List Section)
+if_needed None shims sections = if_any shims sections
+if_needed (Some type) shims sections = Some sections
 
 -- out of memory, or a count passes what the binary format can hold
 abbrev pub IsFullOrMemory : BuildFault → Type 0

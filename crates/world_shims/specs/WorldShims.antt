@@ -1,8 +1,9 @@
 -- The shims of a world, and the two modules that are generated for them, as values. (The rules are this project's own, over
 -- the core standard's modules.)
-use Rattle.std.specs.Prelude.{ℕ, Bool, List, [], ◌∷◌, length, map}
+use Rattle.std.specs.Prelude.{ℕ, Bool, List, [], ◌∷◌, length, map, Option}
 use Rattle.std.specs.List.{flat_map}
 use Rattle.core_types.specs.declared.types.FuncType.{FuncType}
+use Rattle.core_types.specs.declared.types.MemoryType.{MemoryType}
 use Rattle.core_bytes.specs.declared.section.Section.{Section}
 use Rattle.comp_roles.specs.CoreTypes.{core_type}
 use Rattle.comp_roles.specs.declared.libraries.MainOrAdapter.{MainOrAdapter}
@@ -48,8 +49,9 @@ abbrev pub functions_of : List FuncType → List Shim → List ShimFunction
 functions_of types [] = []
 functions_of types (s ∷ ss) = function_of types s ∷ functions_of (interned types (type_of_shim s)) ss
 
-abbrev pub sections_of_shims : List Shim → Bool → List Section
-sections_of_shims shims debug_names = shim_sections (types_with [] shims) (functions_of [] shims) debug_names
+-- with the memory that main imports, where it imports one
+abbrev pub sections_of_shims : Option MemoryType → List Shim → Bool → List Section
+sections_of_shims memory shims debug_names = shim_sections memory (types_with [] shims) (functions_of [] shims) debug_names
 
 -- ---- the fixup
 

@@ -2,13 +2,13 @@
 
 ghost use Rattle.std.specs.Prelude.{◌≡◌, ◌+◌, ◌<◌, ◌≤◌, ◌^◌, [], ◌∷◌, ◌++◌, length, IfOk, OnOk, IfErr};
 ghost use Rattle.interned_types.specs.Interning.{interned};
-ghost use Rattle.world_shims.specs.Refusals.{IsFullOrMemory, HasTooMany, IsBeyond, AreTooMany, if_any};
+ghost use Rattle.world_shims.specs.Refusals.{IsFullOrMemory, HasTooMany, IsBeyond, AreTooMany, if_needed};
 ghost use Rattle.world_shims.specs.WorldShims.{type_of_shim, types_with, function_of, functions_of, sections_of_shims};
 
 use crate::core_type::core_type;
 use byte_encoding::{BuildFault, count_of, next_count};
 use core_bytes::Module;
-use core_types::{FuncType, ValType};
+use core_types::{FuncType, MemoryType, ValType};
 use interned_types::CoreTypes;
 use shim_modules::{ShimFunction, shim_module};
 use shim_plan::{Shim, Shims};
@@ -91,8 +91,8 @@ fn shim_functions(
     Ok(functions)
 }
 
-/// The module of shims, or `None` where there are no shims: their types, each once, and a function for each shim, in order,
-/// which forwards through the slot of its place.
+/// The module of shims, or `None` where there are no shims and no memory: their types, each once, and a function for each shim, in
+/// order, which forwards through the slot of its place; and the memory, for the module that imports it.
 ///
 /// It is refused with [`BuildFault::TooMany`] only where there are more than 2^32 - 1 shims, or parameters of a shim, and with
 /// [`BuildFault::Memory`] when out of memory.
@@ -100,16 +100,17 @@ fn shim_functions(
 /// Core standard, structure: modules.
 pub fn module_of_shims(
     alloc: Global,
+    memory: Option<MemoryType>,
     shims: &Shims,
     debug_names: bool,
 ) -> Result<Option<Module>, BuildFault>
-    ensures ok { IfOk result (λ made. made ≡ if_any shims.now (sections_of_shims shims.now debug_names)) }
+    ensures ok { IfOk result (λ made. made ≡ if_needed memory shims.now (sections_of_shims memory shims.now debug_names)) }
     ensures count { OnOk result (length shims.now < 2 ^ 32) }
     ensures cause { IfErr result IsFullOrMemory }
     ensures many { IfErr result (AreTooMany shims.now) }
 {
     let mut types = CoreTypes::new(alloc);
     let functions = shim_functions(alloc, &mut types, shims)?;
-    let module = shim_module(alloc, &types, functions.as_slice(), debug_names)?;
+    let module = shim_module(alloc, memory, &types, functions.as_slice(), debug_names)?;
     Ok(module)
 }

@@ -1,4 +1,5 @@
-//! What no clause says: that each call succeeds. The bytes of the modules of one shim are those of `proofs/Worked.antt`.
+//! What no clause says: that each call succeeds. The bytes of the modules of one shim, and of two with a memory, are those of
+//! `proofs/Worked.antt`; those of a memory alone are in the crate `shim_modules`.
 
 ghost use Rattle.std.specs.Prelude.{◌≡◌};
 
@@ -8,6 +9,7 @@ use byte_encoding::BuildFault;
 use comp_lists::{Seq, Text};
 use comp_options::RequiredOptions;
 use core_bytes::Module;
+use core_types::MemoryType;
 use shim_plan::{Shim, ShimKind, Shims};
 use std::alloc::{AllocError, Global};
 use wit_data::{WasmSignature, WasmType};
@@ -79,10 +81,20 @@ fn bytes_of(
     }
 }
 
-/// The bytes of the module of so many shims.
-fn shims_bytes(alloc: Global, count: u32, debug_names: bool) -> Result<Vec<u8>, AllocError> {
+/// The bytes of the module of so many shims, with this memory.
+fn memory_bytes(
+    alloc: Global,
+    memory: Option<MemoryType>,
+    count: u32,
+    debug_names: bool,
+) -> Result<Vec<u8>, AllocError> {
     let shims = some_shims(alloc, count)?;
-    bytes_of(alloc, module_of_shims(alloc, &shims, debug_names))
+    bytes_of(alloc, module_of_shims(alloc, memory, &shims, debug_names))
+}
+
+/// The bytes of the module of so many shims, without a memory.
+fn shims_bytes(alloc: Global, count: u32, debug_names: bool) -> Result<Vec<u8>, AllocError> {
+    memory_bytes(alloc, None, count, debug_names)
 }
 
 /// The bytes of the fixup of so many shims.
@@ -131,4 +143,39 @@ fn twelve_shims_are_filled_in_the_order_of_their_places(rt: HostRuntime) {
     let slots = b"\x09\x12\x01\x00\x41\x00\x0b\x0c\x00\x01\x02\x03\x04\x05\x06\x07\x08\x09\x0a\x0b";
     assert!(rt; shims.ends_with(last));
     assert!(rt; fixup.ends_with(slots));
+}
+
+#[test]
+fn a_memory_alone_is_a_module(rt: HostRuntime) {
+    let memory = Some(MemoryType {
+        minimum: 1,
+        maximum: None,
+    });
+    let bytes = memory_bytes(rt.alloc(), memory, 0, false).expect(&rt, "memory");
+    let expected =
+        b"\x00asm\x01\x00\x00\x00\x01\x01\x00\x05\x03\x01\x00\x01\x07\x0b\x01\x07$memory\x02\x00";
+    assert_eq!(rt; bytes.as_slice(), expected.as_slice());
+}
+
+#[test]
+fn a_memory_has_no_names_of_functions(rt: HostRuntime) {
+    let memory = Some(MemoryType {
+        minimum: 1,
+        maximum: None,
+    });
+    let bytes = memory_bytes(rt.alloc(), memory, 0, true).expect(&rt, "memory");
+    let names = b"\x00\x1d\x04name\x00\x13\x12wit-component:shim\x01\x01\x00";
+    assert!(rt; bytes.len() == 60 && bytes.ends_with(names));
+}
+
+#[test]
+fn a_memory_follows_the_table_of_shims(rt: HostRuntime) {
+    let memory = Some(MemoryType {
+        minimum: 2,
+        maximum: Some(17),
+    });
+    let bytes = memory_bytes(rt.alloc(), memory, 2, false).expect(&rt, "memory");
+    let expected =
+        b"\x00asm\x01\x00\x00\x00\x01\x06\x01\x60\x02\x7f\x7f\x00\x03\x03\x02\x00\x00\x04\x05\x01\x70\x01\x02\x02\x05\x04\x01\x01\x02\x11\x07\x1e\x04\x010\x00\x00\x011\x00\x01\x08$imports\x01\x00\x07$memory\x02\x00\x0a\x19\x02\x0b\x00\x20\x00\x20\x01\x41\x00\x11\x00\x00\x0b\x0b\x00\x20\x00\x20\x01\x41\x01\x11\x00\x00\x0b";
+    assert_eq!(rt; bytes.as_slice(), expected.as_slice());
 }
