@@ -1,6 +1,6 @@
 -- The core modules that are generated for a component: their numbers, their bytes, and what each shim stands for (this
 -- project's own; component model, explainer: core instances).
-use Rattle.std.specs.Prelude.{◌≡◌, ◌<◌, ◌^◌, ℕ, suc, Bool, List, length, Option, Some, None, Contains}
+use Rattle.std.specs.Prelude.{◌≡◌, ◌<◌, ◌^◌, ℕ, suc, Bool, List, length, Option, Some, None, Contains, []}
 use Rattle.std.specs.Map.{lookup}
 use Rattle.std.specs.Option.{option_map, option_and_then}
 use Rattle.comp_lists.specs.Found.{found}
@@ -40,11 +40,12 @@ pub record GeneratedBytes : Type 0 where
   pub shims : List ℕ
   pub fixup : List ℕ
 
--- they encode the modules that are generated for the shims of the world
+-- they encode the modules that are generated for the shims of the world, which has some
 pub record AreGenerated (w : ComponentWorld) (g : GeneratedBytes) : Type 0 where
   pub debug_names : Bool
-  pub shims : Encodes g.shims (sections_of_shims (shims_of w) debug_names)
+  pub shims : Encodes g.shims (sections_of_shims None (shims_of w) debug_names)
   pub fixup : Encodes g.fixup (sections_of_fixup (shims_of w) debug_names)
+  pub any : shims_of w ≡ [] → ⊥
   pub room : length (shims_of w) < 2 ^ 32
 
 -- the same, where there are any

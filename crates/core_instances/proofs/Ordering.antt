@@ -76,6 +76,6 @@ all_added w debug_names a b c d (Some instance) h g f =
     let fixed : List Landmark = ModuleIs f.bytes ∷ InstanceOf (fixup_number w) ∷ [] in
     record {
       generated = Some (record { shims = h.0.bytes; fixup = f.bytes });
-      are_generated = record { debug_names = debug_names; shims = h.0.encodes; fixup = f.encodes; room = h.0.room };
+      are_generated = record { debug_names = debug_names; shims = h.0.encodes; fixup = f.encodes; any = h.1; room = h.0.room };
       grows = subst (λ m. Grows w a d (ModuleIs h.0.bytes ∷ InstanceOf (shims_number w) ∷ m)) (append_assoc (resources_marked w) (users_marked w) fixed) (Grows-then h.0.grows (Grows-then g f.grows));
     }

@@ -235,7 +235,7 @@ fixup_module =
     ∷ sections.Elements (table_fill (0 ∷ 1 ∷ []) ∷ [])
     ∷ []
 
-pub shims_made : sections_of_shims (shims_of world) false ≡ shim_module
+pub shims_made : sections_of_shims None (shims_of world) false ≡ shim_module
 unfolding values_from digits
 shims_made = refl
 
@@ -259,7 +259,7 @@ fixup_encoded = (all_below (encoding_of fixup_module).counts refl, refl)
 
 unfoldable are_generated : AreGenerated world bytes
 unfolding values_from digits
-are_generated = record { debug_names = false; shims = shims_encoded; fixup = fixup_encoded; room = omega arith }
+are_generated = record { debug_names = false; shims = shims_encoded; fixup = fixup_encoded; any = λ e. cc; room = omega arith }
 
 -- ---- a list for it, where r and s have these destructors, and the nested component is given these types for them
 

@@ -201,7 +201,7 @@ names_user w number kind name below (inr e) = absurd (not_shims w number below e
 
 -- the instance of the shims exports them
 pub of_shims : (w : ComponentWorld) (s : Store) (numbers : List ℕ) (user : ℕ) (exports : List Export) (shims : Option ShimsAt) → MayHaveShims w s numbers shims → AreModuleExports w shims s user (shims_number w) exports →
-    (at : ShimsAt) × (shims ≡ Some at) × (exports ≡ instance_exports (shims_of w) at.address at.table) × (length (shims_of w) < 2 ^ 32)
+    (at : ShimsAt) × (shims ≡ Some at) × (exports ≡ instance_exports (shims_of w) at.address at.table None) × (length (shims_of w) < 2 ^ 32)
 of_shims w s numbers user exports shims there (inl k) = absurd (not_shims w (shims_number w) (user_below w (shims_number w) k.of k.listed) refl)
 of_shims w s numbers user exports None there (inr (inl k)) = absurd k
 of_shims w s numbers user exports (Some at) there (inr (inl k)) = (at, refl, k.1, there.room)
@@ -400,10 +400,10 @@ module _ {w : ComponentWorld} {earlier : List Def} {c : Scope} {s : Store} {g : 
       let m : (x : ℕ) × (address_at spaces.CoreInstance h.instance c.items ≡ Some x) × IsModuleInstance w a.shims s (shims_number w) x = module_there h.of in
       let same : m.0 ≡ l.2.from = same_Some m.0 l.2.from (sym m.1 ∙ l.2.at) in
       let exports : m.2.exports ≡ l.2.exports = same_Some m.2.exports l.2.exports (sym m.2.present ∙ (ap (slice_get s.core_instances) same ∙ l.2.present)) in
-      let at : (at : ShimsAt) × (a.shims ≡ Some at) × (m.2.exports ≡ instance_exports (shims_of w) at.address at.table) × (length (shims_of w) < 2 ^ 32) =
+      let at : (at : ShimsAt) × (a.shims ≡ Some at) × (m.2.exports ≡ instance_exports (shims_of w) at.address at.table None) × (length (shims_of w) < 2 ^ 32) =
       of_shims w s (flat_map (at_root item_instantiates) earlier) m.2.user m.2.exports a.shims a.with_shims m.2.each in
       let shim : Export = record { space = spaces.CoreFunc; name = name; address = at.0.address + place } in
-      let found : export_named name l.2.exports ≡ Some shim = ap (export_named name) (sym exports ∙ at.2) ∙ (shims_found (shims_of w) at.0.address at.0.table).found place listed at.3 in
+      let found : export_named name l.2.exports ≡ Some shim = ap (export_named name) (sym exports ∙ at.2) ∙ (shims_found (shims_of w) at.0.address at.0.table None).found place listed at.3 in
       let is : l.2.export ≡ shim = same_Some l.2.export shim (sym l.2.found ∙ found) in
       (l.0, l.1, at.0, at.1, sym l.2.is ∙ ap (λ (y : Export). y.address) is)
 

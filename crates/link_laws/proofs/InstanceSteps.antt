@@ -36,7 +36,7 @@ use Rattle.instance_laws.proofs.Held.{KeepsEntries, keeps_same, keeps_more, keep
 use Rattle.link_laws.proofs.Outcomes.{machine, no_answers, IsNow, IsGood, good_answered, Continues, quiet, users_among, seen_by, Steps, few, one_event, cells, types-cells}
 use Rattle.link_laws.proofs.Steps.{filter-push, with_thing, numbered_at, given_same, export_beside, not_last, agrees_with}
 use Rattle.shim_runs.proofs.Placed.{shims_kept}
-use Rattle.shim_runs.proofs.ShimInstance.{shims_run}
+use Rattle.shim_runs.proofs.ShimInstance.{shims_run, shim_table_there, shim_tables_kept}
 use Rattle.shim_runs.proofs.FixupInstance.{fixup_run}
 use Rattle.world_shims.proofs.Numbered.{shims_numbered}
 use Rattle.shim_plan.specs.declared.shims.Shim.{Shim}
@@ -58,12 +58,13 @@ use Rattle.link_laws.proofs.Kept.{sizes_kept, sizes_set, HasGlobals-kept, IsFill
 
 -- the modules that are generated for the shims of a world
 abbrev pub generated_for : ComponentWorld → Bool → GeneratedModules
-generated_for w debug_names = record { shims = Some (sections_of_shims (shims_of w) debug_names); fixup = Some (sections_of_fixup (shims_of w) debug_names) }
+generated_for w debug_names = record { shims = Some (sections_of_shims None (shims_of w) debug_names); fixup = Some (sections_of_fixup (shims_of w) debug_names) }
 
 -- they are those of the list
 pub record IsGenerated (w : ComponentWorld) (gen : GeneratedModules) : Type 0 where
   pub debug_names : Bool
   pub is : gen ≡ generated_for w debug_names
+  pub any : shims_of w ≡ [] → ⊥
   pub room : length (shims_of w) < 2 ^ 32
 
 abbrev meaning_of_user : WorldModule → ModuleMeaning
@@ -86,7 +87,7 @@ user_meaning w gen number of listed =
     slice_get-append (map meaning_of_user (user_modules w)) (map (λ ss. OfGenerated ss) (generated_sections gen)) number (OfUser of.found.imported of.found.offered)
     (slice_get-map meaning_of_user (user_modules w) number ∙ ap (option_map meaning_of_user) listed)
 
-shims_meaning : (w : ComponentWorld) (gen : GeneratedModules) (h : IsGenerated w gen) → slice_get (module_meanings w gen) (shims_number w) ≡ Some (OfGenerated (sections_of_shims (shims_of w) h.debug_names))
+shims_meaning : (w : ComponentWorld) (gen : GeneratedModules) (h : IsGenerated w gen) → slice_get (module_meanings w gen) (shims_number w) ≡ Some (OfGenerated (sections_of_shims None (shims_of w) h.debug_names))
 shims_meaning w gen h =
     ap (λ x. meaning_at (user_modules w) x (shims_number w)) h.is
     ∙ first_behind meaning_of_user (user_modules w) (map (λ ss. OfGenerated ss) (generated_sections (generated_for w h.debug_names)))
@@ -282,16 +283,16 @@ module _ {w : ComponentWorld} {earlier : List Def} {c : Scope} {s : Store} {g : 
       let numbers : List ℕ = flat_map (at_root item_instantiates) earlier in
       let none : numbers ≡ [] = sym (numbers_of earlier) ∙ h.first in
       let no_instance : s.module_instances ≡ [] = no_entries (λ (u : ModuleInstance). u.module_number) s.module_instances (a.instantiated ∙ none) in
-      let r : ShimsRun shims there.debug_names number c s = shims_run shims there.debug_names number c s in
+      let r : ShimsRun None shims there.debug_names number c s = shims_run None shims there.debug_names number c s in
       let at : ShimsAt = record { address = length s.code.functions; table = length s.code.tables } in
-      let own : List Export = instance_exports shims at.address at.table in
+      let own : List Export = instance_exports shims at.address at.table None in
       let instance : ModuleInstance = record { module_number = number; given = []; exports = own } in
       let t : Thing = record { space = spaces.CoreInstance; address = length s.core_instances } in
-      let s' : Store = record s { code = with_shims shims r.functions s.code; core_instances = s.core_instances ++ own ∷ []; module_instances = s.module_instances ++ instance ∷ [] } in
+      let s' : Store = record s { code = with_shims None shims r.functions s.code; core_instances = s.core_instances ++ own ∷ []; module_instances = s.module_instances ++ instance ∷ [] } in
       let k : Keeps c.items (c.items ++ t ∷ []) s s' = record {
         things = things_kept c.items t s;
         code = keeps_more s.code.functions r.functions;
-        tables = sizes_kept (keeps_more s.code.tables (empty_table (length shims) ∷ []));
+        tables = sizes_kept (record { at = shim_tables_kept shims s.code.tables });
         memories = keeps_same refl;
         known = keeps_same refl;
         core_instances = keeps_more s.core_instances (own ∷ []);
@@ -309,7 +310,7 @@ module _ {w : ComponentWorld} {earlier : List Def} {c : Scope} {s : Store} {g : 
         room = there.room;
         made = r.are;
         exported = AllByRecursion-push (ExportsShims w at) s.module_instances instance (subst (AllByRecursion (ExportsShims w at)) (sym no_instance) tt) (λ e. refl);
-        unfilled = λ no. slice_get-end s.code.tables (empty_table (length shims));
+        unfilled = λ no. shim_table_there None shims r.functions s.code there.any;
         filled = λ yes. absurd (no_fixup yes);
       } in (
         with_thing c t c.imports,
@@ -384,7 +385,7 @@ module _ {w : ComponentWorld} {earlier : List Def} {c : Scope} {s : Store} {g : 
       of : (x : ℕ) × (address_at spaces.CoreInstance h.shims c.items ≡ Some x) × IsModuleInstance w a.shims s (shims_number w) x
       of = module_there a h.of_shims
 
-      found : (at : ShimsAt) × (a.shims ≡ Some at) × (of.2.exports ≡ instance_exports shims at.address at.table) × (length shims < 2 ^ 32)
+      found : (at : ShimsAt) × (a.shims ≡ Some at) × (of.2.exports ≡ instance_exports shims at.address at.table None) × (length shims < 2 ^ 32)
       found = of_shims w s numbers of.2.user of.2.exports a.shims a.with_shims of.2.each
 
       at : ShimsAt
@@ -410,6 +411,7 @@ module _ {w : ComponentWorld} {earlier : List Def} {c : Scope} {s : Store} {g : 
 
       can : CanFix shims actual at.table s.code
       can = record {
+        any = there.any;
         numbered = shims_numbered w;
         room = found.3;
         each = AllZip-weaker (λ shim e f. f.0) shims actual filling;
@@ -418,8 +420,8 @@ module _ {w : ComponentWorld} {earlier : List Def} {c : Scope} {s : Store} {g : 
         size = length-replicate (length shims) None;
       }
 
-      r : FixupRun shims there.debug_names actual at.address at.table (fixup_number w) c s
-      r = fixup_run shims there.debug_names actual at.address at.table (fixup_number w) c s can
+      r : FixupRun shims there.debug_names actual at.address at.table None (fixup_number w) c s
+      r = fixup_run shims there.debug_names actual at.address at.table None (fixup_number w) c s can
 
       instance : ModuleInstance
       instance = record { module_number = fixup_number w; given = r.given; exports = [] }
@@ -471,7 +473,7 @@ module _ {w : ComponentWorld} {earlier : List Def} {c : Scope} {s : Store} {g : 
         filled = λ yes. is_filled;
       }
 
-      arguments_held : (now : Now) → all_some (map (core_argument (machine c s now)) (record { name = codes "actual"; instance = h.actual } ∷ record { name = codes "shim"; instance = h.shims } ∷ [])) ≡ Some (fixup_arguments shims actual at.address at.table)
+      arguments_held : (now : Now) → all_some (map (core_argument (machine c s now)) (record { name = codes "actual"; instance = h.actual } ∷ record { name = codes "shim"; instance = h.shims } ∷ [])) ≡ Some (fixup_arguments shims actual at.address at.table None)
       arguments_held now = rw (inline.1, inline.2.present, of.1, of.2.present, found.2) refl
 
       steps : Steps w gen earlier c s g d

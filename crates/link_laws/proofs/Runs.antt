@@ -196,7 +196,7 @@ users_in_order w (Some b) h =
 may_make : (w : ComponentWorld) (o : Option GeneratedBytes) (h : MayBeGenerated w o) → AllByRecursion (MayMake w (modules_of w o h)) (instance_order (length (user_modules w)) (modules_of w o h))
 may_make w None h =
     AllByRecursion-join (MayMake w no_modules) (user_numbers w) [] (AllByRecursion-weaker (λ n below no. absurd (no below)) (user_numbers w) (users_below w)) tt
-may_make w (Some b) h = each_number (λ n no. record { debug_names = h.debug_names; is = refl; room = h.room }) (instance_order (length (user_modules w)) (generated_for w h.debug_names))
+may_make w (Some b) h = each_number (λ n no. record { debug_names = h.debug_names; is = refl; any = h.any; room = h.room }) (instance_order (length (user_modules w)) (generated_for w h.debug_names))
 
 -- ---- as a list
 
@@ -310,10 +310,10 @@ quiet_shims w m numbers None same h unfixed address s =
     absurd (h (subst (λ k. Contains numbers k) s.of (subst (λ l. Contains l s.made.module_number) same n)))
 quiet_shims w m numbers (Some at) same h unfixed address s =
     let shims : List Shim = shims_of w in
-    let exports : s.made.exports ≡ instance_exports shims at.address at.table =
+    let exports : s.made.exports ≡ instance_exports shims at.address at.table None =
     AllByRecursion-contains (ExportsShims w at) m.store.module_instances s.made h.exported (contained m.store.module_instances s.instance s.made s.present) s.of in
     let place : (place : ℕ) × (place < length shims) × (address ≡ at.address + place) =
-    (shims_found shims at.address at.table).listed s.name address (subst (λ es. Contains es (record { space = spaces.CoreFunc; name = s.name; address = address })) exports s.exported) in
+    (shims_found shims at.address at.table None).listed s.name address (subst (λ es. Contains es (record { space = spaces.CoreFunc; name = s.name; address = address })) exports s.exported) in
     let shim : (shim : Shim) × (slice_get shims place.0 ≡ Some shim) = there shims place.0 place.1 in
     let zero_is : 0 + place.0 ≡ place.0 = omega arith in
     let is : IsShimAt m.store.code at.table address place.0 (type_of_shim shim.0) =

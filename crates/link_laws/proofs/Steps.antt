@@ -661,10 +661,10 @@ module _ {w : ComponentWorld} {earlier : List Def} {c : Scope} {s : Store} {g : 
   shim_found : (instance : ℕ) (name : List ℕ) → AliasesShim w earlier kinds.Func instance name → FindsExport w earlier c s kinds.Func instance name
   shim_found instance name h =
       let m : (x : ℕ) × (address_at spaces.CoreInstance instance c.items ≡ Some x) × IsModuleInstance w a.shims s (shims_number w) x = module_there a h.is in
-      let at : (at : ShimsAt) × (a.shims ≡ Some at) × (m.2.exports ≡ instance_exports (shims_of w) at.address at.table) × (length (shims_of w) < 2 ^ 32) =
+      let at : (at : ShimsAt) × (a.shims ≡ Some at) × (m.2.exports ≡ instance_exports (shims_of w) at.address at.table None) × (length (shims_of w) < 2 ^ 32) =
       of_shims w s (flat_map (at_root item_instantiates) earlier) m.2.user m.2.exports a.shims a.with_shims m.2.each in
       let shim : Export = record { space = spaces.CoreFunc; name = decimal h.place; address = at.0.address + h.place } in
-      let there : export_named name m.2.exports ≡ Some shim = ap₂ export_named h.named at.2 ∙ (shims_found (shims_of w) at.0.address at.0.table).found h.place h.listed at.3 in
+      let there : export_named name m.2.exports ≡ Some shim = ap₂ export_named h.named at.2 ∙ (shims_found (shims_of w) at.0.address at.0.table None).found h.place h.listed at.3 in
       record {
         export = shim;
         space = refl;

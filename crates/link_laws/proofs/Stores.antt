@@ -121,7 +121,7 @@ pub record AreUserExports (w : ComponentWorld) (s : Store) (user number : ℕ) (
 
 abbrev pub AreShimExports : ComponentWorld → Option ShimsAt → ℕ → List Export → Type 0
 AreShimExports w None number exports = ⊥
-AreShimExports w (Some at) number exports = (number ≡ shims_number w) × (exports ≡ instance_exports (shims_of w) at.address at.table)
+AreShimExports w (Some at) number exports = (number ≡ shims_number w) × (exports ≡ instance_exports (shims_of w) at.address at.table None)
 
 abbrev pub AreModuleExports : ComponentWorld → Option ShimsAt → Store → ℕ → ℕ → List Export → Type 0
 AreModuleExports w at s user number exports = AreUserExports w s user number exports ⊎ AreShimExports w at number exports ⊎ (number ≡ fixup_number w)
@@ -436,7 +436,7 @@ pub record AreFilled (w : ComponentWorld) (s : Store) (table : ℕ) : Type 0 whe
 
 -- an instance of the module of shims exports those that are here
 abbrev pub ExportsShims : ComponentWorld → ShimsAt → ModuleInstance → Type 0
-ExportsShims w at i = i.module_number ≡ shims_number w → i.exports ≡ instance_exports (shims_of w) at.address at.table
+ExportsShims w at i = i.module_number ≡ shims_number w → i.exports ≡ instance_exports (shims_of w) at.address at.table None
 
 -- The instance of the shims is made, where these modules are instantiated. Its slots are empty until the fixup is, and then
 -- hold what the shims stand for.

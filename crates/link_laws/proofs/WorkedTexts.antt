@@ -162,7 +162,7 @@ unfolding values_from digits
 one_shim = refl
 
 -- one shim that calls through a table, and what fills its slot
-shims_made : sections_of_shims (only_shim ∷ []) false ≡ table_shim
+shims_made : sections_of_shims None (only_shim ∷ []) false ≡ table_shim
 unfolding digits
 shims_made = refl
 
@@ -191,7 +191,7 @@ fixup_encoded = (all_below (encoding_of table_fixup).counts refl, refl)
 
 unfoldable pub are_generated : AreGenerated world bytes
 unfolding values_from digits
-are_generated = record { debug_names = false; shims = shims_encoded; fixup = fixup_encoded; room = omega arith }
+are_generated = record { debug_names = false; shims = shims_encoded; fixup = fixup_encoded; any = λ e. cc; room = omega arith }
 
 -- ---- a list for it, where the lowering has these options
 

@@ -1,5 +1,5 @@
 -- The module of shims and its instance keep the rules.
-use Rattle.std.proofs.Common.{◌≡◌, ◌∙◌, ◌<◌, ◌^◌, ℕ, Bool, List, [], ◌∷◌, ◌++◌, length, ap, subst, refl, filter_map, inl, inr}
+use Rattle.std.proofs.Common.{◌≡◌, ◌∙◌, ◌<◌, ◌^◌, ℕ, Bool, List, [], ◌∷◌, ◌++◌, length, ap, subst, refl, filter_map, inl, inr, None}
 use Rattle.core_bytes.specs.Modules.{Encodes}
 use Rattle.comp_builder.specs.Built.{Built}
 use Rattle.comp_bytes.proofs.ItemIndices.{in_range}
@@ -29,7 +29,7 @@ still_first bytes old mid appended first =
     ap instances_in appended ∙ (ap (λ l. filter_map instance_number l) (filter_map-append landmark old (defs.Item (items.CoreModule bytes) ∷ [])) ∙ (filter_map-append instance_number (landmarks old) (ModuleIs bytes ∷ []) ∙ ap (λ l. l ++ []) first))
 
 pub adds_shims : (w : ComponentWorld) (debug_names : Bool) (old mid new : List Def) (bytes : List ℕ) (index instance : ℕ) →
-    Encodes bytes (sections_of_shims (shims_of w) debug_names) → length (shims_of w) < 2 ^ 32 → instances_in old ≡ [] → items_in spaces.CoreModule old ≡ shims_number w →
+    Encodes bytes (sections_of_shims None (shims_of w) debug_names) → length (shims_of w) < 2 ^ 32 → instances_in old ≡ [] → items_in spaces.CoreModule old ≡ shims_number w →
     index ≡ items_in spaces.CoreModule old → mid ≡ old ++ defs.Item (items.CoreModule bytes) ∷ [] → IsAt mid spaces.CoreModule index (defs.Item (items.CoreModule bytes)) →
     new ≡ mid ++ defs.Item (items.CoreInstantiate index []) ∷ [] → IsInstanceOf new instance index → AddsShims w debug_names old new instance
 adds_shims w debug_names old mid new bytes index instance encodes room first next is module_added at instance_added made =

@@ -11,7 +11,7 @@ use Rattle.world_shims.specs.WorldShims.{shims_of, sections_of_shims}
 -- the module of shims and its instance, which has this index
 pub record AddsShims (w : ComponentWorld) (debug_names : Bool) (old new : List Def) (instance : ℕ) : Type 0 where
   pub bytes : List ℕ
-  pub encodes : Encodes bytes (sections_of_shims (shims_of w) debug_names)
+  pub encodes : Encodes bytes (sections_of_shims None (shims_of w) debug_names)
   pub room : length (shims_of w) < 2 ^ 32
   pub grows : Grows w old new (ModuleIs bytes ∷ InstanceOf (shims_number w) ∷ [])
   pub made : IsInstanceOf new instance (shims_number w)

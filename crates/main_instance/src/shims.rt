@@ -1,7 +1,7 @@
 //! The module of shims, and its instance.
 #![tactic(auto, using(crate::proofs::Growth::growing))]
 
-ghost use Rattle.std.specs.Prelude.{◌≡◌, ◌<◌, ◌^◌, [], length, IfOk, IfErr, OnOk};
+ghost use Rattle.std.specs.Prelude.{◌≡◌, ◌<◌, ◌^◌, [], length, None, IfOk, IfErr, OnOk};
 ghost use Rattle.comp_terms.specs.Rules.{Grows};
 ghost use Rattle.comp_worlds.specs.Encodable.{IsEncodable};
 ghost use Rattle.main_instance.specs.Sources.{IsShimAlias, IsShimInstance};
@@ -28,7 +28,7 @@ fn instantiate_shims(
     module: &Module,
     debug_names: bool,
 ) -> Result<u32, BuildFault>
-    requires module { «module».now ≡ sections_of_shims (shims_of root.old.world.now) debug_names }
+    requires module { «module».now ≡ sections_of_shims None (shims_of root.old.world.now) debug_names }
     requires room { length (shims_of root.old.world.now) < 2 ^ 32 }
     requires first { instances_in root.old.items.defs ≡ [] }
     requires next { items_in spaces.CoreModule root.old.items.defs ≡ shims_number root.old.world.now }
@@ -91,7 +91,7 @@ pub fn encode_shim_instantiation(
     ensures added { IfOk result (MayAddShims root.old.world.now debug_names root.old.items.defs root.new.items.defs) }
     ensures cause { IfErr result IsRefusal }
 {
-    match module_of_shims(root.items.allocator(), shims, debug_names)? {
+    match module_of_shims(root.items.allocator(), None, shims, debug_names)? {
         Some(module) => {
             let instance = instantiate_shims(root, &module, debug_names)?;
             Ok(Some(instance))

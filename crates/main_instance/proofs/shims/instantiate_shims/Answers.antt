@@ -1,4 +1,4 @@
-use Rattle.std.proofs.Common.{◌≡◌, [], ◌∷◌, ◌++◌, List, ap, subst, sym}
+use Rattle.std.proofs.Common.{◌≡◌, [], ◌∷◌, ◌++◌, List, ap, subst, sym, None}
 use Rattle.comp_builder.specs.Built.{Built}
 use Rattle.core_bytes.specs.Modules.{Encodes}
 use Rattle.core_bytes.specs.declared.section.Section.{Section}
@@ -27,7 +27,7 @@ returns-clause-added c =
     let mid : List Def = c.core_module-2.new.self.defs in
     let new : List Def = c.core_instance.new.self.defs in
     let index = c.in_ok-index.index in
-    let ss : List Section = sections_of_shims (shims_of w) c.args.debug_names in
+    let ss : List Section = sections_of_shims None (shims_of w) c.args.debug_names in
     let encodes : Encodes c.as_slice.result.now ss = subst (λ b. Encodes b ss) (sym c.as_slice.ensures) (subst (λ (s : List Section). Encodes c.in_ok-module.module s) c.requires.module c.in_ok-module.ensures.ok) in
     let added : new ≡ mid ++ defs.Item (items.CoreInstantiate index []) ∷ [] =
     subst (λ (as' : List CoreArgument). new ≡ mid ++ defs.Item (items.CoreInstantiate index as') ∷ []) c.new.ensures (ap (λ (b : Built). b.defs) c.in_ok-instance.ensures.adds.1) in
