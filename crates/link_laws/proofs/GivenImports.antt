@@ -110,31 +110,33 @@ module _ (w : ComponentWorld) (ok : IsWorld w) (s : Store) (globals : List ValTy
   opaque_typed address type o = record { function = Opaque o.1.what type; present = o.1.present; typed = refl }
 
   -- what has a core type of functions is a function
-  function_typed : (space : Space) (address : ℕ) (role : Import) (type : FuncType) → IsImportRole w role → type_of_import w.resolve (items_of w) role ≡ Some (externs.Func type) → (IsServedIn w s spaces.CoreMemory address (link_of w of role) → ⊥) →
-      IsServedIn w s space address (link_of w of role) → HasType s globals space address (externs.Func type)
-  function_typed spaces.CoreFunc address role type right fits no_memory h = opaque_typed address type (served_opaque w ok s of address role type right fits h)
-  function_typed spaces.CoreMemory address role type right fits no_memory h = absurd (no_memory h)
-  function_typed space address role type right fits no_memory h = absurd h
+  function_typed : (space : Space) (address : ℕ) (role : Import) (type : FuncType) → IsImportRole w role → type_of_import w.resolve (items_of w) role ≡ Some (externs.Func type) → (IsServedIn w s spaces.CoreTable address (link_of w of role) → ⊥) →
+      (IsServedIn w s spaces.CoreMemory address (link_of w of role) → ⊥) → (IsServedIn w s spaces.CoreGlobal address (link_of w of role) → ⊥) → IsServedIn w s space address (link_of w of role) → HasType s globals space address (externs.Func type)
+  function_typed spaces.CoreFunc address role type right fits no_table no_memory no_global h = opaque_typed address type (served_opaque w ok s of address role type right fits h)
+  function_typed spaces.CoreTable address role type right fits no_table no_memory no_global h = absurd (no_table h)
+  function_typed spaces.CoreMemory address role type right fits no_table no_memory no_global h = absurd (no_memory h)
+  function_typed spaces.CoreGlobal address role type right fits no_table no_memory no_global h = absurd (no_global h)
+  function_typed space address role type right fits no_table no_memory no_global h = absurd h
 
   pub role_typed : (space : Space) (address : ℕ) (role : Import) (type : ExternType) → IsImportRole w role → FitsRole w role type → IsServedIn w s space address (link_of w of role) → HasType s globals space address type
   role_typed space address (imports.WorldFunc (keys.Name text) function abi) type right fits h =
       let x : (f : Function) × (root_function_at (items_of w).imports (keys.Name text) ≡ Some f) × (called_type w.resolve abi f ≡ type) =
       mapped_some (called_type w.resolve abi) (root_function_at (items_of w).imports (keys.Name text)) type fits in
       let core : FuncType = core_type (signature abi w.resolve.types x.0) in
-      subst (HasType s globals space address) x.2 (function_typed space address (imports.WorldFunc (keys.Name text) function abi) core right (fits ∙ ap (λ (t : ExternType). Some t) (sym x.2)) (λ no. no) h)
+      subst (HasType s globals space address) x.2 (function_typed space address (imports.WorldFunc (keys.Name text) function abi) core right (fits ∙ ap (λ (t : ExternType). Some t) (sym x.2)) (λ no. no) (λ no. no) (λ no. no) h)
   role_typed space address (imports.InterfaceFunc key id function abi) type right fits h =
       let x : (f : Function) × (found function (functions_of w.resolve id) ≡ Some f) × (called_type w.resolve abi f ≡ type) =
       mapped_some (called_type w.resolve abi) (found function (functions_of w.resolve id)) type fits in
       let core : FuncType = core_type (signature abi w.resolve.types x.0) in
-      subst (HasType s globals space address) x.2 (function_typed space address (imports.InterfaceFunc key id function abi) core right (fits ∙ ap (λ (t : ExternType). Some t) (sym x.2)) (λ no. no) h)
+      subst (HasType s globals space address) x.2 (function_typed space address (imports.InterfaceFunc key id function abi) core right (fits ∙ ap (λ (t : ExternType). Some t) (sym x.2)) (λ no. no) (λ no. no) (λ no. no) h)
   role_typed space address (imports.ImportedResourceDrop key interface id) type right fits h =
-      subst (HasType s globals space address) (same_Some drop_type type fits) (function_typed space address (imports.ImportedResourceDrop key interface id) (resource_core Drop) right refl (λ no. no) h)
+      subst (HasType s globals space address) (same_Some drop_type type fits) (function_typed space address (imports.ImportedResourceDrop key interface id) (resource_core Drop) right refl (λ no. no) (λ no. no) (λ no. no) h)
   role_typed space address (imports.ExportedResourceDrop key id) type right fits h =
-      subst (HasType s globals space address) (same_Some drop_type type fits) (function_typed space address (imports.ExportedResourceDrop key id) (resource_core Drop) right refl (λ no. no) h)
+      subst (HasType s globals space address) (same_Some drop_type type fits) (function_typed space address (imports.ExportedResourceDrop key id) (resource_core Drop) right refl (λ no. no) (λ no. no) (λ no. no) h)
   role_typed space address (imports.ExportedResourceRep key id) type right fits h =
-      subst (HasType s globals space address) (same_Some handle_type type fits) (function_typed space address (imports.ExportedResourceRep key id) (resource_core Rep) right refl (λ no. no) h)
+      subst (HasType s globals space address) (same_Some handle_type type fits) (function_typed space address (imports.ExportedResourceRep key id) (resource_core Rep) right refl (λ no. no) (λ no. no) (λ no. no) h)
   role_typed space address (imports.ExportedResourceNew key id) type right fits h =
-      subst (HasType s globals space address) (same_Some handle_type type fits) (function_typed space address (imports.ExportedResourceNew key id) (resource_core New) right refl (λ no. no) h)
+      subst (HasType s globals space address) (same_Some handle_type type fits) (function_typed space address (imports.ExportedResourceNew key id) (resource_core New) right refl (λ no. no) (λ no. no) (λ no. no) h)
   role_typed space address (imports.MainModuleMemory memory) type right fits h =
       subst (HasType s globals space address) (same_Some (externs.Memory memory) type fits) (main_memory_typed w ok s globals typed space address memory right h)
   role_typed space address (imports.MainModuleExport name kind) type right fits h =

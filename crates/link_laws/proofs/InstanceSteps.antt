@@ -5,7 +5,7 @@ use Rattle.std.proofs.lemmas.Option.{none-some, same_Some, slice_get-map}
 use Rattle.std.specs.Option.{option_map}
 use Rattle.std.specs.Prelude.{Contains, codes}
 use Rattle.std.specs.List.{slice_get, flat_map, AllZip, AllByRecursion, filter_map, slice_set, range_with_len}
-use Rattle.comp_lists.proofs.Lists.{slice_get-append, slice_get-end, AllZip-weaker, AllByRecursion-weaker, AllByRecursion-push, AllByRecursion-contains}
+use Rattle.comp_lists.proofs.Lists.{length-AllZip, slice_get-append, slice_get-end, AllZip-weaker, AllByRecursion-weaker, AllByRecursion-push, AllByRecursion-contains}
 use Rattle.comp_bytes.specs.Spaces.{kind_space, items_in}
 use Rattle.comp_bytes.specs.declared.space.Space.TheVariants as spaces
 use Rattle.comp_bytes.specs.declared.def.CoreArgument.{CoreArgument}

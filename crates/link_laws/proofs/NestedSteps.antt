@@ -5,6 +5,7 @@ use Rattle.std.proofs.lemmas.Option.{none-some, same_Some, get_or_from_slice_get
 use Rattle.std.specs.List.{slice_get, AllZip, AllByRecursion}
 use Rattle.std.specs.Option.{option_map}
 use Rattle.std.specs.Str.{bytes_eq}
+use Rattle.core_types.specs.declared.types.ValType.{ValType}
 use Rattle.comp_lists.proofs.Lists.{slice_get-end, AllZip-weaker, AllByRecursion-weaker}
 use Rattle.comp_bytes.proofs.ItemIndices.{IsAt-append}
 use Rattle.comp_bytes.specs.ItemIndices.{IsAt}

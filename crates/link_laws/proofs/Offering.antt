@@ -135,10 +135,10 @@ exports_named globals (e ∷ es) (o ∷ os) k = ((k.0.named, k.0.is), exports_na
 exports_named globals [] (o ∷ os) k = absurd k
 exports_named globals (e ∷ es) [] k = absurd k
 
-at_place : {P : ModuleInstance → Type 0} (us : List ModuleInstance) (n : ℕ) (u : ModuleInstance) → AllByRecursion P us → slice_get us n ≡ Some u → P u
-at_place [] n u h e = absurd (none-some u e)
-at_place {P} (x ∷ us) zero u h e = subst P (same_Some x u e) h.0
-at_place (x ∷ us) (suc n) u h e = at_place us n u h.1 e
+at_place : (P : ModuleInstance → Type 0) (us : List ModuleInstance) (n : ℕ) (u : ModuleInstance) → AllByRecursion P us → slice_get us n ≡ Some u → P u
+at_place P [] n u h e = absurd (none-some u e)
+at_place P (x ∷ us) zero u h e = subst P (same_Some x u e) h.0
+at_place P (x ∷ us) (suc n) u h e = at_place P us n u h.1 e
 
 module _ (w : ComponentWorld) (ok : IsWorld w) (s : Store) (globals : List ValType) (typed : AllByRecursion (HasGlobals w globals) s.module_instances) where
   -- a global that a user module exports has the type that validation found
@@ -147,7 +147,7 @@ module _ (w : ComponentWorld) (ok : IsWorld w) (s : Store) (globals : List ValTy
       let u : ModuleInstance = h.instance.instance in
       let of : WorldModule = h.of.world_module in
       let listed : slice_get (user_modules w) u.module_number ≡ Some of = ap (slice_get (user_modules w)) h.instance.of ∙ h.of.listed in
-      let all : AllZip (HasGlobalType globals) u.exports of.found.offered = at_place {HasGlobals w globals} s.module_instances h.user u typed h.instance.present of listed in
+      let all : AllZip (HasGlobalType globals) u.exports of.found.offered = at_place (HasGlobals w globals) s.module_instances h.user u typed h.instance.present of listed in
       let x = found-zip (λ (y : Export) (t : ExternType). IsGlobalTyped globals y.address t) e.name (map (λ (y : Export). (y.name, y)) u.exports) of.found.offered h.type (exports_named globals u.exports of.found.offered all) h.offered in
       let same : x.0 ≡ record { space = space; name = e.name; address = address } = same_Some x.0 (record { space = space; name = e.name; address = address }) (sym x.1 ∙ h.exported) in
       subst (λ (y : Export). IsGlobalTyped globals y.address h.type) same x.2

@@ -397,7 +397,7 @@ links n w ds ok apart built = record {
         let those : List ℕ = flat_map (at_root item_instantiates) before in
         let may_before : AllByRecursion (MayMake w gen) those =
         AllByRecursion-front (MayMake w gen) those (flat_map (at_root item_instantiates) after) (subst (AllByRecursion (MayMake w gen)) (ap (flat_map (at_root item_instantiates)) whole ∙ flat_map-append (at_root item_instantiates) before after) may) in
-        let to : Resolves w gen [] before (fresh_machine []).scope (fresh_machine []).store 0 =
+        let to : Resolves w gen [] before (fresh_machine []).scope (fresh_machine []).store [] =
         resolves w gen ok [] before (fresh_machine []).scope (fresh_machine []).store [] (start w) may_before (right_before w [] before after (subst (RightAfter w []) whole built.right)) in
         let is : (m.scope ≡ to.0) × (m.store ≡ to.1) × IsNow (seen_by w before) to.2 m.now =
         done_with to.0 to.1 to.2 (seen_by w before) (asked_by w before) answers (outcome w gen before answers) m (to.3 [] (fresh_machine answers).now (fresh answers)) done in

@@ -50,9 +50,12 @@ use Rattle.comp_trees.specs.Flattening.{tree_signature}
 use Rattle.wit_data.specs.declared.functions.AbiVariant.TheVariants.{GuestImport, GuestImportAsync}
 use Rattle.comp_inventories.proofs.Inventories.{inventory-push}
 use Rattle.core_types.specs.declared.types.FuncType.{FuncType}
+use Rattle.core_types.specs.declared.types.GlobalType.{GlobalType}
+use Rattle.core_types.specs.declared.types.ValType.{ValType}
 use Rattle.comp_worlds.specs.declared.world.ComponentWorld.{ComponentWorld}
-use Rattle.comp_worlds.specs.declared.world.ValidatedModule.{ValidatedModule}
-use Rattle.core_runs.specs.Store.{Opaque, Now}
+use Rattle.core_runs.specs.Instances.{there_is, type_of}
+use Rattle.core_runs.specs.Store.{Opaque, Cell, Now}
+use Rattle.core_runs.specs.Values.{same_value_type}
 use Rattle.comp_runs.specs.Store.{Thing, Export, HeldOption, HeldEncoding, HeldMemory, HeldRealloc, HeldPostReturn, HeldAsync, HeldCallback, CoreItem, Lowering, IntrinsicOf, Function, Imported, Lifting, TypeItem, TreeOf, ImportedResource, OwnResource, item_tree, tree_held, own_resources as resources_among, InstanceTypeOf, ModuleInstance, Store}
 use Rattle.comp_links.specs.Targets.{ExportRef, ExportOf, ResourceFunction, New, Rep, Drop}
 use Rattle.comp_links.specs.Lists.{required_keys, provided_resources}
@@ -75,9 +78,9 @@ use Rattle.link_laws.specs.Composition.{GeneratedModules, at_root, item_instanti
 use Rattle.link_laws.specs.Linking.{module_meanings}
 use Rattle.link_laws.proofs.Zips.{all_some-self}
 use Rattle.link_laws.proofs.Outcomes.{machine, no_answers, quiet, users_among, Steps}
-use Rattle.link_laws.proofs.Stores.{IsOpaqueOf, IsUserItem, IsUserExport, IsUserInstance, ShimsAt, IsModuleInstance, IsNamedEntry, ExportsShims, MayHaveShims, IsTypeAt, resource_core, IsResourceItem, DefIs, Means, makes, IsTypeEntry, entry_of, IsFunctionEntry, IsInstanceThing, IsPlannedUser, IsAliasedItem, IsHeldOption, NumberedFrom, Agrees, AreKeyExports, IsShimGiven, IsDestroyedBy, IsOwnResource, AreResources}
+use Rattle.link_laws.proofs.Stores.{IsOpaqueOf, HasSlots, IsUserItem, IsUserExport, IsUserInstance, ShimsAt, IsModuleInstance, IsNamedEntry, ExportsShims, MayHaveShims, IsTypeAt, resource_core, IsResourceItem, DefIs, Means, makes, IsTypeEntry, entry_of, IsFunctionEntry, IsInstanceThing, IsPlannedUser, IsAliasedItem, IsHeldOption, NumberedFrom, HasGlobals, Agrees, AreKeyExports, IsShimGiven, IsDestroyedBy, IsOwnResource, AreResources}
 use Rattle.link_laws.proofs.Given.{of_shims, module_there, address_there, all_held, scope_there, entry_there, held_there, type_there, instance_type_there, instance_there, imported_there, user_there, space_of_kind, offered_there, shim_there}
-use Rattle.link_laws.proofs.Plain.{only, IsGivenType, IsGivenImport}
+use Rattle.link_laws.proofs.Plain.{only}
 use Rattle.link_laws.proofs.Kept.{sizes_kept, ShimsKept, shims_same, MayHaveShims-kept, keeps_all, IsHeldOption-kept, Keeps, address_at-append, things_kept, keeps_store, keeps_type, keeps_function, keeps_opaque, keeps_core_instance, keeps_module, Means-kept, IsTypeEntry-kept, IsFunctionEntry-kept, IsInstanceThing-kept, IsPlannedUser-kept, AreKeyExports-kept, AreResources-more, AreResources-push}
 
 -- a list without generated modules
