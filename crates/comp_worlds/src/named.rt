@@ -103,10 +103,7 @@ fn absent_in_fields<'a, V>(
 }
 
 /// The first such name in what the imports from one module are given.
-fn absent_in_group<'a, V>(
-    table: &Keyed<Text, V>,
-    instance: &'a ImportInstance,
-) -> Option<&'a Text>
+fn absent_in_group<'a, V>(table: &Keyed<Text, V>, instance: &'a ImportInstance) -> Option<&'a Text>
     ensures { option_copied result ≡ specs.absent_in_group table.now instance.now }
 {
     match instance {
@@ -129,10 +126,7 @@ fn absent_in_imports<'a, V>(table: &Keyed<Text, V>, imports: &'a ImportMap) -> O
 
 /// The first adapter that an adapter names and that is not in a table: in its arguments, or as a module whose instance, or an item of
 /// that, its imports are given.
-pub fn absent_adapter<'a, V>(
-    table: &Keyed<Text, V>,
-    adapter: &'a WorldAdapter,
-) -> Option<&'a Text>
+pub fn absent_adapter<'a, V>(table: &Keyed<Text, V>, adapter: &'a WorldAdapter) -> Option<&'a Text>
     ensures { option_copied result ≡ specs.absent_adapter table.now adapter.now }
 {
     match absent_argument(table, &adapter.library_info) {

@@ -23,7 +23,7 @@ use Rattle.root_imports.specs.declared.met_types.MetTypes.{MetTypes}
 use Rattle.comp_links.specs.Links.{link_of}
 use Rattle.comp_terms.specs.Terms.{CoreExport, Term, IsInstanceOf, Is}
 use Rattle.comp_terms.specs.Terms as terms
-use Rattle.comp_terms.specs.Planned.{IsItemFor, IsShimFor, IsGivenFor, IsEntryFor, IsInlineInstanceFor, SatisfiesImports, IsArgumentFor}
+use Rattle.comp_terms.specs.Planned.{IsItemFor, IsShimFor, IsGivenFor, IsEntryFor, IsInlineInstanceFor, IsArgumentFor}
 use Rattle.comp_terms.specs.Rules.{IsEntry}
 use Rattle.wit_types.specs.declared.maps.TypeEncodingMaps.{TypeEncodingMaps}
 use Rattle.comp_items.specs.Items.{Extends}
@@ -58,12 +58,9 @@ module _ {w : ComponentWorld} {old new : List Def} (g : Longer old new) where
   pub IsInlineInstanceFor-kept : {of : UserModule} {b : ℕ} {fields : List (List ℕ × Import)} → IsInlineInstanceFor w of old b fields → IsInlineInstanceFor w of new b fields
   IsInlineInstanceFor-kept {of} {b} {fields} h = record { entries = h.entries; made = at-kept g h.made; each = AllZip-weaker (λ x y. IsEntryFor-kept) h.entries fields h.each }
 
-  satisfied-kept : {of : UserModule} {index : ℕ} (group : ImportInstance) → SatisfiesImports w of old index group → SatisfiesImports w of new index group
-  satisfied-kept (instances.Names fields) h = IsInlineInstanceFor-kept h
-  satisfied-kept (instances.Whole which) h = record { number = h.number; of = h.of; is = instance-kept g h.is }
-
   pub IsArgumentFor-kept : {of : UserModule} {a : CoreArgument} {group : List ℕ × ImportInstance} → IsArgumentFor w of old a group → IsArgumentFor w of new a group
-  IsArgumentFor-kept {of} {a} {group} h = record { named = h.named; serves = satisfied-kept group.1 h.serves }
+  IsArgumentFor-kept {of} {a} {group = (name, instances.Names fields)} h = record { named = h.named; serves = IsInlineInstanceFor-kept h.serves }
+  IsArgumentFor-kept {of} {a} {group = (name, instances.Whole which)} h = record { named = h.named; serves = record { number = h.serves.number; of = h.serves.of; is = instance-kept g h.serves.is } }
 
 -- ---- the sources hold what they held
 

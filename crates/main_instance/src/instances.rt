@@ -375,7 +375,11 @@ impl ImportSources<'_> {
     {
         match instance {
             ImportInstance::Names(fields) => self.inline_instance(root, module, fields),
-            ImportInstance::Whole(which) => Ok(self.whole_instance(root.items.allocator(), module, which)?),
+            ImportInstance::Whole(which) => Ok(self.whole_instance(
+                root.items.allocator(),
+                module,
+                which,
+            )?),
         }
     }
 

@@ -2,8 +2,8 @@ use Rattle.std.proofs.Common.{rules}
 use Rattle.main_instance.proofs.OfMain.{made_there, item_grows, item_given}
 use Rattle.main_instance.proofs.instances.ImportSources.item.Goals as goal
 
-pub instance_of-instance-requires-clause-there : goal.instance_of-instance-requires-clause-there
-instance_of-instance-requires-clause-there c = made_there c.args.root.now.world.now c.args.root.now.items.defs c.args.self.now.main c.args.self.now.adapters.now c.args.item.now.which c.requires.made
+pub instance_of-instance-requires : goal.instance_of-instance-requires
+instance_of-instance-requires c = record { there = made_there c.args.root.now.world.now c.args.root.now.items.defs c.args.self.now.main c.args.self.now.adapters.now c.args.item.now.which c.requires.made }
 
 pub returns-clause-grows : goal.returns-clause-grows
 returns-clause-grows c =

@@ -4,7 +4,7 @@ use Rattle.comp_links.specs.Modules.{UserImport}
 use Rattle.comp_links.specs.Roles.{field_path, is_main_memory}
 use Rattle.comp_worlds.specs.Made.{modules_of_imports}
 use Rattle.comp_worlds.specs.Uses.{imports_of}
-use Rattle.comp_worlds.specs.Worlds.{IsImportRole}
+use Rattle.comp_worlds.specs.Worlds.{IsImportRole, IsNotOfMain}
 use Rattle.core_options.proofs.Refusals.{memory_import_refused}
 use Rattle.core_options.specs.Causes.{IsCauseAmong}
 use Rattle.shim_targets.proofs.AdapterShims.{adapter_shim_there}
@@ -14,7 +14,7 @@ use Rattle.comp_roles.specs.CoreImports.{CoreImport}
 use Rattle.core_options.specs.MainOptions.{user_of}
 use Rattle.shim_targets.proofs.Users.{among_all}
 use Rattle.main_instance.specs.Sources.{IsMade}
-use Rattle.main_instance.proofs.OfMain.{item_named}
+use Rattle.main_instance.proofs.OfMain.{behind, item_named}
 use Rattle.main_instance.proofs.Serving.{handed_on, import_role, user_import}
 use Rattle.main_instance.proofs.instances.ImportSources.materialize_import.Goals as goal
 
@@ -45,6 +45,18 @@ new_of_own-requires-clause-own c =
     let it = c.in-ExportedResourceNew in
     record { key = it.field-0; own = subst (λ (role : Import). IsImportRole w role) it.is (import_role w (user_of c.args.self.now.user.which) c.args.self.now.user.found.now c.requires.sources.user.named c.requires.sources.valid (record { module_name = c.args.module.now; field = c.args.field.now; role = c.args.import.now }) c.requires.present) }
 
+pub main_memory-requires-clause-behind : goal.main_memory-requires-clause-behind
+main_memory-requires-clause-behind c =
+    let u = c.args.self.now.user in
+    let i : CoreImport = record { module_name = c.args.module.now; field = c.args.field.now; role = c.args.import.now } in
+    behind c.args.root.now.world.now c.requires.sources.valid.valid (user_of u.which) u.found.now c.requires.sources.user.named i c.requires.present (λ h. subst IsNotOfMain c.in-MainModuleMemory.is h) c.args.root.now.items.defs c.args.self.now.main c.requires.sources.main
+
+pub main_export-requires-clause-behind : goal.main_export-requires-clause-behind
+main_export-requires-clause-behind c =
+    let u = c.args.self.now.user in
+    let i : CoreImport = record { module_name = c.args.module.now; field = c.args.field.now; role = c.args.import.now } in
+    behind c.args.root.now.world.now c.requires.sources.valid.valid (user_of u.which) u.found.now c.requires.sources.user.named i c.requires.present (λ h. subst IsNotOfMain c.in-MainModuleExport.is h) c.args.root.now.items.defs c.args.self.now.main c.requires.sources.main
+
 pub main_export-requires-clause-offered : goal.main_export-requires-clause-offered
 main_export-requires-clause-offered c =
     let w = c.args.root.now.world.now in
@@ -57,7 +69,7 @@ item-requires-clause-made c =
     let u = c.args.self.now.user in
     let it = c.in-Item in
     let i : CoreImport = record { module_name = c.args.module.now; field = c.args.field.now; role = c.args.import.now } in
-    AllByRecursion-contains (IsMade w c.args.root.now.items.defs c.args.self.now.main c.args.self.now.adapters.now) (modules_of_imports u.found.now) it.item.now.which c.requires.sources.made (item_named u.found.now i it.item.now it.is c.requires.present)
+    AllByRecursion-contains (IsMade w c.args.root.now.items.defs c.args.self.now.main c.args.self.now.adapters.now) (modules_of_imports u.found.now) it.item.which c.requires.sources.made (item_named u.found.now i it.item it.is c.requires.present)
 
 pub item-requires-clause-offered : goal.item-requires-clause-offered
 item-requires-clause-offered c =
