@@ -302,3 +302,4 @@ module _ (w : ComponentWorld) where
     key_refused (faults.NoMemory place) r = absurd r
     key_refused (faults.NoRealloc place) r = absurd r
     key_refused (faults.NoEncoding place) r = absurd r
+    key_refused (faults.NotYetMade adapter name) r = absurd r

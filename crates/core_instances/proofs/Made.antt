@@ -34,12 +34,12 @@ use Rattle.core_instances.specs.declared.own_resources.ShimSources.{ShimSources}
 use Rattle.core_instances.specs.Instances.{AreImportsMade}
 
 -- what names no module needs none
-none_made : {w : ComponentWorld} {ds : List Def} (main : Option ℕ) (adapters : List (List ℕ × ℕ)) (named : List MainOrAdapter) → named ≡ [] → AllByRecursion (IsMade w ds main adapters) named
-none_made {w} {ds} main adapters named none = subst (AllByRecursion (IsMade w ds main adapters)) (sym none) tt
+none_made : (w : ComponentWorld) (ds : List Def) (main : Option ℕ) (adapters : List (List ℕ × ℕ)) (named : List MainOrAdapter) → named ≡ [] → AllByRecursion (IsMade w ds main adapters) named
+none_made w ds main adapters named none = subst (AllByRecursion (IsMade w ds main adapters)) (sym none) tt
 
 module _ {w : ComponentWorld} {met : MetTypes} {old new : Built} {maps : TypeEncodingMaps} {instances : List (InterfaceId × ℕ)} (g : Extends old new) where
   pub sources_after : (s : ImportSources) → IsUser w s.user → AreImportsMade w s.functions.now met old.defs maps instances → AreExportsMet w met → s.shims.now ≡ shims_of w → IsShimInstance w new.defs s.shim_instance → user_of s.user.which ≡ Main → s.user.found.now ≡ w.main → AreSources w s met new.defs maps instances
-  sources_after s user h exports planned there main found = record { made = none_made s.main s.adapters.now (modules_of_imports s.user.found.now) (ap modules_of_imports found ∙ none_named w h.valid.valid); main = subst (λ of. IsMainInstance new.defs of s.main) (sym main) tt; user = user; exports = exports; valid = h.valid; imports = FindsImports-kept (longer g) h.imports; used = h.used; shims = planned; shim_instance = there; tables = tables_kept w met instances old new maps g h.tables; passed = h.passed }
+  sources_after s user h exports planned there main found = record { made = none_made w new.defs s.main s.adapters.now (modules_of_imports s.user.found.now) (ap modules_of_imports found ∙ none_named w h.valid.valid); main = subst (λ of. IsMainInstance new.defs of s.main) (sym main) tt; user = user; exports = exports; valid = h.valid; imports = FindsImports-kept (longer g) h.imports; used = h.used; shims = planned; shim_instance = there; tables = tables_kept w met instances old new maps g h.tables; passed = h.passed }
 
   pub fills_after : (s : FillSources) → AreImportsMade w s.functions.now met old.defs maps instances → AreUserInstances w new.defs s.instances.now → option_copied s.memory ≡ memory_name w → AreFillSources w s met new.defs maps instances
   fills_after s h made memory = record { valid = h.valid; imports = FindsImports-kept (longer g) h.imports; used = h.used; memory = memory; users = made; tables = tables_kept w met instances old new maps g h.tables; passed = h.passed }

@@ -126,12 +126,12 @@ record IsEntryAt (table : List (List ℕ × ℕ)) (name : List ℕ) : Type 0 whe
 
 entry_at : (table : List (List ℕ × ℕ)) (name : List ℕ) → (is_some (found name table) ≡ false → ⊥) → IsEntryAt table name
 entry_at [] name h = absurd (h refl)
-entry_at (e ∷ table) name h = by (bytes_eq name e.0) refl
+entry_at (e ∷ table) name h = by (bytes_eq name e.0) refl (λ k. entry_at table name k)
   where
-    by : (b : Bool) → bytes_eq name e.0 ≡ b → IsEntryAt (e ∷ table) name
-    by true same = record { value = e.1; there = rw same refl; place = 0; at = ap (λ (n : List ℕ). Some (n, e.1)) (sym ((bytes_eq-Decides name e.0).0 same)) }
-    by false other =
-        let rest : IsEntryAt table name = entry_at table name (λ none. h (rw other none)) in
+    by : (b : Bool) → bytes_eq name e.0 ≡ b → ((is_some (found name table) ≡ false → ⊥) → IsEntryAt table name) → IsEntryAt (e ∷ table) name
+    by true same later = record { value = e.1; there = rw same refl; place = 0; at = ap (λ (n : List ℕ). Some (n, e.1)) (sym ((bytes_eq-Decides name e.0).0 same)) }
+    by false other later =
+        let rest : IsEntryAt table name = later (λ none. h (rw other none)) in
         record { value = rest.value; there = rw other rest.there; place = suc rest.place; at = rest.at }
 
 -- a name that is not absent is in the table
@@ -206,12 +206,12 @@ not_yet_made w old mid table last rest a h (faults.NotYetMade adapter name) k =
 
     in_no_table : (table : List (List ℕ × ℕ)) (name : List ℕ) → found name table ≡ None → Contains (map (λ (e : List ℕ × ℕ). e.0) table) name → ⊥
     in_no_table [] name none c = contains_none name c
-    in_no_table (e ∷ table) name none c = by (bytes_eq name e.0) refl none (contains_cons e.0 (map (λ (e : List ℕ × ℕ). e.0) table) name c)
+    in_no_table (e ∷ table) name none c = by (bytes_eq name e.0) refl (λ k l. in_no_table table name k l) none (contains_cons e.0 (map (λ (e : List ℕ × ℕ). e.0) table) name c)
       where
-        by : (b : Bool) → bytes_eq name e.0 ≡ b → (if b then Some e.1 else found name table) ≡ None → (e.0 ≡ name) ⊎ Contains (map (λ (e : List ℕ × ℕ). e.0) table) name → ⊥
-        by true same none k = none-some e.1 (sym none)
-        by false other none (inl same) = true≢false (sym ((bytes_eq-Decides name e.0).1 (sym same)) ∙ other)
-        by false other none (inr later) = in_no_table table name none later
+        by : (b : Bool) → bytes_eq name e.0 ≡ b → (found name table ≡ None → Contains (map (λ (e : List ℕ × ℕ). e.0) table) name → ⊥) → (if b then Some e.1 else found name table) ≡ None → (e.0 ≡ name) ⊎ Contains (map (λ (e : List ℕ × ℕ). e.0) table) name → ⊥
+        by true same rest none k = none-some e.1 (sym none)
+        by false other rest none (inl same) = true≢false (sym ((bytes_eq-Decides name e.0).1 (sym same)) ∙ other)
+        by false other rest none (inr later) = rest none later
 not_yet_made w old mid table last rest a h fault k = absurd k
 
 pub adapters_step : (w : ComponentWorld) (old mid new : Built) (table : List (List ℕ × ℕ)) (last : ℕ) (rest : Adapters) (a : List ℕ × WorldAdapter) (index : ℕ) → AdaptersSoFar w old mid table last (a ∷ rest) → Extends mid new →
