@@ -1,6 +1,6 @@
 -- Each core import of a module, with the type that was found, has a role, which requires this type, or is given a whole instance; and
 -- something is imported from each module that is named.
-use Rattle.std.proofs.Common.{◌≡◌, ◌∙◌, ◌<◌, inl, inr, ℕ, Bool, true, false, cond, List, [], ◌∷◌, ◌++◌, Option, Some, None, Result, Ok, Err, length, refl, sym, ap, subst, true≢false}
+use Rattle.std.proofs.Common.{◌≡◌, ◌∙◌, ◌<◌, inl, inr, ℕ, Bool, true, false, cond, List, [], ◌∷◌, ◌++◌, Option, Some, None, Ok, Err, length, refl, sym, ap, subst, true≢false}
 use Rattle.std.specs.Prelude.{Contains, get_or, is_some, option_map, if◌then◌else◌}
 use Rattle.std.specs.List.{AllByRecursion, flat_map}
 use Rattle.std.specs.Option.{option_and_then, option_to_list}
@@ -24,7 +24,6 @@ use Rattle.comp_roles.specs.declared.offered.ImportType.{ImportType}
 use Rattle.comp_worlds.specs.Typed.{type_of_import}
 use Rattle.comp_worlds.specs.declared.world.ValidatedModule.{ValidatedModule}
 use Rattle.record_core_types.specs.Offered.{extern_type, import_type, imported}
-use Rattle.record_faults.specs.declared.fault.Failure.{Failure}
 use Rattle.record_faults.specs.Faults.{◌>>=◌}
 use Rattle.record_faults.proofs.Chains.{bind_ok}
 use Rattle.record_imports.specs.Arguments.{Arguments, argument_for, instance_given}

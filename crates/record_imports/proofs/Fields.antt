@@ -12,7 +12,6 @@ use Rattle.comp_lists.proofs.Lists.{AllByRecursion-push}
 use Rattle.comp_lists.proofs.Lookups.{found-push_cases, found-pushed, IsSome-found-append}
 use Rattle.wit_data.specs.declared.resolve.Resolve.{Resolve}
 use Rattle.comp_roles.specs.CoreImports.{CoreImport as CoreUse, imports_from}
-use Rattle.comp_roles.specs.Borrowed.{field_imports}
 use Rattle.comp_roles.specs.declared.imports.Import.{Import}
 use Rattle.comp_roles.specs.declared.imports.ImportInstance.{ImportInstance}
 use Rattle.comp_roles.specs.declared.libraries.Instance.{Instance}

@@ -2,7 +2,7 @@
 -- that an argument of a library names, of the kind and the type that the import asks for; so is what is imported from a module for which
 -- a whole instance is given; and main imports nothing of its own, and is no library (core standard: imports and exports; validation:
 -- import matching).
-use Rattle.std.specs.Prelude.{◌≡◌, ℕ, List, Some}
+use Rattle.std.specs.Prelude.{◌≡◌, Some}
 use Rattle.std.specs.List.{AllByRecursion}
 use Rattle.comp_lists.specs.Found.{found}
 use Rattle.comp_roles.specs.CoreImports.{role_at}
