@@ -187,17 +187,10 @@ struct Beside<B> {
     combined: B,
 }
 
-/// An adapter that was given, and what is said with it; a library has no arguments.
-fn adapter_of<B>(alloc: Global, given: Given<B>, is_library: bool) -> (GatheredAdapter<B>, B) {
+/// An adapter that was given, and what is said with it.
+fn adapter_of<B>(given: Given<B>, library_info: Option<LibraryInfo>) -> (GatheredAdapter<B>, B) {
     let (bytes, own, merged) = given;
     let Merged { combined, exports } = merged;
-    let library_info = if is_library {
-        Some(LibraryInfo {
-            arguments: Seq::new(alloc),
-        })
-    } else {
-        None
-    };
     let part = Part {
         bytes,
         own,
@@ -227,18 +220,19 @@ fn one_more<L: Lower>(
     alloc: Global,
     beside: Beside<L::Bindgen>,
     name: Text,
-    is_library: bool,
+    library_info: Option<LibraryInfo>,
     bytes: &[u8],
 ) -> Result<Result<Beside<L::Bindgen>, Answer<L::Fault>>, AllocError> {
     match given_after(lower, alloc, &beside.combined, bytes) {
         Ok(given) => {
-            let (adapter, combined) = adapter_of(alloc, given, is_library);
+            let (adapter, combined) = adapter_of(given, library_info);
             let beside = with_adapter(beside, name, adapter, combined)?;
             Ok(Ok(beside))
         }
         Err(answer) => {
             drop(beside);
             drop(name);
+            drop(library_info);
             Ok(Err(answer))
         }
     }
@@ -266,11 +260,11 @@ fn gathered_beside<B>(
     }
 }
 
-/// A further module, as a case has it: its name, whether it is a library, and its bytes.
+/// A further module, as a case has it: its name, its arguments where it is a library, and its bytes.
 #[derive(Drop)]
 pub(crate) struct Further {
     pub name: Text,
-    pub is_library: bool,
+    pub library_info: Option<LibraryInfo>,
     pub bytes: Vec<u8>,
 }
 
@@ -285,10 +279,10 @@ fn all_beside<L: Lower>(
     for further in modules {
         let Further {
             name,
-            is_library,
+            library_info,
             bytes,
         } = further;
-        match one_more(lower, alloc, beside, name, is_library, &bytes)? {
+        match one_more(lower, alloc, beside, name, library_info, &bytes)? {
             Ok(more) => beside = more,
             Err(answer) => return Ok(Err(answer)),
         }

@@ -1,8 +1,9 @@
 //! Cases, one line each, and how many have the expected result.
 
 use crate::answers::{Further, group_answer, module_answer, modules_answer, records_answer};
+use crate::arguments::arguments_of;
 use comp_lists::Text;
-use comp_worlds::Lower;
+use comp_worlds::{LibraryInfo, Lower};
 use std::alloc::{AllocError, Global};
 use std::fmt;
 
@@ -15,7 +16,8 @@ pub enum Kind {
     Modules,
     /// Two modules, with ` & ` between them.
     Pairs,
-    /// A module, and behind it adapters and libraries, each after ` & ` with its name: `NAME: MODULE` or `library NAME: MODULE`.
+    /// A module, and behind it adapters and libraries, each after ` & ` with its name: `NAME: MODULE` or `library NAME: MODULE`, where
+    /// the name of a library may be followed by its arguments.
     Groups,
 }
 
@@ -58,6 +60,29 @@ fn pair_answer_of<L: Lower>(lower: &L, alloc: Global, text: &str) -> Result<Stri
     }
 }
 
+/// An adapter of this name, or a library with its arguments behind its name.
+fn named_further(
+    alloc: Global,
+    text: &str,
+    is_library: bool,
+    bytes: Vec<u8>,
+) -> Result<Further, AllocError> {
+    let (name, arguments) = text.split_once(" ").unwrap_or((text, ""));
+    let name = Text::from_str(alloc, name)?;
+    let library_info = if is_library {
+        Some(LibraryInfo {
+            arguments: arguments_of(alloc, arguments)?,
+        })
+    } else {
+        None
+    };
+    Ok(Further {
+        name,
+        library_info,
+        bytes,
+    })
+}
+
 /// An adapter or a library with its name; it is none where its digits aren't.
 fn further_of(alloc: Global, text: &str) -> Result<Option<Further>, AllocError> {
     let (is_library, rest) = match text.strip_prefix("library ") {
@@ -65,13 +90,11 @@ fn further_of(alloc: Global, text: &str) -> Result<Option<Further>, AllocError> 
         None => (false, text),
     };
     let (name, digits) = rest.split_once(": ").unwrap_or((rest, ""));
-    let name = Text::from_str(alloc, name)?;
     match hex::decode(alloc, digits.as_bytes()) {
-        Ok(bytes) => Ok(Some(Further {
-            name,
-            is_library,
-            bytes,
-        })),
+        Ok(bytes) => {
+            let further = named_further(alloc, name, is_library, bytes)?;
+            Ok(Some(further))
+        }
         Err(_) => Ok(None),
     }
 }

@@ -15,6 +15,8 @@ use Rattle.record_faults.specs.declared.fault.Failure.TheVariants as failures
 use Rattle.record_faults.specs.declared.fault.Refusal.{Refusal}
 use Rattle.record_faults.specs.Faults.{◌>>=◌, Gives}
 use Rattle.record_faults.proofs.Chains.{equivalence}
+use Rattle.record_imports.specs.Arguments.{Arguments}
+use Rattle.record_imports.specs.declared.others.OtherModules.{OtherModules}
 use Rattle.record_merge.specs.declared.bindgen.Bindgen.{Bindgen}
 use Rattle.record_resolve.specs.declared.resolving.Resolved.{Resolved}
 use Rattle.supported_worlds.specs.Guarantees.{HasSoundParts}
@@ -27,7 +29,8 @@ use Rattle.plain_lower.specs.declared.preparing.Modules.{Modules}
 use Rattle.plain_lower.specs.Adding.{IsAdapterOf, IsAdded, AreModulesOf}
 use Rattle.plain_lower.specs.Causes.{ModuleCause, AdapterCause, AdaptersCause, of_adapter, PartsCause, of_main, of_adapters}
 use Rattle.plain_lower.specs.Guarantees.{IsUsable, user_module, IsSoundPart}
-use Rattle.plain_lower.specs.Arguments.{Adapters}
+use Rattle.plain_lower.specs.Arguments.{Adapters, arguments_of}
+use Rattle.plain_lower.specs.Reach.{others_for}
 use Rattle.plain_lower.specs.declared.reach.Reach.{Reach}
 use Rattle.plain_lower.specs.Preparing.{module_parts, adapter_parts, adapter_in, adapters_after, world_with, parts_within}
 
@@ -35,6 +38,17 @@ abbrev Made : Type 0
 Made = List (List ℕ × WorldAdapter)
 
 -- ---- one adapter
+
+-- what it may import from others, and its arguments, are those of a library where it is one
+pub adapter_cause : (r : Resolved) (reach : Reach) (a : GatheredAdapter Bindgen) (others : OtherModules) (arguments : Arguments) → others ≡ others_for reach a.library_info → arguments ≡ arguments_of a.library_info
+    → (f : Refusal) → ModuleCause r others arguments a.part f → AdapterCause r reach a f
+adapter_cause r reach a others arguments same given f c =
+    subst (λ (x : Arguments). ModuleCause r (others_for reach a.library_info) x a.part f) given (subst (λ (x : OtherModules). ModuleCause r x arguments a.part f) same c)
+
+pub no_adapter_cause : (r : Resolved) (reach : Reach) (a : GatheredAdapter Bindgen) (others : OtherModules) (arguments : Arguments) → others ≡ others_for reach a.library_info → arguments ≡ arguments_of a.library_info
+    → ((f : Refusal) → ModuleCause r others arguments a.part f → ⊥) → (f : Refusal) → AdapterCause r reach a f → ⊥
+no_adapter_cause r reach a others arguments same given none f c =
+    none f (subst (λ (x : OtherModules). ModuleCause r x arguments a.part f) (sym same) (subst (λ (x : Arguments). ModuleCause r (others_for reach a.library_info) x a.part f) (sym given) c))
 
 pub is_adapter : (r : Resolved) (reach : Reach) (a : GatheredAdapter Bindgen) (parts : ModuleParts) (info : Option LibraryInfo) (w : WorldAdapter) → adapter_parts r reach a ≡ Ok parts → info ≡ a.library_info
     → w ≡ record { info = parts.info; required_exports = parts.required; library_info = info } → IsSoundPart r (user_module parts) → ((f : Refusal) → AdapterCause r reach a f → ⊥) → IsAdapterOf r reach a w
@@ -128,12 +142,12 @@ caused r reach all rest a made f h c = of_adapter a f (subst (λ (xs : Adapters)
 
 -- ---- main and the adapters
 
-no_parts_cause : (r : Resolved) (reach : Reach) (main : Part Bindgen) (adapters : Adapters) → ((f : Refusal) → ModuleCause r reach.main main f → ⊥) → ((f : Refusal) → AdaptersCause r reach adapters f → ⊥) → (f : Refusal) → PartsCause r reach main adapters f → ⊥
+no_parts_cause : (r : Resolved) (reach : Reach) (main : Part Bindgen) (adapters : Adapters) → ((f : Refusal) → ModuleCause r reach.main [] main f → ⊥) → ((f : Refusal) → AdaptersCause r reach adapters f → ⊥) → (f : Refusal) → PartsCause r reach main adapters f → ⊥
 no_parts_cause r reach main adapters one others f (of_main g c) = one f c
 no_parts_cause r reach main adapters one others f (of_adapters g c) = others f c
 
-pub are_modules : (r : Resolved) (reach : Reach) (main : Part Bindgen) (adapters : Adapters) (parts : ModuleParts) (made : Made) → module_parts r reach.main main ≡ Ok parts → adapters_after r reach [] adapters ≡ Ok made → IsSoundPart r (user_module parts)
-    → AllByRecursion (λ a. IsSoundPart r (module_of a)) made → ((f : Refusal) → ModuleCause r reach.main main f → ⊥) → ((f : Refusal) → AdaptersCause r reach adapters f → ⊥) → AreModulesOf r reach main adapters (record { main = parts; adapters = made })
+pub are_modules : (r : Resolved) (reach : Reach) (main : Part Bindgen) (adapters : Adapters) (parts : ModuleParts) (made : Made) → module_parts r reach.main [] main ≡ Ok parts → adapters_after r reach [] adapters ≡ Ok made → IsSoundPart r (user_module parts)
+    → AllByRecursion (λ a. IsSoundPart r (module_of a)) made → ((f : Refusal) → ModuleCause r reach.main [] main f → ⊥) → ((f : Refusal) → AdaptersCause r reach adapters f → ⊥) → AreModulesOf r reach main adapters (record { main = parts; adapters = made })
 are_modules r reach main adapters parts made first others sound all one each = record {
   main_made = first;
   adapters_made = others;
@@ -161,11 +175,11 @@ parts_sound r reach main adapters m p u h is = subst (λ (x : WorldParts). HasSo
 })
 
 -- a module is refused
-pub main_refused : (r : Resolved) (reach : Reach) (main : Part Bindgen) (adapters : Adapters) (e : Failure) → module_parts r reach.main main ≡ Err e → parts_within r reach main adapters ≡ Err e
+pub main_refused : (r : Resolved) (reach : Reach) (main : Part Bindgen) (adapters : Adapters) (e : Failure) → module_parts r reach.main [] main ≡ Err e → parts_within r reach main adapters ≡ Err e
 unfolding parts_within
 main_refused r reach main adapters e is = ap (λ (x : Result ModuleParts Failure). x >>= λ one. adapters_after r reach [] adapters >>= λ made. Ok (world_with r.resolve one made main.own.roles.context_slot_1)) is
 
-pub adapters_refused : (r : Resolved) (reach : Reach) (main : Part Bindgen) (adapters : Adapters) (parts : ModuleParts) (e : Failure) → module_parts r reach.main main ≡ Ok parts → adapters_after r reach [] adapters ≡ Err e → parts_within r reach main adapters ≡ Err e
+pub adapters_refused : (r : Resolved) (reach : Reach) (main : Part Bindgen) (adapters : Adapters) (parts : ModuleParts) (e : Failure) → module_parts r reach.main [] main ≡ Ok parts → adapters_after r reach [] adapters ≡ Err e → parts_within r reach main adapters ≡ Err e
 unfolding parts_within
 adapters_refused r reach main adapters parts e first is =
     let slot = main.own.roles.context_slot_1 in

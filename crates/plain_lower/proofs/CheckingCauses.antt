@@ -20,50 +20,52 @@ use Rattle.record_exports.specs.Requiring.{required_of}
 use Rattle.record_exports.specs.Causes.{ExportCause, RequiredCause}
 use Rattle.record_imports.specs.Importing.{imports_of}
 use Rattle.record_imports.specs.Causes.{ImportCause}
+use Rattle.record_imports.specs.Arguments.{Arguments}
 use Rattle.record_imports.specs.declared.others.OtherModules.{OtherModules}
 use Rattle.plain_lower.specs.declared.checking.CheckedRoles.{CheckedRoles}
 use Rattle.plain_lower.specs.declared.modules.ModuleParts.{ModuleParts}
 use Rattle.plain_lower.specs.Preparing.{with_imports, checked_exports, checked_roles, parts_of}
 use Rattle.plain_lower.specs.Guarantees.{IsUsable, AreChecked, user_module, IsSoundPart}
 use Rattle.plain_lower.specs.Causes.{ExportsCause, unfit, missing, RolesCause, of_imports, of_exports}
-use Rattle.plain_lower.proofs.FoundImports.{all_found}
+use Rattle.plain_lower.proofs.FoundImports.{all_found, all_used}
 use Rattle.plain_lower.proofs.FoundExports.{all_offered}
 
 -- the roles of imports and of exports, of which the checked roles are made
-record AreRead (r : Resolved) (others : OtherModules) (main : Part Bindgen) (core : CoreModule) (m : CheckedRoles) : Type 0 where
-  imports : imports_of r others main.own.roles.import_roles core ≡ Ok m.imports.modules
+record AreRead (r : Resolved) (others : OtherModules) (arguments : Arguments) (main : Part Bindgen) (core : CoreModule) (m : CheckedRoles) : Type 0 where
+  imports : imports_of r others arguments main.own.roles.import_roles core ≡ Ok m.imports.modules
   exports : exports_of r main.own.roles.export_roles core ≡ Ok m.exports
 
 -- where all steps pass
-read_of : (r : Resolved) (others : OtherModules) (main : Part Bindgen) (core : CoreModule) (m : CheckedRoles) (imported : List (List ℕ × ImportInstance)) (exported : List (List ℕ × Export)) (required : List WorldKey)
-    (checked : List (List ℕ × Export) × List WorldKey) → imports_of r others main.own.roles.import_roles core ≡ Ok imported → exports_of r main.own.roles.export_roles core ≡ Ok exported
-    → (exported, required) ≡ checked → with_imports imported checked ≡ m → AreRead r others main core m
-read_of r others main core m imported exported required checked imports exports pair whole = record {
+read_of : (r : Resolved) (others : OtherModules) (arguments : Arguments) (main : Part Bindgen) (core : CoreModule) (m : CheckedRoles) (imported : List (List ℕ × ImportInstance)) (exported : List (List ℕ × Export)) (required : List WorldKey)
+    (checked : List (List ℕ × Export) × List WorldKey) → imports_of r others arguments main.own.roles.import_roles core ≡ Ok imported → exports_of r main.own.roles.export_roles core ≡ Ok exported
+    → (exported, required) ≡ checked → with_imports imported checked ≡ m → AreRead r others arguments main core m
+read_of r others arguments main core m imported exported required checked imports exports pair whole = record {
   imports = imports ∙ ap (λ (x : CheckedRoles). Ok x.imports.modules) whole;
   exports = exports ∙ ap (λ (x : List (List ℕ × Export) × List WorldKey). Ok x.0) pair ∙ ap (λ (x : CheckedRoles). Ok x.exports) whole;
 }
 
-are_read : (r : Resolved) (others : OtherModules) (main : Part Bindgen) (core : CoreModule) (m : CheckedRoles) → checked_roles r others main core ≡ Ok m → AreRead r others main core m
+are_read : (r : Resolved) (others : OtherModules) (arguments : Arguments) (main : Part Bindgen) (core : CoreModule) (m : CheckedRoles) → checked_roles r others arguments main core ≡ Ok m → AreRead r others arguments main core m
 unfolding checked_roles checked_exports
-are_read r others main core m e =
+are_read r others arguments main core m e =
     let with_exports : List (List ℕ × ImportInstance) → Result CheckedRoles Failure = λ imported. checked_exports r main core >>= λ exported. Ok (with_imports imported exported) in
-    let a = bind_ok (imports_of r others main.own.roles.import_roles core) with_exports m e in
+    let a = bind_ok (imports_of r others arguments main.own.roles.import_roles core) with_exports m e in
     let b = bind_ok (checked_exports r main core) (λ exported. Ok (with_imports a.0 exported)) m a.2 in
     let with_required : List (List ℕ × Export) → Result (List (List ℕ × Export) × List WorldKey) Failure = λ exported. required_of r exported main.required >>= λ required. Ok (exported, required) in
     let c = bind_ok (exports_of r main.own.roles.export_roles core) with_required b.0 b.1 in
     let d = bind_ok (required_of r c.0 main.required) (λ required. Ok (c.0, required)) b.0 c.2 in
-    read_of r others main core m a.0 c.0 d.0 b.0 a.1 c.1 (cc (d.2)) (cc (b.2))
+    read_of r others arguments main core m a.0 c.0 d.0 b.0 a.1 c.1 (cc (d.2)) (cc (b.2))
 
 -- what holds of a module of the world
-pub sound_part : (r : Resolved) (others : OtherModules) (main : Part Bindgen) (core : CoreModule) (m : CheckedRoles) (p : ModuleParts) → IsUsable r → IsCoreModule main.bytes → AreChecked r m → checked_roles r others main core ≡ Ok m
+pub sound_part : (r : Resolved) (others : OtherModules) (arguments : Arguments) (main : Part Bindgen) (core : CoreModule) (m : CheckedRoles) (p : ModuleParts) → IsUsable r → IsCoreModule main.bytes → AreChecked r m → checked_roles r others arguments main core ≡ Ok m
     → p ≡ parts_of r main core m → IsSoundPart r (user_module p)
-sound_part r others main core m p u bytes h checked is = subst (λ (x : ModuleParts). IsSoundPart r (user_module x)) (sym is) (record {
+sound_part r others arguments main core m p u bytes h checked is = subst (λ (x : ModuleParts). IsSoundPart r (user_module x)) (sym is) (record {
   core = bytes;
   roles = h.roles;
   called = h.called;
   lifted = h.lifted;
-  imported = all_found r others main core m u.present (let read = are_read r others main core m checked in read.imports);
-  exported = all_offered r main core m u.present (let read = are_read r others main core m checked in read.exports);
+  imported = all_found r others arguments main core m u.present (let read = are_read r others arguments main core m checked in read.imports);
+  used = all_used r others arguments main core m u.present (let read = are_read r others arguments main core m checked in read.imports);
+  exported = all_offered r main core m u.present (let read = are_read r others arguments main core m checked in read.exports);
   kept = h.kept;
 })
 
@@ -86,7 +88,7 @@ no_exports_cause r main core exported is fits there f (unfit q c) = fits f c
 no_exports_cause r main core exported is fits there f (missing other q e c) =
     there f (subst (λ (x : List (List ℕ × Export)). RequiredCause r x main.required f) (same_ok (exports_of r main.own.roles.export_roles core) other exported e is) c)
 
-pub no_met_cause : (r : Resolved) (others : OtherModules) (main : Part Bindgen) (core : CoreModule) → ((f : Refusal) → ImportCause r others main.own.roles.import_roles core f → ⊥) → ((f : Refusal) → ExportsCause r main core f → ⊥)
-    → (f : Refusal) → RolesCause r others main core f → ⊥
-no_met_cause r others main core imports exports f (of_imports q c) = imports f c
-no_met_cause r others main core imports exports f (of_exports q c) = exports f c
+pub no_met_cause : (r : Resolved) (others : OtherModules) (arguments : Arguments) (main : Part Bindgen) (core : CoreModule) → ((f : Refusal) → ImportCause r others arguments main.own.roles.import_roles core f → ⊥) → ((f : Refusal) → ExportsCause r main core f → ⊥)
+    → (f : Refusal) → RolesCause r others arguments main core f → ⊥
+no_met_cause r others arguments main core imports exports f (of_imports q c) = imports f c
+no_met_cause r others arguments main core imports exports f (of_exports q c) = exports f c

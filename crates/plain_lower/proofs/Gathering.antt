@@ -17,9 +17,10 @@ use Rattle.supported_worlds.specs.LeftOut.{left_out, unless_left_out, encoded}
 use Rattle.world_values.specs.declared.gathered.Gathered.{Gathered}
 use Rattle.world_values.specs.declared.gathered.GatheredAdapter.{GatheredAdapter}
 use Rattle.world_values.specs.declared.gathered.Part.{Part}
-use Rattle.plain_lower.specs.Arguments.{Adapters, arguments_pass}
+use Rattle.plain_lower.specs.Arguments.{Adapters, arguments_of}
 use Rattle.plain_lower.specs.Reach.{reach_of, others_for}
 use Rattle.plain_lower.specs.declared.reach.Reach.{Reach}
+use Rattle.record_imports.specs.Arguments.{Arguments}
 use Rattle.record_imports.specs.declared.others.OtherModules.{OtherModules}
 use Rattle.plain_lower.specs.Linking.{links_pass}
 use Rattle.plain_lower.specs.Preparing.{adapters_pass, combined, checked_roles, parts_of, core_parts, module_parts, adapter_parts, adapter_in, adapters_after, world_with, world_parts, parts_within, linked_world, preparing_if, preparing}
@@ -50,19 +51,16 @@ encoded_whole p w e = by (left_out p) e
     by (Some what) e = absurd cc
 
 -- a module of the world has the bytes of its part
-part_bytes : (r : Resolved) (others : OtherModules) (part : Part Bindgen) (m : ModuleParts) → module_parts r others part ≡ Ok m → part.bytes ≡ m.info.bytes
+part_bytes : (r : Resolved) (others : OtherModules) (arguments : Arguments) (part : Part Bindgen) (m : ModuleParts) → module_parts r others arguments part ≡ Ok m → part.bytes ≡ m.info.bytes
 unfolding module_parts core_parts
-part_bytes r others part m e =
-    let core : Then (lifted (module_of part.bytes)) (λ core. core_parts r others part core) m = then_ok (lifted (module_of part.bytes)) (λ core. core_parts r others part core) m e in
-    let roles : Then (checked_roles r others part core.value) (λ c. Ok (parts_of r part core.value c)) m = then_ok (checked_roles r others part core.value) (λ c. Ok (parts_of r part core.value c)) m core.rest in
+part_bytes r others arguments part m e =
+    let core : Then (lifted (module_of part.bytes)) (λ core. core_parts r others arguments part core) m = then_ok (lifted (module_of part.bytes)) (λ core. core_parts r others arguments part core) m e in
+    let roles : Then (checked_roles r others arguments part core.value) (λ c. Ok (parts_of r part core.value c)) m = then_ok (checked_roles r others arguments part core.value) (λ c. Ok (parts_of r part core.value c)) m core.rest in
     ap (λ (z : ModuleParts). z.info.bytes) (one_value (parts_of r part core.value roles.value) m roles.rest)
 
 adapter_bytes : (r : Resolved) (reach : Reach) (a : GatheredAdapter Bindgen) (m : ModuleParts) → adapter_parts r reach a ≡ Ok m → a.part.bytes ≡ m.info.bytes
 unfolding adapter_parts
-adapter_bytes r reach a m e =
-    let go : ⊤ → Result ModuleParts Failure = λ _. module_parts r (others_for reach a.library_info) a.part in
-    let passed : Then (arguments_pass a.library_info) go m = then_ok (arguments_pass a.library_info) go m e in
-    part_bytes r (others_for reach a.library_info) a.part m passed.rest
+adapter_bytes r reach a m e = part_bytes r (others_for reach a.library_info) (arguments_of a.library_info) a.part m e
 
 -- so have the adapters, under their names and in order
 adapters_world : (r : Resolved) (reach : Reach) (done : List (List ℕ × WorldAdapter)) (rest : Adapters) (made : List (List ℕ × WorldAdapter)) → adapters_after r reach done rest ≡ Ok made → map world_module done ++ map gathered_module rest ≡ map world_module made
@@ -88,13 +86,13 @@ whole_world r main adapters w e =
     let parts : Then (world_parts r main adapters) linked_world w = then_ok (world_parts r main adapters) linked_world w e in
     let links : Then (links_pass parts.value) (λ _. encoded parts.value) w = then_ok (links_pass parts.value) (λ _. encoded parts.value) w parts.rest in
     let go : ModuleParts → Result WorldParts Failure = λ m. adapters_after r (reach_of adapters) [] adapters >>= λ made. Ok (world_with r.resolve m made slot) in
-    let one : Then (module_parts r (reach_of adapters).main main) go parts.value = then_ok (module_parts r (reach_of adapters).main main) go parts.value parts.first in
+    let one : Then (module_parts r (reach_of adapters).main [] main) go parts.value = then_ok (module_parts r (reach_of adapters).main [] main) go parts.value parts.first in
     let rest_of : List (List ℕ × WorldAdapter) → Result WorldParts Failure = λ made. Ok (world_with r.resolve one.value made slot) in
     let others : Then (adapters_after r (reach_of adapters) [] adapters) rest_of parts.value = then_ok (adapters_after r (reach_of adapters) [] adapters) rest_of parts.value one.rest in
     let is : world_with r.resolve one.value others.value slot ≡ parts.value = one_value (world_with r.resolve one.value others.value slot) parts.value others.rest in
     let whole : whole_of (world_with r.resolve one.value others.value slot) ≡ w = ap whole_of is ∙ encoded_whole parts.value w links.rest in
     record {
-      bytes = part_bytes r (reach_of adapters).main main one.value one.first ∙ ap (λ (x : ComponentWorld). x.main.bytes) whole;
+      bytes = part_bytes r (reach_of adapters).main [] main one.value one.first ∙ ap (λ (x : ComponentWorld). x.main.bytes) whole;
       others = adapters_world r (reach_of adapters) [] adapters others.value others.first ∙ ap (λ (x : ComponentWorld). map world_module x.adapters) whole;
     }
 

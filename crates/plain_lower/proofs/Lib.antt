@@ -9,7 +9,6 @@ mod CheckingCauses
 mod Whole
 mod Gathering
 mod Adding
-mod WithArguments
 mod SameTypes
 mod Names
 mod Linked

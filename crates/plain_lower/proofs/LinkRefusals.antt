@@ -1,6 +1,7 @@
 -- What modules import from each other is refused exactly where a cause holds.
 use Rattle.std.proofs.Common.{arith, ◌≡◌, ◌∙◌, ◌&&◌, inl, inr, ℕ, Bool, true, false, List, [], ◌∷◌, Option, Some, None, Result, Ok, Err, refl, sym, ap, subst, true≢false}
 use Rattle.std.specs.Prelude.{⊤, ◌≢◌, Contains, codes, if◌then◌else◌}
+use Rattle.std.specs.Option.{option_and_then}
 use Rattle.std.proofs.lemmas.List.Elements.{Contains-append_right}
 use Rattle.comp_lists.specs.Found.{found}
 use Rattle.comp_lists.proofs.Lists.{AllByRecursion-contains}
@@ -9,15 +10,20 @@ use Rattle.core_types.specs.declared.types.MemoryType.{MemoryType}
 use Rattle.core_types.specs.contracts.types.FuncTypePartialEq.TheImpl as same_function
 use Rattle.standard_kinds.specs.declared.kinds.ExportKind.{ExportKind}
 use Rattle.standard_kinds.specs.contracts.kinds.ExportKindPartialEq.TheImpl as same_kind
-use Rattle.comp_roles.specs.CoreImports.{CoreImport, role_at}
+use Rattle.comp_roles.specs.CoreImports.{CoreImport, fields_of, role_at}
 use Rattle.comp_roles.specs.Lookups.{memory_of_import, imported_memory, first_memory}
 use Rattle.comp_roles.specs.Matching.{kind_of, matches, has_numbers}
 use Rattle.comp_roles.specs.declared.imports.Import.{Import}
 use Rattle.comp_roles.specs.declared.imports.Import.TheVariants as imports
+use Rattle.comp_roles.specs.declared.imports.ImportInstance.{ImportInstance}
+use Rattle.comp_roles.specs.declared.imports.ImportInstance.TheVariants as instances
+use Rattle.comp_roles.specs.declared.libraries.Item.{Item}
+use Rattle.comp_roles.specs.declared.libraries.MainOrAdapter.{MainOrAdapter}
 use Rattle.comp_roles.specs.declared.offered.ExternType.{ExternType}
 use Rattle.comp_roles.specs.declared.offered.ExternType.TheVariants as externs
 use Rattle.comp_roles.specs.declared.offered.ImportType.{ImportType}
-use Rattle.comp_worlds.specs.Offered.{OffersMatching, AdapterOffers, MemoryMatches}
+use Rattle.comp_worlds.specs.Lookups.{found_module}
+use Rattle.comp_worlds.specs.Offered.{OffersItem, OffersMatching, NamedOffers, NamedMatches, AdapterOffers, MemoryMatches}
 use Rattle.comp_worlds.specs.Uses.{imports_of}
 use Rattle.comp_worlds.specs.WorldTables.{whole_of}
 use Rattle.comp_worlds.specs.Worlds.{IsNotOfMain}
@@ -32,14 +38,14 @@ use Rattle.record_faults.specs.Faults.{◌>>=◌}
 use Rattle.record_faults.proofs.Chains.{refused, same_refusal, bind_err}
 use Rattle.record_imports.specs.Memories.{memories_fit}
 use Rattle.record_imports.proofs.Refusing.{has_memory_cause, no_memory_cause}
-use Rattle.supported_worlds.specs.Links.{HasItem, IsRoleLinked}
-use Rattle.plain_lower.specs.Giving.{importer_of, passes_if, exports_name, not_offered, memory_matches, memory_given, offered_given, export_given, is_function, offered_function, of_adapter, adapter_export_given, role_given, match_given, type_given}
-use Rattle.plain_lower.specs.LinkCauses.{NotOffered, not_exported, not_given, RoleCause, unmatched_memory, own_export, not_of_main, of_another_kind, for_main_or_libraries, no_adapter, not_of_adapter, of_another_type, with_references, TypeCause, not_there, unmatched, GivenCause, by_role, by_type, LinkCause, memories, to_main, own_memory, to_adapter}
+use Rattle.supported_worlds.specs.Links.{IsRoleLinked, IsImportLinked}
+use Rattle.plain_lower.specs.Giving.{importer_of, passes_if, exports_name, not_offered, memory_matches, memory_given, offered_given, export_given, is_function, offered_function, of_adapter, adapter_export_given, module_named, of_module, argument_given, role_given, match_given, match_named, type_given, whole_given, matching_given}
+use Rattle.plain_lower.specs.LinkCauses.{NotOffered, not_exported, not_given, RoleCause, unmatched_memory, own_export, not_of_main, of_another_kind, for_main_or_libraries, no_adapter, not_of_adapter, of_another_type, with_references, item_of_main, no_module_of_item, item_not_offered, item_of_another_kind, NotMatching, no_module, not_of_named, of_unmatched_type, TypeCause, not_there, unmatched, of_item, of_instance, instance_of_main, GivenCause, by_role, by_type, LinkCause, memories, to_main, own_memory, to_adapter}
 use Rattle.plain_lower.specs.Linking.{each_passes, import_given, typed_given, module_given, adapter_given, no_own_memory, links_pass}
 use Rattle.plain_lower.specs.Reports.{missing, unfit}
 use Rattle.plain_lower.specs.declared.giving.Importer.{Importer}
 use Rattle.plain_lower.specs.declared.giving.Importer.TheVariants as importers
-use Rattle.plain_lower.proofs.Linked.{NotOwn, role_linked, not_of_main as is_not_of_main, type_linked, PassesAll, links_hold}
+use Rattle.plain_lower.proofs.Linked.{NotOwn, named_is, role_linked, not_of_main as is_not_of_main, type_linked, PassesAll, links_hold}
 use Rattle.plain_lower.proofs.SameTypes.{same_kinds, same_functions}
 
 -- ---- checks that fail
@@ -94,6 +100,11 @@ is_none m name from field f (not_exported none e) = none
 is_none m name from field f (not_given none e) = none
 
 module _ (p : WorldParts) where
+  -- ---- what arguments name
+
+  not_named : (which : MainOrAdapter) → module_named p.main p.adapters which ≡ None → found_module (whole_of p) which ≡ None
+  not_named which is = named_is p which ∙ is
+
   -- ---- roles that are refused
 
   module _ (importer : Importer) (i : CoreImport) (f : Refusal) where
@@ -148,31 +159,72 @@ module _ (p : WorldParts) where
       adapter_refused importers.Main is e = adapter_fails (found adapter p.adapters) refl e
       adapter_refused importers.Library is e = adapter_fails (found adapter p.adapters) refl e
 
+    module _ (item : Item) (role : i.role ≡ imports.Item item) where
+      item_of_fails : (of : ValidatedModule) (o : Option ExternType) → found_module (whole_of p) item.which ≡ Some of → found item.name of.offered ≡ o → offered_given of i.module_name i.field item.name item.kind o ≡ refused f → RoleCause p importer i f
+      item_of_fails of None named is e = item_not_offered item of f role named (not_offered_caused of item.name i.module_name i.field f is e)
+      item_of_fails of (Some type) named is e =
+          let h = failed_if (same_kind.eq-value.it (kind_of type) item.kind) (unfit i.field) f e in
+          reported (RoleCause p importer i) (refusals.CoreType i.field) f h.1 (item_of_another_kind item of type role named is (λ same. true≢false (sym (same_kinds (kind_of type) item.kind same) ∙ h.0)))
+
+      module_fails : (o : Option ValidatedModule) → module_named p.main p.adapters item.which ≡ o → of_module o i.module_name i.field item.name item.kind ≡ refused f → RoleCause p importer i f
+      module_fails None is e = reported (RoleCause p importer i) (refusals.RoleMissing i.module_name i.field) f (cc (e)) (no_module_of_item item role (not_named item.which is))
+      module_fails (Some of) is e = item_of_fails of (found item.name of.offered) (named_is p item.which ∙ is) refl e
+
+      argument_refused : (from : Importer) → importer ≡ from → argument_given from (module_named p.main p.adapters item.which) i.module_name i.field item.name item.kind ≡ refused f → RoleCause p importer i f
+      argument_refused importers.Main is e = reported (RoleCause p importer i) (refusals.RoleMissing i.module_name i.field) f (cc (e)) (item_of_main item is role)
+      argument_refused importers.Adapter is e = module_fails (module_named p.main p.adapters item.which) refl e
+      argument_refused importers.Library is e = module_fails (module_named p.main p.adapters item.which) refl e
+
     role_refused : (role : Import) → i.role ≡ role → role_given importer p.main p.adapters i.module_name i.field role ≡ refused f → RoleCause p importer i f
     role_refused (imports.MainModuleMemory required) is e = memory_refused required is importer refl e
     role_refused (imports.MainModuleExport name kind) is e = export_refused name kind is importer refl e
     role_refused (imports.AdapterExport adapter name required) is e = adapter_refused adapter name required is importer refl e
+    role_refused (imports.Item item) is e = argument_refused item is importer refl e
     role_refused role is e = absurd cc
 
   -- ---- types that are refused
 
-  match_fails : (m : ValidatedModule) (i : ImportType) (f : Refusal) (name : List ℕ) (kind : ExportKind) → role_at m.imports.modules i.module_name i.field ≡ Some (imports.MainModuleExport name kind)
-      → (o : Option ExternType) → found name p.main.offered ≡ o → match_given p.main i name o ≡ refused f → TypeCause p m i f
-  match_fails m i f name kind role None is e = not_there name kind f role (not_offered_caused p.main name i.module_name i.field f is e)
-  match_fails m i f name kind role (Some type) is e =
+  named_fails : (which : MainOrAdapter) (name : List ℕ) (i : ImportType) (f : Refusal) (of : ValidatedModule) (o : Option ExternType) → found_module (whole_of p) which ≡ Some of → found name of.offered ≡ o → match_given of i name o ≡ refused f
+      → NotMatching p which name i f
+  named_fails which name i f of None named is e = not_of_named of f named (not_offered_caused of name i.module_name i.field f is e)
+  named_fails which name i f of (Some type) named is e =
       let h = failed_if (matches i.ty type) (unfit i.field) f e in
-      reported (TypeCause p m i) (refusals.CoreType i.field) f h.1 (unmatched name kind type role is h.0)
+      reported (NotMatching p which name i) (refusals.CoreType i.field) f h.1 (of_unmatched_type of type named is h.0)
 
-  type_refused : (m : ValidatedModule) (i : ImportType) (f : Refusal) (o : Option Import) → role_at m.imports.modules i.module_name i.field ≡ o → type_given p.main i o ≡ refused f → TypeCause p m i f
-  type_refused m i f (Some (imports.MainModuleExport name kind)) is e = match_fails m i f name kind is (found name p.main.offered) refl e
-  type_refused m i f o is e = absurd cc
+  named_refused : (which : MainOrAdapter) (name : List ℕ) (i : ImportType) (f : Refusal) (o : Option ValidatedModule) → module_named p.main p.adapters which ≡ o → match_named o i name ≡ refused f → NotMatching p which name i f
+  named_refused which name i f None is e = reported (NotMatching p which name i) (refusals.RoleMissing i.module_name i.field) f (cc (e)) (no_module (not_named which is))
+  named_refused which name i f (Some of) is e = named_fails which name i f of (found name of.offered) (named_is p which ∙ is) refl e
+
+  module _ (importer : Importer) (m : ValidatedModule) (i : ImportType) (f : Refusal) where
+    match_fails : (name : List ℕ) (kind : ExportKind) → role_at m.imports.modules i.module_name i.field ≡ Some (imports.MainModuleExport name kind)
+        → (o : Option ExternType) → found name p.main.offered ≡ o → match_given p.main i name o ≡ refused f → TypeCause p importer m i f
+    match_fails name kind role None is e = not_there name kind f role (not_offered_caused p.main name i.module_name i.field f is e)
+    match_fails name kind role (Some type) is e =
+        let h = failed_if (matches i.ty type) (unfit i.field) f e in
+        reported (TypeCause p importer m i) (refusals.CoreType i.field) f h.1 (unmatched name kind type role is h.0)
+
+    role_type_refused : (o : Option Import) → role_at m.imports.modules i.module_name i.field ≡ o → type_given p.main p.adapters i o ≡ refused f → TypeCause p importer m i f
+    role_type_refused (Some (imports.MainModuleExport name kind)) is e = match_fails name kind is (found name p.main.offered) refl e
+    role_type_refused (Some (imports.Item item)) is e = of_item item f is (named_refused item.which item.name i f (module_named p.main p.adapters item.which) refl e)
+    role_type_refused o is e = absurd cc
+
+    whole_refused : (which : MainOrAdapter) → found i.module_name m.imports.modules ≡ Some (instances.Whole which) → (from : Importer) → importer ≡ from → whole_given from (module_named p.main p.adapters which) i ≡ refused f → TypeCause p importer m i f
+    whole_refused which whole importers.Main is e = reported (TypeCause p importer m i) (refusals.RoleMissing i.module_name i.field) f (cc (e)) (instance_of_main which is whole)
+    whole_refused which whole importers.Adapter is e = of_instance which f whole (named_refused which i.field i f (module_named p.main p.adapters which) refl e)
+    whole_refused which whole importers.Library is e = of_instance which f whole (named_refused which i.field i f (module_named p.main p.adapters which) refl e)
+
+    type_refused : (o : Option ImportInstance) → found i.module_name m.imports.modules ≡ o → matching_given importer p.main p.adapters i o ≡ refused f → TypeCause p importer m i f
+    type_refused None is e = absurd cc
+    type_refused (Some (instances.Names fields)) is e =
+        role_type_refused (found i.field fields) (ap (λ (o : Option ImportInstance). option_and_then (λ (x : ImportInstance). found i.field (fields_of x)) o) is) e
+    type_refused (Some (instances.Whole which)) is e = whole_refused which is importer refl e
 
   -- ---- modules that are refused
 
   module_refused : (importer : Importer) (m : ValidatedModule) (f : Refusal) → module_given importer p.main p.adapters m ≡ refused f → GivenCause p importer m f
-  module_refused importer m f e = elim (bind_err (each_passes (import_given importer p.main p.adapters) (imports_of m)) (λ _. each_passes (typed_given p.main m.imports.modules) m.imported) (failures.Refused f) e) [
+  module_refused importer m f e = elim (bind_err (each_passes (import_given importer p.main p.adapters) (imports_of m)) (λ _. each_passes (typed_given importer p.main p.adapters m.imports.modules) m.imported) (failures.Refused f) e) [
     | inl h ↦ let one = one_fails (import_given importer p.main p.adapters) (imports_of m) f h in by_role one.0 f one.1 (role_refused importer one.0 f one.0.role refl one.2)
-    | inr a ↦ let one = one_fails (typed_given p.main m.imports.modules) m.imported f a.2 in by_type one.0 f one.1 (type_refused m one.0 f (role_at m.imports.modules one.0.module_name one.0.field) refl one.2)
+    | inr a ↦ let one = one_fails (typed_given importer p.main p.adapters m.imports.modules) m.imported f a.2 in by_type one.0 f one.1 (type_refused importer m one.0 f (found one.0.module_name m.imports.modules) refl one.2)
   ]
 
   own_refused : (f : Refusal) (o : Option MemoryType) → imported_memory p.main.imports.modules ≡ o → no_own_memory o ≡ refused f → LinkCause p f
@@ -227,9 +279,9 @@ module _ (p : WorldParts) where
         let h : MemoryMatches (whole_of p) required = linked_as (imports.MainModuleMemory required) is in true≢false (sym (h.matching name memory first) ∙ fails)
     no_role_cause f (own_export name kind main is) = not_own (imports.MainModuleExport name kind) main is
     no_role_cause f (not_of_main name kind g is none) =
-        let h : HasItem p.main name kind = linked_as (imports.MainModuleExport name kind) is in none-some (found name p.main.offered) h.type (is_none p.main name i.module_name i.field g none) h.offered
+        let h : OffersItem p.main name kind = linked_as (imports.MainModuleExport name kind) is in none-some (found name p.main.offered) h.type (is_none p.main name i.module_name i.field g none) h.offered
     no_role_cause f (of_another_kind name kind type is there differs) =
-        let h : HasItem p.main name kind = linked_as (imports.MainModuleExport name kind) is in
+        let h : OffersItem p.main name kind = linked_as (imports.MainModuleExport name kind) is in
         differs (ap kind_of (same_some (found name p.main.offered) type h.type there h.offered) ∙ h.of_kind)
     no_role_cause f (for_main_or_libraries adapter name required plain is) = no_adapters adapter name required plain is
     no_role_cause f (no_adapter adapter name required is none) =
@@ -244,20 +296,55 @@ module _ (p : WorldParts) where
         differs (same_some (found name of.info.offered) type (externs.Func required) there (ap (λ (a : WorldAdapter). found name a.info.offered) same ∙ h.offered))
     no_role_cause f (with_references adapter name required is references) =
         let h : AdapterOffers (whole_of p) adapter name required = linked_as (imports.AdapterExport adapter name required) is in true≢false (sym h.numbers ∙ references)
+    no_role_cause f (item_of_main item main is) = not_own (imports.Item item) main is
+    no_role_cause f (no_module_of_item item is none) =
+        let h : NamedOffers (whole_of p) item.which item.name item.kind = linked_as (imports.Item item) is in none-some (found_module (whole_of p) item.which) h.of none h.named
+    no_role_cause f (item_not_offered item of g is named none) =
+        let h : NamedOffers (whole_of p) item.which item.name item.kind = linked_as (imports.Item item) is in
+        let same : of ≡ h.of = same_some (found_module (whole_of p) item.which) of h.of named h.named in
+        let item_is = h.offers in
+        none-some (found item.name of.offered) item_is.type (is_none of item.name i.module_name i.field g none) (ap (λ (x : ValidatedModule). found item.name x.offered) same ∙ item_is.offered)
+    no_role_cause f (item_of_another_kind item of type is named there differs) =
+        let h : NamedOffers (whole_of p) item.which item.name item.kind = linked_as (imports.Item item) is in
+        let same : of ≡ h.of = same_some (found_module (whole_of p) item.which) of h.of named h.named in
+        let item_is = h.offers in
+        differs (ap kind_of (same_some (found item.name of.offered) type item_is.type there (ap (λ (x : ValidatedModule). found item.name x.offered) same ∙ item_is.offered)) ∙ item_is.of_kind)
 
-  no_type_cause : (m : ValidatedModule) (i : ImportType) (f : Refusal) → typed_given p.main m.imports.modules i ≡ Ok tt → TypeCause p m i f → ⊥
-  no_type_cause m i f pass (not_there name kind g role none) =
-      let h : OffersMatching p.main name i.ty = type_linked p m i tt pass (imports.MainModuleExport name kind) role in none-some (found name p.main.offered) h.type (is_none p.main name i.module_name i.field g none) h.offered
-  no_type_cause m i f pass (unmatched name kind type role there fails) =
-      let h : OffersMatching p.main name i.ty = type_linked p m i tt pass (imports.MainModuleExport name kind) role in
-      let same : type ≡ h.type = same_some (found name p.main.offered) type h.type there h.offered in
-      true≢false (sym h.matching ∙ (ap (matches i.ty) (sym same) ∙ fails))
+  no_named_cause : (which : MainOrAdapter) (name : List ℕ) (i : ImportType) → NamedMatches (whole_of p) which name i.ty → (f : Refusal) → NotMatching p which name i f → ⊥
+  no_named_cause which name i h f (no_module none) = none-some (found_module (whole_of p) which) h.of none h.named
+  no_named_cause which name i h f (not_of_named of g named none) =
+      let same : of ≡ h.of = same_some (found_module (whole_of p) which) of h.of named h.named in
+      let item_is = h.matches in
+      none-some (found name of.offered) item_is.type (is_none of name i.module_name i.field g none) (ap (λ (x : ValidatedModule). found name x.offered) same ∙ item_is.offered)
+  no_named_cause which name i h f (of_unmatched_type of type named there fails) =
+      let same : of ≡ h.of = same_some (found_module (whole_of p) which) of h.of named h.named in
+      let item_is = h.matches in
+      let one : type ≡ item_is.type = same_some (found name of.offered) type item_is.type there (ap (λ (x : ValidatedModule). found name x.offered) same ∙ item_is.offered) in
+      true≢false (sym item_is.matching ∙ (ap (matches i.ty) (sym one) ∙ fails))
+
+  module _ (importer : Importer) (m : ValidatedModule) (i : ImportType) (pass : typed_given importer p.main p.adapters m.imports.modules i ≡ Ok tt) where
+    linked : IsImportLinked (whole_of p) m i
+    linked = type_linked p importer m i tt pass
+
+    no_type_cause : (f : Refusal) → TypeCause p importer m i f → ⊥
+    no_type_cause f (not_there name kind g role none) =
+        let h : OffersMatching p.main name i.ty = linked.by_role (imports.MainModuleExport name kind) role in none-some (found name p.main.offered) h.type (is_none p.main name i.module_name i.field g none) h.offered
+    no_type_cause f (unmatched name kind type role there fails) =
+        let h : OffersMatching p.main name i.ty = linked.by_role (imports.MainModuleExport name kind) role in
+        let same : type ≡ h.type = same_some (found name p.main.offered) type h.type there h.offered in
+        true≢false (sym h.matching ∙ (ap (matches i.ty) (sym same) ∙ fails))
+    no_type_cause f (of_item item g role c) = no_named_cause item.which item.name i (linked.by_role (imports.Item item) role) g c
+    no_type_cause f (of_instance which g whole c) = no_named_cause which i.field i (linked.by_instance which whole) g c
+    no_type_cause f (instance_of_main which main whole) =
+        let failed : whole_given importers.Main (module_named p.main p.adapters which) i ≡ Ok tt =
+        ap (λ (from : Importer). whole_given from (module_named p.main p.adapters which) i) (sym main) ∙ (ap (matching_given importer p.main p.adapters i) (sym whole) ∙ pass) in
+        absurd cc
 
   no_given_cause : (importer : Importer) (m : ValidatedModule) (f : Refusal) → PassesAll p importer m → GivenCause p importer m f → ⊥
   no_given_cause importer m f h (by_role i g there c) =
       no_role_cause importer i (AllByRecursion-contains (λ x. NotOwn importer x.role) (imports_of m) i h.others there) (AllByRecursion-contains (λ x. import_given importer p.main p.adapters x ≡ Ok tt) (imports_of m) i h.by_role there) g c
   no_given_cause importer m f h (by_type i g there c) =
-      no_type_cause m i g (AllByRecursion-contains (λ x. typed_given p.main m.imports.modules x ≡ Ok tt) m.imported i h.by_type there) c
+      no_type_cause importer m i (AllByRecursion-contains (λ x. typed_given importer p.main p.adapters m.imports.modules x ≡ Ok tt) m.imported i h.by_type there) g c
 
   pub no_cause : (t : ⊤) → links_pass p ≡ Ok t → (f : Refusal) → LinkCause p f → ⊥
   no_cause t e f (memories g c) = let h = links_hold p t e in no_memory_cause p.main.imports.modules tt h.memories g c

@@ -2,7 +2,8 @@
 use Rattle.std.proofs.Common.{◌≡◌, ◌∙◌, ◌&&◌, ℕ, Bool, true, false, List, [], ◌∷◌, ◌++◌, map, Option, Some, None, Result, Ok, refl, sym, ap, true≢false}
 use Rattle.std.specs.Prelude.{⊤}
 use Rattle.std.specs.List.{AllByRecursion, flat_map}
-use Rattle.std.specs.Option.{option_or}
+use Rattle.std.specs.Option.{option_or, option_and_then}
+use Rattle.std.proofs.lemmas.Option.{none-some}
 use Rattle.comp_lists.specs.Found.{found}
 use Rattle.comp_lists.proofs.Lists.{AllByRecursion-weaker}
 use Rattle.core_types.specs.declared.types.FuncType.{FuncType}
@@ -16,12 +17,16 @@ use Rattle.comp_roles.specs.Matching.{kind_of, matches, has_numbers}
 use Rattle.comp_roles.specs.declared.imports.Import.{Import}
 use Rattle.comp_roles.specs.declared.imports.Import.TheVariants as imports
 use Rattle.comp_roles.specs.declared.imports.ImportInstance.{ImportInstance}
+use Rattle.comp_roles.specs.declared.imports.ImportInstance.TheVariants as instances
 use Rattle.comp_roles.specs.declared.libraries.LibraryInfo.{LibraryInfo}
+use Rattle.comp_roles.specs.declared.libraries.MainOrAdapter.{MainOrAdapter}
+use Rattle.comp_roles.specs.declared.libraries.MainOrAdapter.TheVariants as users
 use Rattle.comp_roles.specs.declared.offered.ExternType.{ExternType}
 use Rattle.comp_roles.specs.declared.offered.ExternType.TheVariants as externs
 use Rattle.comp_roles.specs.declared.offered.ImportType.{ImportType}
 use Rattle.comp_worlds.proofs.Matched.{one_function}
-use Rattle.comp_worlds.specs.Offered.{OffersMatching, AdapterOffers, MemoryMatches}
+use Rattle.comp_worlds.specs.Lookups.{found_module}
+use Rattle.comp_worlds.specs.Offered.{OffersItem, OffersMatching, NamedOffers, NamedMatches, AdapterOffers, MemoryMatches}
 use Rattle.comp_worlds.specs.Uses.{imports_of}
 use Rattle.comp_worlds.specs.WorldTables.{whole_of}
 use Rattle.comp_worlds.specs.Worlds.{IsNotOfMain}
@@ -32,8 +37,8 @@ use Rattle.record_faults.specs.declared.fault.Failure.{Failure}
 use Rattle.record_faults.specs.Faults.{◌>>=◌}
 use Rattle.record_faults.proofs.Chains.{bind_ok}
 use Rattle.record_imports.specs.Memories.{memories_fit}
-use Rattle.supported_worlds.specs.Links.{HasItem, IsRoleLinked, IsTypeLinked, IsImportLinked, IsModuleLinked, AreLinked}
-use Rattle.plain_lower.specs.Giving.{importer_of, passes_if, memory_matches, memory_given, offered_given, export_given, is_function, offered_function, of_adapter, adapter_export_given, role_given, match_given, type_given}
+use Rattle.supported_worlds.specs.Links.{IsRoleLinked, IsTypeLinked, IsFromInstance, IsImportLinked, IsModuleLinked, AreLinked}
+use Rattle.plain_lower.specs.Giving.{importer_of, passes_if, memory_matches, memory_given, offered_given, export_given, is_function, offered_function, of_adapter, adapter_export_given, module_named, of_module, argument_given, role_given, match_given, match_named, type_given, whole_given, matching_given}
 use Rattle.plain_lower.specs.Linking.{each_passes, import_given, typed_given, module_given, adapter_given, no_own_memory, links_pass}
 use Rattle.plain_lower.specs.declared.giving.Importer.{Importer}
 use Rattle.plain_lower.specs.declared.giving.Importer.TheVariants as importers
@@ -104,14 +109,14 @@ module _ (p : WorldParts) where
   memory_linked importers.Adapter field required t other e = memory_right required (passed_if (memory_matches required (first_memory p.main.exports.exports)) _ t e)
   memory_linked importers.Library field required t other e = memory_right required (passed_if (memory_matches required (first_memory p.main.exports.exports)) _ t e)
 
-  item_linked : (from field name : List ℕ) (kind : ExportKind) (o : Option ExternType) (t : ⊤) → found name p.main.offered ≡ o → offered_given p.main from field name kind o ≡ Ok t → HasItem p.main name kind
-  item_linked from field name kind None t is e = absurd cc
-  item_linked from field name kind (Some type) t is e = record { type = type; offered = is; of_kind = one_kind (kind_of type) kind (passed_if (same_kind.eq-value.it (kind_of type) kind) _ t e) }
+  item_linked : (m : ValidatedModule) (from field name : List ℕ) (kind : ExportKind) (o : Option ExternType) (t : ⊤) → found name m.offered ≡ o → offered_given m from field name kind o ≡ Ok t → OffersItem m name kind
+  item_linked m from field name kind None t is e = absurd cc
+  item_linked m from field name kind (Some type) t is e = record { type = type; offered = is; of_kind = one_kind (kind_of type) kind (passed_if (same_kind.eq-value.it (kind_of type) kind) _ t e) }
 
-  export_linked : (importer : Importer) (from field name : List ℕ) (kind : ExportKind) (t : ⊤) → export_given importer p.main from field name kind ≡ Ok t → HasItem p.main name kind
+  export_linked : (importer : Importer) (from field name : List ℕ) (kind : ExportKind) (t : ⊤) → export_given importer p.main from field name kind ≡ Ok t → OffersItem p.main name kind
   export_linked importers.Main from field name kind t e = absurd cc
-  export_linked importers.Adapter from field name kind t e = item_linked from field name kind (found name p.main.offered) t refl e
-  export_linked importers.Library from field name kind t e = item_linked from field name kind (found name p.main.offered) t refl e
+  export_linked importers.Adapter from field name kind t e = item_linked p.main from field name kind (found name p.main.offered) t refl e
+  export_linked importers.Library from field name kind t e = item_linked p.main from field name kind (found name p.main.offered) t refl e
 
   function_right : (adapter name : List ℕ) (required : FuncType) (of : WorldAdapter) (item : ExternType) → found adapter p.adapters ≡ Some of → found name of.info.offered ≡ Some item → is_function required item ≡ true
       → AdapterOffers (whole_of p) adapter name required
@@ -135,45 +140,86 @@ module _ (p : WorldParts) where
   adapter_export_linked importers.Main adapter from field name required t e = adapter_linked adapter from field name required (found adapter p.adapters) t refl e
   adapter_export_linked importers.Library adapter from field name required t e = adapter_linked adapter from field name required (found adapter p.adapters) t refl e
 
+  -- ---- what arguments name
+
+  pub named_is : (which : MainOrAdapter) → found_module (whole_of p) which ≡ module_named p.main p.adapters which
+  named_is users.Main = refl
+  named_is (users.Adapter name) = refl
+
+  of_module_linked : (which : MainOrAdapter) (from field name : List ℕ) (kind : ExportKind) (o : Option ValidatedModule) (t : ⊤) → module_named p.main p.adapters which ≡ o → of_module o from field name kind ≡ Ok t → NamedOffers (whole_of p) which name kind
+  of_module_linked which from field name kind None t is e = absurd cc
+  of_module_linked which from field name kind (Some m) t is e = record { of = m; named = named_is which ∙ is; offers = item_linked m from field name kind (found name m.offered) t refl e }
+
+  argument_linked : (importer : Importer) (which : MainOrAdapter) (from field name : List ℕ) (kind : ExportKind) (t : ⊤) → argument_given importer (module_named p.main p.adapters which) from field name kind ≡ Ok t → NamedOffers (whole_of p) which name kind
+  argument_linked importers.Main which from field name kind t e = absurd cc
+  argument_linked importers.Adapter which from field name kind t e = of_module_linked which from field name kind (module_named p.main p.adapters which) t refl e
+  argument_linked importers.Library which from field name kind t e = of_module_linked which from field name kind (module_named p.main p.adapters which) t refl e
+
   pub role_linked : (importer : Importer) (from field : List ℕ) (role : Import) (t : ⊤) → NotOwn importer role → role_given importer p.main p.adapters from field role ≡ Ok t → IsRoleLinked (whole_of p) role
   role_linked importer from field (imports.MainModuleMemory required) t other e = memory_linked importer field required t other e
   role_linked importer from field (imports.MainModuleExport name kind) t other e = export_linked importer from field name kind t e
   role_linked importer from field (imports.AdapterExport adapter name required) t other e = adapter_export_linked importer adapter from field name required t e
+  role_linked importer from field (imports.Item item) t other e = argument_linked importer item.which from field item.name item.kind t e
   role_linked importer from field role t other e = tt
 
   -- main imports nothing of its own
   pub not_of_main : (from field : List ℕ) (role : Import) (t : ⊤) → NotOwn importers.Main role → role_given importers.Main p.main p.adapters from field role ≡ Ok t → IsNotOfMain role
   not_of_main from field (imports.MainModuleMemory required) t other e = no_memory required (other refl)
   not_of_main from field (imports.MainModuleExport name kind) t other e = absurd cc
+  not_of_main from field (imports.Item item) t other e = absurd cc
   not_of_main from field role t other e = tt
 
   -- ---- types
 
-  match_linked : (i : ImportType) (name : List ℕ) (o : Option ExternType) (t : ⊤) → found name p.main.offered ≡ o → match_given p.main i name o ≡ Ok t → OffersMatching p.main name i.ty
-  match_linked i name None t is e = absurd cc
-  match_linked i name (Some type) t is e = record { type = type; offered = is; matching = passed_if (matches i.ty type) _ t e }
+  match_linked : (m : ValidatedModule) (i : ImportType) (name : List ℕ) (o : Option ExternType) (t : ⊤) → found name m.offered ≡ o → match_given m i name o ≡ Ok t → OffersMatching m name i.ty
+  match_linked m i name None t is e = absurd cc
+  match_linked m i name (Some type) t is e = record { type = type; offered = is; matching = passed_if (matches i.ty type) _ t e }
 
-  role_typed : (i : ImportType) (role : Import) (t : ⊤) → type_given p.main i (Some role) ≡ Ok t → IsTypeLinked (whole_of p) role i.ty
-  role_typed i (imports.MainModuleExport name kind) t e = match_linked i name (found name p.main.offered) t refl e
+  named_linked : (which : MainOrAdapter) (i : ImportType) (name : List ℕ) (o : Option ValidatedModule) (t : ⊤) → module_named p.main p.adapters which ≡ o → match_named o i name ≡ Ok t → NamedMatches (whole_of p) which name i.ty
+  named_linked which i name None t is e = absurd cc
+  named_linked which i name (Some m) t is e = record { of = m; named = named_is which ∙ is; matches = match_linked m i name (found name m.offered) t refl e }
+
+  role_typed : (i : ImportType) (role : Import) (t : ⊤) → type_given p.main p.adapters i (Some role) ≡ Ok t → IsTypeLinked (whole_of p) role i.ty
+  role_typed i (imports.MainModuleExport name kind) t e = match_linked p.main i name (found name p.main.offered) t refl e
+  role_typed i (imports.Item item) t e = named_linked item.which i item.name (module_named p.main p.adapters item.which) t refl e
   role_typed i role t e = tt
 
-  pub type_linked : (m : ValidatedModule) (i : ImportType) (t : ⊤) → typed_given p.main m.imports.modules i ≡ Ok t → IsImportLinked (whole_of p) m i
-  type_linked m i t e = λ role is. role_typed i role t (ap (type_given p.main i) (sym is) ∙ e)
+  whole_linked : (importer : Importer) (which : MainOrAdapter) (i : ImportType) (t : ⊤) → whole_given importer (module_named p.main p.adapters which) i ≡ Ok t → NamedMatches (whole_of p) which i.field i.ty
+  whole_linked importers.Main which i t e = absurd cc
+  whole_linked importers.Adapter which i t e = named_linked which i i.field (module_named p.main p.adapters which) t refl e
+  whole_linked importers.Library which i t e = named_linked which i i.field (module_named p.main p.adapters which) t refl e
+
+  -- the imports from a module have this role for a field
+  roled : (importer : Importer) (i : ImportType) (role : Import) (o : Option ImportInstance) (t : ⊤) → option_and_then (λ (x : ImportInstance). found i.field (fields_of x)) o ≡ Some role → matching_given importer p.main p.adapters i o ≡ Ok t
+      → type_given p.main p.adapters i (Some role) ≡ Ok t
+  roled importer i role None t is e = absurd (none-some role is)
+  roled importer i role (Some (instances.Names fields)) t is e = ap (type_given p.main p.adapters i) (sym is) ∙ e
+  roled importer i role (Some (instances.Whole which)) t is e = absurd (none-some role is)
+
+  pub type_linked : (importer : Importer) (m : ValidatedModule) (i : ImportType) (t : ⊤) → typed_given importer p.main p.adapters m.imports.modules i ≡ Ok t → IsImportLinked (whole_of p) m i
+  type_linked importer m i t e = record {
+    by_role = λ role is. role_typed i role t (roled importer i role (found i.module_name m.imports.modules) t is e);
+    by_instance = λ which is. whole_linked importer which i t (ap (matching_given importer p.main p.adapters i) (sym is) ∙ e);
+  }
+
+  -- main is given no whole instance
+  pub none_whole : (i : ImportType) (t : ⊤) → typed_given importers.Main p.main p.adapters p.main.imports.modules i ≡ Ok t → (which : MainOrAdapter) → IsFromInstance p.main i which → ⊥
+  none_whole i t e which is = let failed : whole_given importers.Main (module_named p.main p.adapters which) i ≡ Ok t = ap (matching_given importers.Main p.main p.adapters i) (sym is) ∙ e in absurd cc
 
   -- ---- modules
 
   -- the imports of a module pass by their roles, and by their types
   pub record PassesAll (importer : Importer) (m : ValidatedModule) : Type 0 where
     pub by_role : AllByRecursion (λ i. import_given importer p.main p.adapters i ≡ Ok tt) (imports_of m)
-    pub by_type : AllByRecursion (λ i. typed_given p.main m.imports.modules i ≡ Ok tt) m.imported
+    pub by_type : AllByRecursion (λ i. typed_given importer p.main p.adapters m.imports.modules i ≡ Ok tt) m.imported
     pub others : AllByRecursion (λ i. NotOwn importer i.role) (imports_of m)
 
   module_passes : (importer : Importer) (m : ValidatedModule) (t : ⊤) → AllByRecursion (λ i. NotOwn importer i.role) (imports_of m) → module_given importer p.main p.adapters m ≡ Ok t → PassesAll importer m
   module_passes importer m t others e =
-      let a = bind_ok (each_passes (import_given importer p.main p.adapters) (imports_of m)) (λ _. each_passes (typed_given p.main m.imports.modules) m.imported) t e in
+      let a = bind_ok (each_passes (import_given importer p.main p.adapters) (imports_of m)) (λ _. each_passes (typed_given importer p.main p.adapters m.imports.modules) m.imported) t e in
       record {
         by_role = all_pass (import_given importer p.main p.adapters) (imports_of m) tt a.1;
-        by_type = all_pass (typed_given p.main m.imports.modules) m.imported t a.2;
+        by_type = all_pass (typed_given importer p.main p.adapters m.imports.modules) m.imported t a.2;
         others = others;
       }
 
@@ -189,7 +235,7 @@ module _ (p : WorldParts) where
   module_linked : (importer : Importer) (m : ValidatedModule) → PassesAll importer m → IsModuleLinked (whole_of p) m
   module_linked importer m h = record {
     roles = roles_linked importer (imports_of m) h.by_role h.others;
-    types = AllByRecursion-weaker (λ (i : ImportType) (e : typed_given p.main m.imports.modules i ≡ Ok tt). type_linked m i tt e) m.imported h.by_type;
+    types = AllByRecursion-weaker (λ (i : ImportType) (e : typed_given importer p.main p.adapters m.imports.modules i ≡ Ok tt). type_linked importer m i tt e) m.imported h.by_type;
   }
 
   -- all of them pass
@@ -228,7 +274,10 @@ module _ (p : WorldParts) where
       let h = links_hold t e in
       let main = h.main in
       record {
-        main_first = none_of_main (imports_of p.main) main.by_role main.others;
+        main_first = record {
+          roles = none_of_main (imports_of p.main) main.by_role main.others;
+          by_roles = AllByRecursion-weaker (λ (i : ImportType) (e : typed_given importers.Main p.main p.adapters p.main.imports.modules i ≡ Ok tt). none_whole i tt e) p.main.imported main.by_type;
+        };
         main = module_linked importers.Main p.main main;
         adapters = AllByRecursion-weaker (λ (a : List ℕ × WorldAdapter) (h : PassesAll (importer_of a.1.library_info) a.1.info). module_linked (importer_of a.1.library_info) a.1.info h) p.adapters h.adapters;
       }

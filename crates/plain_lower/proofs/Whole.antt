@@ -26,6 +26,7 @@ use Rattle.plain_lower.specs.Reach.{reach_of}
 use Rattle.plain_lower.specs.Preparing.{adapters_pass, combined, world_parts, preparing_if, preparing}
 use Rattle.plain_lower.specs.Causes.{CombinedCause, RolesCause, ModuleCause, unread, as_core, PartsCause, WholeCause, unlinked, not_yet, WorldCause, of_parts, of_whole, PrepareCause, grows, of_combined, of_world}
 use Rattle.plain_lower.specs.LinkCauses.{LinkCause}
+use Rattle.record_imports.specs.Arguments.{Arguments}
 use Rattle.record_imports.specs.declared.others.OtherModules.{OtherModules}
 use Rattle.plain_lower.proofs.Refusing.{none_grows}
 
@@ -44,27 +45,27 @@ begins bytes m e = by (pieces_of bytes) refl e
     by (Err f) is e = absurd cc
 
 -- a module that can't be read
-pub unread_caused : (r : Resolved) (others : OtherModules) (part : Part Bindgen) (f : SectionFault) → (f ≢ section_faults.Memory → module_of part.bytes ≡ Err f) → (q : Refusal) → of_section f ≡ failures.Refused q → ModuleCause r others part q
-unread_caused r others part section_faults.Memory h q e = absurd cc
-unread_caused r others part section_faults.NotModule h q e = unread q (ap (λ (x : Result CoreModule SectionFault). lifted x) (h (λ m. cc)) ∙ ap Err e)
-unread_caused r others part (section_faults.Section place) h q e = unread q (ap (λ (x : Result CoreModule SectionFault). lifted x) (h (λ m. cc)) ∙ ap Err e)
-unread_caused r others part section_faults.PackageBinary h q e = unread q (ap (λ (x : Result CoreModule SectionFault). lifted x) (h (λ m. cc)) ∙ ap Err e)
+pub unread_caused : (r : Resolved) (others : OtherModules) (arguments : Arguments) (part : Part Bindgen) (f : SectionFault) → (f ≢ section_faults.Memory → module_of part.bytes ≡ Err f) → (q : Refusal) → of_section f ≡ failures.Refused q → ModuleCause r others arguments part q
+unread_caused r others arguments part section_faults.Memory h q e = absurd cc
+unread_caused r others arguments part section_faults.NotModule h q e = unread q (ap (λ (x : Result CoreModule SectionFault). lifted x) (h (λ m. cc)) ∙ ap Err e)
+unread_caused r others arguments part (section_faults.Section place) h q e = unread q (ap (λ (x : Result CoreModule SectionFault). lifted x) (h (λ m. cc)) ∙ ap Err e)
+unread_caused r others arguments part section_faults.PackageBinary h q e = unread q (ap (λ (x : Result CoreModule SectionFault). lifted x) (h (λ m. cc)) ∙ ap Err e)
 
 no_both : {A E : Type 0} (r : Result A E) (x : A) (e : E) → r ≡ Ok x → r ≡ Err e → ⊥
 no_both r x e a b = absurd cc
 
-no_module_cause : (r : Resolved) (others : OtherModules) (part : Part Bindgen) (core : CoreModule) → module_of part.bytes ≡ Ok core → ((f : Refusal) → RolesCause r others part core f → ⊥) → (f : Refusal) → ModuleCause r others part f → ⊥
-no_module_cause r others part core is h f (unread q e) = no_both (lifted (module_of part.bytes)) core _ (ap (λ (x : Result CoreModule SectionFault). lifted x) is) e
-no_module_cause r others part core is h f (as_core other q e c) = h f (subst (λ (x : CoreModule). RolesCause r others part x f) (same_ok (module_of part.bytes) other core e is) c)
+no_module_cause : (r : Resolved) (others : OtherModules) (arguments : Arguments) (part : Part Bindgen) (core : CoreModule) → module_of part.bytes ≡ Ok core → ((f : Refusal) → RolesCause r others arguments part core f → ⊥) → (f : Refusal) → ModuleCause r others arguments part f → ⊥
+no_module_cause r others arguments part core is h f (unread q e) = no_both (lifted (module_of part.bytes)) core _ (ap (λ (x : Result CoreModule SectionFault). lifted x) is) e
+no_module_cause r others arguments part core is h f (as_core other q e c) = h f (subst (λ (x : CoreModule). RolesCause r others arguments part x f) (same_ok (module_of part.bytes) other core e is) c)
 
-pub module_caused : (r : Resolved) (others : OtherModules) (part : Part Bindgen) (core : CoreModule) (answer : Result ModuleParts Failure) → module_of part.bytes ≡ Ok core
-    → IfErr answer (λ e. (f : Refusal) → e ≡ failures.Refused f → RolesCause r others part core f) → IfErr answer (λ e. (f : Refusal) → e ≡ failures.Refused f → ModuleCause r others part f)
-module_caused r others part core (Ok p) is h = tt
-module_caused r others part core (Err e) is h = λ f k. as_core core f is (h f k)
+pub module_caused : (r : Resolved) (others : OtherModules) (arguments : Arguments) (part : Part Bindgen) (core : CoreModule) (answer : Result ModuleParts Failure) → module_of part.bytes ≡ Ok core
+    → IfErr answer (λ e. (f : Refusal) → e ≡ failures.Refused f → RolesCause r others arguments part core f) → IfErr answer (λ e. (f : Refusal) → e ≡ failures.Refused f → ModuleCause r others arguments part f)
+module_caused r others arguments part core (Ok p) is h = tt
+module_caused r others arguments part core (Err e) is h = λ f k. as_core core f is (h f k)
 
-pub module_refused : (r : Resolved) (others : OtherModules) (part : Part Bindgen) (core : CoreModule) (answer : Result ModuleParts Failure) → module_of part.bytes ≡ Ok core
-    → (IsOk answer → (f : Refusal) → RolesCause r others part core f → ⊥) → IsOk answer → (f : Refusal) → ModuleCause r others part f → ⊥
-module_refused r others part core answer is h ok = no_module_cause r others part core is (h ok)
+pub module_refused : (r : Resolved) (others : OtherModules) (arguments : Arguments) (part : Part Bindgen) (core : CoreModule) (answer : Result ModuleParts Failure) → module_of part.bytes ≡ Ok core
+    → (IsOk answer → (f : Refusal) → RolesCause r others arguments part core f → ⊥) → IsOk answer → (f : Refusal) → ModuleCause r others arguments part f → ⊥
+module_refused r others arguments part core answer is h ok = no_module_cause r others arguments part core is (h ok)
 
 -- ---- the world of the modules
 

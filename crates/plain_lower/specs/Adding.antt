@@ -34,7 +34,7 @@ pub record IsAdded (r : Resolved) (reach : Reach) (a : List ℕ × GatheredAdapt
 
 -- these are main and the adapters of gathered ones, which have no fault
 pub record AreModulesOf (r : Resolved) (reach : Reach) (main : Part Bindgen) (adapters : Adapters) (m : Modules) : Type 0 where
-  pub main_made : module_parts r reach.main main ≡ Ok m.main
+  pub main_made : module_parts r reach.main [] main ≡ Ok m.main
   pub adapters_made : adapters_after r reach [] adapters ≡ Ok m.adapters
   pub main_sound : IsSoundPart r (user_module m.main)
   pub adapters_sound : AllByRecursion (λ a. IsSoundPart r (module_of a)) m.adapters

@@ -1,10 +1,8 @@
 -- When each fault is right: what is wrong with the bytes, with the records or with what was gathered. (The record is this
 -- project's own; what is required of the bytes is from the core standard's binary format.)
-use Rattle.std.specs.Prelude.{◌≡◌, ℕ, Bool, true, List, [], ◌++◌, Some, None, Ok, Err, Contains, IsTrue, codes}
+use Rattle.std.specs.Prelude.{◌≡◌, ℕ, Bool, true, List, [], ◌++◌, Some, None, Ok, Err, Contains, IsTrue}
 use Rattle.std.specs.List.{AllZip}
 use Rattle.comp_roles.specs.declared.exports.Export.{Export}
-use Rattle.comp_roles.specs.declared.libraries.LibraryInfo.{LibraryInfo}
-use Rattle.record_faults.specs.declared.fault.Refusal.TheVariants as refusals
 use Rattle.world_values.specs.declared.gathered.Gathered.{Gathered}
 use Rattle.world_values.specs.declared.gathered.GatheredAdapter.{GatheredAdapter}
 use Rattle.world_values.specs.declared.gathered.Part.{Part}
@@ -32,13 +30,14 @@ use Rattle.record_versions.specs.declared.versions.MergedVersions.{MergedVersion
 use Rattle.record_versions.specs.MergedVersions.{merged_versions}
 use Rattle.record_resolve.specs.declared.resolving.Resolved.{Resolved}
 use Rattle.record_resolve.specs.Resolved.{resolved, IsWhole}
+use Rattle.record_imports.specs.Arguments.{Arguments}
 use Rattle.record_imports.specs.Causes.{ImportCause}
 use Rattle.record_imports.specs.declared.others.OtherModules.{OtherModules}
 use Rattle.record_exports.specs.Exporting.{exports_of}
 use Rattle.record_exports.specs.Causes.{ExportCause, RequiredCause}
 use Rattle.supported_worlds.specs.Causes.{IsLeftOut}
 use Rattle.plain_lower.specs.ModuleRecords.{records_in}
-use Rattle.plain_lower.specs.Arguments.{Adapters}
+use Rattle.plain_lower.specs.Arguments.{Adapters, arguments_of}
 use Rattle.plain_lower.specs.Reach.{reach_of, others_for}
 use Rattle.plain_lower.specs.declared.reach.Reach.{Reach}
 use Rattle.plain_lower.specs.LinkCauses.{LinkCause}
@@ -107,23 +106,21 @@ pub data ExportsCause (r : Resolved) (part : Part Bindgen) (core : CoreModule) :
   -- one that is required of the module is missing
   missing : (exported : List (List ℕ × Export)) (f : Refusal) → exports_of r part.own.roles.export_roles core ≡ Ok exported → RequiredCause r exported part.required f → ExportsCause r part core f
 
--- why its roles are refused, where it may import these exports of other modules
-pub data RolesCause (r : Resolved) (others : OtherModules) (part : Part Bindgen) (core : CoreModule) : Refusal → Type 0 where
-  of_imports : (f : Refusal) → ImportCause r others part.own.roles.import_roles core f → RolesCause r others part core f
-  of_exports : (f : Refusal) → ExportsCause r part core f → RolesCause r others part core f
+-- why its roles are refused, where it may import these exports of other modules, and has these arguments
+pub data RolesCause (r : Resolved) (others : OtherModules) (arguments : Arguments) (part : Part Bindgen) (core : CoreModule) : Refusal → Type 0 where
+  of_imports : (f : Refusal) → ImportCause r others arguments part.own.roles.import_roles core f → RolesCause r others arguments part core f
+  of_exports : (f : Refusal) → ExportsCause r part core f → RolesCause r others arguments part core f
 
 -- why a module is refused
-pub data ModuleCause (r : Resolved) (others : OtherModules) (part : Part Bindgen) : Refusal → Type 0 where
+pub data ModuleCause (r : Resolved) (others : OtherModules) (arguments : Arguments) (part : Part Bindgen) : Refusal → Type 0 where
   -- its sections can't be read as those of a core module, and this is the fault
-  unread : (f : Refusal) → lifted (module_of part.bytes) ≡ Err (failures.Refused f) → ModuleCause r others part f
+  unread : (f : Refusal) → lifted (module_of part.bytes) ≡ Err (failures.Refused f) → ModuleCause r others arguments part f
   -- they can be read, and its roles are refused
-  as_core : (core : CoreModule) (f : Refusal) → module_of part.bytes ≡ Ok core → RolesCause r others part core f → ModuleCause r others part f
+  as_core : (core : CoreModule) (f : Refusal) → module_of part.bytes ≡ Ok core → RolesCause r others arguments part core f → ModuleCause r others arguments part f
 
 -- why an adapter is refused
-pub data AdapterCause (r : Resolved) (reach : Reach) (a : GatheredAdapter Bindgen) : Refusal → Type 0 where
-  -- it is a library with arguments
-  with_arguments : (info : LibraryInfo) → a.library_info ≡ Some info → (info.arguments ≡ [] → ⊥) → AdapterCause r reach a (refusals.LeftOut (codes "library"))
-  of_module : (f : Refusal) → ModuleCause r (others_for reach a.library_info) a.part f → AdapterCause r reach a f
+abbrev pub AdapterCause : Resolved → Reach → GatheredAdapter Bindgen → Refusal → Type 0
+AdapterCause r reach a f = ModuleCause r (others_for reach a.library_info) (arguments_of a.library_info) a.part f
 
 -- why adapters are refused: one of them is
 pub data AdaptersCause (r : Resolved) (reach : Reach) (all : Adapters) : Refusal → Type 0 where
@@ -131,7 +128,7 @@ pub data AdaptersCause (r : Resolved) (reach : Reach) (all : Adapters) : Refusal
 
 -- why there are no parts of a world of main and these adapters, which may import these exports of other modules
 pub data PartsCause (r : Resolved) (reach : Reach) (main : Part Bindgen) (adapters : Adapters) : Refusal → Type 0 where
-  of_main : (f : Refusal) → ModuleCause r reach.main main f → PartsCause r reach main adapters f
+  of_main : (f : Refusal) → ModuleCause r reach.main [] main f → PartsCause r reach main adapters f
   of_adapters : (f : Refusal) → AdaptersCause r reach adapters f → PartsCause r reach main adapters f
 
 -- why there is no world of these parts

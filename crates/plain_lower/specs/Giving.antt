@@ -1,7 +1,7 @@
--- What a core import is given that is main's memory, an export of main or a function of an adapter: whether its module may import it,
--- whether it is there, and whether it is what the import asks for (core standard: imports and exports; validation: import matching;
--- which module may import which is this project's own).
-use Rattle.std.specs.Prelude.{ℕ, Bool, true, false, ◌&&◌, List, Option, Some, None, Result, Ok, Err, is_some, ⊤, if◌then◌else◌}
+-- What a core import is given that is main's memory, an export of main, a function of an adapter, or an item or an export of a whole
+-- instance by an argument of its module: whether the module may import it, whether it is there, and whether it is what the import asks
+-- for (core standard: imports and exports; validation: import matching; which module may import which is this project's own).
+use Rattle.std.specs.Prelude.{ℕ, Bool, true, false, ◌&&◌, List, Option, Some, None, Result, Ok, Err, is_some, option_map, ⊤, if◌then◌else◌}
 use Rattle.comp_lists.specs.Found.{found}
 use Rattle.core_types.specs.contracts.types.FuncTypePartialEq.TheImpl as same_function
 use Rattle.core_types.specs.declared.types.FuncType.{FuncType}
@@ -15,7 +15,11 @@ use Rattle.comp_roles.specs.Lookups.{first_memory}
 use Rattle.comp_roles.specs.Matching.{kind_of, matches, has_numbers}
 use Rattle.comp_roles.specs.declared.imports.Import.{Import}
 use Rattle.comp_roles.specs.declared.imports.Import.TheVariants as imports
+use Rattle.comp_roles.specs.declared.imports.ImportInstance.{ImportInstance}
+use Rattle.comp_roles.specs.declared.imports.ImportInstance.TheVariants as instances
 use Rattle.comp_roles.specs.declared.libraries.LibraryInfo.{LibraryInfo}
+use Rattle.comp_roles.specs.declared.libraries.MainOrAdapter.{MainOrAdapter}
+use Rattle.comp_roles.specs.declared.libraries.MainOrAdapter.TheVariants as users
 use Rattle.comp_roles.specs.declared.offered.ExternType.{ExternType}
 use Rattle.comp_roles.specs.declared.offered.ExternType.TheVariants as externs
 use Rattle.comp_roles.specs.declared.offered.ImportType.{ImportType}
@@ -100,6 +104,22 @@ abbrev pub adapter_export_given : Importer → Option WorldAdapter → List ℕ 
 adapter_export_given importers.Adapter adapter from field name required = Err (missing from field)
 adapter_export_given importer adapter from field name required = of_adapter adapter from field name required
 
+-- ---- what arguments name
+
+-- main, or an adapter, if that is there
+abbrev pub module_named : ValidatedModule → List (List ℕ × WorldAdapter) → MainOrAdapter → Option ValidatedModule
+module_named main adapters users.Main = Some main
+module_named main adapters (users.Adapter name) = option_map (λ (a : WorldAdapter). a.info) (found name adapters)
+
+abbrev pub of_module : Option ValidatedModule → List ℕ → List ℕ → List ℕ → ExportKind → Result ⊤ Failure
+of_module None from field name kind = Err (missing from field)
+of_module (Some m) from field name kind = item_given m from field name kind
+
+-- items are for all but main, which has no arguments
+abbrev pub argument_given : Importer → Option ValidatedModule → List ℕ → List ℕ → List ℕ → ExportKind → Result ⊤ Failure
+argument_given importers.Main source from field name kind = Err (missing from field)
+argument_given importer source from field name kind = of_module source from field name kind
+
 -- ---- one import
 
 -- an import of this module and field is given what its role names
@@ -107,13 +127,31 @@ abbrev pub role_given : Importer → ValidatedModule → List (List ℕ × World
 role_given importer main adapters from field (imports.MainModuleMemory required) = memory_given importer main field required
 role_given importer main adapters from field (imports.MainModuleExport name kind) = export_given importer main from field name kind
 role_given importer main adapters from field (imports.AdapterExport adapter name required) = adapter_export_given importer (found adapter adapters) from field name required
+role_given importer main adapters from field (imports.Item item) = argument_given importer (module_named main adapters item.which) from field item.name item.kind
 role_given importer main adapters from field role = Ok tt
 
 abbrev pub match_given : ValidatedModule → ImportType → List ℕ → Option ExternType → Result ⊤ Failure
-match_given main i name None = not_offered main name i.module_name i.field
-match_given main i name (Some type) = passes_if (matches i.ty type) (unfit i.field)
+match_given m i name None = not_offered m name i.module_name i.field
+match_given m i name (Some type) = passes_if (matches i.ty type) (unfit i.field)
 
--- where it has the role of an export of main, that matches it
-abbrev pub type_given : ValidatedModule → ImportType → Option Import → Result ⊤ Failure
-type_given main i (Some (imports.MainModuleExport name kind)) = match_given main i name (found name main.offered)
-type_given main i role = Ok tt
+-- what a module offers under a name matches it, if the module is there
+abbrev pub match_named : Option ValidatedModule → ImportType → List ℕ → Result ⊤ Failure
+match_named None i name = Err (missing i.module_name i.field)
+match_named (Some m) i name = match_given m i name (found name m.offered)
+
+-- where it has the role of an export of main or of an item, that matches it
+abbrev pub type_given : ValidatedModule → List (List ℕ × WorldAdapter) → ImportType → Option Import → Result ⊤ Failure
+type_given main adapters i (Some (imports.MainModuleExport name kind)) = match_given main i name (found name main.offered)
+type_given main adapters i (Some (imports.Item item)) = match_named (module_named main adapters item.which) i item.name
+type_given main adapters i role = Ok tt
+
+-- where the whole instance of a module is given, that module's export of its own name matches it; main has no arguments
+abbrev pub whole_given : Importer → Option ValidatedModule → ImportType → Result ⊤ Failure
+whole_given importers.Main source i = Err (missing i.module_name i.field)
+whole_given importer source i = match_named source i i.field
+
+-- it is given what matches its type, by what is imported from its module
+abbrev pub matching_given : Importer → ValidatedModule → List (List ℕ × WorldAdapter) → ImportType → Option ImportInstance → Result ⊤ Failure
+matching_given importer main adapters i None = Ok tt
+matching_given importer main adapters i (Some (instances.Names fields)) = type_given main adapters i (found i.field fields)
+matching_given importer main adapters i (Some (instances.Whole which)) = whole_given importer (module_named main adapters which) i

@@ -1,8 +1,9 @@
--- What the modules of a world give to each other: main its memory and its exports, and adapters their functions. (Which module may
--- import which is this project's own.)
+-- What the modules of a world give to each other: main its memory and its exports, adapters their functions, and both what arguments of
+-- libraries name. (Which module may import which is this project's own.)
 use Rattle.std.specs.Prelude.{ℕ, List, [], ◌∷◌, Option, Some, None, Result, Ok, Err, codes, ⊤}
+use Rattle.comp_lists.specs.Found.{found}
 use Rattle.core_types.specs.declared.types.MemoryType.{MemoryType}
-use Rattle.comp_roles.specs.CoreImports.{CoreImport, role_at}
+use Rattle.comp_roles.specs.CoreImports.{CoreImport}
 use Rattle.comp_roles.specs.Lookups.{imported_memory}
 use Rattle.comp_roles.specs.declared.imports.ImportInstance.{ImportInstance}
 use Rattle.comp_roles.specs.declared.offered.ImportType.{ImportType}
@@ -13,7 +14,7 @@ use Rattle.comp_worlds.specs.declared.world.WorldParts.{WorldParts}
 use Rattle.record_faults.specs.declared.fault.Failure.{Failure}
 use Rattle.record_faults.specs.Faults.{◌>>=◌}
 use Rattle.record_imports.specs.Memories.{memories_fit}
-use Rattle.plain_lower.specs.Giving.{importer_of, role_given, type_given}
+use Rattle.plain_lower.specs.Giving.{importer_of, role_given, matching_given}
 use Rattle.plain_lower.specs.Reports.{left_out}
 use Rattle.plain_lower.specs.declared.giving.Importer.{Importer}
 use Rattle.plain_lower.specs.declared.giving.Importer.TheVariants as importers
@@ -27,15 +28,15 @@ each_passes check (x ∷ xs) = check x >>= λ _. each_passes check xs
 abbrev pub import_given : Importer → ValidatedModule → List (List ℕ × WorldAdapter) → CoreImport → Result ⊤ Failure
 import_given importer main adapters i = role_given importer main adapters i.module_name i.field i.role
 
--- and what main gives matches its type
-abbrev pub typed_given : ValidatedModule → List (List ℕ × ImportInstance) → ImportType → Result ⊤ Failure
-typed_given main modules i = type_given main i (role_at modules i.module_name i.field)
+-- and that matches its type
+abbrev pub typed_given : Importer → ValidatedModule → List (List ℕ × WorldAdapter) → List (List ℕ × ImportInstance) → ImportType → Result ⊤ Failure
+typed_given importer main adapters modules i = matching_given importer main adapters i (found i.module_name modules)
 
 -- all imports of a module are given what they ask for
 abbrev pub module_given : Importer → ValidatedModule → List (List ℕ × WorldAdapter) → ValidatedModule → Result ⊤ Failure
 module_given importer main adapters m = do
   _ ← each_passes (import_given importer main adapters) (imports_of m)
-  each_passes (typed_given main m.imports.modules) m.imported
+  each_passes (typed_given importer main adapters m.imports.modules) m.imported
 
 abbrev pub adapter_given : ValidatedModule → List (List ℕ × WorldAdapter) → List ℕ × WorldAdapter → Result ⊤ Failure
 adapter_given main adapters a = module_given (importer_of a.1.library_info) main adapters a.1.info

@@ -30,13 +30,14 @@ use Rattle.record_resolve.specs.Resolved.{resolved}
 use Rattle.record_resolve.specs.OtherNames.{also_named}
 use Rattle.record_role_targets.specs.Metadata.{resolved_metadata}
 use Rattle.record_core_types.specs.Offered.{imported, offered}
-use Rattle.plain_lower.specs.Arguments.{Adapters, arguments_pass}
+use Rattle.plain_lower.specs.Arguments.{Adapters, arguments_of}
 use Rattle.plain_lower.specs.Reach.{reach_of, others_for}
 use Rattle.plain_lower.specs.declared.reach.Reach.{Reach}
 use Rattle.plain_lower.specs.Linking.{links_pass}
 use Rattle.plain_lower.specs.declared.checking.CheckedRoles.{CheckedRoles}
 use Rattle.plain_lower.specs.declared.modules.ModuleParts.{ModuleParts}
 use Rattle.plain_lower.specs.declared.modules.Own.{Own}
+use Rattle.record_imports.specs.Arguments.{Arguments}
 use Rattle.record_imports.specs.Importing.{imports_of}
 use Rattle.record_imports.specs.declared.others.OtherModules.{OtherModules}
 use Rattle.record_exports.specs.Exporting.{exports_of}
@@ -75,10 +76,10 @@ checked_exports r part core = do
 abbrev pub with_imports : List (List ℕ × ImportInstance) → List (List ℕ × Export) × List WorldKey → CheckedRoles
 with_imports imported exported = record { imports = record { modules = imported }; exports = exported.0; required = exported.1 }
 
--- these, and the roles of its core imports, where the module may import these exports of others
-unfoldable pub checked_roles : Resolved → OtherModules → Part Bindgen → CoreModule → Result CheckedRoles Failure
-checked_roles r others part core = do
-  imported ← imports_of r others part.own.roles.import_roles core
+-- these, and the roles of its core imports, where the module may import these exports of others, and has these arguments
+unfoldable pub checked_roles : Resolved → OtherModules → Arguments → Part Bindgen → CoreModule → Result CheckedRoles Failure
+checked_roles r others arguments part core = do
+  imported ← imports_of r others arguments part.own.roles.import_roles core
   exported ← checked_exports r part core
   Ok (with_imports imported exported)
 
@@ -104,11 +105,11 @@ abbrev pub parts_of : Resolved → Part Bindgen → CoreModule → CheckedRoles 
 parts_of r part core m = with_own (own_of r part core) m
 
 -- the module of a part
-unfoldable pub core_parts : Resolved → OtherModules → Part Bindgen → CoreModule → Result ModuleParts Failure
-core_parts r others part core = checked_roles r others part core >>= λ m. Ok (parts_of r part core m)
+unfoldable pub core_parts : Resolved → OtherModules → Arguments → Part Bindgen → CoreModule → Result ModuleParts Failure
+core_parts r others arguments part core = checked_roles r others arguments part core >>= λ m. Ok (parts_of r part core m)
 
-unfoldable pub module_parts : Resolved → OtherModules → Part Bindgen → Result ModuleParts Failure
-module_parts r others part = lifted (module_of part.bytes) >>= λ core. core_parts r others part core
+unfoldable pub module_parts : Resolved → OtherModules → Arguments → Part Bindgen → Result ModuleParts Failure
+module_parts r others arguments part = lifted (module_of part.bytes) >>= λ core. core_parts r others arguments part core
 
 -- ---- all modules
 
@@ -121,7 +122,7 @@ adapter_in a m = (a.0, adapter_of a.1 m)
 
 -- the module of an adapter
 unfoldable pub adapter_parts : Resolved → Reach → GatheredAdapter Bindgen → Result ModuleParts Failure
-adapter_parts r reach a = arguments_pass a.library_info >>= λ _. module_parts r (others_for reach a.library_info) a.part
+adapter_parts r reach a = module_parts r (others_for reach a.library_info) (arguments_of a.library_info) a.part
 
 -- those of all adapters, after others, in order
 abbrev pub adapters_after : Resolved → Reach → List (List ℕ × WorldAdapter) → Adapters → Result (List (List ℕ × WorldAdapter)) Failure
@@ -142,7 +143,7 @@ world_with resolve main adapters slot_1 = record {
 -- main first, and then the adapters, which may import these exports of other modules
 unfoldable pub parts_within : Resolved → Reach → Part Bindgen → Adapters → Result WorldParts Failure
 parts_within r reach main adapters = do
-  m ← module_parts r reach.main main
+  m ← module_parts r reach.main [] main
   made ← adapters_after r reach [] adapters
   Ok (world_with r.resolve m made main.own.roles.context_slot_1)
 

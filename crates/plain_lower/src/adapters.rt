@@ -13,7 +13,7 @@ ghost use Rattle.plain_lower.specs.Guarantees.{IsUsable, user_module, IsSoundPar
 ghost use Rattle.plain_lower.specs.Causes.{AdapterCause, AdaptersCause};
 ghost use Rattle.plain_lower.specs.Adding.{IsAdapterOf, IsAdded};
 
-use crate::arguments::check_arguments;
+use crate::arguments::arguments_of;
 use crate::modules::{ModuleParts, module_parts};
 use crate::reach::{Reach, others_for};
 use comp_lists::{Keyed, Text};
@@ -80,7 +80,7 @@ fn put_together(parts: ModuleParts, library_info: Option<LibraryInfo>) -> WorldA
     }
 }
 
-/// The module of an adapter, unless that is a library with arguments.
+/// The module of an adapter.
 #[tactic(auto, unfolding(crate::specs::Preparing::adapter_parts))]
 fn adapter_parts(
     alloc: Global,
@@ -94,9 +94,9 @@ fn adapter_parts(
     ensures cause { IfErr result (λ e. (f : RefusalValue) → e ≡ failures.Refused f → AdapterCause resolved.now reach.now adapter.now f) }
     ensures refused { IsOk result → (f : RefusalValue) → ¬ AdapterCause resolved.now reach.now adapter.now f }
 {
-    check_arguments(alloc, &adapter.library_info)?;
     let others = others_for(reach, &adapter.library_info);
-    let parts = module_parts(alloc, resolved, others, &adapter.part)?;
+    let arguments = arguments_of(&adapter.library_info);
+    let parts = module_parts(alloc, resolved, others, arguments, &adapter.part)?;
     Ok(parts)
 }
 

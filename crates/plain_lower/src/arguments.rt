@@ -1,26 +1,16 @@
-//! The arguments of a library, which are left out.
+//! The arguments of an adapter.
 
 ghost use Rattle.std.specs.Prelude.{◌≡◌};
-ghost use Rattle.record_faults.specs.Faults.{Gives};
-ghost use Rattle.plain_lower.specs.Arguments.{arguments_pass};
+ghost use Rattle.plain_lower.specs.Arguments.{arguments_of};
 
-use crate::reports::left_out;
-use comp_roles::LibraryInfo;
-use record_faults::Failure;
-use std::alloc::Global;
+use comp_roles::{LibraryArgument, LibraryInfo};
 
-/// Refuses a library with arguments.
-pub(crate) fn check_arguments(alloc: Global, info: &Option<LibraryInfo>) -> Result<(), Failure>
-    ensures { Gives (λ _. tt) result (arguments_pass info.now) }
+/// The arguments of a library; another adapter has none.
+pub(crate) fn arguments_of(info: &Option<LibraryInfo>) -> &[LibraryArgument]
+    ensures { result.now ≡ arguments_of info.now }
 {
     match info {
-        Some(info) => {
-            if info.arguments.is_empty() {
-                Ok(())
-            } else {
-                left_out(alloc, "library")
-            }
-        }
-        None => Ok(()),
+        Some(info) => info.arguments.as_slice(),
+        None => &[],
     }
 }

@@ -13,7 +13,7 @@ ghost use Rattle.plain_lower.specs.Guarantees.{world_id, AreChecked};
 ghost use Rattle.plain_lower.specs.Causes.{ExportsCause, RolesCause};
 
 use comp_lists::{Keyed, Seq, Text};
-use comp_roles::{Export, ImportMap};
+use comp_roles::{Export, ImportMap, LibraryArgument};
 use core_sections::CoreModule;
 use record_exports::{read_exports, require_all};
 use record_faults::Failure;
@@ -76,16 +76,24 @@ pub(crate) fn check_roles(
     alloc: Global,
     resolved: &Resolved,
     others: &OtherModules,
+    arguments: &[LibraryArgument],
     part: &Part<Bindgen>,
     core: &CoreModule,
 ) -> Result<CheckedRoles, Failure>
     requires { IsSound resolved.now.resolve }
-    ensures exact { Gives (λ m. m) result (checked_roles resolved.now others.now part.now core.now) }
+    ensures exact { Gives (λ m. m) result (checked_roles resolved.now others.now arguments.now part.now core.now) }
     ensures all_present { IfOk result (AreChecked resolved.now) }
-    ensures cause { IfErr result (λ e. (f : Refusal) → e ≡ failures.Refused f → RolesCause resolved.now others.now part.now core.now f) }
-    ensures refused { IsOk result → (f : Refusal) → ¬ RolesCause resolved.now others.now part.now core.now f }
+    ensures cause { IfErr result (λ e. (f : Refusal) → e ≡ failures.Refused f → RolesCause resolved.now others.now arguments.now part.now core.now f) }
+    ensures refused { IsOk result → (f : Refusal) → ¬ RolesCause resolved.now others.now arguments.now part.now core.now f }
 {
-    let imports = read_imports(alloc, resolved, others, &part.own.roles.import_roles, core)?;
+    let imports = read_imports(
+        alloc,
+        resolved,
+        others,
+        arguments,
+        &part.own.roles.import_roles,
+        core,
+    )?;
     match check_exports(alloc, resolved, part, core) {
         Ok(exports) => Ok(with_imports(imports, exports)),
         Err(failure) => {

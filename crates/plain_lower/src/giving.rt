@@ -1,15 +1,19 @@
-//! What a core import is given that is main's memory, an export of main or a function of an adapter: whether its module may import
-//! it, whether it is there, and whether it is what the import asks for.
+//! What a core import is given that is main's memory, an export of main, a function of an adapter, or, by an argument of its module, an
+//! item or an export of a whole instance: whether the module may import it, whether it is there, and whether it is what the import
+//! asks for.
 
 ghost use Rattle.std.specs.Prelude.{◌≡◌, Ok};
 ghost use Rattle.std.specs.Option.{option_copied};
+ghost use Rattle.comp_lists.specs.Found.{found};
 ghost use Rattle.comp_roles.specs.Borrowed.{lent_pair};
 ghost use Rattle.record_faults.specs.Faults.{Gives};
-ghost use Rattle.plain_lower.specs.Giving.{importer_of, exports_name, not_offered, memory_matches, memory_given, item_given, export_given, is_function, function_given, of_adapter, adapter_export_given, role_given, type_given};
+ghost use Rattle.plain_lower.specs.Giving.{importer_of, exports_name, not_offered, memory_matches, memory_given, item_given, export_given, is_function, function_given, of_adapter, adapter_export_given, module_named, of_module, argument_given, role_given, match_given, match_named, type_given, whole_given, matching_given};
 
 use crate::reports::{missing, unfit};
 use comp_lists::{Keyed, Text};
-use comp_roles::{ExternType, Import, ImportType, LibraryInfo, has_numbers};
+use comp_roles::{
+    ExternType, Import, ImportInstance, ImportType, LibraryInfo, MainOrAdapter, has_numbers,
+};
 use comp_worlds::{ValidatedModule, WorldAdapter};
 use core_sections::{SectionFault, read_module};
 use core_types::{FuncType, MemoryType};
@@ -216,6 +220,58 @@ fn check_adapter_export(
     }
 }
 
+// ---- what arguments name
+
+/// Main, or an adapter, if that is there.
+fn module_named<'a>(
+    main: &'a ValidatedModule,
+    adapters: &'a Keyed<Text, WorldAdapter>,
+    which: &MainOrAdapter,
+) -> Option<&'a ValidatedModule>
+    ensures { option_copied result ≡ module_named main.now adapters.now which.now }
+{
+    match which {
+        MainOrAdapter::Main => Some(main),
+        MainOrAdapter::Adapter(name) => {
+            let adapter = adapters.get(name)?;
+            Some(&adapter.info)
+        }
+    }
+}
+
+fn check_named(
+    alloc: Global,
+    source: Option<&ValidatedModule>,
+    from: &str,
+    field: &str,
+    name: &Text,
+    kind: ExportKind,
+) -> Result<(), Failure>
+    ensures { Gives (λ x. x) result (of_module (option_copied source.entry) from.now field.now name.now kind) }
+{
+    let Some(source) = source else {
+        return missing(alloc, from, field);
+    };
+    check_item(alloc, source, from, field, name, kind)
+}
+
+fn check_argument(
+    alloc: Global,
+    importer: Importer,
+    source: Option<&ValidatedModule>,
+    from: &str,
+    field: &str,
+    name: &Text,
+    kind: ExportKind,
+) -> Result<(), Failure>
+    ensures { Gives (λ x. x) result (argument_given importer (option_copied source.entry) from.now field.now name.now kind) }
+{
+    if matches!(importer, Importer::Main) {
+        return missing(alloc, from, field);
+    }
+    check_named(alloc, source, from, field, name, kind)
+}
+
 // ---- one import
 
 /// Refuses an import, by its role, that isn't given what the role names.
@@ -244,36 +300,112 @@ pub(crate) fn check_role(
             func,
             ty,
         ),
+        Import::Item(item) => check_argument(
+            alloc,
+            importer,
+            module_named(main, adapters, &item.which),
+            from,
+            field,
+            &item.name,
+            item.kind,
+        ),
         _ => Ok(()),
     }
 }
 
-/// Refuses an import that is an export of main which doesn't match it.
-pub(crate) fn check_type(
+/// Refuses an import that doesn't match what a module offers under a name.
+fn check_match(
+    alloc: Global,
+    source: &ValidatedModule,
+    import: &ImportType,
+    name: &Text,
+) -> Result<(), Failure>
+    ensures { Gives (λ x. x) result (match_given source.now import.now name.now (found name.now source.now.offered)) }
+{
+    let field = import.field.as_str();
+    match source.offered.get(name) {
+        Some(ty) => {
+            if import.ty.is_matched_by(ty) {
+                Ok(())
+            } else {
+                unfit(alloc, field)
+            }
+        }
+        None => not_offered(alloc, source, name, import.module_name.as_str(), field),
+    }
+}
+
+/// The same, of a module that may not be there.
+fn check_match_named(
+    alloc: Global,
+    source: Option<&ValidatedModule>,
+    import: &ImportType,
+    name: &Text,
+) -> Result<(), Failure>
+    ensures { Gives (λ x. x) result (match_named (option_copied source.entry) import.now name.now) }
+{
+    match source {
+        Some(source) => check_match(alloc, source, import, name),
+        None => missing(alloc, import.module_name.as_str(), import.field.as_str()),
+    }
+}
+
+/// Refuses an import that doesn't match the export of main, or the item, that is its role.
+fn check_type(
     alloc: Global,
     main: &ValidatedModule,
-    role: Option<&Import>,
+    adapters: &Keyed<Text, WorldAdapter>,
     import: &ImportType,
+    role: Option<&Import>,
 ) -> Result<(), Failure>
-    ensures { Gives (λ x. x) result (type_given main.now import.now (option_copied role.entry)) }
+    ensures { Gives (λ x. x) result (type_given main.now adapters.now import.now (option_copied role.entry)) }
 {
     match role {
-        Some(Import::MainModuleExport { name, .. }) => match main.offered.get(name) {
-            Some(ty) => {
-                if import.ty.is_matched_by(ty) {
-                    Ok(())
-                } else {
-                    unfit(alloc, import.field.as_str())
-                }
-            }
-            None => not_offered(
-                alloc,
-                main,
-                name,
-                import.module_name.as_str(),
-                import.field.as_str(),
-            ),
-        },
+        Some(Import::MainModuleExport { name, .. }) => check_match(alloc, main, import, name),
+        Some(Import::Item(item)) => {
+            let source = module_named(main, adapters, &item.which);
+            check_match_named(alloc, source, import, &item.name)
+        }
         _ => Ok(()),
+    }
+}
+
+/// Refuses an import that doesn't match the export of its name of a module whose whole instance is given.
+fn check_whole(
+    alloc: Global,
+    importer: Importer,
+    source: Option<&ValidatedModule>,
+    import: &ImportType,
+) -> Result<(), Failure>
+    ensures { Gives (λ x. x) result (whole_given importer (option_copied source.entry) import.now) }
+{
+    match importer {
+        Importer::Main => missing(alloc, import.module_name.as_str(), import.field.as_str()),
+        Importer::Adapter | Importer::Library => {
+            check_match_named(alloc, source, import, &import.field)
+        }
+    }
+}
+
+/// Refuses an import that doesn't match what it is given, by what is imported from its module.
+pub(crate) fn check_instance(
+    alloc: Global,
+    importer: Importer,
+    main: &ValidatedModule,
+    adapters: &Keyed<Text, WorldAdapter>,
+    import: &ImportType,
+    instance: Option<&ImportInstance>,
+) -> Result<(), Failure>
+    ensures { Gives (λ x. x) result (matching_given importer main.now adapters.now import.now (option_copied instance.entry)) }
+{
+    match instance {
+        Some(ImportInstance::Names(fields)) => {
+            check_type(alloc, main, adapters, import, fields.get(&import.field))
+        }
+        Some(ImportInstance::Whole(which)) => {
+            let source = module_named(main, adapters, which);
+            check_whole(alloc, importer, source, import)
+        }
+        None => Ok(()),
     }
 }

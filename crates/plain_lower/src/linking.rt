@@ -1,9 +1,8 @@
-//! What the modules of a world give to each other: main its memory and its exports, and adapters their functions.
+//! What the modules of a world give to each other: main its memory and its exports, adapters their functions, and both what arguments of
+//! libraries name.
 
 ghost use Rattle.std.specs.Prelude.{◌≡◌, map, IfErr, IsOk};
-ghost use Rattle.std.specs.Option.{option_copied};
 ghost use Rattle.comp_roles.specs.Borrowed.{core_import};
-ghost use Rattle.comp_roles.specs.CoreImports.{role_at};
 ghost use Rattle.comp_roles.specs.Lookups.{imported_memory};
 ghost use Rattle.record_faults.specs.Faults.{Gives};
 ghost use Rattle.record_faults.specs.declared.fault.Failure.TheVariants as failures;
@@ -12,10 +11,10 @@ ghost use Rattle.supported_worlds.specs.Links.{AreLinked};
 ghost use Rattle.plain_lower.specs.LinkCauses.{LinkCause};
 ghost use Rattle.plain_lower.specs.Linking.{each_passes, import_given, typed_given, module_given, adapter_given, no_own_memory, links_pass};
 
-use crate::giving::{Importer, check_role, check_type, importer_of};
+use crate::giving::{Importer, check_instance, check_role, importer_of};
 use crate::reports::left_out;
 use comp_lists::{Keyed, Text};
-use comp_roles::{Import, ImportInstance, ImportMap, ImportType, NamedImport};
+use comp_roles::{ImportMap, ImportType, NamedImport};
 use comp_worlds::{ValidatedModule, WorldAdapter, WorldParts};
 use record_faults::Failure;
 use record_imports::check_memories;
@@ -45,27 +44,20 @@ fn check_imports(
     Ok(())
 }
 
-/// The role of an import.
-fn role_at<'a>(map: &'a ImportMap, import: &ImportType) -> Option<&'a Import>
-    ensures { option_copied result ≡ role_at map.now.modules import.now.module_name import.now.field }
-{
-    match map.modules.get(&import.module_name) {
-        Some(ImportInstance::Names(fields)) => fields.get(&import.field),
-        _ => None,
-    }
-}
-
-/// Refuses the first of these imports of a module that is an export of main which doesn't match it.
+/// Refuses the first of these imports of a module that doesn't match what it is given.
 fn check_types(
     alloc: Global,
+    importer: Importer,
     main: &ValidatedModule,
+    adapters: &Keyed<Text, WorldAdapter>,
     map: &ImportMap,
     imports: &[ImportType],
 ) -> Result<(), Failure>
-    ensures { Gives (λ x. x) result (each_passes (typed_given main.now map.now.modules) imports.now) }
+    ensures { Gives (λ x. x) result (each_passes (typed_given importer main.now adapters.now map.now.modules) imports.now) }
 {
     for import in imports {
-        check_type(alloc, main, role_at(map, import), import)?;
+        let instance = map.modules.get(&import.module_name);
+        check_instance(alloc, importer, main, adapters, import, instance)?;
     }
     Ok(())
 }
@@ -82,7 +74,8 @@ fn check_module(
 {
     let imports = user.imports.imports(alloc)?;
     check_imports(alloc, importer, main, adapters, imports.as_slice())?;
-    check_types(alloc, main, &user.imports, user.imported.as_slice())
+    let imported = user.imported.as_slice();
+    check_types(alloc, importer, main, adapters, &user.imports, imported)
 }
 
 /// Refuses the first adapter with such an import.
@@ -126,8 +119,8 @@ fn check_modules(alloc: Global, parts: &WorldParts) -> Result<(), Failure>
 /// An import that names what isn't there, or what its module may not import, is refused by its names
 /// (`RoleMissing`), and one whose type doesn't match what is there by its field (`CoreType`). That main
 /// imports its own memory is not encoded yet (`LeftOut`). The only other refusal is out of memory. Each
-/// import is looked up once by its names, and once in what its role names; a module is read again only
-/// for a refusal.
+/// import is looked up once by its names, and once in what its role or its argument names; a module is read
+/// again only for a refusal.
 #[tactic(auto, using(crate::proofs::Linked::are_linked, crate::proofs::LinkRefusals::no_cause, crate::proofs::LinkRefusals::has_cause))]
 pub(crate) fn check_links(alloc: Global, parts: &WorldParts) -> Result<(), Failure>
     ensures exact { Gives (λ x. x) result (links_pass parts.now) }

@@ -12,7 +12,7 @@ ghost use Rattle.plain_lower.specs.Causes.{RolesCause, ModuleCause};
 
 use crate::checking::{CheckedRoles, check_roles};
 use comp_lists::{Bytes, Keyed, Seq, Text};
-use comp_roles::{ExportMap, ExternType, ImportType, ModuleMetadata};
+use comp_roles::{ExportMap, ExternType, ImportType, LibraryArgument, ModuleMetadata};
 use comp_worlds::ValidatedModule;
 use core_sections::{CoreModule, read_module};
 use record_core_types::{imported, offered};
@@ -96,6 +96,7 @@ fn parts_of(
     alloc: Global,
     resolved: &Resolved,
     others: &OtherModules,
+    arguments: &[LibraryArgument],
     part: &Part<Bindgen>,
     core: &CoreModule,
     checked_roles: CheckedRoles,
@@ -103,7 +104,7 @@ fn parts_of(
     requires usable { IsUsable resolved.now }
     requires bytes { IsCoreModule part.now.bytes }
     requires all_present { AreChecked resolved.now checked_roles }
-    requires checked { worlds.checked_roles resolved.now others.now part.now core.now ≡ Ok checked_roles }
+    requires checked { worlds.checked_roles resolved.now others.now arguments.now part.now core.now ≡ Ok checked_roles }
     ensures exact { IfOk result (λ p. p ≡ parts_of resolved.now part.now core.now checked_roles) }
     ensures sound { IfOk result (λ p. IsSoundPart resolved.now (user_module p)) }
 {
@@ -117,18 +118,27 @@ fn core_parts(
     alloc: Global,
     resolved: &Resolved,
     others: &OtherModules,
+    arguments: &[LibraryArgument],
     part: &Part<Bindgen>,
     core: &CoreModule,
 ) -> Result<ModuleParts, Failure>
     requires usable { IsUsable resolved.now }
     requires bytes { IsCoreModule part.now.bytes }
-    ensures exact { Gives (λ p. p) result (core_parts resolved.now others.now part.now core.now) }
+    ensures exact { Gives (λ p. p) result (core_parts resolved.now others.now arguments.now part.now core.now) }
     ensures sound { IfOk result (λ p. IsSoundPart resolved.now (user_module p)) }
-    ensures cause { IfErr result (λ e. (f : Refusal) → e ≡ failures.Refused f → RolesCause resolved.now others.now part.now core.now f) }
-    ensures refused { IsOk result → (f : Refusal) → ¬ RolesCause resolved.now others.now part.now core.now f }
+    ensures cause { IfErr result (λ e. (f : Refusal) → e ≡ failures.Refused f → RolesCause resolved.now others.now arguments.now part.now core.now f) }
+    ensures refused { IsOk result → (f : Refusal) → ¬ RolesCause resolved.now others.now arguments.now part.now core.now f }
 {
-    let checked_roles = check_roles(alloc, resolved, others, part, core)?;
-    let parts = parts_of(alloc, resolved, others, part, core, checked_roles)?;
+    let checked_roles = check_roles(alloc, resolved, others, arguments, part, core)?;
+    let parts = parts_of(
+        alloc,
+        resolved,
+        others,
+        arguments,
+        part,
+        core,
+        checked_roles,
+    )?;
     Ok(parts)
 }
 
@@ -138,17 +148,18 @@ pub(crate) fn module_parts(
     alloc: Global,
     resolved: &Resolved,
     others: &OtherModules,
+    arguments: &[LibraryArgument],
     part: &Part<Bindgen>,
 ) -> Result<ModuleParts, Failure>
     requires { IsUsable resolved.now }
-    ensures exact { Gives (λ p. p) result (module_parts resolved.now others.now part.now) }
+    ensures exact { Gives (λ p. p) result (module_parts resolved.now others.now arguments.now part.now) }
     ensures sound { IfOk result (λ p. IsSoundPart resolved.now (user_module p)) }
-    ensures cause { IfErr result (λ e. (f : Refusal) → e ≡ failures.Refused f → ModuleCause resolved.now others.now part.now f) }
-    ensures refused { IsOk result → (f : Refusal) → ¬ ModuleCause resolved.now others.now part.now f }
+    ensures cause { IfErr result (λ e. (f : Refusal) → e ≡ failures.Refused f → ModuleCause resolved.now others.now arguments.now part.now f) }
+    ensures refused { IsOk result → (f : Refusal) → ¬ ModuleCause resolved.now others.now arguments.now part.now f }
 {
     match read_module(alloc, part.bytes.as_slice()) {
         Ok(core) => {
-            let parts = core_parts(alloc, resolved, others, part, &core);
+            let parts = core_parts(alloc, resolved, others, arguments, part, &core);
             drop(core);
             parts
         }

@@ -50,7 +50,7 @@ fn modules_within(
     ensures err { IfErr result (λ e. e ≢ failures.Memory → parts_within resolved.now reach.now main.now adapters.now ≡ Err e) }
     ensures cause { IfErr result (λ e. (f : RefusalRecord) → e ≡ failures.Refused f → PartsCause resolved.now reach.now main.now adapters.now f) }
 {
-    let main = module_parts(alloc, resolved, &reach.main, main)?;
+    let main = module_parts(alloc, resolved, &reach.main, &[], main)?;
     match prepare_adapters(alloc, resolved, reach, adapters) {
         Ok(adapters) => Ok(Modules { main, adapters }),
         Err(failure) => {

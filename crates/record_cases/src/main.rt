@@ -15,8 +15,9 @@
 //! record, counts that nothing holds, a pair of names that occurs twice, records that are nested deep, are no JSON or a binary package; those
 //! of `encoded.txt` have root functions with parameters and results of each kind of type, types of the world, its resources
 //! with their functions and drops, and imported interfaces, with the kind of what is left out where something is; the pairs are small worlds of the same kind, two different ones, or one and a changed copy of
-//! its record. The groups are modules that import from each other: what main exports, main's memory, and functions of adapters and of
-//! libraries, where these are there, are missing, can't be given to others, or are of another kind or type.
+//! its record. The groups are modules that import from each other: what main exports, main's memory, functions of adapters and of
+//! libraries, and what the arguments of libraries name, whole modules and items, where these are there, are missing, can't be given to
+//! others, or are of another kind or type.
 //!
 //! What a line means, and how it is counted, is in `lower_answers`.
 #![tactic(auto)]

@@ -17,6 +17,8 @@ use Rattle.wit_data.specs.declared.worlds.WorldKey.{WorldKey}
 use Rattle.wit_data.specs.declared.worlds.WorldKey.TheVariants as keys
 use Rattle.comp_roles.specs.declared.imports.Import.{Import}
 use Rattle.comp_roles.specs.declared.imports.Import.TheVariants as imports
+use Rattle.comp_roles.specs.declared.libraries.Instance.{Instance}
+use Rattle.comp_roles.specs.declared.libraries.Item.{Item}
 use Rattle.comp_roles.specs.declared.offered.ExternType.{ExternType}
 use Rattle.comp_roles.specs.declared.payloads.PayloadInfo.{PayloadInfo}
 use Rattle.record_values.specs.declared.names.Owner.{Owner}
@@ -48,7 +50,8 @@ use Rattle.record_faults.specs.Faults.{◌>>=◌, Gives}
 use Rattle.record_faults.proofs.Chains.{bind_ok, got, passed}
 use Rattle.record_imports.specs.declared.others.OtherModules.{OtherModules}
 use Rattle.record_imports.specs.Others.{is_unknown}
-use Rattle.record_imports.specs.Meaning.{Roles, world_id, role_of, unless_unknown, known_role, target, no_role, unfit, meaningless, fitting, kept, import_of}
+use Rattle.record_imports.specs.Arguments.{Arguments, argument_for, item_of}
+use Rattle.record_imports.specs.Meaning.{Roles, world_id, role_of, unless_unknown, known_role, target, no_role, unfit, meaningless, fitting, kept, by_record, by_argument, by_either, import_of}
 use Rattle.record_imports.specs.Guarantees.{IsChecked}
 
 -- ---- steps
@@ -62,16 +65,34 @@ pub concluded : {A : Type 0} (step : Result ⊤ Failure) (value : A) (answer rea
 concluded (Ok u) value answer read is h = subst (λ a. Gives (λ x. x) a read) (sym is) h
 concluded (Err e) value answer read is h = subst (λ a. Gives (λ x. x) a read) (sym is) h
 
+-- an item exists apart from the resolve
+pub item_named : (r : Resolve) (item : Item) → HasNamed r (imports.Item item)
+item_named r item = record { used = tt; payload = tt; returned = tt }
+
 -- ---- an import that was read
 
-pub record Passes (r : Resolved) (others : OtherModules) (table : Roles) (core : CoreModule) (i : CoreImport) (import : Import) : Type 0 where
-  pub ty : ExternType
-  pub typed : extern_type core i.entity ≡ Some ty
+-- it has its role by the record
+pub record PassesRecord (r : Resolved) (others : OtherModules) (table : Roles) (core : CoreModule) (i : CoreImport) (import : Import) (ty : ExternType) : Type 0 where
   pub role : ImportRole
   pub has : role_of table i ≡ Some role
   pub known : is_unknown others role ≡ false
   pub means : resolved_import r i.field role (Some ty) ≡ Some import
   pub fits : fits_import r.resolve world_id core import i.entity ≡ true
+
+-- or by the argument for its module, which is this one
+pub record PassesArgument (i : CoreImport) (import : Import) (ty : ExternType) (instance : Instance) : Type 0 where
+  pub item : Item
+  pub given : item_of instance i.field ty ≡ Some item
+  pub is : import ≡ imports.Item item
+
+abbrev pub PassesEither : Resolved → OtherModules → Roles → CoreModule → CoreImport → Import → ExternType → Option Instance → Type 0
+PassesEither r others table core i import ty None = PassesRecord r others table core i import ty
+PassesEither r others table core i import ty (Some instance) = PassesArgument i import ty instance
+
+pub record Passes (r : Resolved) (others : OtherModules) (arguments : Arguments) (table : Roles) (core : CoreModule) (i : CoreImport) (import : Import) : Type 0 where
+  pub ty : ExternType
+  pub typed : extern_type core i.entity ≡ Some ty
+  pub given : PassesEither r others table core i import ty (argument_for arguments i.«module»)
 
 -- a role that is known
 pub is_known : (others : OtherModules) (role : ImportRole) (o : Option ImportRole) → option_and_then (unless_unknown others) o ≡ Some role → (o ≡ Some role) × (is_unknown others role ≡ false)
@@ -85,25 +106,44 @@ is_known others role (Some other) e = by (is_unknown others other) refl e
 abbrev pub after_role : Resolved → CoreModule → CoreImport → ExternType → ImportRole → Result Import Failure
 after_role r core i ty role = ok_or (target r i role ty) (meaningless i role) >>= λ import. fitting r core i import
 
-abbrev pub after_type : Resolved → OtherModules → Roles → CoreModule → CoreImport → ExternType → Result Import Failure
-after_type r others table core i ty = ok_or (known_role others table i) (no_role i) >>= λ role. after_role r core i ty role
+abbrev pub after_type : Resolved → OtherModules → Arguments → Roles → CoreModule → CoreImport → ExternType → Result Import Failure
+after_type r others arguments table core i ty = by_either r others table core i ty (argument_for arguments i.«module»)
 
-pub import_passes : (r : Resolved) (others : OtherModules) (table : Roles) (core : CoreModule) (i : CoreImport) (import : Import) → import_of r others table core i ≡ Ok import → Passes r others table core i import
-unfolding import_of
-import_passes r others table core i import e =
-    let a = bind_ok (ok_or (extern_type core i.entity) (unfit i)) (after_type r others table core i) import e in
-    let b = bind_ok (ok_or (known_role others table i) (no_role i)) (after_role r core i a.0) import a.2 in
+record_passes : (r : Resolved) (others : OtherModules) (table : Roles) (core : CoreModule) (i : CoreImport) (import : Import) (ty : ExternType) → by_record r others table core i ty ≡ Ok import → PassesRecord r others table core i import ty
+unfolding by_record
+record_passes r others table core i import ty e =
+    let b = bind_ok (ok_or (known_role others table i) (no_role i)) (after_role r core i ty) import e in
     let k = is_known others b.0 (role_of table i) (got (known_role others table i) (no_role i) b.0 b.1) in
-    let c = bind_ok (ok_or (target r i b.0 a.0) (meaningless i b.0)) (fitting r core i) import b.2 in
+    let c = bind_ok (ok_or (target r i b.0 ty) (meaningless i b.0)) (fitting r core i) import b.2 in
     let p = passed (fits_import r.resolve world_id core c.0 i.entity) c.0 import (unfit i) c.2 in
     record {
-      ty = a.0;
-      typed = got (extern_type core i.entity) (unfit i) a.0 a.1;
       role = b.0;
       has = k.0;
       known = k.1;
-      means = got (target r i b.0 a.0) (meaningless i b.0) c.0 c.1 ∙ ap Some p.1;
+      means = got (target r i b.0 ty) (meaningless i b.0) c.0 c.1 ∙ ap Some p.1;
       fits = ap (λ (x : Import). fits_import r.resolve world_id core x i.entity) (sym p.1) ∙ p.0;
+    }
+
+argument_passes : (i : CoreImport) (import : Import) (ty : ExternType) (instance : Instance) → by_argument i ty instance ≡ Ok import → PassesArgument i import ty instance
+argument_passes i import ty instance e = by (item_of instance i.field ty) refl (got (option_map imports.Item (item_of instance i.field ty)) (no_role i) import e)
+  where
+    by : (o : Option Item) → item_of instance i.field ty ≡ o → option_map imports.Item o ≡ Some import → PassesArgument i import ty instance
+    by None is h = absurd cc
+    by (Some item) is h = record { item = item; given = is; is = cc (h) }
+
+either_passes : (r : Resolved) (others : OtherModules) (table : Roles) (core : CoreModule) (i : CoreImport) (import : Import) (ty : ExternType) (argument : Option Instance) → by_either r others table core i ty argument ≡ Ok import
+    → PassesEither r others table core i import ty argument
+either_passes r others table core i import ty None e = record_passes r others table core i import ty e
+either_passes r others table core i import ty (Some instance) e = argument_passes i import ty instance e
+
+pub import_passes : (r : Resolved) (others : OtherModules) (arguments : Arguments) (table : Roles) (core : CoreModule) (i : CoreImport) (import : Import) → import_of r others arguments table core i ≡ Ok import → Passes r others arguments table core i import
+unfolding import_of
+import_passes r others arguments table core i import e =
+    let a = bind_ok (ok_or (extern_type core i.entity) (unfit i)) (after_type r others arguments table core i) import e in
+    record {
+      ty = a.0;
+      typed = got (extern_type core i.entity) (unfit i) a.0 a.1;
+      given = either_passes r others table core i import a.0 (argument_for arguments i.«module») a.2;
     }
 
 -- ---- root functions have their own names, and interfaces their keys
@@ -214,11 +254,17 @@ is_called r core (imports.InterfaceFunc key id function abi) entity own fits =
     (own, asked_there (called_as r.resolve abi) (function_of r.resolve id function) (type_of_function core entity) fits)
 is_called r core import entity own fits = tt
 
+either_called : (r : Resolved) (others : OtherModules) (table : Roles) (core : CoreModule) (i : CoreImport) (import : Import) (ty : ExternType) (argument : Option Instance) → PassesEither r others table core i import ty argument
+    → IsCalled r.resolve world_id import
+either_called r others table core i import ty None p = is_called r core import i.entity (subst (λ o. IfSome o (IsOwn r)) p.means (role_own r i.field p.role (Some ty))) p.fits
+either_called r others table core i import ty (Some instance) p = subst (IsCalled r.resolve world_id) (sym p.is) tt
+
 -- an import that was read is checked
-pub is_checked : (r : Resolved) (others : OtherModules) (table : Roles) (core : CoreModule) (i : CoreImport) (import : Import) → import_of r others table core i ≡ Ok import → HasNamed r.resolve import → IsChecked r.resolve import
-is_checked r others table core i import e named =
-    let p = import_passes r others table core i import e in
+pub is_checked : (r : Resolved) (others : OtherModules) (arguments : Arguments) (table : Roles) (core : CoreModule) (i : CoreImport) (import : Import) → import_of r others arguments table core i ≡ Ok import → HasNamed r.resolve import
+    → IsChecked r.resolve import
+is_checked r others arguments table core i import e named =
+    let p = import_passes r others arguments table core i import e in
     record {
       present = named.used;
-      called = is_called r core import i.entity (subst (λ o. IfSome o (IsOwn r)) p.means (role_own r i.field p.role (Some p.ty))) p.fits;
+      called = either_called r others table core i import p.ty (argument_for arguments i.«module») p.given;
     }

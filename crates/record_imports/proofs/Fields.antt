@@ -12,15 +12,18 @@ use Rattle.comp_lists.proofs.Lists.{AllByRecursion-push}
 use Rattle.comp_lists.proofs.Lookups.{found-push_cases, found-pushed, IsSome-found-append}
 use Rattle.wit_data.specs.declared.resolve.Resolve.{Resolve}
 use Rattle.comp_roles.specs.CoreImports.{CoreImport as CoreUse, imports_from}
-use Rattle.comp_roles.specs.Borrowed.{field_imports}
 use Rattle.comp_roles.specs.declared.imports.Import.{Import}
 use Rattle.comp_roles.specs.declared.imports.ImportInstance.{ImportInstance}
+use Rattle.comp_roles.specs.declared.libraries.Instance.{Instance}
+use Rattle.comp_roles.specs.declared.libraries.Instance.TheVariants as arguments
 use Rattle.world_values.specs.Mentions.{HasRole}
 use Rattle.record_core_types.specs.Guarantees.{IsCalled}
 use Rattle.record_faults.proofs.Chains.{equivalence}
 use Rattle.record_imports.specs.declared.grouping.Group.{Group}
+use Rattle.record_imports.specs.Arguments.{Arguments, argument_for, instance_given}
 use Rattle.record_imports.specs.Meaning.{world_id}
-use Rattle.record_imports.specs.Grouping.{fields_in, with_field, instances_of}
+use Rattle.record_imports.specs.Grouping.{fields_in, with_field, names_of, instances_of}
+use Rattle.record_imports.proofs.Groups.{keys-names}
 use Rattle.record_imports.specs.Guarantees.{IsChecked, IsGood, AreGood, AreChecked, HasDistinctFields}
 
 -- ---- the fields of a module
@@ -138,23 +141,36 @@ fields_satisfy : (r : Resolve) (P : Import → Type 0) → ((import : Import) �
 fields_satisfy r P of m [] h = tt
 fields_satisfy r P of m (f ∷ fs) h = (of f.1 h.0, fields_satisfy r P of m fs h.1)
 
-all_satisfy : (r : Resolve) (P : Import → Type 0) → ((import : Import) → IsChecked r import → P import) → (gs : List Group) → AllByRecursion (IsGood r) gs
-    → AllByRecursion (λ (i : CoreUse). P i.role) (flat_map imports_from (instances_of gs))
-all_satisfy r P of [] h = tt
-all_satisfy r P of (g ∷ gs) h =
-    let good = h.0 in
-    both_all (λ (i : CoreUse). P i.role) (field_imports g.name g.fields) (flat_map imports_from (instances_of gs)) (fields_satisfy r P of g.name g.fields good.checks) (all_satisfy r P of gs h.1)
+-- the imports from one module, where each has its role
+given_satisfy : (r : Resolve) (P : Import → Type 0) → ((import : Import) → IsChecked r import → P import) → (m : List ℕ) (argument : Option Instance) (fs : List (List ℕ × Import)) → AllByRecursion (λ f. IsChecked r f.1) fs
+    → AllByRecursion (λ (i : CoreUse). P i.role) (imports_from (m, instance_given argument fs))
+given_satisfy r P of m None fs h = fields_satisfy r P of m fs h
+given_satisfy r P of m (Some (arguments.Items items)) fs h = fields_satisfy r P of m fs h
+given_satisfy r P of m (Some (arguments.MainOrAdapter which)) fs h = tt
 
-fields_apart : (r : Resolve) (gs : List Group) → AllByRecursion (IsGood r) gs → AllByRecursion HasDistinctFields (instances_of gs)
-fields_apart r [] h = tt
-fields_apart r (g ∷ gs) h = (let good = h.0 in good.apart, fields_apart r gs h.1)
+given_apart : (m : List ℕ) (argument : Option Instance) (fs : List (List ℕ × Import)) → IsDistinct bytes_eq (keys_of fs) → HasDistinctFields (m, instance_given argument fs)
+given_apart m None fs h = h
+given_apart m (Some (arguments.Items items)) fs h = h
+given_apart m (Some (arguments.MainOrAdapter which)) fs h = tt
 
-pub are_met : (r : Resolve) (gs : List Group) (modules : List (List ℕ × ImportInstance)) → modules ≡ instances_of gs → AreGood r gs → IsDistinct bytes_eq (keys_of (instances_of gs)) → AreChecked r modules
-are_met r gs modules same h apart =
-    let all : AreChecked r (instances_of gs) = record {
-      present = all_satisfy r (HasRole r) (λ import checks. checks.present) gs h.each;
-      called = all_satisfy r (IsCalled r world_id) (λ import checks. checks.called) gs h.each;
-      apart = apart;
-      fields = fields_apart r gs h.each;
-    } in
-    subst (AreChecked r) (sym same) all
+module _ (all : Arguments) (r : Resolve) where
+  all_satisfy : (P : Import → Type 0) → ((import : Import) → IsChecked r import → P import) → (gs : List Group) → AllByRecursion (IsGood r) gs → AllByRecursion (λ (i : CoreUse). P i.role) (flat_map imports_from (instances_of all gs))
+  all_satisfy P of [] h = tt
+  all_satisfy P of (g ∷ gs) h =
+      let good = h.0 in
+      both_all (λ (i : CoreUse). P i.role) (imports_from (g.name, instance_given (argument_for all g.name) g.fields)) (flat_map imports_from (instances_of all gs))
+      (given_satisfy r P of g.name (argument_for all g.name) g.fields good.checks) (all_satisfy P of gs h.1)
+
+  fields_apart : (gs : List Group) → AllByRecursion (IsGood r) gs → AllByRecursion HasDistinctFields (instances_of all gs)
+  fields_apart [] h = tt
+  fields_apart (g ∷ gs) h = (let good = h.0 in given_apart g.name (argument_for all g.name) g.fields good.apart, fields_apart gs h.1)
+
+  pub are_met : (gs : List Group) (modules : List (List ℕ × ImportInstance)) → modules ≡ instances_of all gs → AreGood r gs → IsDistinct bytes_eq (names_of gs) → AreChecked r modules
+  are_met gs modules same h apart =
+      let checked : AreChecked r (instances_of all gs) = record {
+        present = all_satisfy (HasRole r) (λ import checks. checks.present) gs h.each;
+        called = all_satisfy (IsCalled r world_id) (λ import checks. checks.called) gs h.each;
+        apart = subst (λ (ks : List (List ℕ)). IsDistinct bytes_eq ks) (sym (keys-names all gs)) apart;
+        fields = fields_apart gs h.each;
+      } in
+      subst (AreChecked r) (sym same) checked

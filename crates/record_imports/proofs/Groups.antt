@@ -8,11 +8,11 @@ use Rattle.comp_lists.specs.Found.{found}
 use Rattle.comp_lists.proofs.TableLemmas.{absent}
 use Rattle.comp_roles.specs.declared.imports.Import.{Import}
 use Rattle.comp_roles.specs.declared.imports.ImportInstance.{ImportInstance}
-use Rattle.comp_roles.specs.declared.imports.ImportInstance.TheVariants as instances
 use Rattle.record_faults.proofs.Chains.{equivalence}
+use Rattle.record_imports.specs.Arguments.{Arguments, argument_for, instance_given}
 use Rattle.record_imports.specs.declared.grouping.Group.{Group}
 use Rattle.record_imports.specs.declared.grouping.Grouping.{Grouping}
-use Rattle.record_imports.specs.Grouping.{positions_of, fields_in, with_field, instances_of}
+use Rattle.record_imports.specs.Grouping.{positions_of, fields_in, with_field, names_of, instances_of}
 
 abbrev pub with_fields : Group → List (List ℕ × Import) → Group
 with_fields g fs = record { name = g.name; fields = fs }
@@ -169,18 +169,23 @@ has_at positions gs m k g known indexed is =
     let t = group_at gs m k at in
     t.fields ∙ ap (λ (x : Group). x.fields) (sym (is ∙ at_index gs k t.group g t.there))
 
-keys-positions : (i : ℕ) (gs : List Group) → keys_of (positions_of i gs) ≡ keys_of (instances_of gs)
-keys-positions i [] = refl
-keys-positions i (g ∷ gs) = ap (λ (r : List (List ℕ)). g.name ∷ r) (keys-positions (i + 1) gs)
+names-positions : (i : ℕ) (gs : List Group) → keys_of (positions_of i gs) ≡ names_of gs
+names-positions i [] = refl
+names-positions i (g ∷ gs) = ap (λ (r : List (List ℕ)). g.name ∷ r) (names-positions (i + 1) gs)
 
 -- no two groups are of one module
-pub groups_apart : (positions : List (List ℕ × ℕ)) (gs : List Group) → positions ≡ positions_of 0 gs → IsDistinct bytes_eq (keys_of positions) → IsDistinct bytes_eq (keys_of (instances_of gs))
+pub groups_apart : (positions : List (List ℕ × ℕ)) (gs : List Group) → positions ≡ positions_of 0 gs → IsDistinct bytes_eq (keys_of positions) → IsDistinct bytes_eq (names_of gs)
 groups_apart positions gs indexed apart =
-    subst (λ (ks : List (List ℕ)). IsDistinct bytes_eq ks) (ap (λ (p : List (List ℕ × ℕ)). keys_of p) indexed ∙ keys-positions 0 gs) apart
+    subst (λ (ks : List (List ℕ)). IsDistinct bytes_eq ks) (ap (λ (p : List (List ℕ × ℕ)). keys_of p) indexed ∙ names-positions 0 gs) apart
+
+pub keys-names : (all : Arguments) (gs : List Group) → keys_of (instances_of all gs) ≡ names_of gs
+keys-names all [] = refl
+keys-names all (g ∷ gs) = ap (λ (r : List (List ℕ)). g.name ∷ r) (keys-names all gs)
 
 -- a group's module is not among those of the groups before it
-pub not_yet : (done : List (List ℕ × ImportInstance)) (left after gs : List Group) (g : Group) → done ++ instances_of left ≡ instances_of gs → left ≡ g ∷ after
-    → IsDistinct bytes_eq (keys_of (instances_of gs)) → lookup (bytes_eq g.name) done ≡ None
-not_yet done left after gs g is taken apart =
-    let here : done ++ instances_of (g ∷ after) ≡ instances_of gs = subst (λ (x : List Group). done ++ instances_of x ≡ instances_of gs) taken is in
-    absent bytes_eq equivalence done (instances_of after) (instances_of gs) g.name (instances.Names g.fields) here apart
+pub not_yet : (all : Arguments) (done : List (List ℕ × ImportInstance)) (left after gs : List Group) (g : Group) → done ++ instances_of all left ≡ instances_of all gs → left ≡ g ∷ after
+    → IsDistinct bytes_eq (names_of gs) → lookup (bytes_eq g.name) done ≡ None
+not_yet all done left after gs g is taken apart =
+    let here : done ++ instances_of all (g ∷ after) ≡ instances_of all gs = subst (λ (x : List Group). done ++ instances_of all x ≡ instances_of all gs) taken is in
+    absent bytes_eq equivalence done (instances_of all after) (instances_of all gs) g.name (instance_given (argument_for all g.name) g.fields) here
+    (subst (λ (ks : List (List ℕ)). IsDistinct bytes_eq ks) (sym (keys-names all gs)) apart)

@@ -1,5 +1,5 @@
 mod Groups
-mod Checking
+pub mod Checking
 mod Fields
 pub mod Refusing
 mod Worked

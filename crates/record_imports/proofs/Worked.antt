@@ -26,7 +26,7 @@ use Rattle.record_faults.specs.declared.fault.Failure.{Failure}
 use Rattle.record_faults.specs.declared.fault.Refusal.TheVariants as refusals
 use Rattle.record_faults.proofs.Chains.{refused}
 use Rattle.record_imports.specs.declared.others.OtherModules.{OtherModules}
-use Rattle.record_imports.specs.Meaning.{Roles, import_of}
+use Rattle.record_imports.specs.Meaning.{Roles, by_record, import_of}
 use Rattle.record_imports.specs.Grouping.{group_after}
 use Rattle.record_imports.specs.Memories.{memories_fit}
 use Rattle.record_imports.specs.Importing.{imports_of}
@@ -75,48 +75,48 @@ abbrev Answer : Type 0
 Answer = Result (List (List ℕ × ImportInstance)) Failure
 
 abbrev answered : Roles → List CoreImport → Answer
-answered table is = imports_of small alone table (importing is)
+answered table is = imports_of small alone [] table (importing is)
 
 calls_f : answered (of (codes "a") (calls (codes "f")) ∷ []) (import (codes "a") (entities.Function 0) ∷ [])
     ≡ Ok ((codes "m", instances.Names ((codes "a", imports.WorldFunc (keys.Name (codes "f")) (codes "f") GuestImport) ∷ [])) ∷ [])
-unfolding imports_of group_after import_of values_from
+unfolding imports_of group_after import_of by_record values_from
 calls_f = refl
 
 has_no_role : answered (of (codes "a") (calls (codes "f")) ∷ []) (import (codes "b") (entities.Function 0) ∷ []) ≡ refused (refusals.RoleMissing (codes "m") (codes "b"))
-unfolding imports_of group_after import_of
+unfolding imports_of group_after import_of by_record
 has_no_role = refl
 
 calls_nothing : answered (of (codes "a") (calls (codes "g")) ∷ []) (import (codes "a") (entities.Function 0) ∷ []) ≡ refused (refusals.RoleMissing (codes "m") (codes "a"))
-unfolding imports_of group_after import_of
+unfolding imports_of group_after import_of by_record
 calls_nothing = refl
 
 of_no_adapter : answered (of (codes "a") (roles.AdapterExport (codes "x") (codes "f")) ∷ []) (import (codes "a") (entities.Function 0) ∷ []) ≡ refused (refusals.RoleMissing (codes "m") (codes "a"))
-unfolding imports_of group_after import_of
+unfolding imports_of group_after import_of by_record
 of_no_adapter = refl
 
 abbrev answered_beside : Roles → List CoreImport → Answer
-answered_beside table is = imports_of small (beside (codes "x")) table (importing is)
+answered_beside table is = imports_of small (beside (codes "x")) [] table (importing is)
 
 of_an_adapter : answered_beside (of (codes "a") (roles.AdapterExport (codes "x") (codes "f")) ∷ []) (import (codes "a") (entities.Function 1) ∷ [])
     ≡ Ok ((codes "m", instances.Names ((codes "a", imports.AdapterExport (codes "x") (codes "f") (record { params = numbers.I32 ∷ []; results = [] })) ∷ [])) ∷ [])
-unfolding imports_of group_after import_of
+unfolding imports_of group_after import_of by_record
 of_an_adapter = refl
 
 no_function : answered_beside (of (codes "a") (roles.AdapterExport (codes "x") (codes "f")) ∷ []) (import (codes "a") (memory 1 None) ∷ []) ≡ refused (refusals.CoreType (codes "a"))
-unfolding imports_of group_after import_of
+unfolding imports_of group_after import_of by_record
 no_function = refl
 
 twice_there : answered (of (codes "a") (calls (codes "f")) ∷ []) (import (codes "a") (entities.Function 0) ∷ import (codes "a") (entities.Function 0) ∷ [])
     ≡ refused (refusals.ImportTwice (codes "m") (codes "a"))
-unfolding imports_of group_after import_of values_from
+unfolding imports_of group_after import_of by_record values_from
 twice_there = refl
 
 of_another_type : answered (of (codes "a") (calls (codes "f")) ∷ []) (import (codes "a") (entities.Function 1) ∷ []) ≡ refused (refusals.CoreType (codes "a"))
-unfolding imports_of group_after import_of values_from
+unfolding imports_of group_after import_of by_record values_from
 of_another_type = refl
 
 is_no_memory : answered (of (codes "a") roles.Memory ∷ []) (import (codes "a") (entities.Function 0) ∷ []) ≡ refused (refusals.CoreType (codes "a"))
-unfolding imports_of group_after import_of
+unfolding imports_of group_after import_of by_record
 is_no_memory = refl
 
 -- ---- memories

@@ -26,10 +26,10 @@ pub record IsGood (r : Resolve) (g : Group) : Type 0 where
 pub record AreGood (r : Resolve) (gs : List Group) : Type 0 where
   pub each : AllByRecursion (IsGood r) gs
 
--- the fields of a module are listed one by one, and none occurs twice
+-- the fields of a module, where they are listed one by one, and none occurs twice
 abbrev pub HasDistinctFields : List ℕ × ImportInstance → Type 0
 HasDistinctFields (name, instances.Names fields) = IsDistinct bytes_eq (map (λ f. f.0) fields)
-HasDistinctFields (name, instances.Whole which) = ⊥
+HasDistinctFields (name, instances.Whole which) = Unit {0}
 
 -- what holds of all imports, module by module
 pub record AreChecked (r : Resolve) (modules : List (List ℕ × ImportInstance)) : Type 0 where

@@ -6,10 +6,11 @@ use Rattle.record_resolve.specs.declared.resolving.Resolved.{Resolved}
 use Rattle.record_faults.specs.declared.fault.Failure.{Failure}
 use Rattle.record_faults.specs.Faults.{◌>>=◌}
 use Rattle.record_imports.specs.declared.others.OtherModules.{OtherModules}
+use Rattle.record_imports.specs.Arguments.{Arguments}
 use Rattle.record_imports.specs.Meaning.{Roles}
 use Rattle.record_imports.specs.Grouping.{groups_after, instances_of}
 
-unfoldable pub imports_of : Resolved → OtherModules → Roles → CoreModule → Result (List (List ℕ × ImportInstance)) Failure
-imports_of r others table core = do
-  groups ← groups_after r others table core [] core.imports
-  Ok (instances_of groups)
+unfoldable pub imports_of : Resolved → OtherModules → Arguments → Roles → CoreModule → Result (List (List ℕ × ImportInstance)) Failure
+imports_of r others arguments table core = do
+  groups ← groups_after r others arguments table core [] core.imports
+  Ok (instances_of arguments groups)

@@ -1,4 +1,5 @@
 pub mod Others
+pub mod Arguments
 pub mod Meaning
 pub mod Grouping
 pub mod Memories

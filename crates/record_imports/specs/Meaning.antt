@@ -2,14 +2,17 @@
 -- ABI: `canon lower` and the built-in functions).
 --
 -- An import must have a role, the role must resolve in the world, and the import must have the type that the resolved role
--- requires. A role that is an export of another module must be one that the module may import, of a module that is there.
-use Rattle.std.specs.Prelude.{Bool, true, false, List, Option, Some, None, ok_or, Result, Ok, Err, ⊤, if◌then◌else◌}
+-- requires. A role that is an export of another module must be one that the module may import, of a module that is there. A library's
+-- import from a module that stands in its arguments has its role from the first such argument, and none from the record.
+use Rattle.std.specs.Prelude.{Bool, true, false, List, Option, Some, None, option_map, ok_or, Result, Ok, Err, ⊤, if◌then◌else◌}
 use Rattle.std.specs.Map.{lookup}
 use Rattle.std.specs.Option.{option_and_then}
 use Rattle.core_sections.specs.declared.core_module.CoreModule.{CoreModule}
 use Rattle.core_sections.specs.declared.entries.CoreImport.{CoreImport}
 use Rattle.wit_data.specs.declared.ids.WorldId.{WorldId}
 use Rattle.comp_roles.specs.declared.imports.Import.{Import}
+use Rattle.comp_roles.specs.declared.imports.Import.TheVariants as imports
+use Rattle.comp_roles.specs.declared.libraries.Instance.{Instance}
 use Rattle.comp_roles.specs.declared.offered.ExternType.{ExternType}
 use Rattle.record_values.specs.Names.{is_same_import}
 use Rattle.record_values.specs.declared.record.ImportName.{ImportName}
@@ -25,6 +28,7 @@ use Rattle.record_faults.specs.declared.fault.Refusal.TheVariants as refusals
 use Rattle.record_faults.specs.Faults.{◌>>=◌}
 use Rattle.record_imports.specs.declared.others.OtherModules.{OtherModules}
 use Rattle.record_imports.specs.Others.{is_unknown}
+use Rattle.record_imports.specs.Arguments.{Arguments, argument_for, item_of}
 
 -- the roles of core imports, by module and field
 abbrev pub Roles : Type 0
@@ -80,10 +84,24 @@ abbrev pub kept : {A : Type 0} → A → Result ⊤ Failure → Result A Failure
 kept value (Ok u) = Ok value
 kept value (Err e) = Err e
 
--- The resolved role of a core import. Its type is made of numbers and references to any function only, with limits of 32 bits.
-unfoldable pub import_of : Resolved → OtherModules → Roles → CoreModule → CoreImport → Result Import Failure
-import_of r others table core i = do
-  ty ← ok_or (extern_type core i.entity) (unfit i)
+-- the role by the record, resolved
+unfoldable pub by_record : Resolved → OtherModules → Roles → CoreModule → CoreImport → ExternType → Result Import Failure
+by_record r others table core i ty = do
   role ← ok_or (known_role others table i) (no_role i)
   import ← ok_or (target r i role ty) (meaningless i role)
   fitting r core i import
+
+-- the role by an argument: its item
+abbrev pub by_argument : CoreImport → ExternType → Instance → Result Import Failure
+by_argument i ty instance = ok_or (option_map imports.Item (item_of instance i.field ty)) (no_role i)
+
+-- by the argument for the import's module, if there is one
+abbrev pub by_either : Resolved → OtherModules → Roles → CoreModule → CoreImport → ExternType → Option Instance → Result Import Failure
+by_either r others table core i ty None = by_record r others table core i ty
+by_either r others table core i ty (Some instance) = by_argument i ty instance
+
+-- The role of a core import. Its type is made of numbers and references to any function only, with limits of 32 bits.
+unfoldable pub import_of : Resolved → OtherModules → Arguments → Roles → CoreModule → CoreImport → Result Import Failure
+import_of r others arguments table core i = do
+  ty ← ok_or (extern_type core i.entity) (unfit i)
+  by_either r others table core i ty (argument_for arguments i.«module»)

@@ -8,13 +8,13 @@ ghost use Rattle.comp_lists.specs.Found.{found};
 ghost use Rattle.wit_data.specs.Sound.{IsSound};
 ghost use Rattle.record_faults.specs.Faults.{Gives};
 ghost use Rattle.record_imports.specs.declared.grouping.Group.{Group as GroupRecord};
-ghost use Rattle.record_imports.specs.Grouping.{positions_of, fields_in, with_field, imported_twice, group_after, groups_after, instances_of};
+ghost use Rattle.record_imports.specs.Grouping.{positions_of, fields_in, with_field, imported_twice, group_after, groups_after, names_of};
 ghost use Rattle.record_imports.specs.Guarantees.{IsChecked, AreGood};
 
 use crate::meaning::import_of;
 use crate::others::OtherModules;
 use comp_lists::{Keyed, Text};
-use comp_roles::Import;
+use comp_roles::{Import, LibraryArgument};
 use core_sections::{CoreImport, CoreModule};
 use record_faults::{Failure, Refusal};
 use record_resolve::Resolved;
@@ -153,6 +153,7 @@ fn add_import(
     alloc: Global,
     resolved: &Resolved,
     others: &OtherModules,
+    arguments: &[LibraryArgument],
     roles: &Keyed<ImportName, ImportRole>,
     core: &CoreModule,
     grouping: Grouping,
@@ -161,7 +162,7 @@ fn add_import(
     requires sound { IsSound resolved.now.resolve }
     requires indexed { grouping.positions ≡ positions_of 0 grouping.groups.items }
     requires good { AreGood resolved.now.resolve grouping.groups.items }
-    ensures exact { Gives (λ g. g.groups.items) result (group_after resolved.now others.now roles.now core.now grouping.groups.items import.now) }
+    ensures exact { Gives (λ g. g.groups.items) result (group_after resolved.now others.now arguments.now roles.now core.now grouping.groups.items import.now) }
     ensures indexed { IfOk result (λ g. g.positions ≡ positions_of 0 g.groups.items) }
     ensures good { IfOk result (λ g. AreGood resolved.now.resolve g.groups.items) }
 {
@@ -170,7 +171,7 @@ fn add_import(
     }
     let module = import.module.clone(alloc)?;
     let field = import.field.clone(alloc)?;
-    let role = import_of(alloc, resolved, others, roles, core, import)?;
+    let role = import_of(alloc, resolved, others, arguments, roles, core, import)?;
     Ok(put_field(alloc, grouping, module, field, role)?)
 }
 
@@ -179,11 +180,12 @@ fn group_imports(
     alloc: Global,
     resolved: &Resolved,
     others: &OtherModules,
+    arguments: &[LibraryArgument],
     roles: &Keyed<ImportName, ImportRole>,
     core: &CoreModule,
 ) -> Result<Grouping, Failure>
     requires { IsSound resolved.now.resolve }
-    ensures exact { Gives (λ g. g.groups.items) result (groups_after resolved.now others.now roles.now core.now [] core.now.imports) }
+    ensures exact { Gives (λ g. g.groups.items) result (groups_after resolved.now others.now arguments.now roles.now core.now [] core.now.imports) }
     ensures indexed { IfOk result (λ g. g.positions ≡ positions_of 0 g.groups.items) }
     ensures good { IfOk result (λ g. AreGood resolved.now.resolve g.groups.items) }
 {
@@ -192,7 +194,9 @@ fn group_imports(
         groups: Vec::new(alloc),
     };
     for import in core.imports.as_slice() {
-        grouping = add_import(alloc, resolved, others, roles, core, grouping, import)?;
+        grouping = add_import(
+            alloc, resolved, others, arguments, roles, core, grouping, import,
+        )?;
     }
     Ok(grouping)
 }
@@ -209,7 +213,7 @@ fn positions_are_apart(positions: &Keyed<Text, usize>)
 fn into_groups(grouping: Grouping) -> Vec<Group>
     requires { grouping.positions ≡ positions_of 0 grouping.groups.items }
     ensures same { result ≡ grouping.groups }
-    ensures apart { IsDistinct bytes_eq (keys_of (instances_of result.items)) }
+    ensures apart { IsDistinct bytes_eq (names_of result.items) }
 {
     positions_are_apart(&grouping.positions);
     grouping.groups
@@ -220,14 +224,15 @@ pub(crate) fn read_groups(
     alloc: Global,
     resolved: &Resolved,
     others: &OtherModules,
+    arguments: &[LibraryArgument],
     roles: &Keyed<ImportName, ImportRole>,
     core: &CoreModule,
 ) -> Result<Vec<Group>, Failure>
     requires { IsSound resolved.now.resolve }
-    ensures exact { Gives (λ g. g.items) result (groups_after resolved.now others.now roles.now core.now [] core.now.imports) }
-    ensures apart { IfOk result (λ g. IsDistinct bytes_eq (keys_of (instances_of g.items))) }
+    ensures exact { Gives (λ g. g.items) result (groups_after resolved.now others.now arguments.now roles.now core.now [] core.now.imports) }
+    ensures apart { IfOk result (λ g. IsDistinct bytes_eq (names_of g.items)) }
     ensures good { IfOk result (λ g. AreGood resolved.now.resolve g.items) }
 {
-    let grouping = group_imports(alloc, resolved, others, roles, core)?;
+    let grouping = group_imports(alloc, resolved, others, arguments, roles, core)?;
     Ok(into_groups(grouping))
 }

@@ -14,10 +14,15 @@
 //! refused where the module may not import it, or that module isn't there; the callers of this crate
 //! compare the types, and decide how imports are satisfied.
 //!
-//! In reading order: `others` (exports of other modules), `meaning` (one import), `grouping` (the imports of each module), `memories`,
-//! `importing`.
+//! A library's import from a module that stands in its arguments has no role in the record: it is an item of
+//! the first argument for that module, or, as all others from there, an export of the whole instance that
+//! stands there.
+//!
+//! In reading order: `others` (exports of other modules), `arguments` (those of a library), `meaning` (one import), `grouping` (the
+//! imports of each module), `memories`, `importing`.
 #![tactic(auto)]
 
+mod arguments;
 mod grouping;
 mod importing;
 mod meaning;

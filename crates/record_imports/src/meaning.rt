@@ -5,15 +5,17 @@ ghost use Rattle.std.specs.Map.{lookup};
 ghost use Rattle.std.specs.Option.{option_copied, option_and_then};
 ghost use Rattle.record_values.specs.Names.{is_same_import};
 ghost use Rattle.wit_data.specs.Sound.{IsSound};
+ghost use Rattle.wit_data.specs.declared.resolve.Resolve.{Resolve};
 ghost use Rattle.record_role_targets.specs.Named.{HasNamed};
 ghost use Rattle.record_core_types.specs.Offered.{extern_type};
 ghost use Rattle.record_faults.specs.Faults.{Gives};
-ghost use Rattle.record_imports.specs.Meaning.{unless_unknown, target, no_role, unfit, meaningless, fitting, kept, import_of};
+ghost use Rattle.record_imports.specs.Meaning.{unless_unknown, target, no_role, unfit, meaningless, fitting, kept, by_record, by_argument, import_of};
 ghost use Rattle.record_imports.specs.Guarantees.{IsChecked};
 
+use crate::arguments::{argument_for, item_of};
 use crate::others::{OtherModules, is_unknown};
 use comp_lists::Keyed;
-use comp_roles::{ExternType, Import};
+use comp_roles::{ExternType, Import, Instance, LibraryArgument};
 use core_sections::{CoreImport, CoreModule};
 use record_core_types::{extern_type, fits_import};
 use record_faults::{Failure, Refusal};
@@ -134,31 +136,70 @@ fn unless_refused<T: Drop>(value: T, step: Result<(), Failure>) -> Result<T, Fai
     }
 }
 
-/// The resolved role of a core import; what it names exists in the resolve.
-#[tactic(auto, unfolding(crate::specs::Meaning::import_of), using(crate::proofs::Checking::concluded))]
-fn read_import(
+/// The role of an import by the record, resolved; what it names exists in the resolve.
+#[tactic(auto, unfolding(crate::specs::Meaning::by_record), using(crate::proofs::Checking::concluded))]
+fn by_record(
     alloc: Global,
     resolved: &Resolved,
     others: &OtherModules,
     roles: &Keyed<ImportName, ImportRole>,
     core: &CoreModule,
     import: &CoreImport,
+    ty: &ExternType,
 ) -> Result<Import, Failure>
     requires { IsSound resolved.now.resolve }
-    ensures exact { Gives (λ i. i) result (import_of resolved.now others.now roles.now core.now import.now) }
+    ensures exact { Gives (λ i. i) result (by_record resolved.now others.now roles.now core.now import.now ty.now) }
     ensures present { IfOk result (HasNamed resolved.now.resolve) }
 {
-    let ty = typed(alloc, core, import)?;
     let name = name_of(alloc, import)?;
     let Some(role) = known_role(others, roles, &name) else {
         return no_role(alloc, import);
     };
-    let meaning = meaning_of(alloc, resolved, import, role, &ty)?;
+    let meaning = meaning_of(alloc, resolved, import, role, ty)?;
     let checked = check_type(alloc, resolved, core, import, &meaning);
     unless_refused(meaning, checked)
 }
 
-/// The resolved role of a core import.
+/// The role of an import by the argument for its module: the item that it is given.
+fn by_argument(
+    alloc: Global,
+    import: &CoreImport,
+    ty: &ExternType,
+    instance: &Instance,
+) -> Result<Import, Failure>
+    ensures exact { Gives (λ i. i) result (by_argument import.now ty.now instance.now) }
+    ensures present { (r : Resolve) → IfOk result (HasNamed r) }
+{
+    match item_of(alloc, instance, &import.field, ty)? {
+        Some(item) => Ok(Import::Item(item)),
+        None => no_role(alloc, import),
+    }
+}
+
+/// The role of a core import by either; what it names exists in the resolve.
+#[tactic(auto, unfolding(crate::specs::Meaning::import_of))]
+fn read_import(
+    alloc: Global,
+    resolved: &Resolved,
+    others: &OtherModules,
+    arguments: &[LibraryArgument],
+    roles: &Keyed<ImportName, ImportRole>,
+    core: &CoreModule,
+    import: &CoreImport,
+) -> Result<Import, Failure>
+    requires { IsSound resolved.now.resolve }
+    ensures exact { Gives (λ i. i) result (import_of resolved.now others.now arguments.now roles.now core.now import.now) }
+    ensures present { IfOk result (HasNamed resolved.now.resolve) }
+{
+    let ty = typed(alloc, core, import)?;
+    match argument_for(arguments, &import.module) {
+        Some(instance) => by_argument(alloc, import, &ty, instance),
+        None => by_record(alloc, resolved, others, roles, core, import, &ty),
+    }
+}
+
+/// The role of a core import: where its module stands in the arguments of the library, by the first argument
+/// for it, else by the record, resolved.
 ///
 /// What it names exists in the resolve, and where it is a root function, the world imports it under its
 /// own name.
@@ -167,14 +208,15 @@ pub(crate) fn import_of(
     alloc: Global,
     resolved: &Resolved,
     others: &OtherModules,
+    arguments: &[LibraryArgument],
     roles: &Keyed<ImportName, ImportRole>,
     core: &CoreModule,
     import: &CoreImport,
 ) -> Result<Import, Failure>
     requires { IsSound resolved.now.resolve }
-    ensures exact { Gives (λ i. i) result (import_of resolved.now others.now roles.now core.now import.now) }
+    ensures exact { Gives (λ i. i) result (import_of resolved.now others.now arguments.now roles.now core.now import.now) }
     ensures checks { IfOk result (IsChecked resolved.now.resolve) }
 {
-    let meaning = read_import(alloc, resolved, others, roles, core, import)?;
+    let meaning = read_import(alloc, resolved, others, arguments, roles, core, import)?;
     Ok(meaning)
 }

@@ -8,7 +8,7 @@ mod InterfacePlaces
 mod Interfaces
 mod Keys
 mod Lending
-mod Lists
+pub mod Lists
 mod Order
 mod OwnRoles
 mod Reporting

@@ -1,6 +1,5 @@
 -- When a world is refused: something of it is reported exactly where a cause holds.
-use Rattle.std.proofs.lemmas.Bool.{eqb-true}
-use Rattle.std.proofs.Common.{arith, ◌≡◌, ◌≢◌, ◌⊎◌, inl, inr, ℕ, Bool, true, false, true≢false, List, [], ◌∷◌, ◌++◌, map, ◌==◌, Option, Some, None, Ok, Err, refl, sym, ap, ap₂, subst, ◌∙◌}
+use Rattle.std.proofs.Common.{◌≡◌, ◌≢◌, ◌⊎◌, inl, inr, ℕ, Bool, true, false, true≢false, List, [], ◌∷◌, ◌++◌, map, Option, Some, None, Ok, Err, refl, sym, ap, ap₂, subst, ◌∙◌}
 use Rattle.std.specs.Prelude.{Contains, length, codes}
 use Rattle.std.specs.List.{AllByRecursion, flat_map}
 use Rattle.std.specs.Map.{keys_of}
@@ -14,8 +13,6 @@ use Rattle.comp_roles.specs.Lookups.{first_some}
 use Rattle.comp_roles.specs.declared.imports.Import.{Import}
 use Rattle.comp_roles.specs.declared.imports.ImportInstance.{ImportInstance}
 use Rattle.comp_roles.specs.declared.imports.ImportInstance.TheVariants as instances
-use Rattle.comp_roles.specs.declared.libraries.LibraryArgument.{LibraryArgument}
-use Rattle.comp_roles.specs.declared.libraries.LibraryInfo.{LibraryInfo}
 use Rattle.comp_worlds.specs.Encodable.{Entries, ImportsResources}
 use Rattle.comp_worlds.specs.Uses.{imports_of}
 use Rattle.comp_worlds.specs.WorldTables.{whole_of}
@@ -27,13 +24,13 @@ use Rattle.record_faults.specs.declared.fault.Failure.{Failure}
 use Rattle.record_faults.specs.declared.fault.Failure.TheVariants as failures
 use Rattle.record_faults.specs.declared.fault.Refusal.{Refusal}
 use Rattle.record_faults.specs.declared.fault.Refusal.TheVariants as refusals
-use Rattle.supported_worlds.specs.LeftOut.{items_of, unless, import_item_left_out, export_item_left_out, twice_left_out, names_left_out, order_left_out, resources_left_out, export_left_out, group_left_out, all_required, required_of, own_group_left_out, own_left_out, world_left_out, roles_left_out, module_left_out, library_left_out, adapter_left_out, modules_left_out, rest_left_out, named_left_out, left_out, unless_left_out, encoded}
+use Rattle.supported_worlds.specs.LeftOut.{items_of, unless, import_item_left_out, export_item_left_out, twice_left_out, names_left_out, order_left_out, resources_left_out, export_left_out, group_left_out, all_required, required_of, own_group_left_out, own_left_out, world_left_out, roles_left_out, module_left_out, adapter_left_out, modules_left_out, rest_left_out, named_left_out, left_out, unless_left_out, encoded}
 use Rattle.supported_worlds.specs.Modules.{UserModule, main_of, module_of, user_modules}
 use Rattle.supported_worlds.specs.Naming.{are_exports_named, AreExportsNamed}
 use Rattle.supported_worlds.specs.Placed.{places_of, is_world_placed, imported_numbers, are_in_place}
 use Rattle.supported_worlds.specs.PlaceTables.{ArePlaces}
 use Rattle.supported_worlds.specs.declared.places.Places.{Places}
-use Rattle.supported_worlds.specs.Causes.{role_left_out, own_role_out, IsLeftOut, own_role, imported, exported, twice, names, order, resources, import_role, export_role, whole_module, arguments}
+use Rattle.supported_worlds.specs.Causes.{role_left_out, own_role_out, IsLeftOut, own_role, imported, exported, twice, names, order, resources, import_role, export_role}
 use Rattle.supported_worlds.proofs.ExportNames.{exports_named, names_pass}
 use Rattle.supported_worlds.proofs.Lists.{nothing, at_front, after, in_flat_map, neither, one_of, none_picked, one_picked}
 use Rattle.supported_worlds.specs.Lent.{InterfaceSet}
@@ -82,7 +79,7 @@ imports_pass p [] h = tt
 imports_pass p ((name, instances.Names fields) ∷ groups) h =
     both (λ i. role_left_out p i.role ≡ None) (imports_from (name, instances.Names fields)) (flat_map imports_from groups)
     (fields_pass p name fields (none_picked (λ f. role_left_out p f.1) fields h.0)) (imports_pass p groups h.1)
-imports_pass p ((name, instances.Whole which) ∷ groups) h = nothing (codes "library") h.0
+imports_pass p ((name, instances.Whole which) ∷ groups) h = imports_pass p groups h.1
 
 -- and so is each of an exported resource
 pub own_pass : (p : WorldParts) (keys : List WorldKey) (groups : List (List ℕ × ImportInstance)) → AllByRecursion (λ g. own_group_out p keys g ≡ None) groups → AllByRecursion (λ i. own_role_out p keys i.role ≡ None) (flat_map imports_from groups)
@@ -103,7 +100,6 @@ pub record IsModuleEncoded (p : WorldParts) (m : UserModule) : Type 0 where
   pub export_roles : AllByRecursion (λ e. export_left_out p.resolve.types e.1 ≡ None) m.info.exports.exports
 
 pub record IsAdapterEncoded (p : WorldParts) (a : List ℕ × WorldAdapter) : Type 0 where
-  pub library : library_left_out a.1.library_info ≡ None
   pub roles : IsModuleEncoded p (module_of a)
 
 -- nothing of a world is left out
@@ -138,9 +134,7 @@ module_encoded p m h =
     }
 
 adapter_encoded : (p : WorldParts) (a : List ℕ × WorldAdapter) → adapter_out p a ≡ None → IsAdapterEncoded p a
-adapter_encoded p a h =
-    let s = neither (library_left_out a.1.library_info) (module_out p (module_of a)) h in
-    record { library = s.0; roles = module_encoded p (module_of a) s.1 }
+adapter_encoded p a h = record { roles = module_encoded p (module_of a) h }
 
 pub all_encoded : (p : WorldParts) → left_out p ≡ None → IsEncoded p
 unfolding left_out
@@ -176,15 +170,6 @@ each_encoded p h m there =
     AllByRecursion-contains (IsModuleEncoded p) (user_modules p) m
     (h.main, mapped (IsModuleEncoded p) module_of p.adapters (AllByRecursion-weaker (λ a (e : IsAdapterEncoded p a). e.roles) p.adapters h.adapters)) there
 
--- the arguments of a library
-no_arguments : (info : LibraryInfo) (b : Bool) → (length info.arguments == 0) ≡ b → unless b (codes "library") ≡ None → info.arguments ≡ []
-no_arguments info true is e = none_there info.arguments is
-  where
-    none_there : {X : Type 0} (xs : List X) → (length xs == 0) ≡ true → xs ≡ []
-    none_there [] h = refl
-    none_there (x ∷ xs) h = let l = eqb-true (length (x ∷ xs)) 0 h in absurd (omega (arith, l))
-no_arguments info false is e = nothing (codes "library") e
-
 -- a function with no result for all elements has none for this one
 none_of : {X : Type 0} (reported : X → Option (List ℕ)) (xs : List X) (x : X) (what : List ℕ) → AllByRecursion (λ y. reported y ≡ None) xs → Contains xs x → reported x ≡ Some what → ⊥
 none_of reported xs x what h m e = nothing what (sym e ∙ AllByRecursion-contains (λ y. reported y ≡ None) xs x h m)
@@ -205,12 +190,6 @@ by_cases p h f (own_role m import what there c e) =
 by_cases p h f (export_role m entry what there c e) =
     let encoded = each_encoded p h m there in
     none_of (λ x. export_left_out p.resolve.types x.1) m.info.exports.exports entry what encoded.export_roles c e
-by_cases p h f (whole_module m name which there c) =
-    let encoded = each_encoded p h m there in
-    none_of (group_out p) m.info.imports.modules (name, instances.Whole which) (codes "library") encoded.groups c refl
-by_cases p h f (arguments entry info c is some) =
-    let encoded = AllByRecursion-contains (IsAdapterEncoded p) p.adapters entry h.adapters c in
-    some (no_arguments info (length info.arguments == 0) refl (ap library_left_out (sym is) ∙ encoded.library))
 
 -- ---- where something is reported
 
@@ -237,7 +216,7 @@ module _ (p : WorldParts) (what : List ℕ) where
         let import : CoreImport = record { module_name = name; field = t.element.0; role = t.element.1 } in
         let inside = Contains-map (λ f. record { module_name = name; field = f.0; role = f.1 }) fields t.element t.there in
         import_role m import what there (in_flat_map imports_from m.info.imports.modules (name, instances.Names fields) import c.0 c.1 c.2 inside) t.picks
-    of_group (name, instances.Whole which) c e = subst (λ (w : List ℕ). IsLeftOut p (refusals.LeftOut w)) (cc (e)) (whole_module m name which there c)
+    of_group (name, instances.Whole which) c e = nothing what (sym e)
 
     of_own : (group : List ℕ × ImportInstance) → Contains m.info.imports.modules group → own_group_out p m.keys group ≡ Some what → IsLeftOut p (refusals.LeftOut what)
     of_own (name, instances.Names fields) c e =
@@ -259,19 +238,8 @@ module _ (p : WorldParts) (what : List ℕ) where
       | inr b ↦ of_roles b
     ]
 
-  of_library : (a : List ℕ × WorldAdapter) → Contains p.adapters a → (info : Option LibraryInfo) → a.1.library_info ≡ info → library_left_out info ≡ Some what → IsLeftOut p (refusals.LeftOut what)
-  of_library a c None is e = nothing what (sym e)
-  of_library a c (Some info) is e = by (length info.arguments == 0) refl e
-    where
-      by : (b : Bool) → (length info.arguments == 0) ≡ b → unless b (codes "library") ≡ Some what → IsLeftOut p (refusals.LeftOut what)
-      by true none g = nothing what (sym g)
-      by false some g = subst (λ (w : List ℕ). IsLeftOut p (refusals.LeftOut w)) (cc (g)) (arguments a info c is (λ same. true≢false (ap (λ (xs : List LibraryArgument). length xs == 0) (sym same) ∙ some)))
-
   of_adapter : (a : List ℕ × WorldAdapter) → Contains p.adapters a → adapter_out p a ≡ Some what → IsLeftOut p (refusals.LeftOut what)
-  of_adapter a c e = elim (one_of (library_left_out a.1.library_info) (module_out p (module_of a)) what e) [
-    | inl l ↦ of_library a c a.1.library_info refl l
-    | inr m ↦ of_module (module_of a) (after (main_of p) (map module_of p.adapters) (module_of a) (Contains-map module_of p.adapters a c)) m
-  ]
+  of_adapter a c e = of_module (module_of a) (after (main_of p) (map module_of p.adapters) (module_of a) (Contains-map module_of p.adapters a c)) e
 
   of_modules : modules_left_out p (items_of p) (places_of p.resolve.types (items_of p).imports) (length (items_of p).imports) ≡ Some what → IsLeftOut p (refusals.LeftOut what)
   of_modules e = elim (one_of (module_out p (main_of p)) (first_some (adapter_out p) p.adapters) what e) [

@@ -1,5 +1,5 @@
 -- A world of which nothing is left out keeps the invariant of worlds.
-use Rattle.std.proofs.Common.{arith, ◌≡◌, ◌<◌, length, ℕ, zero, suc, Bool, true, false, cond, ◌&&◌, List, [], ◌∷◌, Option, Some, None, refl, sym, ap, subst, ◌∙◌, true≢false}
+use Rattle.std.proofs.Common.{arith, ◌≡◌, inl, inr, ◌<◌, length, ℕ, zero, suc, Bool, true, false, cond, ◌&&◌, List, [], ◌∷◌, Option, Some, None, refl, sym, ap, subst, ◌∙◌, true≢false}
 use Rattle.std.specs.Prelude.{is_some, slice_get, slice_index_or, get_or, nat_le, Contains, IsSome, option_map, codes}
 use Rattle.std.specs.List.{IsDistinct, AllByRecursion, flat_map}
 use Rattle.std.specs.Map.{lookup, keys_of}
@@ -8,9 +8,8 @@ use Rattle.std.specs.Str.{bytes_eq}
 use Rattle.std.proofs.lemmas.Option.{slice_get-get_or}
 use Rattle.std.proofs.lemmas.Slice.Eq.{bytes_eq-Decides}
 use Rattle.comp_lists.specs.Found.{found}
-use Rattle.comp_lists.proofs.Lists.{AllByRecursion-front, AllByRecursion-back, AllByRecursion-at, AllByRecursion-weaker}
+use Rattle.comp_lists.proofs.Lists.{AllByRecursion-front, AllByRecursion-back, AllByRecursion-at, AllByRecursion-contains, AllByRecursion-weaker}
 use Rattle.comp_lists.proofs.Lookups.{some_of}
-use Rattle.standard_kinds.specs.declared.kinds.ExportKind.TheVariants as exported_kinds
 use Rattle.wit_data.specs.Keys.{is_same_key}
 use Rattle.wit_data.specs.declared.functions.AbiVariant.TheVariants.{GuestImport, GuestExport, GuestImportAsync}
 use Rattle.wit_data.specs.declared.functions.Function.{Function}
@@ -31,13 +30,15 @@ use Rattle.comp_roles.specs.declared.imports.Import.{Import}
 use Rattle.comp_roles.specs.declared.imports.Import.TheVariants as imports
 use Rattle.comp_roles.specs.declared.imports.ImportInstance.{ImportInstance}
 use Rattle.comp_roles.specs.declared.imports.ImportInstance.TheVariants as instances
+use Rattle.comp_roles.specs.declared.libraries.MainOrAdapter.{MainOrAdapter}
 use Rattle.comp_roles.specs.declared.offered.ExternType.{ExternType}
 use Rattle.comp_roles.specs.declared.offered.ImportType.{ImportType}
 use Rattle.world_values.specs.Items.{no_items, functions_of, functions_in, function_in, function_of_item, root_function_at}
 use Rattle.world_values.specs.Mentions.{interface_in, interfaces_of, same_interface}
+use Rattle.comp_worlds.specs.Lookups.{found_module}
 use Rattle.comp_worlds.specs.Typed.{post_return_type, type_of_import, type_of_export, FitsRole, FitsImport, FitsExport}
 use Rattle.comp_worlds.specs.WorldContents.{root_function, exported_item, core_name_in, keys_required}
-use Rattle.comp_worlds.specs.Worlds.{IsWorld, IsUserModule, IsImportItem, IsExportItem, IsResource, IsImportRole, IsImportGroup, IsOwnResource, IsForOwnKey, ExportsFunctionOf, IsExportRole, IsRequired}
+use Rattle.comp_worlds.specs.Worlds.{IsWorld, IsUserModule, IsImportItem, IsExportItem, IsResource, IsImportRole, IsImportGroup, IsNotOfMain, IsFirstGroup, IsOwnResource, IsForOwnKey, ExportsFunctionOf, IsExportRole, IsRequired}
 use Rattle.comp_worlds.specs.Uses.{imports_of}
 use Rattle.comp_worlds.specs.WorldTables.{whole_of}
 use Rattle.comp_worlds.specs.declared.world.ValidatedModule.{ValidatedModule}
@@ -51,11 +52,11 @@ use Rattle.supported_worlds.specs.Distinct.{are_apart}
 use Rattle.std.proofs.lemmas.List.Elements.{Contains-append_left, Contains-append_right}
 use Rattle.supported_worlds.specs.Apart.{FieldsApart, GroupsApart, AreApart}
 use Rattle.supported_worlds.specs.LeftOut.{items_of, import_item_left_out, export_item_left_out, export_left_out, all_required, required_of, unless}
-use Rattle.supported_worlds.specs.Links.{IsRoleLinked, IsTypeLinked, IsImportLinked, IsModuleLinked, AreLinked}
+use Rattle.supported_worlds.specs.Links.{IsRoleLinked, IsTypeLinked, IsFromInstance, IsImportLinked, IsModuleLinked, AreLinked}
 use Rattle.supported_worlds.specs.Modules.{UserModule, main_of, module_of}
 use Rattle.supported_worlds.specs.Causes.{role_left_out, own_role_out}
 use Rattle.supported_worlds.specs.Placed.{places_of, is_resource, is_droppable, is_resource_at, is_own_resource}
-use Rattle.supported_worlds.specs.Guarantees.{HasFoundImport, OffersExport, IsSoundModule, HasSoundParts}
+use Rattle.supported_worlds.specs.Guarantees.{HasFoundImport, IsUsed, OffersExport, IsSoundModule, HasSoundParts}
 use Rattle.supported_worlds.proofs.Interfaces.{synchronous, synchronous_interface, own_are, other_key, one_found, entry_there, name_there as function_there, found_there}
 use Rattle.supported_worlds.proofs.Lists.{nothing, at_front, after, none_picked}
 use Rattle.supported_worlds.proofs.InPlace.{both, resource_kind}
@@ -183,6 +184,16 @@ mapped_there : {A B : Type 0} (f : A → B) (o : Option A) → IsSome o → IsSo
 mapped_there f None h = h
 mapped_there f (Some x) h = refl
 
+-- each entry of a table is found by its key
+behind : {X : Type 0} (e : List ℕ × X) (es all : List (List ℕ × X)) → AllByRecursion (λ k. bytes_eq e.0 k ≡ false) (keys_of es) → AllByRecursion (λ x. found x.0 all ≡ Some x.1) es → AllByRecursion (λ x. found x.0 (e ∷ all) ≡ Some x.1) es
+behind e [] all h here = tt
+behind e (x ∷ es) all h here = (ap (λ b. cond b (Some e.1) (found x.0 all)) (turned e.0 x.0 h.0) ∙ here.0, behind e es all h.1 here.1)
+
+found_each : {X : Type 0} (es : List (List ℕ × X)) → IsDistinct bytes_eq (keys_of es) → AllByRecursion (λ x. found x.0 es ≡ Some x.1) es
+unfolding IsDistinct
+found_each [] apart = tt
+found_each (e ∷ es) apart = (ap (λ b. cond b (Some e.1) (found e.0 es)) ((bytes_eq-Decides e.0 e.0).1 refl), behind e es es apart.0 (found_each es apart.1))
+
 -- the keys of a module are among those of all modules
 abbrev AreKnown : WorldParts → List WorldKey → Type 0
 AreKnown p owed = (key : WorldKey) → Contains owed key → Contains (keys_required (whole_of p)) key
@@ -263,9 +274,9 @@ module _ (p : WorldParts) (present : HasSoundParts p) (linked : AreLinked p) (en
   import_role owed known (imports.ExportedResourceRep key id) h own called there = own_resource owed known key id (codes "exported-rep") own
   import_role owed known (imports.ExportedResourceNew key id) h own called there = own_resource owed known key id (codes "exported-new") own
   import_role owed known (imports.MainModuleMemory type) h own called there = there
-  import_role owed known (imports.MainModuleExport name exported_kinds.Func) h own called there = record { type = there.type; offered = there.offered; of_kind = there.of_kind; given = tt }
-  import_role owed known (imports.MainModuleExport name exported_kinds.Memory) h own called there = record { type = there.type; offered = there.offered; of_kind = there.of_kind; given = tt }
+  import_role owed known (imports.MainModuleExport name kind) h own called there = there
   import_role owed known (imports.AdapterExport adapter name type) h own called there = there
+  import_role owed known (imports.Item item) h own called there = there
   import_role owed known role h own called there = nothing _ h
 
   for_own_key : (owed : List WorldKey) (role : Import) → own_role_out p owed role ≡ None → IsForOwnKey owed role
@@ -280,20 +291,51 @@ module _ (p : WorldParts) (present : HasSoundParts p) (linked : AreLinked p) (en
   field_roles owed known name [] h own called there = tt
   field_roles owed known name (f ∷ fields) h own called there = (import_role owed known f.1 h.0 own.0 called.0 there.0, field_roles owed known name fields h.1 own.1 called.1 there.1)
 
+  -- a module whose whole instance is given is there
+  abbrev IsThere : List ℕ × ImportInstance → Type 0
+  IsThere (name, instances.Names fields) = Unit {0}
+  IsThere (name, instances.Whole which) = IsSome (found_module (whole_of p) which)
+
+  each_there : (m : ValidatedModule) (groups : List (List ℕ × ImportInstance)) → AllByRecursion (λ g. found g.0 m.imports.modules ≡ Some g.1) groups → AllByRecursion (IsUsed m) groups → AllByRecursion (IsImportLinked (whole_of p) m) m.imported
+      → AllByRecursion IsThere groups
+  each_there m [] here used there = tt
+  each_there m ((name, instances.Names fields) ∷ groups) here used there = (tt, each_there m groups here.1 used.1 there)
+  each_there m ((name, instances.Whole which) ∷ groups) here used there =
+      let one = used.0 in
+      let given = AllByRecursion-contains (IsImportLinked (whole_of p) m) m.imported one.import there one.there in
+      let offered = given.by_instance which (ap (λ n. found n m.imports.modules) one.from ∙ here.0) in
+      (ap is_some offered.named, each_there m groups here.1 used.1 there)
+
   import_group : (owed : List WorldKey) → AreKnown p owed → (group : List ℕ × ImportInstance) → group_out p group ≡ None → own_group_out p owed group ≡ None → FieldsApart group.1 → AllByRecursion (λ i. IsCalled p.resolve p.world i.role) (imports_from group)
-      → AllByRecursion (λ i. IsRoleLinked (whole_of p) i.role) (imports_from group) → IsImportGroup (whole_of p) group
-  import_group owed known (name, instances.Names fields) h own alone called there = (alone, field_roles owed known name fields (none_picked (λ f. role_left_out p f.1) fields h) (none_picked (λ f. own_role_out p owed f.1) fields own) called there)
-  import_group owed known (name, instances.Whole which) h own alone called there = nothing _ h
+      → AllByRecursion (λ i. IsRoleLinked (whole_of p) i.role) (imports_from group) → IsThere group → IsImportGroup (whole_of p) group
+  import_group owed known (name, instances.Names fields) h own alone called there whole = (alone, field_roles owed known name fields (none_picked (λ f. role_left_out p f.1) fields h) (none_picked (λ f. own_role_out p owed f.1) fields own) called there)
+  import_group owed known (name, instances.Whole which) h own alone called there whole = whole
 
   import_groups : (owed : List WorldKey) → AreKnown p owed → (groups : List (List ℕ × ImportInstance)) → AllByRecursion (λ g. group_out p g ≡ None) groups → AllByRecursion (λ g. own_group_out p owed g ≡ None) groups → AllByRecursion (λ g. FieldsApart g.1) groups
-      → AllByRecursion (λ i. IsCalled p.resolve p.world i.role) (flat_map imports_from groups) → AllByRecursion (λ i. IsRoleLinked (whole_of p) i.role) (flat_map imports_from groups) → AllByRecursion (IsImportGroup (whole_of p)) groups
-  import_groups owed known [] h own alone called there = tt
-  import_groups owed known (g ∷ groups) h own alone called there = (
+      → AllByRecursion (λ i. IsCalled p.resolve p.world i.role) (flat_map imports_from groups) → AllByRecursion (λ i. IsRoleLinked (whole_of p) i.role) (flat_map imports_from groups) → AllByRecursion IsThere groups → AllByRecursion (IsImportGroup (whole_of p)) groups
+  import_groups owed known [] h own alone called there whole = tt
+  import_groups owed known (g ∷ groups) h own alone called there whole = (
     import_group owed known g h.0 own.0 alone.0 (AllByRecursion-front (λ i. IsCalled p.resolve p.world i.role) (imports_from g) (flat_map imports_from groups) called)
-        (AllByRecursion-front (λ i. IsRoleLinked (whole_of p) i.role) (imports_from g) (flat_map imports_from groups) there),
+        (AllByRecursion-front (λ i. IsRoleLinked (whole_of p) i.role) (imports_from g) (flat_map imports_from groups) there) whole.0,
     import_groups owed known groups h.1 own.1 alone.1 (AllByRecursion-back (λ i. IsCalled p.resolve p.world i.role) (imports_from g) (flat_map imports_from groups) called)
-        (AllByRecursion-back (λ i. IsRoleLinked (whole_of p) i.role) (imports_from g) (flat_map imports_from groups) there),
+        (AllByRecursion-back (λ i. IsRoleLinked (whole_of p) i.role) (imports_from g) (flat_map imports_from groups) there) whole.1,
   )
+
+  -- the imports of main have roles, none of which is its own or an item
+  first_fields : (name : List ℕ) (fields : List (List ℕ × Import)) → AllByRecursion (λ i. IsNotOfMain i.role) (imports_from (name, instances.Names fields)) → AllByRecursion (λ f. IsNotOfMain f.1) fields
+  first_fields name [] h = tt
+  first_fields name (f ∷ fields) h = (h.0, first_fields name fields h.1)
+
+  first_groups : (m : ValidatedModule) (groups : List (List ℕ × ImportInstance)) → AllByRecursion (λ g. found g.0 m.imports.modules ≡ Some g.1) groups → AllByRecursion (IsUsed m) groups
+      → AllByRecursion (λ i. (which : MainOrAdapter) → IsFromInstance m i which → ⊥) m.imported → AllByRecursion (λ i. IsNotOfMain i.role) (flat_map imports_from groups) → AllByRecursion IsFirstGroup groups
+  first_groups m [] here used none h = tt
+  first_groups m ((name, instances.Names fields) ∷ groups) here used none h = (
+    first_fields name fields (AllByRecursion-front (λ i. IsNotOfMain i.role) (imports_from (name, instances.Names fields)) (flat_map imports_from groups) h),
+    first_groups m groups here.1 used.1 none (AllByRecursion-back (λ i. IsNotOfMain i.role) (imports_from (name, instances.Names fields)) (flat_map imports_from groups) h),
+  )
+  first_groups m ((name, instances.Whole which) ∷ groups) here used none h =
+      let one = used.0 in
+      absurd (AllByRecursion-contains (λ i. (which : MainOrAdapter) → IsFromInstance m i which → ⊥) m.imported one.import none one.there which (ap (λ n. found n m.imports.modules) one.from ∙ here.0))
 
   export_role : (role : Export) → export_left_out p.resolve.types role ≡ None → IsLifted p.resolve p.world role → IsExportRole (whole_of p) role
   export_role (exports.WorldFunc (keys.Name text) name GuestExport) h lifted =
@@ -336,12 +378,14 @@ module _ (p : WorldParts) (present : HasSoundParts p) (linked : AreLinked p) (en
   fits_role (imports.MainModuleMemory memory) type h fits there = of_type (type_of_import p.resolve (items_of p) (imports.MainModuleMemory memory)) type refl fits
   fits_role (imports.MainModuleExport name kind) type h fits there = there
   fits_role (imports.AdapterExport adapter name function) type h fits there = of_type (type_of_import p.resolve (items_of p) (imports.AdapterExport adapter name function)) type refl fits
+  fits_role (imports.Item item) type h fits there = there
   fits_role role type h fits there = absurd h
 
   found_import : (m : ValidatedModule) → AllByRecursion (IsImportGroup (whole_of p)) m.imports.modules → (i : ImportType) → HasFoundImport p.resolve (items_of p) m i → IsImportLinked (whole_of p) m i → FitsImport (whole_of p) m i
-  found_import m groups i h there =
+  found_import m groups i (inl h) there =
       let right = role_right (whole_of p) m.imports.modules i.module_name i.field h.role groups h.has_role in
-      record { role = h.role; has_role = h.has_role; fits = fits_role h.role i.ty right h.fits (there h.role h.has_role) }
+      inl (record { role = h.role; has_role = h.has_role; fits = fits_role h.role i.ty right h.fits (there.by_role h.role h.has_role) })
+  found_import m groups i (inr h) there = inr (record { which = h.which; whole = h.whole; offered = there.by_instance h.which h.whole })
 
   found_imports : (m : ValidatedModule) → AllByRecursion (IsImportGroup (whole_of p)) m.imports.modules → (all : List ImportType) → AllByRecursion (HasFoundImport p.resolve (items_of p) m) all → AllByRecursion (IsImportLinked (whole_of p) m) all
       → AllByRecursion (FitsImport (whole_of p) m) all
@@ -389,7 +433,8 @@ module _ (p : WorldParts) (present : HasSoundParts p) (linked : AreLinked p) (en
 
   module_is : (m : UserModule) → IsSoundModule p.resolve p.world (items_of p) m → IsModuleEncoded p m → GroupsApart m.info.imports.modules → AreKnown p m.keys → IsModuleLinked (whole_of p) m.info → IsUserModule (whole_of p) m.info m.keys
   module_is m ok is alone known there =
-      let groups = import_groups m.keys known m.info.imports.modules is.groups is.own_groups alone.fields ok.called there.roles in
+      let whole = each_there m.info m.info.imports.modules (found_each m.info.imports.modules alone.modules) ok.used there.types in
+      let groups = import_groups m.keys known m.info.imports.modules is.groups is.own_groups alone.fields ok.called there.roles whole in
       let roles = export_roles m.info.exports.exports is.export_roles ok.lifted in
       record {
         core = ok.core;
@@ -406,6 +451,13 @@ module _ (p : WorldParts) (present : HasSoundParts p) (linked : AreLinked p) (en
   main_is =
       let alone = apart.modules.main in
       module_is (main_of p) present.main encoded.main alone (λ key there. Contains-append_left p.main_exports (flat_map (λ a. a.1.required_exports) p.adapters) key there) linked.main
+
+  main_is_first : AllByRecursion IsFirstGroup p.main.imports.modules
+  main_is_first =
+      let alone = apart.modules.main in
+      let main = present.main in
+      let first = linked.main_first in
+      first_groups p.main p.main.imports.modules (found_each p.main.imports.modules alone.modules) main.used first.by_roles first.roles
 
   adapters_are : (all : List (List ℕ × WorldAdapter)) → AllByRecursion (λ a. IsSoundModule p.resolve p.world (items_of p) (module_of a)) all → AllByRecursion (IsAdapterEncoded p) all
       → AllByRecursion (λ a. GroupsApart a.1.info.imports.modules) all → AreKnown p (flat_map (λ a. a.1.required_exports) all) → AllByRecursion (λ a. IsModuleLinked (whole_of p) a.1.info) all → AllByRecursion (λ a. IsUserModule (whole_of p) a.1.info a.1.required_exports) all
@@ -428,7 +480,7 @@ module _ (p : WorldParts) (present : HasSoundParts p) (linked : AreLinked p) (en
     exports_named = let n = encoded.named in n.each;
     exported_interfaces_apart = let n = encoded.named in n.apart;
     main = main_is;
-    main_first = linked.main_first;
+    main_first = main_is_first;
     adapters =
         let others = apart.modules.adapters in
         adapters_are p.adapters present.adapters encoded.adapters others.groups (λ key there. Contains-append_right p.main_exports (flat_map (λ a. a.1.required_exports) p.adapters) key there) linked.adapters;

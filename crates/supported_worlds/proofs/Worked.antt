@@ -27,11 +27,10 @@ use Rattle.wit_data.specs.Values.{values_from}
 use Rattle.comp_roles.specs.declared.exports.Export.TheVariants as exports
 use Rattle.comp_roles.specs.declared.imports.Import.TheVariants as imports
 use Rattle.comp_roles.specs.declared.imports.ImportInstance.TheVariants as instances
-use Rattle.comp_roles.specs.declared.libraries.Instance.TheVariants as arguments
 use Rattle.comp_roles.specs.declared.libraries.Item.{Item}
 use Rattle.comp_roles.specs.declared.libraries.MainOrAdapter.TheVariants as modules
 use Rattle.supported_worlds.specs.Kinds.{import_kind}
-use Rattle.supported_worlds.specs.LeftOut.{import_item_left_out, interface_left_out, world_left_out, twice_left_out, names_left_out, order_left_out, resources_left_out, import_left_out, export_left_out, group_left_out, own_role_left_out, library_left_out}
+use Rattle.supported_worlds.specs.LeftOut.{import_item_left_out, interface_left_out, world_left_out, twice_left_out, names_left_out, order_left_out, resources_left_out, import_left_out, export_left_out, group_left_out, own_role_left_out}
 use Rattle.supported_worlds.specs.Placed.{places_of}
 
 abbrev a_type : TypeId
@@ -442,18 +441,18 @@ async_interface_call_is_reported = refl
 exported_form_of_interface_is_none : import_left_out [] [] 0 (imports.InterfaceFunc f an_interface (codes "f") GuestExport) ≡ Some (codes "interface-func")
 exported_form_of_interface_is_none = refl
 
--- what main exports is given to others where it is a function or a memory
+-- what main exports is given to others
 function_of_main_is_encoded : import_left_out [] [] 0 (imports.MainModuleExport (codes "x") given.Func) ≡ None
 function_of_main_is_encoded = refl
 
 memory_of_main_is_encoded : import_left_out [] [] 0 (imports.MainModuleExport (codes "x") given.Memory) ≡ None
 memory_of_main_is_encoded = refl
 
-global_of_main_is_reported : import_left_out [] [] 0 (imports.MainModuleExport (codes "x") given.Global) ≡ Some (codes "main-export")
-global_of_main_is_reported = refl
+global_of_main_is_encoded : import_left_out [] [] 0 (imports.MainModuleExport (codes "x") given.Global) ≡ None
+global_of_main_is_encoded = refl
 
-table_of_main_is_reported : import_left_out [] [] 0 (imports.MainModuleExport (codes "x") given.Table) ≡ Some (codes "main-export")
-table_of_main_is_reported = refl
+table_of_main_is_encoded : import_left_out [] [] 0 (imports.MainModuleExport (codes "x") given.Table) ≡ None
+table_of_main_is_encoded = refl
 
 -- the drop of a resource, and of what is none
 drop_is_encoded : import_left_out (of_world kinds.Resource ∷ []) (0 ∷ []) 0 (imports.ImportedResourceDrop f None a_type) ≡ None
@@ -514,19 +513,12 @@ representation_of_values_is_reported = refl
 first_field_is_reported : group_left_out [] [] 0 (codes "$root", instances.Names ((codes "f", imports.WorldFunc f (codes "f") GuestImport) ∷ (codes "s", imports.WaitableSetNew) ∷ (codes "i", imports.BackpressureInc) ∷ [])) ≡ Some (codes "waitable-set-new")
 first_field_is_reported = refl
 
-whole_is_a_library : group_left_out [] [] 0 (codes "m", instances.Whole modules.Main) ≡ Some (codes "library")
-whole_is_a_library = refl
+whole_is_encoded : group_left_out [] [] 0 (codes "m", instances.Whole modules.Main) ≡ None
+whole_is_encoded = refl
 
--- an export of another module has its own kind and no other
+item_is_encoded : (item : Item) → import_left_out [] [] 0 (imports.Item item) ≡ None
+item_is_encoded item = refl
+
+-- it has its own kind and no other
 item_is_of_a_library : (item : Item) → import_kind (imports.Item item) ≡ codes "library"
 item_is_of_a_library item = refl
-
--- a library is encoded where it has no arguments
-adapter_is_no_library : library_left_out None ≡ None
-adapter_is_no_library = refl
-
-library_without_arguments_is_encoded : library_left_out (Some (record { arguments = [] })) ≡ None
-library_without_arguments_is_encoded = refl
-
-argument_is_reported : library_left_out (Some (record { arguments = record { name = codes "m"; instance = arguments.MainOrAdapter modules.Main } ∷ [] })) ≡ Some (codes "library")
-argument_is_reported = refl

@@ -1,17 +1,13 @@
 -- When the refusal of a world is right: something of it is not encoded yet. (This project's own.)
-use Rattle.std.specs.Prelude.{◌≡◌, ℕ, List, [], length, codes, Option, Some, Contains}
+use Rattle.std.specs.Prelude.{◌≡◌, ℕ, List, length, codes, Option, Some, Contains}
 use Rattle.wit_data.specs.declared.worlds.WorldItem.{WorldItem}
 use Rattle.wit_data.specs.declared.worlds.WorldKey.{WorldKey}
 use Rattle.comp_roles.specs.CoreImports.{CoreImport}
 use Rattle.comp_roles.specs.declared.exports.Export.{Export}
 use Rattle.comp_roles.specs.declared.imports.Import.{Import}
-use Rattle.comp_roles.specs.declared.imports.ImportInstance.TheVariants as instances
-use Rattle.comp_roles.specs.declared.libraries.LibraryInfo.{LibraryInfo}
-use Rattle.comp_roles.specs.declared.libraries.MainOrAdapter.{MainOrAdapter}
 use Rattle.comp_worlds.specs.Encodable.{ImportsResources}
 use Rattle.comp_worlds.specs.Uses.{imports_of}
 use Rattle.comp_worlds.specs.WorldTables.{whole_of}
-use Rattle.comp_worlds.specs.declared.world.WorldAdapter.{WorldAdapter}
 use Rattle.comp_worlds.specs.declared.world.WorldParts.{WorldParts}
 use Rattle.record_faults.specs.declared.fault.Refusal.{Refusal}
 use Rattle.record_faults.specs.declared.fault.Refusal.TheVariants as refusals
@@ -43,7 +39,3 @@ pub data IsLeftOut (p : WorldParts) : Refusal → Type 0 where
   import_role : (m : UserModule) (import : CoreImport) (what : List ℕ) → Contains (user_modules p) m → Contains (imports_of m.info) import → role_left_out p import.role ≡ Some what → IsLeftOut p (refusals.LeftOut what)
   own_role : (m : UserModule) (import : CoreImport) (what : List ℕ) → Contains (user_modules p) m → Contains (imports_of m.info) import → own_role_out p m.keys import.role ≡ Some what → IsLeftOut p (refusals.LeftOut what)
   export_role : (m : UserModule) (entry : List ℕ × Export) (what : List ℕ) → Contains (user_modules p) m → Contains m.info.exports.exports entry → export_left_out p.resolve.types entry.1 ≡ Some what → IsLeftOut p (refusals.LeftOut what)
-  -- a whole module provides what one imports from another
-  whole_module : (m : UserModule) (name : List ℕ) (which : MainOrAdapter) → Contains (user_modules p) m → Contains m.info.imports.modules (name, instances.Whole which) → IsLeftOut p (refusals.LeftOut (codes "library"))
-  -- a library has arguments
-  arguments : (entry : List ℕ × WorldAdapter) (info : LibraryInfo) → Contains p.adapters entry → entry.1.library_info ≡ Some info → (info.arguments ≡ [] → ⊥) → IsLeftOut p (refusals.LeftOut (codes "library"))

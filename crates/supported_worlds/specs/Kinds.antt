@@ -67,8 +67,7 @@ linked_kind (imports.MainModuleExport name kind) = Some (codes "main-export")
 linked_kind (imports.AdapterExport adapter f ty) = Some (codes "adapter-export")
 linked_kind role = None
 
--- The kind of an import. What is in none of the tables is an export of another module, which an instance of a library gets
--- as an argument.
+-- The kind of an import. What is in none of the tables is an item of an argument of a library.
 abbrev pub import_kind : Import → List ℕ
 import_kind role =
     unwrap_or (option_or (linked_kind role) (option_or (value_kind role) (option_or (task_kind role) (option_or (stream_kind role) (future_kind role))))) (codes "library")

@@ -2,15 +2,13 @@
 -- types and of synchronous functions, exported interfaces of types of their own and of synchronous functions made of these and of
 -- named types of interfaces that are imported or exported, types that it imports, in their order and with all resources of the root
 -- among them, core imports and exports with the role of such a function, core imports that drop a resource, or make or read a handle of
--- one that their module has to export, or are main's memory, a function or a memory that main exports or a function that an adapter
--- exports, and core exports that are a post-return, a destructor, a memory or a realloc; of main and of adapters, and of libraries
--- without arguments. All else is left out, and reported by the name of its kind. (The names are those of this project's record.)
-use Rattle.std.specs.Prelude.{ℕ, Bool, ◌++◌, ◌==◌, List, length, codes, Option, Some, None, Result, Ok, Err, get_or, if◌then◌else◌}
+-- one that their module has to export, or are main's memory, an export of main, a function that an adapter exports or an item of an
+-- argument of a library, and core exports that are a post-return, a destructor, a memory or a realloc; of main, of adapters and of
+-- libraries. All else is left out, and reported by the name of its kind. (The names are those of this project's record.)
+use Rattle.std.specs.Prelude.{ℕ, Bool, ◌++◌, List, length, codes, Option, Some, None, Result, Ok, Err, get_or, if◌then◌else◌}
 use Rattle.std.specs.List.{flat_map}
 use Rattle.std.specs.Map.{lookup}
 use Rattle.std.specs.Option.{option_or}
-use Rattle.standard_kinds.specs.declared.kinds.ExportKind.{ExportKind}
-use Rattle.standard_kinds.specs.declared.kinds.ExportKind.TheVariants as exported
 use Rattle.wit_data.specs.Keys.{is_same_key}
 use Rattle.wit_data.specs.declared.functions.AbiVariant.TheVariants.{GuestImport, GuestExport, GuestImportAsync}
 use Rattle.wit_data.specs.declared.functions.FunctionKind.{FunctionKind}
@@ -30,7 +28,6 @@ use Rattle.comp_roles.specs.declared.imports.Import.{Import}
 use Rattle.comp_roles.specs.declared.imports.Import.TheVariants as imports
 use Rattle.comp_roles.specs.declared.imports.ImportInstance.{ImportInstance}
 use Rattle.comp_roles.specs.declared.imports.ImportInstance.TheVariants as instances
-use Rattle.comp_roles.specs.declared.libraries.LibraryInfo.{LibraryInfo}
 use Rattle.world_values.specs.Items.{no_items, functions_of}
 use Rattle.world_values.specs.Mentions.{same_interface, interfaces_of}
 use Rattle.comp_worlds.specs.Encodable.{Entries}
@@ -114,15 +111,9 @@ resources_left_out types entries = unless (are_in_place types 0 (imported_number
 
 -- ---- roles
 
--- an export of main that has this role, unless it is a function or a memory
-abbrev pub given_left_out : ExportKind → Import → Option (List ℕ)
-given_left_out exported.Func role = None
-given_left_out exported.Memory role = None
-given_left_out kind role = Some (import_kind role)
-
 -- an import of a module, unless it is a function at the root or of an interface that is called synchronously, or drops a resource, by the
--- places of the types, and that of the root; or has a role that an exported resource may have; or is main's memory, a function or a
--- memory that main exports, or a function that an adapter exports
+-- places of the types, and that of the root; or has a role that an exported resource may have; or is main's memory, an export of main, a
+-- function that an adapter exports, or an item of an argument
 abbrev pub import_left_out : List TypeDef → List ℕ → ℕ → Import → Option (List ℕ)
 import_left_out types places root (imports.WorldFunc (keys.Name text) name GuestImport) = None
 import_left_out types places root (imports.WorldFunc key name GuestImportAsync) = Some (codes "async")
@@ -133,8 +124,9 @@ import_left_out types places root (imports.ExportedResourceDrop key id) = None
 import_left_out types places root (imports.ExportedResourceRep key id) = None
 import_left_out types places root (imports.ExportedResourceNew key id) = None
 import_left_out types places root (imports.MainModuleMemory type) = None
-import_left_out types places root (imports.MainModuleExport name kind) = given_left_out kind (imports.MainModuleExport name kind)
+import_left_out types places root (imports.MainModuleExport name kind) = None
 import_left_out types places root (imports.AdapterExport adapter name type) = None
+import_left_out types places root (imports.Item item) = None
 import_left_out types places root role = Some (import_kind role)
 
 -- such a role, unless it is of a resource of an interface that the module has to export at the key
@@ -162,10 +154,10 @@ export_left_out types exports.GeneralPurposeExportRealloc = None
 export_left_out types exports.ReallocForAdapter = None
 export_left_out types role = Some (export_kind role)
 
--- the imports from one module: the first that is left out, or all of them where a whole module provides them
+-- the imports from one module: the first that is left out; none is where a whole instance satisfies them
 abbrev pub instance_left_out : List TypeDef → List ℕ → ℕ → ImportInstance → Option (List ℕ)
 instance_left_out types places root (instances.Names fields) = first_some (λ f. import_left_out types places root f.1) fields
-instance_left_out types places root (instances.Whole which) = Some (codes "library")
+instance_left_out types places root (instances.Whole which) = None
 
 abbrev pub group_left_out : List TypeDef → List ℕ → ℕ → List ℕ × ImportInstance → Option (List ℕ)
 group_left_out types places root group = instance_left_out types places root group.1
@@ -193,14 +185,9 @@ roles_left_out types places root m =
 abbrev pub module_left_out : List TypeDef → Entries → List ℕ → ℕ → List WorldKey → ValidatedModule → Option (List ℕ)
 module_left_out types es places root keys m = option_or (own_left_out types es keys m) (roles_left_out types places root m)
 
--- a library, where it has arguments
-abbrev pub library_left_out : Option LibraryInfo → Option (List ℕ)
-library_left_out None = None
-library_left_out (Some info) = unless (length info.arguments == 0) (codes "library")
-
--- what of an adapter is left out: its arguments first
+-- what of an adapter is left out
 abbrev pub adapter_left_out : List TypeDef → Entries → List ℕ → ℕ → List ℕ × WorldAdapter → Option (List ℕ)
-adapter_left_out types es places root a = option_or (library_left_out a.1.library_info) (module_left_out types es places root a.1.required_exports a.1.info)
+adapter_left_out types es places root a = module_left_out types es places root a.1.required_exports a.1.info
 
 -- ---- the whole
 

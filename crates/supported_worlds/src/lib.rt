@@ -3,10 +3,11 @@
 //! [`encoded_world`] makes a world of its parts, with what follows from them, where all of it is
 //! encoded yet: synchronous functions at the world's root, imported interfaces of types and of
 //! synchronous functions, exported interfaces of types of their own and of synchronous functions, imported
-//! types and resources, main and adapters, among them libraries without arguments, core imports of these
+//! types and resources, main, adapters and libraries, core imports of these
 //! modules with the role of such a function, of the drop of a resource, of a handle of an exported one
-//! whose interface the module itself has to export, of main's memory, or of a function or a memory that
-//! main, or a function that an adapter, gives to others, and core exports with the role of such a function, of its
+//! whose interface the module itself has to export, of main's memory, of what main gives to others, of a
+//! function that an adapter does, or of an item of an argument of a library, whole instances in such arguments,
+//! and core exports with the role of such a function, of its
 //! post-return, of a destructor, of a memory or of a realloc. An exported interface may use, beside its own
 //! types, the named types and the resources of interfaces that the world imports or exports. What is required
 //! of one module is required of no other. All else is

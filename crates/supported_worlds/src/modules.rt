@@ -7,13 +7,12 @@ ghost use Rattle.comp_roles.specs.Lookups.{first_some};
 ghost use Rattle.world_values.specs.Mentions.{same_interface};
 ghost use Rattle.supported_worlds.specs.Apart.{GroupsApart, AdaptersApart};
 ghost use Rattle.supported_worlds.specs.Distinct.{are_apart};
-ghost use Rattle.supported_worlds.specs.LeftOut.{required_of, module_left_out, library_left_out, adapter_left_out};
+ghost use Rattle.supported_worlds.specs.LeftOut.{required_of, module_left_out, adapter_left_out};
 
 use crate::owned::own_left_out;
 use crate::places::Places;
 use crate::roles::roles_left_out;
 use comp_lists::{Keyed, Text};
-use comp_roles::LibraryInfo;
 use comp_worlds::{ValidatedModule, WorldAdapter};
 use std::alloc::{AllocError, Global};
 use wit_data::{TypeDef, WorldItem, WorldKey};
@@ -37,22 +36,6 @@ pub(crate) fn module_left_out(
     }
 }
 
-/// A library is left out where it has arguments.
-fn library_left_out(info: &Option<LibraryInfo>) -> Option<&'static str>
-    ensures { option_copied result ≡ library_left_out info.now }
-{
-    match info {
-        Some(info) => {
-            if info.arguments.is_empty() {
-                None
-            } else {
-                Some("library")
-            }
-        }
-        None => None,
-    }
-}
-
 /// What of an adapter is left out; where nothing is, no import of it occurs twice.
 fn adapter_left_out(
     alloc: Global,
@@ -66,13 +49,8 @@ fn adapter_left_out(
     ensures reported { IfOk result (λ o. option_copied o ≡ adapter_left_out types.now exports.now places.now.types places.now.interfaces.root (name.now, adapter.now)) }
     ensures apart { IfOk result (λ o. option_copied o ≡ None → GroupsApart adapter.now.info.imports.modules) }
 {
-    match library_left_out(&adapter.library_info) {
-        Some(what) => Ok(Some(what)),
-        None => {
-            let keys = adapter.required_exports.as_slice();
-            module_left_out(alloc, types, exports, places, keys, &adapter.info)
-        }
-    }
+    let keys = adapter.required_exports.as_slice();
+    module_left_out(alloc, types, exports, places, keys, &adapter.info)
 }
 
 /// What of the adapters is left out; where nothing is, no name of an adapter and no import of one occurs twice.

@@ -7,7 +7,7 @@ ghost use Rattle.std.specs.Option.{option_copied};
 ghost use Rattle.std.specs.Str.{bytes_eq};
 ghost use Rattle.comp_roles.specs.Lookups.{first_some};
 ghost use Rattle.supported_worlds.specs.Apart.{FieldsApart, GroupsApart};
-ghost use Rattle.supported_worlds.specs.LeftOut.{unless, given_left_out, import_left_out, export_left_out, instance_left_out, group_left_out, roles_left_out};
+ghost use Rattle.supported_worlds.specs.LeftOut.{unless, import_left_out, export_left_out, instance_left_out, group_left_out, roles_left_out};
 ghost use Rattle.supported_worlds.specs.Placed.{is_droppable, is_resource_at};
 
 use crate::kinds::{export_kind, import_kind};
@@ -16,7 +16,6 @@ use crate::resources::{is_droppable, is_resource_at};
 use comp_lists::{Keyed, Text};
 use comp_roles::{Export, Import, ImportInstance};
 use comp_worlds::ValidatedModule;
-use standard_kinds::ExportKind;
 use wit_data::{AbiVariant, TypeDef, TypeId, WorldKey};
 
 /// The drop of a type, unless it is a resource that is imported.
@@ -27,16 +26,6 @@ fn drop_left_out(types: &[TypeDef], places: &Places, id: TypeId) -> Option<&'sta
         None
     } else {
         Some("imported-drop")
-    }
-}
-
-/// An export of main, unless it is a function or a memory.
-fn given_left_out(kind: ExportKind, role: &Import) -> Option<&'static str>
-    ensures { option_copied result ≡ given_left_out kind role.now }
-{
-    match kind {
-        ExportKind::Func | ExportKind::Memory => None,
-        ExportKind::Table | ExportKind::Global => Some(import_kind(role)),
     }
 }
 
@@ -53,8 +42,9 @@ fn import_left_out(types: &[TypeDef], places: &Places, role: &Import) -> Option<
         | Import::ExportedResourceRep(..)
         | Import::ExportedResourceNew(..)
         | Import::MainModuleMemory(_)
+        | Import::MainModuleExport { .. }
+        | Import::Item(_)
         | Import::AdapterExport { .. } => None,
-        Import::MainModuleExport { kind, .. } => given_left_out(*kind, role),
         _ => Some(import_kind(role)),
     }
 }
@@ -119,7 +109,7 @@ fn instance_left_out(
 {
     match instance {
         ImportInstance::Names(fields) => fields_left_out(types, places, fields),
-        ImportInstance::Whole(_) => Some("library"),
+        ImportInstance::Whole(_) => None,
     }
 }
 

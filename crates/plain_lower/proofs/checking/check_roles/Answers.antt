@@ -6,7 +6,7 @@ use Rattle.plain_lower.proofs.checking.check_roles.Goals as goal
 
 pub returns-in_err-imports-clause-cause : goal.returns-in_err-imports-clause-cause
 returns-in_err-imports-clause-cause c =
-    handed_out (λ f. RolesCause c.args.resolved.now c.args.others.now c.args.part.now c.args.core.now f) c.from_residual.result c.in_err-imports.field-0.0 c.from_residual.ensures.1
+    handed_out (λ f. RolesCause c.args.resolved.now c.args.others.now c.args.arguments.now c.args.part.now c.args.core.now f) c.from_residual.result c.in_err-imports.field-0.0 c.from_residual.ensures.1
     (λ f e. of_imports f (c.in_err-imports.ensures.cause f e))
 
 pub returns-in-Err-clause-cause : goal.returns-in-Err-clause-cause
@@ -18,4 +18,4 @@ returns-in-Ok-clause-all_present c =
     (record { roles = c.in_ok-imports.ensures.present; called = c.in_ok-imports.ensures.called; lifted = c.in-Ok.ensures.lifted; kept = c.in-Ok.ensures.kept })
 
 pub returns-in-Ok-clause-refused : goal.returns-in-Ok-clause-refused
-returns-in-Ok-clause-refused c = λ ok. no_met_cause c.args.resolved.now c.args.others.now c.args.part.now c.args.core.now (c.in_ok-imports.ensures.refused refl) (c.in-Ok.ensures.refused refl)
+returns-in-Ok-clause-refused c = λ ok. no_met_cause c.args.resolved.now c.args.others.now c.args.arguments.now c.args.part.now c.args.core.now (c.in_ok-imports.ensures.refused refl) (c.in-Ok.ensures.refused refl)

@@ -11,12 +11,12 @@ pub core_parts-parts-requires-clause-bytes : goal.core_parts-parts-requires-clau
 core_parts-parts-requires-clause-bytes c = begins c.args.part.now.bytes c.in-Ok.core (ap module_of (sym c.as_slice.ensures) ∙ c.in-Ok.ensures)
 
 pub returns-in-Ok-clause-cause : goal.returns-in-Ok-clause-cause
-returns-in-Ok-clause-cause c = module_caused c.args.resolved.now c.args.others.now c.args.part.now c.in-Ok.core _ (ap module_of (sym c.as_slice.ensures) ∙ c.in-Ok.ensures) c.core_parts-parts.ensures.cause
+returns-in-Ok-clause-cause c = module_caused c.args.resolved.now c.args.others.now c.args.arguments.now c.args.part.now c.in-Ok.core _ (ap module_of (sym c.as_slice.ensures) ∙ c.in-Ok.ensures) c.core_parts-parts.ensures.cause
 
 pub returns-in-Ok-clause-refused : goal.returns-in-Ok-clause-refused
-returns-in-Ok-clause-refused c = module_refused c.args.resolved.now c.args.others.now c.args.part.now c.in-Ok.core _ (ap module_of (sym c.as_slice.ensures) ∙ c.in-Ok.ensures) c.core_parts-parts.ensures.refused
+returns-in-Ok-clause-refused c = module_refused c.args.resolved.now c.args.others.now c.args.arguments.now c.args.part.now c.in-Ok.core _ (ap module_of (sym c.as_slice.ensures) ∙ c.in-Ok.ensures) c.core_parts-parts.ensures.refused
 
 pub returns-in-Err-clause-cause : goal.returns-in-Err-clause-cause
 returns-in-Err-clause-cause c =
-    subst (λ (x : Failure). (f : Refusal) → x ≡ failures.Refused f → ModuleCause c.args.resolved.now c.args.others.now c.args.part.now f) (sym c.from.ensures)
-    (unread_caused c.args.resolved.now c.args.others.now c.args.part.now c.in-Err.fault (λ other. ap module_of (sym c.as_slice.ensures) ∙ c.in-Err.ensures other))
+    subst (λ (x : Failure). (f : Refusal) → x ≡ failures.Refused f → ModuleCause c.args.resolved.now c.args.others.now c.args.arguments.now c.args.part.now f) (sym c.from.ensures)
+    (unread_caused c.args.resolved.now c.args.others.now c.args.arguments.now c.args.part.now c.in-Err.fault (λ other. ap module_of (sym c.as_slice.ensures) ∙ c.in-Err.ensures other))
