@@ -15,8 +15,8 @@ import sys
 TOP = os.path.dirname(os.path.dirname(os.path.realpath(__file__)))
 LINKING = f"{TOP}/docs/LINKING.md"
 THEOREM = "comp_encoder/specs/Component"
-REFUSALS = {"comp_encoder/specs/Refusals", "comp_encoder/specs/Outputs", "comp_encoder/specs/CanonicalNames", "core_options/specs/Causes"}
-MOST_LINES = 3150
+REFUSALS = {"comp_encoder/specs/Refusals", "comp_encoder/specs/Outputs", "comp_encoder/specs/CanonicalNames", "core_options/specs/Causes", "comp_worlds/specs/Made", "comp_worlds/specs/Absent"}
+MOST_LINES = 3250
 USE = re.compile(r"^use Rattle\.(\w+)\.specs\.([\w.]+?)(?:\.\{| as|$)", re.M)
 ROW = re.compile(r"^(\| .* \| )(`.*`)( \| )(\d+)( \|)$", re.M)
 TOTAL = re.compile(r"(lines of definitions, )([\d,]+)( in all)")
