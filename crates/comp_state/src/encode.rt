@@ -1,7 +1,7 @@
 //! The steps in their order.
 #![tactic(auto, using(crate::proofs::Growth::growing))]
 
-ghost use Rattle.std.specs.Prelude.{◌≡◌, [], ◌∷◌, ◌++◌, List, ℕ, IfOk, IfErr, OnOk, IsOk};
+ghost use Rattle.std.specs.Prelude.{◌≡◌, [], List, ℕ, IfOk, IfErr, OnOk, IsOk};
 ghost use Rattle.comp_builder.specs.Naming.{with_names};
 ghost use Rattle.comp_bytes.specs.Scopes.{Scoped};
 ghost use Rattle.comp_links.specs.Lists.{required_functions};

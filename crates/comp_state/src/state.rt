@@ -1,7 +1,7 @@
 //! The state while a world is encoded, and the steps in it.
 #![tactic(auto, using(crate::proofs::Growth::growing))]
 
-ghost use Rattle.std.specs.Prelude.{◌≡◌, [], ◌∷◌, IfOk, IfErr, OnOk};
+ghost use Rattle.std.specs.Prelude.{◌≡◌, [], IfOk, IfErr, OnOk};
 ghost use Rattle.std.specs.List.{AllByRecursion};
 ghost use Rattle.comp_builder.specs.Built.{nothing_built};
 ghost use Rattle.comp_items.specs.Items.{Extends};

@@ -34,7 +34,7 @@ use Rattle.comp_worlds.specs.Worlds.{IsWorld}
 use Rattle.comp_worlds.specs.declared.world.ComponentWorld.{ComponentWorld}
 use Rattle.comp_trees.specs.Trees.{Resource, FunctionTree}
 use Rattle.comp_trees.specs.DefinedTrees.{OfOthers}
-use Rattle.comp_links.specs.Targets.{Main, ExportRef, WorldFunction, TargetOption, Target, Lowered, ResourceFunction, New, Rep, Drop, ExportOf, OfResource, Lifted}
+use Rattle.comp_links.specs.Targets.{ExportRef, WorldFunction, TargetOption, Target, Lowered, ResourceFunction, New, Rep, Drop, ExportOf, OfResource, Lifted}
 use Rattle.comp_links.specs.Targets as targets
 use Rattle.comp_links.specs.Links.{lift_options, destructor_of}
 use Rattle.comp_terms.specs.Generated.{Purpose, target_of}

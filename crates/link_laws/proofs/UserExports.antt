@@ -12,7 +12,7 @@ use Rattle.comp_runs.specs.Store.{Export, CoreItem, ExportedBy, Store}
 use Rattle.comp_runs.specs.Machine.{Machine, with_opaque}
 use Rattle.comp_runs.specs.Instances.{ExportTypes, type_space, next_address, with_export, exported_by, with_exports}
 use Rattle.instance_laws.proofs.Held.{KeepsEntries, keeps_same, keeps_more, keeps_then, keeps_grown}
-use Rattle.link_laws.proofs.Stores.{HasSlots, IsUserItem, IsUserExport, IsGlobalTyped, HasGlobalType}
+use Rattle.link_laws.proofs.Stores.{IsUserItem, IsUserExport, IsGlobalTyped, HasGlobalType}
 
 -- a machine without its core code, its known items and its globals
 abbrev pub beside_code : Machine → Machine

@@ -43,7 +43,7 @@ use Rattle.comp_links.proofs.WorkedImports.{interface_of, interface_id, type_id,
 use Rattle.comp_links.specs.Lists.{AreExportsApart, component_types, own_resources, resource_of}
 use Rattle.comp_links.specs.Naming.{own_names}
 use Rattle.comp_links.specs.Targets.{Main, ResourceFunction, New, Rep, Drop, OfResource}
-use Rattle.comp_terms.specs.Terms.{IsResource as IsResourceAt, IsOfResource, intrinsic_of}
+use Rattle.comp_terms.specs.Terms.{IsResource as IsResourceAt, intrinsic_of}
 use Rattle.comp_terms.specs.Terms as terms
 use Rattle.comp_terms.specs.Planned.{IsEntryFor, IsArgumentFor}
 use Rattle.comp_terms.specs.Exports.{IsNestedFor, InstantiatesNested, ExportsInterface}

@@ -44,9 +44,9 @@ use Rattle.comp_trees.specs.Trees.{PrimitiveOf, FunctionTree, is_known_function}
 use Rattle.comp_trees.specs.DefinedTrees.{function_tree}
 use Rattle.comp_inventories.specs.Inventories.{inventory, scope_of}
 use Rattle.comp_links.specs.Links.{lift_of}
-use Rattle.comp_links.specs.Targets.{Main, ExportRef, TargetOption, Lifted}
+use Rattle.comp_links.specs.Targets.{Main, TargetOption, Lifted}
 use Rattle.comp_links.specs.Targets as targets
-use Rattle.comp_terms.specs.Terms.{CoreExport, TermOption, IsInstanceOf, IsExported, IsFunctionType}
+use Rattle.comp_terms.specs.Terms.{CoreExport, IsInstanceOf, IsExported, IsFunctionType}
 use Rattle.comp_terms.specs.Terms as terms
 use Rattle.comp_terms.specs.Planned.{type_of_function, IsExportFor, IsLiftFor}
 use Rattle.comp_terms.specs.Rules.{IsBuilt}

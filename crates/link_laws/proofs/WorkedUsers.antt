@@ -41,7 +41,7 @@ use Rattle.comp_trees.specs.DefinedTrees.{function_tree}
 use Rattle.comp_links.specs.Modules.{WorldModule, adapter_module}
 use Rattle.comp_links.specs.Targets.{UserModule, Main, Adapter, ExportRef, OfRoot, Lifted as LiftedFrom}
 use Rattle.comp_runs.specs.Store.{Lowering, ExportedBy, Imported, Lifting}
-use Rattle.comp_terms.specs.Terms.{IsFunctionType, IsImportedFunction, IsLowering, IsInstanceOf}
+use Rattle.comp_terms.specs.Terms.{IsFunctionType, IsImportedFunction, IsInstanceOf}
 use Rattle.comp_terms.specs.Terms as terms
 use Rattle.comp_terms.specs.Planned.{IsTypeOf, IsLiftFor, IsArgumentFor}
 use Rattle.comp_terms.specs.Rules.{IsBuilt}

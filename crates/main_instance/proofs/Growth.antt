@@ -21,7 +21,7 @@ use Rattle.core_options.specs.MainOptions.{user_of}
 use Rattle.wit_data.specs.declared.ids.InterfaceId.{InterfaceId}
 use Rattle.root_imports.specs.declared.met_types.MetTypes.{MetTypes}
 use Rattle.comp_links.specs.Links.{link_of}
-use Rattle.comp_terms.specs.Terms.{CoreExport, Term, IsInstanceOf, Is}
+use Rattle.comp_terms.specs.Terms.{Term, Is}
 use Rattle.comp_terms.specs.Terms as terms
 use Rattle.comp_terms.specs.Planned.{IsItemFor, IsShimFor, IsGivenFor, IsEntryFor, IsInlineInstanceFor, IsArgumentFor}
 use Rattle.comp_terms.specs.Rules.{IsEntry}

@@ -1,7 +1,7 @@
 //! The instance of a user module: each of its imports is given what its role needs.
 #![tactic(auto, using(crate::proofs::Growth::growing))]
 
-ghost use Rattle.std.specs.Prelude.{◌≡◌, [], ◌∷◌, List, ℕ, None, IfOk, IfErr, OnOk, IsSome, map, Contains};
+ghost use Rattle.std.specs.Prelude.{◌≡◌, [], ◌∷◌, None, IfOk, IfErr, OnOk, IsSome, map, Contains};
 ghost use Rattle.std.specs.List.{AllZip, IsDistinct};
 ghost use Rattle.std.specs.Option.{option_copied};
 ghost use Rattle.std.specs.Str.{bytes_eq};

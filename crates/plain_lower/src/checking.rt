@@ -7,7 +7,6 @@ ghost use Rattle.record_faults.specs.Faults.{Gives};
 ghost use Rattle.record_faults.specs.declared.fault.Failure.TheVariants as failures;
 ghost use Rattle.record_faults.specs.declared.fault.Refusal.{Refusal};
 ghost use Rattle.record_core_types.specs.Guarantees.{IsLifted, IsKept};
-ghost use Rattle.record_exports.specs.Causes.{ExportCause, RequiredCause};
 ghost use Rattle.plain_lower.specs.Preparing.{checked_roles, checked_exports};
 ghost use Rattle.plain_lower.specs.Guarantees.{world_id, AreChecked};
 ghost use Rattle.plain_lower.specs.Causes.{ExportsCause, RolesCause};

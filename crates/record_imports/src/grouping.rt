@@ -9,7 +9,7 @@ ghost use Rattle.wit_data.specs.Sound.{IsSound};
 ghost use Rattle.record_faults.specs.Faults.{Gives};
 ghost use Rattle.record_imports.specs.declared.grouping.Group.{Group as GroupRecord};
 ghost use Rattle.record_imports.specs.Grouping.{positions_of, fields_in, with_field, imported_twice, group_after, groups_after, names_of};
-ghost use Rattle.record_imports.specs.Guarantees.{IsChecked, AreGood};
+ghost use Rattle.record_imports.specs.Guarantees.{AreGood};
 
 use crate::meaning::import_of;
 use crate::others::OtherModules;

@@ -12,7 +12,7 @@ ghost use Rattle.shim_modules.specs.Shims.{shim_exports, exports_of, shim_names,
 use crate::shims::ShimFunction;
 use comp_lists::Text;
 use core_bytes::{
-    Code, ExportSection, FunctionSection, MemorySection, Module, ModuleNames, NameMap, Section,
+    Code, ExportSection, FunctionSection, MemorySection, ModuleNames, NameMap, Section,
     TableSection,
 };
 use core_runs::{Shim, table_of_shims, table_shim_bodies};

@@ -2,11 +2,10 @@
 -- the realloc of that call, or that an adapter exports; and one for each destructor that the module exports (Canonical ABI:
 -- `canon lower`, `realloc`; component model, explainer: the destructor of a resource type). Streams and futures, asynchronous
 -- functions and error contexts have no rows here.
-use Rattle.std.specs.Prelude.{ℕ, Bool, true, false, ◌&&◌, List, [], ◌∷◌, ◌++◌, Option, Some, None, option_map, unwrap_or, is_some, if◌then◌else◌, codes}
+use Rattle.std.specs.Prelude.{ℕ, Bool, true, false, ◌&&◌, List, [], ◌∷◌, ◌++◌, Option, Some, None, unwrap_or, is_some, if◌then◌else◌, codes}
 use Rattle.std.specs.List.{flat_map}
 use Rattle.std.specs.Map.{lookup}
 use Rattle.std.specs.Option.{option_and_then}
-use Rattle.comp_lists.specs.Found.{found}
 use Rattle.standard_kinds.specs.declared.kinds.StringEncoding.{StringEncoding}
 use Rattle.wit_data.specs.declared.ids.TypeId.{TypeId}
 use Rattle.wit_data.specs.declared.signatures.WasmSignature.{WasmSignature}

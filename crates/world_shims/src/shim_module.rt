@@ -12,7 +12,7 @@ use core_types::{FuncType, MemoryType, ValType};
 use interned_types::CoreTypes;
 use shim_modules::{ShimFunction, shim_module};
 use shim_plan::{Shim, Shims};
-use std::alloc::{AllocError, Global};
+use std::alloc::Global;
 
 /// How many parameters there are. It is refused where these are more than 2^32 - 1.
 fn param_count(ty: &FuncType) -> Result<u32, BuildFault>
