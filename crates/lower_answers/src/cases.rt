@@ -1,9 +1,9 @@
 //! Cases, one line each, and how many have the expected result.
 
 use crate::answers::{Further, group_answer, module_answer, modules_answer, records_answer};
-use crate::arguments::arguments_of;
+use argument_cases::{library_info, name_and_arguments};
 use comp_lists::Text;
-use comp_worlds::{LibraryInfo, Lower};
+use comp_worlds::Lower;
 use std::alloc::{AllocError, Global};
 use std::fmt;
 
@@ -17,7 +17,7 @@ pub enum Kind {
     /// Two modules, with ` & ` between them.
     Pairs,
     /// A module, and behind it adapters and libraries, each after ` & ` with its name: `NAME: MODULE` or `library NAME: MODULE`, where
-    /// the name of a library may be followed by its arguments.
+    /// the name of a library may be followed by its arguments (`argument_cases`).
     Groups,
 }
 
@@ -67,12 +67,10 @@ fn named_further(
     is_library: bool,
     bytes: Vec<u8>,
 ) -> Result<Further, AllocError> {
-    let (name, arguments) = text.split_once(" ").unwrap_or((text, ""));
+    let (name, arguments) = name_and_arguments(text);
     let name = Text::from_str(alloc, name)?;
     let library_info = if is_library {
-        Some(LibraryInfo {
-            arguments: arguments_of(alloc, arguments)?,
-        })
+        Some(library_info(alloc, arguments)?)
     } else {
         None
     };

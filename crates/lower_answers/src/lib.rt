@@ -1,11 +1,9 @@
 //! The results of a lower layer for records and modules, compared with the expected ones: for tests of any such layer.
 //!
-//! In reading order: `answers` (the results, as text), `arguments` (those of libraries), `cases` (one line each, and how many have the
-//! expected result).
+//! In reading order: `answers` (the results, as text), `cases` (one line each, and how many have the expected result).
 #![tactic(auto)]
 
 mod answers;
-mod arguments;
 mod cases;
 
 pub use answers::{module_answer, modules_answer, records_answer};

@@ -1,17 +1,15 @@
 //! The program `tests_of_components`: the components of core modules with records, by cases from files.
 //!
 //! The input of a case is a core module in hexadecimal digits and, after a space, its records, with ` & ` between two of them, if it
-//! has any. Further modules follow after ` + `, each with its name: `NAME: MODULE` is an adapter, `library NAME: MODULE` a library
-//! without arguments, and `library NAME with ARGUMENTS: MODULE` one with them (`arguments`). Options may be in front of all, as in
+//! has any. Further modules follow after ` + `, each with its name: `NAME: MODULE` is an adapter, and `library NAME: MODULE` a
+//! library, with its arguments behind its name (`argument_cases`). Options may be in front of all, as in
 //! `[canonical, rename a:b/c to d:e/f] 0061736d..`: `canonical`, `debug-names`, `no-merge`, `memory-grow`, `unchecked` (without
 //! `validate`, which is on otherwise) and `rename NAME to NAME`. The answer is the component in hexadecimal digits, by the encoder over
 //! the lower layer by records; or the fault. `test_cases` says how the files are read; each says where its expected answers are from.
 //! The program prints the comments too, so that the file `stdout`, which its output is compared with, is the data without the inputs.
 #![tactic(auto)]
 
-mod arguments;
-
-use arguments::library_info;
+use argument_cases::{library_info, name_and_arguments};
 use comp_encoder::{ComponentEncoder, EncodeFault};
 use comp_lists::{Keyed, Text};
 use plain_lower::{PlainFault, PlainLower};
@@ -94,7 +92,7 @@ fn add_part(
     let module = module_of(alloc, rest)?;
     match name.strip_prefix("library ") {
         Some(library) => {
-            let (name, arguments) = library.split_once(" with ").unwrap_or((library, ""));
+            let (name, arguments) = name_and_arguments(library);
             encoder.add_library(name, &module, library_info(alloc, arguments)?)
         }
         None => encoder.add_adapter(name, &module),

@@ -1,8 +1,10 @@
-//! The arguments of a library, as a case has them: words `MODULE=INSTANCE`, with a blank before each. An instance is `*WHICH`, which is
-//! main or an adapter, or a list of items `ALIAS:KIND:WHICH:NAME` with a comma between two of them.
+//! The arguments of libraries in the cases of test programs: a library is its name and then words `MODULE=INSTANCE`, with a blank before
+//! each. An instance is `*WHICH`, which is `main` or the name of an adapter, or a list of items `ALIAS:KIND:WHICH:NAME` with a comma
+//! between two of them.
+#![tactic(auto)]
 
 use comp_lists::{Seq, Text};
-use comp_worlds::{Instance, Item, LibraryArgument, MainOrAdapter};
+use comp_roles::{Instance, Item, LibraryArgument, LibraryInfo, MainOrAdapter};
 use standard_kinds::ExportKind;
 use std::alloc::{AllocError, Global};
 
@@ -45,8 +47,10 @@ fn item_of(alloc: Global, text: &str) -> Result<Item, AllocError> {
 fn items_of(alloc: Global, text: &str) -> Result<Seq<Item>, AllocError> {
     let mut items = Seq::new(alloc);
     for word in text.split(",") {
-        let item = item_of(alloc, word)?;
-        items.push(item)?;
+        if !word.is_empty() {
+            let item = item_of(alloc, word)?;
+            items.push(item)?;
+        }
     }
     Ok(items)
 }
@@ -65,8 +69,7 @@ fn argument_of(alloc: Global, text: &str) -> Result<LibraryArgument, AllocError>
     Ok(LibraryArgument { name, instance })
 }
 
-/// The arguments that stand in a text, one word each.
-pub(crate) fn arguments_of(alloc: Global, text: &str) -> Result<Seq<LibraryArgument>, AllocError> {
+fn arguments_of(alloc: Global, text: &str) -> Result<Seq<LibraryArgument>, AllocError> {
     let mut arguments = Seq::new(alloc);
     for word in text.split(" ") {
         if !word.is_empty() {
@@ -75,4 +78,15 @@ pub(crate) fn arguments_of(alloc: Global, text: &str) -> Result<Seq<LibraryArgum
         }
     }
     Ok(arguments)
+}
+
+/// The name of a library, and the words of its arguments.
+pub fn name_and_arguments(text: &str) -> (&str, &str) {
+    cut(text, " ")
+}
+
+/// What makes an adapter a library with the arguments that stand in a text, one word each.
+pub fn library_info(alloc: Global, arguments: &str) -> Result<LibraryInfo, AllocError> {
+    let arguments = arguments_of(alloc, arguments)?;
+    Ok(LibraryInfo { arguments })
 }
