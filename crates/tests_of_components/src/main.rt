@@ -82,6 +82,18 @@ fn encoder_with(alloc: Global, options: &str) -> Result<ComponentEncoder<PlainLo
     Ok(encoder)
 }
 
+/// Gives a library to an encoder: its name, with its arguments behind it.
+fn add_library(
+    alloc: Global,
+    encoder: &mut ComponentEncoder<PlainLower>,
+    text: &str,
+    module: &[u8],
+) -> Result<(), EncodeFault<PlainFault>> {
+    let (name, arguments) = name_and_arguments(text);
+    let info = library_info(alloc, arguments)?;
+    encoder.add_library(name, module, info)
+}
+
 /// Gives a further module of an input to an encoder, an adapter or a library.
 fn add_part(
     alloc: Global,
@@ -91,10 +103,7 @@ fn add_part(
     let (name, rest) = part.split_once(": ").unwrap_or((part, ""));
     let module = module_of(alloc, rest)?;
     match name.strip_prefix("library ") {
-        Some(library) => {
-            let (name, arguments) = name_and_arguments(library);
-            encoder.add_library(name, &module, library_info(alloc, arguments)?)
-        }
+        Some(library) => add_library(alloc, encoder, library, &module),
         None => encoder.add_adapter(name, &module),
     }
 }
