@@ -15,8 +15,8 @@ use std::marker::Model;
 
 // ---- tables
 
-/// What satisfies the imports from one module, with the first item under each alias where it has items. Contracts see it
-/// without that table.
+/// What satisfies the imports from one module, with the first item under each alias where it has items. Contracts see what
+/// satisfies them, without the table.
 #[derive(Drop)]
 pub(crate) struct Argument<'a> {
     instance: &'a Instance,
@@ -39,6 +39,7 @@ impl<'a> Model for Argument<'a> {
 /// It is made once of that list. Then a look-up by the name of a module, or by the alias of an item, takes the time of a hash.
 #[derive(Drop)]
 pub struct Arguments<'a> {
+    /// What contracts see. No look-up reads it.
     list: &'a [LibraryArgument],
     first: Keyed<Text, Argument<'a>>,
 }
@@ -56,10 +57,7 @@ impl<'a> Model for Arguments<'a> {
 }
 
 /// The first item under each alias.
-fn first_items<'a>(
-    alloc: Global,
-    items: &'a [Item],
-) -> Result<Keyed<Text, &'a Item>, AllocError>
+fn first_items<'a>(alloc: Global, items: &'a [Item]) -> Result<Keyed<Text, &'a Item>, AllocError>
     ensures { IfOk result (FindsItems items.now) }
 {
     let mut first = Keyed::new(alloc);
@@ -70,10 +68,7 @@ fn first_items<'a>(
 }
 
 /// The items of what satisfies the imports from a module; a whole instance has none.
-fn items_in<'a>(
-    alloc: Global,
-    instance: &'a Instance,
-) -> Result<Keyed<Text, &'a Item>, AllocError>
+fn items_in<'a>(alloc: Global, instance: &'a Instance) -> Result<Keyed<Text, &'a Item>, AllocError>
     ensures { IfOk result (HasItems instance.now) }
 {
     match instance {
