@@ -10,7 +10,6 @@ use Rattle.comp_roles.specs.declared.libraries.Instance.{Instance}
 use Rattle.comp_roles.specs.declared.libraries.Item.{Item}
 use Rattle.comp_roles.specs.declared.libraries.LibraryArgument.{LibraryArgument}
 use Rattle.record_imports.specs.Arguments.{Arguments, argument_for, item_under}
-use Rattle.record_imports.specs.Finding.{FindsItems, FindsArguments}
 
 -- ---- one entry more
 
@@ -48,17 +47,7 @@ drop_at es i e l is = rw (drop-cons es i e l, ← is, add-one) refl
 pub record ItemsSoFar (table : List (List ℕ × Bor Item)) (left all : List Item) : Type 0 where
   pub finds : (alias : List ℕ) → option_or (option_copied (found alias table)) (item_under left alias) ≡ item_under all alias
 
-pub items_start : (all : List Item) → ItemsSoFar [] all all
-items_start all = record { finds = λ alias. refl }
-
-or_none : {X : Type 0} (o : Option X) → option_or o None ≡ o
-or_none None = refl
-or_none (Some x) = refl
-
-pub items_end : (table : List (List ℕ × Bor Item)) (all : List Item) → ItemsSoFar table [] all → FindsItems all table
-items_end table all h = record { finds = λ alias. sym (or_none (option_copied (found alias table))) ∙ h.finds alias }
-
-pub items_step : (table : List (List ℕ × Bor Item)) (alias : List ℕ) (item : Bor Item) (left all : List Item) → alias ≡ item.now.alias → ItemsSoFar table (item.now ∷ left) all → ItemsSoFar (with_first bytes_eq table alias item) left all
+items_step : (table : List (List ℕ × Bor Item)) (alias : List ℕ) (item : Bor Item) (left all : List Item) → alias ≡ item.now.alias → ItemsSoFar table (item.now ∷ left) all → ItemsSoFar (with_first bytes_eq table alias item) left all
 items_step table alias item left all same h = record {
   finds = λ name.
       ap (λ o. option_or (option_copied o) (item_under left name)) (added name alias item table)
@@ -79,13 +68,7 @@ items_next table next items i alias item l is same made h =
 pub record ArgumentsSoFar (table : List (List ℕ × Instance)) (left all : Arguments) : Type 0 where
   pub finds : (name : List ℕ) → option_or (found name table) (argument_for left name) ≡ argument_for all name
 
-pub arguments_start : (all : Arguments) → ArgumentsSoFar [] all all
-arguments_start all = record { finds = λ name. refl }
-
-pub arguments_end : (table : List (List ℕ × Instance)) (all : Arguments) → ArgumentsSoFar table [] all → FindsArguments all table
-arguments_end table all h = record { finds = λ name. sym (or_none (found name table)) ∙ h.finds name }
-
-pub arguments_step : (table : List (List ℕ × Instance)) (name : List ℕ) (instance : Instance) (argument : LibraryArgument) (left all : Arguments) → name ≡ argument.name → instance ≡ argument.instance
+arguments_step : (table : List (List ℕ × Instance)) (name : List ℕ) (instance : Instance) (argument : LibraryArgument) (left all : Arguments) → name ≡ argument.name → instance ≡ argument.instance
     → ArgumentsSoFar table (argument ∷ left) all → ArgumentsSoFar (with_first bytes_eq table name instance) left all
 arguments_step table name instance argument left all same is h = record {
   finds = λ n.

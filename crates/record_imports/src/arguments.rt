@@ -57,6 +57,7 @@ impl<'a> Model for Arguments<'a> {
 }
 
 /// The first item under each alias.
+#[tactic(auto, using(crate::proofs::Finding::items_next))]
 fn first_items<'a>(alloc: Global, items: &'a [Item]) -> Result<Keyed<Text, &'a Item>, AllocError>
     ensures { IfOk result (FindsItems items.now) }
 {
@@ -78,6 +79,7 @@ fn items_in<'a>(alloc: Global, instance: &'a Instance) -> Result<Keyed<Text, &'a
 }
 
 /// The first argument for each module.
+#[tactic(auto, using(crate::proofs::Finding::arguments_next))]
 fn first_arguments<'a>(
     alloc: Global,
     list: &'a [LibraryArgument],
