@@ -95,8 +95,8 @@ fn adapter_parts(
     ensures refused { IsOk result → (f : RefusalValue) → ¬ AdapterCause resolved.now reach.now adapter.now f }
 {
     let others = others_for(reach, &adapter.library_info);
-    let arguments = arguments_of(&adapter.library_info);
-    let parts = module_parts(alloc, resolved, others, arguments, &adapter.part)?;
+    let arguments = arguments_of(alloc, &adapter.library_info)?;
+    let parts = module_parts(alloc, resolved, others, &arguments, &adapter.part)?;
     Ok(parts)
 }
 

@@ -12,11 +12,11 @@ ghost use Rattle.plain_lower.specs.Guarantees.{world_id, AreChecked};
 ghost use Rattle.plain_lower.specs.Causes.{ExportsCause, RolesCause};
 
 use comp_lists::{Keyed, Seq, Text};
-use comp_roles::{Export, ImportMap, LibraryArgument};
+use comp_roles::{Export, ImportMap};
 use core_sections::CoreModule;
 use record_exports::{read_exports, require_all};
 use record_faults::Failure;
-use record_imports::{OtherModules, read_imports};
+use record_imports::{Arguments, OtherModules, read_imports};
 use record_merge::Bindgen;
 use record_resolve::Resolved;
 use std::alloc::Global;
@@ -75,7 +75,7 @@ pub(crate) fn check_roles(
     alloc: Global,
     resolved: &Resolved,
     others: &OtherModules,
-    arguments: &[LibraryArgument],
+    arguments: &Arguments<'_>,
     part: &Part<Bindgen>,
     core: &CoreModule,
 ) -> Result<CheckedRoles, Failure>

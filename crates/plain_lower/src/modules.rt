@@ -12,12 +12,12 @@ ghost use Rattle.plain_lower.specs.Causes.{RolesCause, ModuleCause};
 
 use crate::checking::{CheckedRoles, check_roles};
 use comp_lists::{Bytes, Keyed, Seq, Text};
-use comp_roles::{ExportMap, ExternType, ImportType, LibraryArgument, ModuleMetadata};
+use comp_roles::{ExportMap, ExternType, ImportType, ModuleMetadata};
 use comp_worlds::ValidatedModule;
 use core_sections::{CoreModule, read_module};
 use record_core_types::{imported, offered};
 use record_faults::Failure;
-use record_imports::OtherModules;
+use record_imports::{Arguments, OtherModules};
 use record_merge::Bindgen;
 use record_resolve::Resolved;
 use record_role_targets::resolved_metadata;
@@ -96,7 +96,7 @@ fn parts_of(
     alloc: Global,
     resolved: &Resolved,
     others: &OtherModules,
-    arguments: &[LibraryArgument],
+    arguments: &Arguments<'_>,
     part: &Part<Bindgen>,
     core: &CoreModule,
     checked_roles: CheckedRoles,
@@ -118,7 +118,7 @@ fn core_parts(
     alloc: Global,
     resolved: &Resolved,
     others: &OtherModules,
-    arguments: &[LibraryArgument],
+    arguments: &Arguments<'_>,
     part: &Part<Bindgen>,
     core: &CoreModule,
 ) -> Result<ModuleParts, Failure>
@@ -148,7 +148,7 @@ pub(crate) fn module_parts(
     alloc: Global,
     resolved: &Resolved,
     others: &OtherModules,
-    arguments: &[LibraryArgument],
+    arguments: &Arguments<'_>,
     part: &Part<Bindgen>,
 ) -> Result<ModuleParts, Failure>
     requires { IsUsable resolved.now }

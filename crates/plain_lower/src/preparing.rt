@@ -1,6 +1,6 @@
 //! The validated world.
 
-ghost use Rattle.std.specs.Prelude.{◌≡◌, ◌≢◌, IfOk, IfErr, IsOk, IsSome, Ok, Some};
+ghost use Rattle.std.specs.Prelude.{◌≡◌, ◌≢◌, [], IfOk, IfErr, IsOk, IsSome, Ok, Some};
 ghost use Rattle.comp_worlds.specs.Encodable.{IsEncodable};
 ghost use Rattle.comp_worlds.specs.WorldTables.{HasTables};
 ghost use Rattle.record_faults.specs.Faults.{Gives, flat};
@@ -8,10 +8,10 @@ ghost use Rattle.record_faults.specs.declared.fault.Failure.TheVariants as failu
 ghost use Rattle.record_faults.specs.declared.fault.PlainFault.{PlainFault};
 ghost use Rattle.record_faults.specs.declared.fault.Refusal.{Refusal as RefusalRecord};
 ghost use Rattle.supported_worlds.specs.Guarantees.{HasSoundParts};
-ghost use Rattle.plain_lower.specs.Preparing.{world_with, parts_within, world_parts, linked_world, preparing_modules, preparing_if, preparing};
-ghost use Rattle.plain_lower.specs.Guarantees.{IsUsable};
+ghost use Rattle.plain_lower.specs.Preparing.{module_parts, world_with, parts_within, world_parts, linked_world, preparing_modules, preparing_if, preparing};
+ghost use Rattle.plain_lower.specs.Guarantees.{IsUsable, user_module, IsSoundPart};
 ghost use Rattle.plain_lower.specs.Reach.{reach_of};
-ghost use Rattle.plain_lower.specs.Causes.{PartsCause, WholeCause, WorldCause, PrepareCause};
+ghost use Rattle.plain_lower.specs.Causes.{ModuleCause, PartsCause, WholeCause, WorldCause, PrepareCause};
 ghost use Rattle.plain_lower.specs.Adding.{AreModulesOf};
 
 use crate::adapters::{prepare_adapters, refuse_adapters};
@@ -22,6 +22,7 @@ use crate::reach::{Reach, reach_of};
 use comp_lists::{Keyed, Text};
 use comp_worlds::{ComponentWorld, WorldAdapter, WorldParts};
 use record_faults::{Failure, Refusal};
+use record_imports::Arguments;
 use record_merge::Bindgen;
 use record_resolve::Resolved;
 use std::alloc::Global;
@@ -34,6 +35,25 @@ use world_values::{Gathered, GatheredAdapter, Part};
 struct Modules {
     main: ModuleParts,
     adapters: Keyed<Text, WorldAdapter>,
+}
+
+/// Main, which has no arguments.
+fn main_parts(
+    alloc: Global,
+    resolved: &Resolved,
+    reach: &Reach,
+    main: &Part<Bindgen>,
+) -> Result<ModuleParts, Failure>
+    requires { IsUsable resolved.now }
+    ensures exact { Gives (λ p. p) result (module_parts resolved.now reach.now.main [] main.now) }
+    ensures sound { IfOk result (λ p. IsSoundPart resolved.now (user_module p)) }
+    ensures cause { IfErr result (λ e. (f : RefusalRecord) → e ≡ failures.Refused f → ModuleCause resolved.now reach.now.main [] main.now f) }
+    ensures refused { IsOk result → (f : RefusalRecord) → ¬ ModuleCause resolved.now reach.now.main [] main.now f }
+{
+    let arguments = Arguments::of(alloc, &[])?;
+    let parts = module_parts(alloc, resolved, &reach.main, &arguments, main);
+    drop(arguments);
+    parts
 }
 
 /// Main and the adapters of gathered ones, which may import these exports of other modules: main is checked first, and then the
@@ -50,7 +70,7 @@ fn modules_within(
     ensures err { IfErr result (λ e. e ≢ failures.Memory → parts_within resolved.now reach.now main.now adapters.now ≡ Err e) }
     ensures cause { IfErr result (λ e. (f : RefusalRecord) → e ≡ failures.Refused f → PartsCause resolved.now reach.now main.now adapters.now f) }
 {
-    let main = module_parts(alloc, resolved, &reach.main, &[], main)?;
+    let main = main_parts(alloc, resolved, reach, main)?;
     match prepare_adapters(alloc, resolved, reach, adapters) {
         Ok(adapters) => Ok(Modules { main, adapters }),
         Err(failure) => {

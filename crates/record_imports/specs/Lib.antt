@@ -1,5 +1,6 @@
 pub mod Others
 pub mod Arguments
+pub mod Finding
 pub mod Meaning
 pub mod Grouping
 pub mod Memories

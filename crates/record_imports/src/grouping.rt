@@ -11,10 +11,11 @@ ghost use Rattle.record_imports.specs.declared.grouping.Group.{Group as GroupRec
 ghost use Rattle.record_imports.specs.Grouping.{positions_of, fields_in, with_field, imported_twice, group_after, groups_after, names_of};
 ghost use Rattle.record_imports.specs.Guarantees.{AreGood};
 
+use crate::arguments::Arguments;
 use crate::meaning::import_of;
 use crate::others::OtherModules;
 use comp_lists::{Keyed, Text};
-use comp_roles::{Import, LibraryArgument};
+use comp_roles::Import;
 use core_sections::{CoreImport, CoreModule};
 use record_faults::{Failure, Refusal};
 use record_resolve::Resolved;
@@ -153,7 +154,7 @@ fn add_import(
     alloc: Global,
     resolved: &Resolved,
     others: &OtherModules,
-    arguments: &[LibraryArgument],
+    arguments: &Arguments<'_>,
     roles: &Keyed<ImportName, ImportRole>,
     core: &CoreModule,
     grouping: Grouping,
@@ -180,7 +181,7 @@ fn group_imports(
     alloc: Global,
     resolved: &Resolved,
     others: &OtherModules,
-    arguments: &[LibraryArgument],
+    arguments: &Arguments<'_>,
     roles: &Keyed<ImportName, ImportRole>,
     core: &CoreModule,
 ) -> Result<Grouping, Failure>
@@ -224,7 +225,7 @@ pub(crate) fn read_groups(
     alloc: Global,
     resolved: &Resolved,
     others: &OtherModules,
-    arguments: &[LibraryArgument],
+    arguments: &Arguments<'_>,
     roles: &Keyed<ImportName, ImportRole>,
     core: &CoreModule,
 ) -> Result<Vec<Group>, Failure>

@@ -17,11 +17,11 @@ ghost use Rattle.record_imports.specs.Importing.{imports_of};
 ghost use Rattle.record_imports.specs.Guarantees.{AreGood, AreChecked, HasDistinctFields};
 ghost use Rattle.record_imports.specs.Causes.{ImportCause};
 
-use crate::arguments::{argument_for, instance_given};
+use crate::arguments::{Arguments, instance_for, instance_given};
 use crate::grouping::{Group, read_groups};
 use crate::others::OtherModules;
 use comp_lists::{Keyed, Text};
-use comp_roles::{ImportInstance, ImportMap, LibraryArgument};
+use comp_roles::{ImportInstance, ImportMap};
 use core_sections::CoreModule;
 use record_faults::Failure;
 use record_resolve::Resolved;
@@ -31,7 +31,7 @@ use std::alloc::{AllocError, Global};
 /// The groups, no two of which are of one module, as a table.
 fn table_of(
     alloc: Global,
-    arguments: &[LibraryArgument],
+    arguments: &Arguments<'_>,
     groups: Vec<Group>,
 ) -> Result<Keyed<Text, ImportInstance>, AllocError>
     requires { IsDistinct bytes_eq (names_of groups.items) }
@@ -40,7 +40,7 @@ fn table_of(
     let mut modules = Keyed::new(alloc);
     for group in groups {
         let Group { name, fields } = group;
-        let instance = instance_given(alloc, argument_for(arguments, &name), fields)?;
+        let instance = instance_given(alloc, instance_for(arguments, &name), fields)?;
         modules.insert(name, instance)?;
     }
     Ok(modules)
@@ -50,7 +50,7 @@ fn table_of(
 fn map_of(
     alloc: Global,
     resolved: &Resolved,
-    arguments: &[LibraryArgument],
+    arguments: &Arguments<'_>,
     groups: Vec<Group>,
 ) -> Result<ImportMap, AllocError>
     requires apart { IsDistinct bytes_eq (names_of groups.items) }
@@ -68,7 +68,7 @@ fn read_all(
     alloc: Global,
     resolved: &Resolved,
     others: &OtherModules,
-    arguments: &[LibraryArgument],
+    arguments: &Arguments<'_>,
     roles: &Keyed<ImportName, ImportRole>,
     core: &CoreModule,
 ) -> Result<ImportMap, Failure>
@@ -101,7 +101,7 @@ pub fn read_imports(
     alloc: Global,
     resolved: &Resolved,
     others: &OtherModules,
-    arguments: &[LibraryArgument],
+    arguments: &Arguments<'_>,
     roles: &Keyed<ImportName, ImportRole>,
     core: &CoreModule,
 ) -> Result<ImportMap, Failure>

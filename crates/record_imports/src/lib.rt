@@ -29,6 +29,7 @@ mod meaning;
 mod memories;
 mod others;
 
+pub use arguments::Arguments;
 pub use importing::read_imports;
 pub use memories::check_memories;
 pub use others::OtherModules;

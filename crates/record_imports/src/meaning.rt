@@ -12,10 +12,10 @@ ghost use Rattle.record_faults.specs.Faults.{Gives};
 ghost use Rattle.record_imports.specs.Meaning.{unless_unknown, target, no_role, unfit, meaningless, fitting, kept, by_record, by_argument, import_of};
 ghost use Rattle.record_imports.specs.Guarantees.{IsChecked};
 
-use crate::arguments::{argument_for, item_of};
+use crate::arguments::{Argument, Arguments};
 use crate::others::{OtherModules, is_unknown};
 use comp_lists::Keyed;
-use comp_roles::{ExternType, Import, Instance, LibraryArgument};
+use comp_roles::{ExternType, Import};
 use core_sections::{CoreImport, CoreModule};
 use record_core_types::{extern_type, fits_import};
 use record_faults::{Failure, Refusal};
@@ -165,12 +165,12 @@ fn by_argument(
     alloc: Global,
     import: &CoreImport,
     ty: &ExternType,
-    instance: &Instance,
+    argument: &Argument<'_>,
 ) -> Result<Import, Failure>
-    ensures exact { Gives (λ i. i) result (by_argument import.now ty.now instance.now) }
+    ensures exact { Gives (λ i. i) result (by_argument import.now ty.now argument.now) }
     ensures present { (r : Resolve) → IfOk result (HasNamed r) }
 {
-    match item_of(alloc, instance, &import.field, ty)? {
+    match argument.item_of(alloc, &import.field, ty)? {
         Some(item) => Ok(Import::Item(item)),
         None => no_role(alloc, import),
     }
@@ -182,7 +182,7 @@ fn read_import(
     alloc: Global,
     resolved: &Resolved,
     others: &OtherModules,
-    arguments: &[LibraryArgument],
+    arguments: &Arguments<'_>,
     roles: &Keyed<ImportName, ImportRole>,
     core: &CoreModule,
     import: &CoreImport,
@@ -192,8 +192,8 @@ fn read_import(
     ensures present { IfOk result (HasNamed resolved.now.resolve) }
 {
     let ty = typed(alloc, core, import)?;
-    match argument_for(arguments, &import.module) {
-        Some(instance) => by_argument(alloc, import, &ty, instance),
+    match arguments.argument_for(&import.module) {
+        Some(argument) => by_argument(alloc, import, &ty, argument),
         None => by_record(alloc, resolved, others, roles, core, import, &ty),
     }
 }
@@ -208,7 +208,7 @@ pub(crate) fn import_of(
     alloc: Global,
     resolved: &Resolved,
     others: &OtherModules,
-    arguments: &[LibraryArgument],
+    arguments: &Arguments<'_>,
     roles: &Keyed<ImportName, ImportRole>,
     core: &CoreModule,
     import: &CoreImport,
