@@ -12,6 +12,7 @@
 use argument_cases::{library_info, name_and_arguments};
 use comp_encoder::{ComponentEncoder, EncodeFault};
 use comp_lists::{Keyed, Text};
+use comp_worlds::Lower;
 use plain_lower::{PlainFault, PlainLower};
 use std::alloc::{AllocError, Global};
 use std::process::ExitCode;
@@ -83,23 +84,23 @@ fn encoder_with(alloc: Global, options: &str) -> Result<ComponentEncoder<PlainLo
 }
 
 /// Gives a library to an encoder: its name, with its arguments behind it.
-fn add_library(
+fn add_library<L: Lower>(
     alloc: Global,
-    encoder: &mut ComponentEncoder<PlainLower>,
+    encoder: &mut ComponentEncoder<L>,
     text: &str,
     module: &[u8],
-) -> Result<(), EncodeFault<PlainFault>> {
+) -> Result<(), EncodeFault<L::Fault>> {
     let (name, arguments) = name_and_arguments(text);
     let info = library_info(alloc, arguments)?;
     encoder.add_library(name, module, info)
 }
 
 /// Gives a further module of an input to an encoder, an adapter or a library.
-fn add_part(
+fn add_part<L: Lower>(
     alloc: Global,
-    encoder: &mut ComponentEncoder<PlainLower>,
+    encoder: &mut ComponentEncoder<L>,
     part: &str,
-) -> Result<(), EncodeFault<PlainFault>> {
+) -> Result<(), EncodeFault<L::Fault>> {
     let (name, rest) = part.split_once(": ").unwrap_or((part, ""));
     let module = module_of(alloc, rest)?;
     match name.strip_prefix("library ") {
