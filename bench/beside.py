@@ -16,7 +16,7 @@ from timing import timed
 LINKER = """#!/bin/sh
 out=
 while [ $# -gt 0 ]; do case "$1" in -o) out=$2; shift 2 ;; -o*) out=${1#-o}; shift ;; *) shift ;; esac; done
-cp "$CORE" "$out"
+ln -f "$CORE" "$out" 2>/dev/null || cp "$CORE" "$out"
 """
 
 

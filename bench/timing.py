@@ -24,11 +24,14 @@ def timed(command, check=True):
     return best
 
 
-def peak(command, folder):
-    """Peak memory of a run in MiB, as /usr/bin/time reports it."""
+def peak(command, folder, check=True):
+    """Peak memory of a run in MiB, as /usr/bin/time reports it; the run must succeed where that is asked for."""
     peak = os.path.join(folder, "peak")
     subprocess.run(
-        ["/usr/bin/time", "-f", "%M", "-o", peak] + command, check=True, stdout=subprocess.DEVNULL
+        ["/usr/bin/time", "-q", "-f", "%M", "-o", peak] + command,
+        check=check,
+        stdout=subprocess.DEVNULL,
+        stderr=None if check else subprocess.DEVNULL,
     )
     with open(peak) as file:
         return int(file.read()) / 1024

@@ -51,6 +51,11 @@ def is_proof_of(path, file, function):
     return bool(re.search(rf"/{re.escape(function.block)}[\w+]*/{re.escape(function.name)}/", path))
 
 
+def path_of(file, function):
+    """The path of a function below the crate, as its proof has it, or None of a method, whose block can have another name there."""
+    return None if function.block else "/".join(it for it in (module_of(file), function.name) if it)
+
+
 def tokens_of(rattle, text):
     """The words of the code with their lines, or None where the lexer refuses the text."""
     with tempfile.NamedTemporaryFile("w", suffix=".rt", encoding="utf-8") as file:

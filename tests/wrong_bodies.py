@@ -12,7 +12,8 @@ rest of its batch is checked again.
 
 Without --after-ci each crate is checked first over the work that earlier checks kept, and each batch over a copy of it.
 With --after-ci, which the test command gives, the libraries that `rt ci` left are used as they are, the functions of a
-batch are proved from nothing, and only those of wrong/ are tried: `rt ci` has tried the others.
+batch are proved from nothing, and only those of wrong/ are tried: `rt ci` has tried the others. It has proved the functions that a
+wrong body calls too, so their proofs are left out, but for methods: each gets a proof with a hole, and counts as proved.
 The last line is 'N passed, M failed', and the exit status is 1 where M is not 0.
 
 Written for the kit rattle-kit-13f: how a crate is checked is taken from its rtlib.py, and the form of the lines that a
@@ -36,7 +37,7 @@ from concurrent.futures import ThreadPoolExecutor
 
 sys.dont_write_bytecode = True
 sys.path.insert(0, os.path.dirname(os.path.realpath(__file__)))
-from rattle_text import functions_of, is_proof_of, names_of  # noqa: E402
+from rattle_text import functions_of, is_proof_of, names_of, path_of  # noqa: E402
 
 ONE_JOB = ["--jobs", "1"]
 # What `--progress` prints as the check of a function's proof has ended.
@@ -48,6 +49,19 @@ WAITS = False, "NOT TRIED: its function is not proved, but no goal of it is open
 SHAPE = re.compile(r"has no field|is not in scope|has no `|was not admitted")
 # A long message says in its second line what the record of a step, or the module of the goals, lacks.
 LACKS = re.compile(r"  (?:module `\S+` )?has no (?:field )?`")
+# The proof of a function that is proved elsewhere: all but a goal that is cheap to print.
+LEFT_OUT = """use Rattle.{crate}.proofs.{path}.Statement.{{statement}}
+
+left_out : ⊥
+left_out = ?
+
+pub {name}_spec : {{M : Type 1}} → statement M
+{name}_spec = absurd left_out
+"""
+# What is said of such a proof where the function has none of its own: one that calls itself, or is for tests.
+MISPLACED = re.compile(r"\./proofs/(\S+)/Proof\.antt(?::\d+:\d+)?: error")
+# How a check that leaves proofs out ends the line of a function that is proved but for these.
+IS_PROVED = "(?:proved|no holes|depends on a hole)"
 
 
 def kit():
@@ -138,6 +152,17 @@ class Sources:
             self.known[file] = text.split("\n"), functions_of(rtlib.RATTLE, text)
         return self.known[file]
 
+    def paths(self):
+        """The functions that are no methods and have a proof of their own, by the paths of their proofs."""
+        found = {}
+        for path in sorted(glob.glob(f"{glob.escape(self.folder)}/src/**/*.rt", recursive=True)):
+            file = os.path.relpath(path, self.folder)
+            for it in self.functions(file) or []:
+                path = None if it.cycle or it.name == "main" else path_of(file, it)
+                if path:
+                    found[path] = file, it
+        return found
+
     def wrong_body(self, name, path):
         """The wrong body of an edit's file."""
         try:
@@ -217,6 +242,17 @@ class Merged:
                     with open(path, "w", encoding="utf-8") as it:
                         it.write(re.sub(rf"^(use Rattle\.\w+\.proofs\.\S*\b){of.name}(\.(?:Goals|Given)\b)", rf"\g<1>{name}\2", text, flags=re.M))
 
+    def leave_out(self, room, crate, sources, misplaced):
+        """Replaces the proofs of the functions that no wrong body of the batch changes, in a copy of the crate."""
+        changed = {(file, it) for body in self.functions if not body.copied for file, it in body.functions}
+        for path, function in sources.paths().items():
+            if function in changed or path in misplaced or os.path.isdir(f"{room}/proofs/{os.path.dirname(path)}/+{function[1].name}"):
+                continue
+            shutil.rmtree(f"{room}/proofs/{path}", ignore_errors=True)
+            os.makedirs(f"{room}/proofs/{path}")
+            with open(f"{room}/proofs/{path}/Proof.antt", "w", encoding="utf-8") as file:
+                file.write(LEFT_OUT.format(crate=crate.name, path=path.replace("/", "."), name=function[1].name))
+
     def has_place(self, body, path, line):
         """Whether a place is in a function that a wrong body changes, or in its proof."""
         return any(path == file and it.has_line(line) or is_proof_of(path, file, it) for file, it in self.functions[body])
@@ -242,7 +278,7 @@ class Ran:
 
     def ended(self):
         """Whether the check went through all of its functions."""
-        return bool(self.lines) and bool(re.match(r"only=\d+ proved=\d+", self.lines[-1]))
+        return bool(self.lines) and bool(re.match(r"only=\d+ (?:proved|holes)=\d+", self.lines[-1]))
 
 
 def link_or_copy(file, to):
@@ -260,6 +296,9 @@ class Trial:
         # (a check writes what it proved of the edited text into the kept work: others see that only where it is the trial's own)
         self.crate, self.kept, self.is_own, self.sources = crate, kept, is_own, Sources(crate.folder)
         self.said, self.checks, self.seconds, self.took = {}, 0, 0.0, collections.Counter()
+        # (over kept work nothing is gained by it)
+        self.leaves_out = is_own
+        self.misplaced = set()  # the paths at which a proof that is left out can't stand
 
     def run(self, paths):
         """The name of each wrong body, whether it is refused, and what is to be printed of it."""
@@ -273,8 +312,9 @@ class Trial:
                 self.said[name] = False, f"BAD EDIT: {why}"
         for batch in batches_of(bodies):
             self.try_batch(batch)
-        # (what was not refused as a function of its own is tried in the place of its function)
-        again = [it for it in bodies if it.copied and not self.said[it.name][0]]
+        # (what was not refused is tried with all proofs, and in the place of its function)
+        self.leaves_out = False
+        again = [it for it in bodies if not self.said[it.name][0] and (it.copied or self.is_own)]
         for body in again:
             body.copied = None
         for batch in batches_of(again):
@@ -297,7 +337,7 @@ class Trial:
         waiting = []
         for body in batch:
             said = self.judged(merged.functions[body], found[body], ran)
-            if said == WAITS and len(batch) > 1:
+            if said == WAITS and len(batch) > 1 and not self.leaves_out:
                 waiting.append(body)
             else:
                 self.said[body.name] = said
@@ -329,14 +369,22 @@ class Trial:
             why = "a proof file names what the edit took away: keep the calls, and change a value"
             return False, f"NOT TRIED: it is refused for its shape, {why}: {open_goals[0][:300]}"
         names = "|".join(re.escape(it.name) for _, it in functions)
-        if any(re.match(rf"fn \S*\b({names}): (?!proved)", it) for it in ran.lines):
+        if any(re.match(rf"fn \S*\b({names}): (?!{IS_PROVED})", it) for it in ran.lines):
             return WAITS
-        if not any(re.match(rf"fn \S*\b({names}): proved", it) for it in ran.lines):
+        if not any(re.match(rf"fn \S*\b({names}): {IS_PROVED}", it) for it in ran.lines):
             return False, "NOT TRIED: the check did not come to its function"
         return False, "NOT REFUSED: its function is still proved"
 
     def checked(self, merged):
         """Checks the functions of a batch in a copy of the crate."""
+        while True:
+            ran = self.checked_once(merged)
+            found = {it[1] for it in map(MISPLACED.match, ran.lines) if it} - self.misplaced if self.leaves_out else None
+            if not found:
+                return ran
+            self.misplaced |= found
+
+    def checked_once(self, merged):
         self.checks += 1
         # (each function comes with what --only may take for it)
         names = [names_of(file, it) for body in merged.functions.values() for file, it in sorted(body, key=str)]
@@ -346,12 +394,14 @@ class Trial:
                     shutil.copytree(f"{self.crate.folder}/{part}", f"{room}/{part}")
             merged.write(room)
             kept = self.kept
+            if self.leaves_out:
+                merged.leave_out(room, self.crate, self.sources, self.misplaced)
             if not self.is_own:
                 kept = shutil.copytree(self.kept, f"{room}/kept", copy_function=link_or_copy)
             ran = None
             while ran is None or self.is_unnamed(ran, names):
                 only = [word for it in dict.fromkeys(it[0] for it in names) for word in ("--only", it)]
-                words = self.crate.words([*ONE_JOB, *only], keeps=False)
+                words = [*self.crate.words([*ONE_JOB, *only], keeps=False), *["--allow-holes"] * self.leaves_out]
                 ran = self.call([rtlib.RATTLE, "check", *words, "--incremental", kept], room)
         return ran
 

@@ -42,8 +42,8 @@ impl fmt::Display for Excess {
     }
 }
 
-/// A count as a number of 32 bits.
-pub(crate) fn counted(count: u128) -> Result<u32, Excess>
+/// A count as a number of 32 bits, refused exactly where it is more than 2^32 - 1.
+pub fn counted(count: u128) -> Result<u32, Excess>
     ensures { MatchResult result (λ n. n ≡ count) (λ e. (e ≡ count) × (2 ^ 32 ≤ e)) }
 {
     if count <= u32::MAX as u128 {

@@ -17,7 +17,7 @@ mod fault;
 mod laws;
 mod number;
 
-pub use fault::{BuildFault, Excess, count_of, next_count};
+pub use fault::{BuildFault, Excess, count_of, counted, next_count};
 pub use laws::{one_name, one_number, one_type_index};
 pub use number::{
     Encode, byte_of_flag, encoded, put_bytes, put_count, put_each, put_index, put_tagged,

@@ -1,3 +1,4 @@
 pub mod Built
+pub mod Measured
 pub mod Naming
 pub mod Optional

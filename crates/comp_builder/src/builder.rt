@@ -7,11 +7,12 @@ ghost use Rattle.comp_builder.specs.Built.{Built, nothing_built, and_then, name_
 ghost use Rattle.comp_bytes.specs.ItemIndices.{IsAt};
 ghost use Rattle.comp_bytes.specs.Grammar.{Encodes, encoding_of};
 ghost use Rattle.byte_encoding.specs.Written.{Refused};
+ghost use Rattle.comp_builder.specs.Measured.{Measures};
 ghost use Rattle.comp_builder.specs.Naming.{AddsNames};
 ghost use Rattle.comp_builder.specs.Optional.{option_now};
 
 use byte_encoding::{BuildFault, next_count};
-use comp_bytes::{Def, Defs, Item, Name, Space, component_bytes, names_bytes};
+use comp_bytes::{Def, Defs, Item, Name, Space, component_bytes, component_size, names_bytes};
 use comp_lists::{Seq, Text};
 use std::alloc::{AllocError, Global};
 use std::marker::Model;
@@ -188,7 +189,18 @@ impl ComponentBuilder {
         Ok(())
     }
 
-    /// The bytes of the component: its preamble and its sections. It fails with
+    /// How many bytes [`ComponentBuilder::finish`] gives. It takes no memory, and fails with
+    /// [`BuildFault::TooMany`] exactly where a count or a size that would be written, or that number, passes
+    /// 2^32 - 1. It reports the first of these, or 2^128 - 1 where that is more.
+    pub fn measure(&self) -> Result<u32, BuildFault>
+        ensures { Measures (encoding_of self.now.defs) result }
+    {
+        let size = component_size(self.allocator(), self.defs.as_slice())?;
+        Ok(size)
+    }
+
+    /// The bytes of the component: its preamble and its sections. They are measured first, and written to one buffer
+    /// of that size. It fails with
     /// [`BuildFault::TooMany`] only where a count or a size that would be written passes 2^32 - 1, and
     /// reports that one.
     pub fn finish(self) -> Result<Vec<u8>, BuildFault>

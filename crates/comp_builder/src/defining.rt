@@ -19,18 +19,21 @@ use comp_bytes::{
     CoreModule, Def, DefinedType, Description, ExternName, FuncTypeDef, InstanceType, Intrinsic,
     Item, Sort, Space, TypeDef, space_of_kind,
 };
-use comp_lists::{Seq, Text};
+use comp_lists::{Seq, SharedBytes, Text};
 use standard_kinds::ExportKind;
 
 impl ComponentBuilder {
-    /// A core module, by its bytes, which begin with the core preamble and are copied (`core:module`).
-    pub fn core_module_raw(&mut self, debug: Option<&str>, bytes: &[u8]) -> Result<u32, BuildFault>
+    /// A core module, by its bytes, which begin with the core preamble and are shared (`core:module`).
+    pub fn core_module_raw(
+        &mut self,
+        debug: Option<&str>,
+        bytes: &SharedBytes,
+    ) -> Result<u32, BuildFault>
         requires { IsCoreModule bytes.now }
         ensures adds { Adds self.old self.new result Space.CoreModule (Def.Item (Item.CoreModule bytes.now)) (option_now debug.entry) }
         ensures at { IfOk result (λ answer. IsAt self.new.defs Space.CoreModule answer (Def.Item (Item.CoreModule bytes.now))) }
     {
-        let bytes = Seq::from_vec(Vec::from_slice(self.allocator(), bytes)?);
-        let Some(module) = CoreModule::from_bytes(bytes) else {
+        let Some(module) = CoreModule::from_bytes(bytes.share()?) else {
             unreachable!()
         };
         self.define(

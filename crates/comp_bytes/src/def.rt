@@ -12,7 +12,7 @@ ghost use Rattle.core_types.specs.Core.{is_core_module, core_preamble};
 use crate::canon::{CanonicalOption, Intrinsic};
 use crate::space::Sort;
 use crate::types::{Alias, Description, ExternName, InstanceType, TypeDef};
-use comp_lists::{Bytes, Seq, Text};
+use comp_lists::{Bytes, Seq, SharedBytes, Text};
 use standard_kinds::ExportKind;
 use std::marker::Model;
 
@@ -33,7 +33,7 @@ fn is_core_module(bytes: &[u8]) -> bool
 /// format: `module`). The bytes after that are not read.
 #[derive(Debug, Drop)]
 pub struct CoreModule {
-    bytes: Bytes,
+    bytes: SharedBytes,
 }
 
 impl Model for CoreModule {
@@ -49,7 +49,7 @@ impl Model for CoreModule {
 
 impl CoreModule {
     /// The core module of these bytes, where they begin as one does.
-    pub fn from_bytes(bytes: Bytes) -> Option<CoreModule>
+    pub fn from_bytes(bytes: SharedBytes) -> Option<CoreModule>
         ensures { result ≡ (if is_core_module bytes then Some bytes else None) }
     {
         if is_core_module(bytes.as_slice()) {
@@ -57,6 +57,13 @@ impl CoreModule {
         } else {
             None
         }
+    }
+
+    /// The bytes, with the preamble.
+    pub fn bytes(&self) -> &SharedBytes
+        ensures { result.now ≡ self.now }
+    {
+        &self.bytes
     }
 
     /// The bytes, with the preamble.

@@ -8,8 +8,9 @@
 //!
 //! Upward this crate promises: the bytes that [`component_bytes`] returns encode the definitions that were given
 //! (`Encodes`), a refusal other than out of memory names a count or a size that exceeds 2^32 - 1
-//! (`Refused`), and bytes encode at most one list of definitions ([`one_list`]). How numbers, names, lists
-//! and bytes are written is in `byte_encoding`.
+//! (`Refused`), [`component_size`] answers how many these bytes are, and takes no memory (`IsSize`), and bytes encode at
+//! most one list of definitions ([`one_list`]). How numbers, names, lists and bytes are written is in `measured_bytes`:
+//! the calls that write a value both measure it and fill a buffer.
 //!
 //! For crates above that are about indices and names: `specs/References.antt` (what a definition names by
 //! index), `specs/Scopes.antt` (that all of it comes before it), `specs/ScopeNames.antt` (the lists of
@@ -37,7 +38,7 @@ pub use def::{Argument, CoreArgument, CoreInlineExport, CoreModule, Def, Defs, I
 pub use laws::one_list;
 pub use name::Name;
 pub use naming::names_bytes;
-pub use sections::component_bytes;
+pub use sections::{component_bytes, component_size};
 pub use space::{ComponentExportKind, Sort, Space, space_of_kind};
 pub use types::{
     Alias, Case, ComponentValType, DefinedType, Description, ExternName, Field, FuncTypeDef,

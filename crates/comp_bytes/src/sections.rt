@@ -1,10 +1,10 @@
 //! Definitions in sections.
-#![tactic(auto, using(byte_encoding::proofs::Pieces::writing))]
 
 ghost use Rattle.std.specs.Prelude.{◌≡◌, ◌++◌, ◌<◌, ◌≤◌, ◌∷◌, List, ℕ, Bool, OnOk, IfOk, IfErr, length, take, drop, map, if◌then◌else◌};
 ghost use Rattle.byte_encoding.specs.Encoding.{leb, raw, octet, number, quantity, each, listed, named, optional, sized, Encoding, Fits, ◌⊕◌};
 ghost use Rattle.comp_bytes.specs.Sections.{Entry, shares, contents, section, sections, component, section_of};
-ghost use Rattle.byte_encoding.specs.Written.{Writes, Refused};
+ghost use Rattle.byte_encoding.specs.Written.{Refused};
+ghost use Rattle.measured_bytes.specs.Outputs.{Puts, IsSize};
 ghost use Rattle.comp_bytes.specs.Grammar.{Encodes, encoding_of, item, definition, core_argument, core_inline_export, argument, alias_bytes, option_bytes, extern_name, sort_bytes, description_bytes};
 
 use crate::canon::CanonicalOption;
@@ -12,19 +12,22 @@ use crate::def::{Argument, CoreArgument, Def, Item};
 use crate::space::Sort;
 use crate::types::{Description, ExternName};
 use crate::writing::put_extern;
-use byte_encoding::{BuildFault, Encode, put_bytes, put_count, put_index, put_tagged};
+use byte_encoding::{BuildFault, Excess};
 use comp_lists::{Seq, Text};
+use measured_bytes::{
+    Emit, Output, encoded, encoded_size, put_bytes, put_count, put_index, put_sized, put_tagged,
+};
 use std::alloc::Global;
 
-/// The contents of a section.
+/// What a section contains.
 pub(crate) trait Definition {
     ghost entry: { Self → Entry };
 
     fn section_id(&self) -> u8
         ensures { result ≡ (entry self.now).id };
 
-    fn put_entry(&self, out: &mut Vec<u8>) -> Result<(), BuildFault>
-        ensures { Writes out.old.items out.new.items result (entry self.now).text };
+    fn put_entry(&self, out: &mut Output)
+        ensures { Puts out.old out.new (entry self.now).text };
 }
 
 fn is_shared(id: u8) -> bool
@@ -51,25 +54,23 @@ fn run_len<T: Definition>(items: &[T]) -> usize
     n
 }
 
-fn put_run<T: Definition>(out: &mut Vec<u8>, run: &[T]) -> Result<(), BuildFault>
-    ensures { Writes out.old.items out.new.items result (each (λ x. (T.entry x).text) run.now) }
+fn put_run<T: Definition>(out: &mut Output, run: &[T])
+    ensures { Puts out.old out.new (each (λ x. (T.entry x).text) run.now) }
 {
     for item in run {
-        item.put_entry(out)?;
+        item.put_entry(out);
     }
-    Ok(())
 }
 
-fn put_counted_run<T: Definition>(out: &mut Vec<u8>, run: &[T]) -> Result<(), BuildFault>
-    ensures { Writes out.old.items out.new.items result (listed (λ x. (T.entry x).text) run.now) }
+fn put_counted_run<T: Definition>(out: &mut Output, run: &[T])
+    ensures { Puts out.old out.new (listed (λ x. (T.entry x).text) run.now) }
 {
-    put_count(out, run.len())?;
-    put_run(out, run)?;
-    Ok(())
+    put_count(out, run);
+    put_run(out, run);
 }
 
-fn put_contents<T: Definition>(out: &mut Vec<u8>, shared: bool, run: &[T]) -> Result<(), BuildFault>
-    ensures { Writes out.old.items out.new.items result (contents (λ x. (T.entry x).text) shared run.now) }
+fn put_contents<T: Definition>(out: &mut Output, shared: bool, run: &[T])
+    ensures { Puts out.old out.new (contents (λ x. (T.entry x).text) shared run.now) }
 {
     if shared {
         put_counted_run(out, run)
@@ -78,115 +79,105 @@ fn put_contents<T: Definition>(out: &mut Vec<u8>, shared: bool, run: &[T]) -> Re
     }
 }
 
-pub(crate) fn put_sized(out: &mut Vec<u8>, id: u8, bytes: &[u8]) -> Result<(), BuildFault>
-    ensures { Writes out.old.items out.new.items result (octet id ⊕ quantity (length bytes.now) ⊕ raw bytes.now) }
-{
-    put_bytes(out, &[id])?;
-    put_count(out, bytes.len())?;
-    put_bytes(out, bytes)?;
-    Ok(())
+/// The contents of a section.
+#[derive(Drop)]
+struct Contents<'a, T> {
+    shared: bool,
+    run: &'a [T],
 }
 
-fn put_section<T: Definition>(out: &mut Vec<u8>, run: &[T]) -> Result<(), BuildFault>
+impl<'a, T: Definition> Emit for Contents<'a, T> {
+    ghost encoding = { λ c. contents (λ x. (T.entry x).text) c.shared c.run.now };
+
+    fn emit(&self, out: &mut Output) {
+        put_contents(out, self.shared, self.run);
+    }
+}
+
+fn put_section<T: Definition>(out: &mut Output, run: &[T])
     requires { 0 < length run.now }
-    ensures { Writes out.old.items out.new.items result (section (section_of (map T.entry run.now))) }
+    ensures { Puts out.old out.new (section (section_of (map T.entry run.now))) }
 {
     let id = run[0].section_id();
-    let mut buffer = Vec::new(*out.allocator());
-    put_contents(&mut buffer, is_shared(id), run)?;
-    put_sized(out, id, buffer.as_slice())
+    put_bytes(out, &[id]);
+    put_sized(
+        out,
+        &Contents {
+            shared: is_shared(id),
+            run,
+        },
+    );
 }
 
-fn put_sections<T: Definition>(out: &mut Vec<u8>, items: &[T]) -> Result<(), BuildFault>
-    ensures { Writes out.old.items out.new.items result (each section (sections (map T.entry items.now))) }
+fn put_sections<T: Definition>(out: &mut Output, items: &[T])
+    ensures { Puts out.old out.new (each section (sections (map T.entry items.now))) }
 {
     let mut rest = items;
     while !rest.is_empty() {
         let (run, after) = rest.split_at(run_len(rest));
-        put_section(out, run)?;
+        put_section(out, run);
         rest = after;
     }
-    Ok(())
 }
 
-pub(crate) fn put_component<T: Definition>(out: &mut Vec<u8>, items: &[T]) -> Result<(), BuildFault>
-    ensures { Writes out.old.items out.new.items result (component (map T.entry items.now)) }
+pub(crate) fn put_component<T: Definition>(out: &mut Output, items: &[T])
+    ensures { Puts out.old out.new (component (map T.entry items.now)) }
 {
-    put_bytes(out, &[0x00, 0x61, 0x73, 0x6d, 0x0d, 0x00, 0x01, 0x00])?;
-    put_sections(out, items)?;
-    Ok(())
+    put_bytes(out, &[0x00, 0x61, 0x73, 0x6d, 0x0d, 0x00, 0x01, 0x00]);
+    put_sections(out, items);
 }
 
-fn put_core_instantiate(
-    out: &mut Vec<u8>,
-    module: u32,
-    args: &Seq<CoreArgument>,
-) -> Result<(), BuildFault>
-    ensures { Writes out.old.items out.new.items result (octet 0x00 ⊕ number «module» ⊕ listed core_argument args.now) }
+fn put_core_instantiate(out: &mut Output, module: u32, args: &Seq<CoreArgument>)
+    ensures { Puts out.old out.new (octet 0x00 ⊕ number «module» ⊕ listed core_argument args.now) }
 {
-    put_tagged(out, 0x00, &module)?;
-    args.put(out)?;
-    Ok(())
+    put_tagged(out, 0x00, &module);
+    args.emit(out);
 }
 
-fn put_instantiate(
-    out: &mut Vec<u8>,
-    component: u32,
-    args: &Seq<Argument>,
-) -> Result<(), BuildFault>
-    ensures { Writes out.old.items out.new.items result (octet 0x00 ⊕ number component ⊕ listed argument args.now) }
+fn put_instantiate(out: &mut Output, component: u32, args: &Seq<Argument>)
+    ensures { Puts out.old out.new (octet 0x00 ⊕ number component ⊕ listed argument args.now) }
 {
-    put_tagged(out, 0x00, &component)?;
-    args.put(out)?;
-    Ok(())
+    put_tagged(out, 0x00, &component);
+    args.emit(out);
 }
 
-fn put_lower(out: &mut Vec<u8>, func: u32, options: &Seq<CanonicalOption>) -> Result<(), BuildFault>
-    ensures { Writes out.old.items out.new.items result (octet 0x01 ⊕ octet 0x00 ⊕ number func ⊕ listed option_bytes options.now) }
+fn put_lower(out: &mut Output, func: u32, options: &Seq<CanonicalOption>)
+    ensures { Puts out.old out.new (octet 0x01 ⊕ octet 0x00 ⊕ number func ⊕ listed option_bytes options.now) }
 {
-    put_bytes(out, &[0x01, 0x00])?;
-    put_index(out, func)?;
-    options.put(out)?;
-    Ok(())
+    put_bytes(out, &[0x01, 0x00]);
+    put_index(out, func);
+    options.emit(out);
 }
 
-fn put_lift(
-    out: &mut Vec<u8>,
-    func: u32,
-    options: &Seq<CanonicalOption>,
-    ty: u32,
-) -> Result<(), BuildFault>
-    ensures { Writes out.old.items out.new.items result (octet 0x00 ⊕ octet 0x00 ⊕ number func ⊕ listed option_bytes options.now ⊕ number ty) }
+fn put_lift(out: &mut Output, func: u32, options: &Seq<CanonicalOption>, ty: u32)
+    ensures { Puts out.old out.new (octet 0x00 ⊕ octet 0x00 ⊕ number func ⊕ listed option_bytes options.now ⊕ number ty) }
 {
-    put_bytes(out, &[0x00, 0x00])?;
-    put_index(out, func)?;
-    options.put(out)?;
-    put_index(out, ty)?;
-    Ok(())
+    put_bytes(out, &[0x00, 0x00]);
+    put_index(out, func);
+    options.emit(out);
+    put_index(out, ty);
 }
 
 fn put_export(
-    out: &mut Vec<u8>,
+    out: &mut Output,
     name: &ExternName,
     sort: Sort,
     index: u32,
     description: &Option<Description>,
-) -> Result<(), BuildFault>
-    ensures { Writes out.old.items out.new.items result (extern_name name.now ⊕ sort_bytes sort ⊕ number index ⊕ optional description_bytes description.now) }
+)
+    ensures { Puts out.old out.new (extern_name name.now ⊕ sort_bytes sort ⊕ number index ⊕ optional description_bytes description.now) }
 {
-    name.put(out)?;
-    sort.put(out)?;
-    put_index(out, index)?;
-    description.put(out)?;
-    Ok(())
+    name.emit(out);
+    sort.emit(out);
+    put_index(out, index);
+    description.emit(out);
 }
 
-fn put_custom(out: &mut Vec<u8>, name: &Text, contents: &Seq<u8>) -> Result<(), BuildFault>
-    ensures { Writes out.old.items out.new.items result (named name.now ⊕ raw contents.now) }
+fn put_custom(out: &mut Output, name: &Text, contents: &[u8])
+    ensures { Puts out.old out.new (named name.now ⊕ raw contents.now) }
 {
-    name.put(out)?;
-    put_bytes(out, contents.as_slice())?;
-    Ok(())
+    name.emit(out);
+    put_bytes(out, contents);
 }
 
 impl Definition for Item {
@@ -210,18 +201,18 @@ impl Definition for Item {
         }
     }
 
-    fn put_entry(&self, out: &mut Vec<u8>) -> Result<(), BuildFault> {
+    fn put_entry(&self, out: &mut Output) {
         match self {
             Item::CoreModule(module) => put_bytes(out, module.as_slice()),
             Item::CoreInstantiate { module, args } => put_core_instantiate(out, *module, args),
             Item::CoreExports(exports) => put_tagged(out, 0x01, exports),
             Item::Instantiate { component, args } => put_instantiate(out, *component, args),
-            Item::Alias(alias) => alias.put(out),
-            Item::Type(ty) => ty.put(out),
-            Item::InstanceType(ty) => ty.put(out),
+            Item::Alias(alias) => alias.emit(out),
+            Item::Type(ty) => ty.emit(out),
+            Item::InstanceType(ty) => ty.emit(out),
             Item::Lift { func, options, ty } => put_lift(out, *func, options, *ty),
             Item::Lower { func, options } => put_lower(out, *func, options),
-            Item::Intrinsic(intrinsic) => intrinsic.put(out),
+            Item::Intrinsic(intrinsic) => intrinsic.emit(out),
             Item::Import { name, description } => put_extern(out, name, *description),
             Item::Export {
                 name,
@@ -229,7 +220,7 @@ impl Definition for Item {
                 index,
                 description,
             } => put_export(out, name, *sort, *index, description),
-            Item::Custom { name, contents } => put_custom(out, name, contents),
+            Item::Custom { name, contents } => put_custom(out, name, contents.as_slice()),
         }
     }
 }
@@ -244,7 +235,7 @@ impl Definition for Def {
         }
     }
 
-    fn put_entry(&self, out: &mut Vec<u8>) -> Result<(), BuildFault> {
+    fn put_entry(&self, out: &mut Output) {
         match self {
             Def::Item(item) => item.put_entry(out),
             Def::Component(items) => put_component(out, items.as_slice()),
@@ -252,13 +243,34 @@ impl Definition for Def {
     }
 }
 
-/// The bytes of a component: its preamble and its sections (`component`). It fails with
-/// [`BuildFault::TooMany`] only where a count or a size among them exceeds 2^32 - 1, and reports that one.
+/// A component, by its definitions.
+#[derive(Drop)]
+struct Component<'a> {
+    definitions: &'a [Def],
+}
+
+impl<'a> Emit for Component<'a> {
+    ghost encoding = { λ c. encoding_of c.definitions.now };
+
+    fn emit(&self, out: &mut Output) {
+        put_component(out, self.definitions);
+    }
+}
+
+/// How many bytes a component has. It takes no memory, and is refused exactly where a count or a size in the
+/// bytes, or how many there are, exceeds 2^32 - 1: with the first of these, or with 2^128 - 1 where that is more.
+pub fn component_size(alloc: Global, definitions: &[Def]) -> Result<u32, Excess>
+    ensures { IsSize (encoding_of definitions.now) result }
+{
+    encoded_size(alloc, &Component { definitions })
+}
+
+/// The bytes of a component: its preamble and its sections (`component`). They are measured, and written to one buffer
+/// of that size. It fails with [`BuildFault::TooMany`] only where a count or a size among them exceeds 2^32 - 1, and
+/// reports that one.
 pub fn component_bytes(alloc: Global, definitions: &[Def]) -> Result<Vec<u8>, BuildFault>
     ensures ok { IfOk result (λ v. Encodes v.items definitions.now) }
     ensures err { IfErr result (Refused (encoding_of definitions.now).counts) }
 {
-    let mut out = Vec::new(alloc);
-    put_component(&mut out, definitions)?;
-    Ok(out)
+    encoded(alloc, &Component { definitions })
 }

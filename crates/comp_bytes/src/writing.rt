@@ -1,9 +1,8 @@
 //! Each definition at the end of a buffer.
-#![tactic(auto, using(byte_encoding::proofs::Pieces::writing))]
 
 ghost use Rattle.std.specs.Prelude.{◌≡◌, ◌++◌, List, ℕ, OnOk, if◌then◌else◌};
 ghost use Rattle.byte_encoding.specs.Encoding.{signed_leb, raw, octet, number, quantity, each, listed, named, optional, Encoding, Fits, ◌⊕◌};
-ghost use Rattle.byte_encoding.specs.Written.{Writes};
+ghost use Rattle.measured_bytes.specs.Outputs.{Puts};
 ghost use Rattle.standard_kinds.specs.Bytes.{kind_byte};
 ghost use Rattle.comp_bytes.specs.Grammar.{export_byte, sort_bytes, primitive_byte, value_type, field, case_of, defined_type, function_result, function_type, resource_type, type_def, extern_name, description_bytes, alias_bytes, member, instance_type, option_bytes, intrinsic_bytes, context_byte, core_argument, core_inline_export, argument};
 ghost use Rattle.byte_encoding.specs.Encoding.{flag};
@@ -15,10 +14,9 @@ use crate::types::{
     Alias, Case, ComponentValType, DefinedType, Description, ExternName, Field, FuncTypeDef,
     InstanceType, Member, TypeDef,
 };
-use byte_encoding::{
-    BuildFault, Encode, byte_of_flag, put_bytes, put_index, put_tagged, put_type_index,
-};
+use byte_encoding::byte_of_flag;
 use comp_lists::{Seq, Text};
+use measured_bytes::{Emit, Output, put_bytes, put_index, put_tagged, put_type_index};
 use standard_kinds::{Primitive, byte_of_kind};
 
 fn byte_of_export(kind: ComponentExportKind) -> u8
@@ -53,10 +51,10 @@ fn byte_of_primitive(primitive: Primitive) -> u8
     }
 }
 
-impl Encode for Sort {
+impl Emit for Sort {
     ghost encoding = { sort_bytes };
 
-    fn put(&self, out: &mut Vec<u8>) -> Result<(), BuildFault> {
+    fn emit(&self, out: &mut Output) {
         match *self {
             Sort::Core(kind) => put_bytes(out, &[0x00, byte_of_kind(kind)]),
             Sort::Func => put_bytes(out, &[0x01]),
@@ -67,10 +65,10 @@ impl Encode for Sort {
     }
 }
 
-impl Encode for ComponentValType {
+impl Emit for ComponentValType {
     ghost encoding = { value_type };
 
-    fn put(&self, out: &mut Vec<u8>) -> Result<(), BuildFault> {
+    fn emit(&self, out: &mut Output) {
         match *self {
             ComponentValType::Primitive(primitive) => {
                 put_bytes(out, &[byte_of_primitive(primitive)])
@@ -80,31 +78,29 @@ impl Encode for ComponentValType {
     }
 }
 
-impl Encode for Field {
+impl Emit for Field {
     ghost encoding = { field };
 
-    fn put(&self, out: &mut Vec<u8>) -> Result<(), BuildFault> {
-        self.name.put(out)?;
-        self.ty.put(out)?;
-        Ok(())
+    fn emit(&self, out: &mut Output) {
+        self.name.emit(out);
+        self.ty.emit(out);
     }
 }
 
-impl Encode for Case {
+impl Emit for Case {
     ghost encoding = { case_of };
 
-    fn put(&self, out: &mut Vec<u8>) -> Result<(), BuildFault> {
-        self.name.put(out)?;
-        self.ty.put(out)?;
-        put_bytes(out, &[0x00])?;
-        Ok(())
+    fn emit(&self, out: &mut Output) {
+        self.name.emit(out);
+        self.ty.emit(out);
+        put_bytes(out, &[0x00]);
     }
 }
 
-impl Encode for DefinedType {
+impl Emit for DefinedType {
     ghost encoding = { defined_type };
 
-    fn put(&self, out: &mut Vec<u8>) -> Result<(), BuildFault> {
+    fn emit(&self, out: &mut Output) {
         match self {
             DefinedType::Primitive(primitive) => put_bytes(out, &[byte_of_primitive(*primitive)]),
             DefinedType::Record(fields) => put_tagged(out, 0x72, fields),
@@ -124,28 +120,22 @@ impl Encode for DefinedType {
 }
 
 /// Writes two bytes that say what follows, and an index.
-fn put_twice_tagged(out: &mut Vec<u8>, first: u8, second: u8, index: u32) -> Result<(), BuildFault>
-    ensures { Writes out.old.items out.new.items result (octet first ⊕ octet second ⊕ number index) }
+fn put_twice_tagged(out: &mut Output, first: u8, second: u8, index: u32)
+    ensures { Puts out.old out.new (octet first ⊕ octet second ⊕ number index) }
 {
-    put_bytes(out, &[first, second])?;
-    put_index(out, index)?;
-    Ok(())
+    put_bytes(out, &[first, second]);
+    put_index(out, index);
 }
 
-fn put_result_type(
-    out: &mut Vec<u8>,
-    ok: &Option<ComponentValType>,
-    err: &Option<ComponentValType>,
-) -> Result<(), BuildFault>
-    ensures { Writes out.old.items out.new.items result (octet 0x6a ⊕ optional value_type ok.now ⊕ optional value_type err.now) }
+fn put_result_type(out: &mut Output, ok: &Option<ComponentValType>, err: &Option<ComponentValType>)
+    ensures { Puts out.old out.new (octet 0x6a ⊕ optional value_type ok.now ⊕ optional value_type err.now) }
 {
-    put_tagged(out, 0x6a, ok)?;
-    err.put(out)?;
-    Ok(())
+    put_tagged(out, 0x6a, ok);
+    err.emit(out);
 }
 
-fn put_result(out: &mut Vec<u8>, ty: &Option<ComponentValType>) -> Result<(), BuildFault>
-    ensures { Writes out.old.items out.new.items result (function_result ty.now) }
+fn put_result(out: &mut Output, ty: &Option<ComponentValType>)
+    ensures { Puts out.old out.new (function_result ty.now) }
 {
     match ty {
         None => put_bytes(out, &[0x01, 0x00]),
@@ -153,49 +143,52 @@ fn put_result(out: &mut Vec<u8>, ty: &Option<ComponentValType>) -> Result<(), Bu
     }
 }
 
-impl Encode for FuncTypeDef {
+fn put_function(out: &mut Output, tag: u8, params: &Seq<Field>, returned: &Option<ComponentValType>)
+    ensures { Puts out.old out.new (octet tag ⊕ listed field params.now ⊕ function_result returned.now) }
+{
+    put_tagged(out, tag, params);
+    put_result(out, returned);
+}
+
+impl Emit for FuncTypeDef {
     ghost encoding = { function_type };
 
-    fn put(&self, out: &mut Vec<u8>) -> Result<(), BuildFault> {
-        put_bytes(out, &[if self.async_ { 0x43 } else { 0x40 }])?;
-        self.params.put(out)?;
-        put_result(out, &self.result)?;
-        Ok(())
+    fn emit(&self, out: &mut Output) {
+        let tag = if self.async_ { 0x43 } else { 0x40 };
+        put_function(out, tag, &self.params, &self.result);
     }
 }
 
-fn put_resource(out: &mut Vec<u8>, destructor: &Option<u32>) -> Result<(), BuildFault>
-    ensures { Writes out.old.items out.new.items result (resource_type destructor.now) }
+fn put_resource(out: &mut Output, destructor: &Option<u32>)
+    ensures { Puts out.old out.new (resource_type destructor.now) }
 {
-    put_bytes(out, &[0x3f, 0x7f])?;
-    destructor.put(out)?;
-    Ok(())
+    put_bytes(out, &[0x3f, 0x7f]);
+    destructor.emit(out);
 }
 
-impl Encode for TypeDef {
+impl Emit for TypeDef {
     ghost encoding = { type_def };
 
-    fn put(&self, out: &mut Vec<u8>) -> Result<(), BuildFault> {
+    fn emit(&self, out: &mut Output) {
         match self {
-            TypeDef::Func(func) => func.put(out),
+            TypeDef::Func(func) => func.emit(out),
             TypeDef::Resource(destructor) => put_resource(out, destructor),
-            TypeDef::Defined(ty) => ty.put(out),
+            TypeDef::Defined(ty) => ty.emit(out),
         }
     }
 }
 
-fn put_versioned(out: &mut Vec<u8>, name: &Text, suffix: &Text) -> Result<(), BuildFault>
-    ensures { Writes out.old.items out.new.items result (octet 0x01 ⊕ named name.now ⊕ named suffix.now) }
+fn put_versioned(out: &mut Output, name: &Text, suffix: &Text)
+    ensures { Puts out.old out.new (octet 0x01 ⊕ named name.now ⊕ named suffix.now) }
 {
-    put_tagged(out, 0x01, name)?;
-    suffix.put(out)?;
-    Ok(())
+    put_tagged(out, 0x01, name);
+    suffix.emit(out);
 }
 
-impl Encode for ExternName {
+impl Emit for ExternName {
     ghost encoding = { extern_name };
 
-    fn put(&self, out: &mut Vec<u8>) -> Result<(), BuildFault> {
+    fn emit(&self, out: &mut Output) {
         match &self.version_suffix {
             None => put_tagged(out, 0x00, &self.name),
             Some(suffix) => put_versioned(out, &self.name, suffix),
@@ -203,10 +196,10 @@ impl Encode for ExternName {
     }
 }
 
-impl Encode for Description {
+impl Emit for Description {
     ghost encoding = { description_bytes };
 
-    fn put(&self, out: &mut Vec<u8>) -> Result<(), BuildFault> {
+    fn emit(&self, out: &mut Output) {
         match self {
             Description::Func(index) => put_tagged(out, 0x01, index),
             Description::TypeEqual(index) => put_twice_tagged(out, 0x03, 0x00, *index),
@@ -217,27 +210,25 @@ impl Encode for Description {
 }
 
 /// Writes what an alias names in an instance.
-fn put_alias(out: &mut Vec<u8>, tags: &[u8], instance: u32, name: &Text) -> Result<(), BuildFault>
-    ensures { Writes out.old.items out.new.items result (raw tags.now ⊕ number instance ⊕ named name.now) }
+fn put_alias(out: &mut Output, tags: &[u8], instance: u32, name: &Text)
+    ensures { Puts out.old out.new (raw tags.now ⊕ number instance ⊕ named name.now) }
 {
-    put_bytes(out, tags)?;
-    put_index(out, instance)?;
-    name.put(out)?;
-    Ok(())
+    put_bytes(out, tags);
+    put_index(out, instance);
+    name.emit(out);
 }
 
-fn put_outer(out: &mut Vec<u8>, count: u32, index: u32) -> Result<(), BuildFault>
-    ensures { Writes out.old.items out.new.items result (octet 0x03 ⊕ octet 0x02 ⊕ number count ⊕ number index) }
+fn put_outer(out: &mut Output, count: u32, index: u32)
+    ensures { Puts out.old out.new (octet 0x03 ⊕ octet 0x02 ⊕ number count ⊕ number index) }
 {
-    put_twice_tagged(out, 0x03, 0x02, count)?;
-    put_index(out, index)?;
-    Ok(())
+    put_twice_tagged(out, 0x03, 0x02, count);
+    put_index(out, index);
 }
 
-impl Encode for Alias {
+impl Emit for Alias {
     ghost encoding = { alias_bytes };
 
-    fn put(&self, out: &mut Vec<u8>) -> Result<(), BuildFault> {
+    fn emit(&self, out: &mut Output) {
         match self {
             Alias::Export {
                 kind,
@@ -254,34 +245,24 @@ impl Encode for Alias {
     }
 }
 
-pub(crate) fn put_extern(
-    out: &mut Vec<u8>,
-    name: &ExternName,
-    description: Description,
-) -> Result<(), BuildFault>
-    ensures { Writes out.old.items out.new.items result (extern_name name.now ⊕ description_bytes description) }
+pub(crate) fn put_extern(out: &mut Output, name: &ExternName, description: Description)
+    ensures { Puts out.old out.new (extern_name name.now ⊕ description_bytes description) }
 {
-    name.put(out)?;
-    description.put(out)?;
-    Ok(())
+    name.emit(out);
+    description.emit(out);
 }
 
-fn put_tagged_extern(
-    out: &mut Vec<u8>,
-    name: &ExternName,
-    description: Description,
-) -> Result<(), BuildFault>
-    ensures { Writes out.old.items out.new.items result (octet 0x04 ⊕ extern_name name.now ⊕ description_bytes description) }
+fn put_tagged_extern(out: &mut Output, name: &ExternName, description: Description)
+    ensures { Puts out.old out.new (octet 0x04 ⊕ extern_name name.now ⊕ description_bytes description) }
 {
-    put_bytes(out, &[0x04])?;
-    put_extern(out, name, description)?;
-    Ok(())
+    put_tagged(out, 0x04, name);
+    description.emit(out);
 }
 
-impl Encode for Member {
+impl Emit for Member {
     ghost encoding = { member };
 
-    fn put(&self, out: &mut Vec<u8>) -> Result<(), BuildFault> {
+    fn emit(&self, out: &mut Output) {
         match self {
             Member::Type(ty) => put_tagged(out, 0x01, ty),
             Member::Alias(alias) => put_tagged(out, 0x02, alias),
@@ -290,10 +271,10 @@ impl Encode for Member {
     }
 }
 
-impl Encode for CanonicalOption {
+impl Emit for CanonicalOption {
     ghost encoding = { option_bytes };
 
-    fn put(&self, out: &mut Vec<u8>) -> Result<(), BuildFault> {
+    fn emit(&self, out: &mut Output) {
         match self {
             CanonicalOption::Utf8 => put_bytes(out, &[0x00]),
             CanonicalOption::Utf16 => put_bytes(out, &[0x01]),
@@ -307,30 +288,19 @@ impl Encode for CanonicalOption {
     }
 }
 
-fn put_task_return(
-    out: &mut Vec<u8>,
-    ty: &Option<ComponentValType>,
-    options: &Seq<CanonicalOption>,
-) -> Result<(), BuildFault>
-    ensures { Writes out.old.items out.new.items result (octet 0x09 ⊕ function_result ty.now ⊕ listed option_bytes options.now) }
+fn put_task_return(out: &mut Output, ty: &Option<ComponentValType>, options: &Seq<CanonicalOption>)
+    ensures { Puts out.old out.new (octet 0x09 ⊕ function_result ty.now ⊕ listed option_bytes options.now) }
 {
-    put_bytes(out, &[0x09])?;
-    put_result(out, ty)?;
-    options.put(out)?;
-    Ok(())
+    put_bytes(out, &[0x09]);
+    put_result(out, ty);
+    options.emit(out);
 }
 
-fn put_with_options(
-    out: &mut Vec<u8>,
-    tag: u8,
-    index: u32,
-    options: &Seq<CanonicalOption>,
-) -> Result<(), BuildFault>
-    ensures { Writes out.old.items out.new.items result (octet tag ⊕ number index ⊕ listed option_bytes options.now) }
+fn put_with_options(out: &mut Output, tag: u8, index: u32, options: &Seq<CanonicalOption>)
+    ensures { Puts out.old out.new (octet tag ⊕ number index ⊕ listed option_bytes options.now) }
 {
-    put_tagged(out, tag, &index)?;
-    options.put(out)?;
-    Ok(())
+    put_tagged(out, tag, &index);
+    options.emit(out);
 }
 
 fn byte_of_context(ty: ContextType) -> u8
@@ -342,26 +312,24 @@ fn byte_of_context(ty: ContextType) -> u8
     }
 }
 
-fn put_context(out: &mut Vec<u8>, tag: u8, ty: ContextType, slot: u32) -> Result<(), BuildFault>
-    ensures { Writes out.old.items out.new.items result (octet tag ⊕ octet (context_byte ty) ⊕ number slot) }
+fn put_context(out: &mut Output, tag: u8, ty: u8, slot: u32)
+    ensures { Puts out.old out.new (octet tag ⊕ octet ty ⊕ number slot) }
 {
-    put_bytes(out, &[tag, byte_of_context(ty)])?;
-    put_index(out, slot)?;
-    Ok(())
+    put_bytes(out, &[tag, ty]);
+    put_index(out, slot);
 }
 
-fn put_with_flag(out: &mut Vec<u8>, tag: u8, index: u32, set: bool) -> Result<(), BuildFault>
-    ensures { Writes out.old.items out.new.items result (octet tag ⊕ number index ⊕ flag set) }
+fn put_with_flag(out: &mut Output, tag: u8, index: u32, flag: u8)
+    ensures { Puts out.old out.new (octet tag ⊕ number index ⊕ octet flag) }
 {
-    put_tagged(out, tag, &index)?;
-    put_bytes(out, &[byte_of_flag(set)])?;
-    Ok(())
+    put_tagged(out, tag, &index);
+    put_bytes(out, &[flag]);
 }
 
-impl Encode for Intrinsic {
+impl Emit for Intrinsic {
     ghost encoding = { intrinsic_bytes };
 
-    fn put(&self, out: &mut Vec<u8>) -> Result<(), BuildFault> {
+    fn emit(&self, out: &mut Output) {
         match self {
             Intrinsic::ResourceNew(index) => put_tagged(out, 0x02, index),
             Intrinsic::ResourceDrop(index) => put_tagged(out, 0x03, index),
@@ -369,21 +337,51 @@ impl Encode for Intrinsic {
             Intrinsic::TaskCancel => put_bytes(out, &[0x05]),
             Intrinsic::SubtaskCancel { async_ } => put_bytes(out, &[0x06, byte_of_flag(*async_)]),
             Intrinsic::TaskReturn { result, options } => put_task_return(out, result, options),
-            Intrinsic::ContextGet { ty, slot } => put_context(out, 0x0a, *ty, *slot),
-            Intrinsic::ContextSet { ty, slot } => put_context(out, 0x0b, *ty, *slot),
+            Intrinsic::ContextGet { ty, slot } => put_context(
+                out,
+                0x0a,
+                byte_of_context(*ty),
+                *slot,
+            ),
+            Intrinsic::ContextSet { ty, slot } => put_context(
+                out,
+                0x0b,
+                byte_of_context(*ty),
+                *slot,
+            ),
             Intrinsic::SubtaskDrop => put_bytes(out, &[0x0d]),
             Intrinsic::StreamNew(index) => put_tagged(out, 0x0e, index),
             Intrinsic::StreamRead { ty, options } => put_with_options(out, 0x0f, *ty, options),
             Intrinsic::StreamWrite { ty, options } => put_with_options(out, 0x10, *ty, options),
-            Intrinsic::StreamCancelRead { ty, async_ } => put_with_flag(out, 0x11, *ty, *async_),
-            Intrinsic::StreamCancelWrite { ty, async_ } => put_with_flag(out, 0x12, *ty, *async_),
+            Intrinsic::StreamCancelRead { ty, async_ } => put_with_flag(
+                out,
+                0x11,
+                *ty,
+                byte_of_flag(*async_),
+            ),
+            Intrinsic::StreamCancelWrite { ty, async_ } => put_with_flag(
+                out,
+                0x12,
+                *ty,
+                byte_of_flag(*async_),
+            ),
             Intrinsic::StreamDropReadable(index) => put_tagged(out, 0x13, index),
             Intrinsic::StreamDropWritable(index) => put_tagged(out, 0x14, index),
             Intrinsic::FutureNew(index) => put_tagged(out, 0x15, index),
             Intrinsic::FutureRead { ty, options } => put_with_options(out, 0x16, *ty, options),
             Intrinsic::FutureWrite { ty, options } => put_with_options(out, 0x17, *ty, options),
-            Intrinsic::FutureCancelRead { ty, async_ } => put_with_flag(out, 0x18, *ty, *async_),
-            Intrinsic::FutureCancelWrite { ty, async_ } => put_with_flag(out, 0x19, *ty, *async_),
+            Intrinsic::FutureCancelRead { ty, async_ } => put_with_flag(
+                out,
+                0x18,
+                *ty,
+                byte_of_flag(*async_),
+            ),
+            Intrinsic::FutureCancelWrite { ty, async_ } => put_with_flag(
+                out,
+                0x19,
+                *ty,
+                byte_of_flag(*async_),
+            ),
             Intrinsic::FutureDropReadable(index) => put_tagged(out, 0x1a, index),
             Intrinsic::FutureDropWritable(index) => put_tagged(out, 0x1b, index),
             Intrinsic::ErrorContextNew { options } => put_tagged(out, 0x1c, options),
@@ -400,43 +398,46 @@ impl Encode for Intrinsic {
     }
 }
 
-impl Encode for CoreArgument {
+impl Emit for CoreArgument {
     ghost encoding = { core_argument };
 
-    fn put(&self, out: &mut Vec<u8>) -> Result<(), BuildFault> {
-        self.name.put(out)?;
-        put_bytes(out, &[0x12])?;
-        put_index(out, self.instance)?;
-        Ok(())
+    fn emit(&self, out: &mut Output) {
+        self.name.emit(out);
+        put_bytes(out, &[0x12]);
+        put_index(out, self.instance);
     }
 }
 
-impl Encode for CoreInlineExport {
+fn put_core_export(out: &mut Output, name: &Text, kind: u8, index: u32)
+    ensures { Puts out.old out.new (named name.now ⊕ octet kind ⊕ number index) }
+{
+    name.emit(out);
+    put_bytes(out, &[kind]);
+    put_index(out, index);
+}
+
+impl Emit for CoreInlineExport {
     ghost encoding = { core_inline_export };
 
-    fn put(&self, out: &mut Vec<u8>) -> Result<(), BuildFault> {
-        self.name.put(out)?;
-        put_bytes(out, &[byte_of_kind(self.kind)])?;
-        put_index(out, self.index)?;
-        Ok(())
+    fn emit(&self, out: &mut Output) {
+        put_core_export(out, &self.name, byte_of_kind(self.kind), self.index);
     }
 }
 
-impl Encode for Argument {
+impl Emit for Argument {
     ghost encoding = { argument };
 
-    fn put(&self, out: &mut Vec<u8>) -> Result<(), BuildFault> {
-        self.name.put(out)?;
-        self.sort.put(out)?;
-        put_index(out, self.index)?;
-        Ok(())
+    fn emit(&self, out: &mut Output) {
+        self.name.emit(out);
+        self.sort.emit(out);
+        put_index(out, self.index);
     }
 }
 
-impl Encode for InstanceType {
+impl Emit for InstanceType {
     ghost encoding = { instance_type };
 
-    fn put(&self, out: &mut Vec<u8>) -> Result<(), BuildFault> {
+    fn emit(&self, out: &mut Output) {
         put_tagged(out, 0x42, &self.members)
     }
 }

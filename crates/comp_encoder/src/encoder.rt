@@ -359,7 +359,7 @@ impl<L: Lower> ComponentEncoder<L> {
     /// It refuses when out of memory, where there is no main module or its bytes are empty, where
     /// the lower layer can't prepare the world, with canonical names on where two imports or two exports have
     /// one canonical name, where the world has no string encoding for a function, where a function is lowered or lifted with a
-    /// memory that main doesn't export, or a realloc that there isn't for the module, where a required interface uses types of another
+    /// memory and main has none, or a realloc that there isn't for the module, where a required interface uses types of another
     /// exported one that isn't exported before it, where a count or a size passes 2^32 - 1, and, with `validate` on, where a name of an import or an
     /// export occurs twice or is not well formed.
     pub fn encode(&self) -> Result<Vec<u8>, EncodeFault<L::Fault>>

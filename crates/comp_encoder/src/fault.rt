@@ -41,14 +41,15 @@ pub enum EncodeFault<F> {
         second: Text,
         name: Text,
     },
-    /// A function is lowered or lifted with a memory, and main exports none. `place` is `indirect-module-field` for a core import,
-    /// and the function's name for an export (Canonical ABI, `memory`).
+    /// A function is lowered or lifted with a memory, or a module imports main's, and main has none. `place` is `indirect-module-field`
+    /// for a function that is imported, `module::field` for a memory, and the function's name for an export (Canonical ABI, `memory`).
     #[error("E7 NoMemory place={place}")]
     NoMemory {
         place: Text,
     },
-    /// A function is lowered or lifted with a realloc, and main exports none for calls of imports, or of exports. `place` is
-    /// `indirect-module-field` for a core import, and the function's name for an export (Canonical ABI, `realloc`).
+    /// A function is lowered or lifted with a realloc, and there is none for calls of the module's imports, or of its exports. `place` is
+    /// `indirect-module-field` for a core import, or `module::field` where main imports its memory, and the function's name for an
+    /// export (Canonical ABI, `realloc`).
     #[error("E8 NoRealloc place={place}")]
     NoRealloc {
         place: Text,

@@ -14,12 +14,16 @@ use crate::alias_key::AliasKey;
 use crate::items::ComponentItems;
 use byte_encoding::BuildFault;
 use comp_bytes::{Alias, CoreArgument, CoreInlineExport, Def, Item, Space};
-use comp_lists::{Seq, Text};
+use comp_lists::{Seq, SharedBytes, Text};
 use standard_kinds::ExportKind;
 
 impl ComponentItems {
-    /// Adds a core module, by its bytes, which are copied.
-    pub fn core_module(&mut self, debug: Option<&str>, bytes: &[u8]) -> Result<u32, BuildFault>
+    /// Adds a core module, by its bytes, which are shared.
+    pub fn core_module(
+        &mut self,
+        debug: Option<&str>,
+        bytes: &SharedBytes,
+    ) -> Result<u32, BuildFault>
         requires { IsCoreModule bytes.now }
         ensures adds { Adds self.old self.new result Space.CoreModule (Def.Item (Item.CoreModule bytes.now)) (option_now debug.entry) }
         ensures at { IfOk result (λ index. IsAt self.new.defs Space.CoreModule index (Def.Item (Item.CoreModule bytes.now))) }

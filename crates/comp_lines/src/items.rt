@@ -13,12 +13,13 @@ ghost use Rattle.comp_bytes.specs.declared.space.Space.TheVariants.{Component};
 
 use crate::parts::{Printable, put_each, put_extern, put_item, put_numbered};
 use crate::texts::{put_hex, put_number, put_quoted};
-use byte_encoding::{BuildFault, Encode, encoded};
+use byte_encoding::BuildFault;
 use comp_bytes::{
     Alias, CanonicalOption, CoreInlineExport, Description, ExternName, Intrinsic, Item, Sort,
     Space, space_of_kind,
 };
 use comp_lists::{Seq, Text};
+use measured_bytes::{Emit, encoded};
 use std::alloc::Global;
 
 /// Writes a size in bytes.
@@ -106,7 +107,7 @@ fn put_lift(
 }
 
 /// Writes the bytes that encode a value.
-fn put_encoded<T: Encode>(alloc: Global, out: &mut String, value: &T) -> Result<(), BuildFault>
+fn put_encoded<T: Emit>(alloc: Global, out: &mut String, value: &T) -> Result<(), BuildFault>
     ensures { Puts (string_bytes out.old) (string_bytes out.new) result (encode_lower (T.encoding value.now).bytes) (T.encoding value.now).counts }
 {
     let bytes = encoded(alloc, value)?;

@@ -4,3 +4,4 @@ pub mod Modules
 pub mod Roles
 pub mod Lists
 pub mod Links
+pub mod Supplied

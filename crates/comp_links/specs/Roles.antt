@@ -6,7 +6,6 @@ use Rattle.std.specs.Option.{option_and_then}
 use Rattle.std.specs.Str.{bytes_eq}
 use Rattle.comp_roles.specs.Functions.{of_function}
 use Rattle.comp_roles.specs.CoreImports.{fields_of}
-use Rattle.comp_roles.specs.Lookups.{first_memory}
 use Rattle.comp_worlds.specs.WorldContents.{imported_name, imported_functions}
 use Rattle.wit_data.specs.declared.ids.InterfaceId.{InterfaceId}
 use Rattle.wit_data.specs.declared.worlds.WorldKey.{WorldKey}
@@ -73,12 +72,6 @@ import_encoding w of role = option_and_then (encoding_in role) (module_found w o
 abbrev pub is_main_memory : Import → Bool
 is_main_memory (imports.MainModuleMemory type) = true
 is_main_memory role = false
-
--- an import has what it needs apart from the options of calls: where it is called with a string encoding, it has one, and where it is
--- main's memory, main exports one
-pub record IsSuppliedImport (w : ComponentWorld) (of : UserModule) (role : Import) : Type 0 where
-  pub encoding : IsTrue (needs_encoding role) → IsSome (import_encoding w of role)
-  pub memory : IsTrue (is_main_memory role) → IsSome (first_memory w.main.exports.exports)
 
 -- the encoding with which the function of this name at a key is lifted, from what a module exports
 abbrev pub export_encoding : ComponentWorld → UserModule → WorldKey → List ℕ → Option StringEncoding

@@ -12,7 +12,7 @@ use crate::number::{Decode, byte, expect_byte, list, name, number, option};
 use crate::types::{instance_type, type_def};
 use crate::values::{alias, extern_name, kind, sort};
 use comp_bytes::{Argument, CoreArgument, CoreInlineExport, CoreModule, Description, Item};
-use comp_lists::{Bytes, Seq};
+use comp_lists::{Bytes, Seq, SharedBytes};
 use std::alloc::Global;
 
 impl Decode for CoreArgument {
@@ -216,18 +216,12 @@ fn one(alloc: Global, item: Item) -> Result<Seq<Item>, PartFault>
     Ok(items)
 }
 
-fn copy_of(alloc: Global, bytes: &[u8]) -> Result<Bytes, PartFault>
-    ensures { Gives (λ x. x) result (Some bytes.now) }
-{
-    Ok(Bytes::from_vec(Vec::from_slice(alloc, bytes)?))
-}
-
 #[tactic(auto, unfolding(crate::specs::ItemReaders::custom_at))]
 fn custom(alloc: Global, bytes: &[u8]) -> Result<Seq<Item>, PartFault>
     ensures { Gives (λ x. x) result (custom_at bytes.now) }
 {
     let (name, rest) = name(alloc, bytes)?;
-    let contents = copy_of(alloc, rest)?;
+    let contents = Bytes::from_vec(Vec::from_slice(alloc, rest)?);
     one(alloc, Item::Custom { name, contents })
 }
 
@@ -236,7 +230,7 @@ fn custom(alloc: Global, bytes: &[u8]) -> Result<Seq<Item>, PartFault>
 fn module(alloc: Global, bytes: &[u8]) -> Result<Seq<Item>, PartFault>
     ensures { Gives (λ x. x) result (module_at bytes.now) }
 {
-    let bytes = copy_of(alloc, bytes)?;
+    let bytes = SharedBytes::from_vec(Vec::from_slice(alloc, bytes)?)?;
     match CoreModule::from_bytes(bytes) {
         Some(module) => one(alloc, Item::CoreModule(module)),
         None => Err(PartFault::Malformed),

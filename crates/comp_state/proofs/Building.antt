@@ -14,6 +14,7 @@ use Rattle.comp_worlds.specs.declared.world.ComponentWorld.{ComponentWorld}
 use Rattle.core_instances.specs.Instances.{instances_marked, AddsInstances}
 use Rattle.core_options.specs.Causes.{IsEncoded, IsEncodedExport, LacksEncoding, LacksMemory, LacksRealloc, NeedsLowering, NeedsLift, ImportsMemory, ExportsLater}
 use Rattle.comp_roles.specs.declared.libraries.MainOrAdapter.TheVariants as modules
+use Rattle.comp_worlds.specs.Offered.{memory_of_main}
 use Rattle.comp_worlds.specs.Made.{modules_named, IsMadeBefore, AreMadeAfter, IsNotYetMade}
 use Rattle.comp_worlds.specs.declared.world.WorldAdapter.{WorldAdapter}
 use Rattle.comp_worlds.specs.ExportOrder.{exported_before, used_exports}
@@ -21,13 +22,12 @@ use Rattle.world_values.specs.Mentions.{same_interface}
 use Rattle.std.proofs.lemmas.Option.{none-some, same_Some}
 use Rattle.std.specs.List.{AllByRecursion, list_any}
 use Rattle.std.specs.Map.{keys_of}
-use Rattle.std.specs.Option.{option_map}
-use Rattle.comp_roles.specs.Lookups.{first_memory}
-use Rattle.core_options.specs.MainOptions.{memory_name, HasLowerOptions, HasLiftOptions}
+use Rattle.core_options.specs.MainOptions.{HasLowerOptions, HasLiftOptions}
 use Rattle.comp_links.specs.Lists.{required_functions}
 use Rattle.comp_links.specs.Links.{lower_realloc, lift_realloc}
 use Rattle.comp_terms.specs.Generated.{GeneratedBytes, MayBeGenerated}
-use Rattle.comp_links.specs.Roles.{import_encoding, IsSuppliedImport, export_encoding}
+use Rattle.comp_links.specs.Roles.{import_encoding, export_encoding}
+use Rattle.comp_links.specs.Supplied.{IsSuppliedImport}
 use Rattle.comp_inventories.specs.Inventories.{inventory}
 use Rattle.comp_terms.specs.Terms.{imports_in}
 use Rattle.comp_terms.specs.Rules.{Grows, RightAfter, Landmark, bytes_marked, landmarks, imports_marked, exports_marked, expected, IsUnnamed, IsBuilt}
@@ -87,17 +87,13 @@ encoded_lacks w h place (inr l) = lacks_none (export_encoding w l.required.of l.
 
 -- where main has what lowerings and lifts need, nothing is missing
 pub encoded_memory : (w : ComponentWorld) → IsEncoded w → (place : List ℕ) → LacksMemory w (user_imports w) (required_functions w) place → ⊥
-encoded_memory w h place l = lacks_none (memory_name w) (offered l.needed) l.none
+encoded_memory w h place l = lacks_none (memory_of_main w.main) (offered l.needed) l.none
   where
-    named : {T : Type 0} (o : Option (List ℕ × T)) → IsSome o → IsSome (option_map (λ (m : List ℕ × T). m.0) o)
-    named None h = h
-    named (Some m) h = refl
-
-    offered : NeedsLowering w 1 (user_imports w) place ⊎ NeedsLift w 1 (required_functions w) place ⊎ ImportsMemory (user_imports w) place → IsSome (memory_name w)
+    offered : NeedsLowering w 1 (user_imports w) place ⊎ NeedsLift w 1 (required_functions w) place ⊎ ImportsMemory (user_imports w) place → IsSome (memory_of_main w.main)
     offered (inl n) = let has = AllByRecursion-contains (HasLowerOptions w) (user_imports w) n.given h.lowered n.present in has.memory n.needed
     offered (inr (inr n)) =
         let has = AllByRecursion-contains (λ (i : UserImport). IsSuppliedImport w i.of i.core.role) (user_imports w) n.given h.imports n.present in
-        named (first_memory w.main.exports.exports) (has.memory n.is)
+        has.memory n.is
     offered (inr (inl n)) = let has = AllByRecursion-contains (HasLiftOptions w) (required_functions w) n.required h.lifted n.present in has.memory n.needed
 
 pub encoded_realloc : (w : ComponentWorld) → IsEncoded w → (place : List ℕ) → LacksRealloc w (user_imports w) (required_functions w) place → ⊥

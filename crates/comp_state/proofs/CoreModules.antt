@@ -13,7 +13,7 @@ use Rattle.comp_terms.specs.UserBytes.{adapter_bytes, user_bytes}
 use Rattle.comp_terms.specs.Rules.{Grows, Landmark, ModuleIs, bytes_marked, import_marked, imports_marked, instance_number, instances_in, landmarks}
 use Rattle.core_instances.proofs.Counting.{module_mark, modules_counted, modules_grown, instances_grown}
 use Rattle.core_instances.specs.Instances.{AreUserModules}
-use Rattle.core_instances.proofs.Resourced.{is_defined, resources_grown, resources_of}
+use Rattle.exported_types.proofs.Resourced.{is_defined, resources_grown, resources_of}
 
 -- imports are no modules, and no instances of them
 no_modules : (n : Naming) (w : ComponentWorld) (es : List ImportEntry) → filter_map module_mark (flat_map (import_marked n w) es) ≡ []

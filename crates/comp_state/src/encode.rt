@@ -62,12 +62,12 @@ impl EncodingState<'_> {
 /// The component of a validated world, definition by definition, with the names of its items. Interfaces are imported under the
 /// names that `names` makes; core modules have names for debuggers if it says so.
 ///
-/// Refused when out of memory, where a function is lowered or lifted with a memory that main doesn't export, or a realloc that there
-/// isn't for the module (`E7`, `E8`, with the name of the import's shim, or the function that is lifted), where a function that is
-/// imported or exported has no string encoding (`E9`, with the import, or the function), where an adapter names another that is not
-/// instantiated before it (`E10`, with both), where an interface uses types of another exported one that isn't exported before it
-/// (`E11`, with both), and where a space would have more than 2^32 - 1 items, or a count or
-/// a size among the names, or in a module that is generated or given a name, would pass that (`E16`).
+/// Refused when out of memory, where a function is lowered or lifted with a memory and main has none, or a realloc that there
+/// isn't for the module (`E7`, `E8`, with the name of the import's shim, the import itself where main imports its memory, or the
+/// function that is lifted), where a function that is imported or exported has no string encoding (`E9`, with the import, or the
+/// function), where an adapter names another that is not instantiated before it (`E10`, with both), where an interface uses types of
+/// another exported one that isn't exported before it (`E11`, with both), and where a space would have more than 2^32 - 1 items, or
+/// a count or a size among the names, or in a module that is generated or given a name, would pass that (`E16`).
 pub fn encode_world(
     alloc: Global,
     world: &ComponentWorld,

@@ -7,7 +7,7 @@ ghost use Rattle.comp_builder.specs.Built.{nothing_built};
 ghost use Rattle.comp_items.specs.Items.{Extends};
 ghost use Rattle.comp_links.specs.Lists.{required_functions};
 ghost use Rattle.comp_links.specs.Modules.{UserImport, user_imports};
-ghost use Rattle.comp_links.specs.Roles.{IsSuppliedImport};
+ghost use Rattle.comp_links.specs.Supplied.{IsSuppliedImport};
 ghost use Rattle.comp_state.specs.Encoding.{naming_in};
 ghost use Rattle.comp_worlds.specs.ExportOrder.{AreExportsInOrder};
 ghost use Rattle.comp_worlds.specs.Made.{AreMadeInOrder};
@@ -147,11 +147,11 @@ impl EncodingState<'_> {
         Ok(())
     }
 
-    /// Makes the instances of the user modules, and before and after them those of the module of shims and of the fixup, where a
-    /// module needs shims.
+    /// Makes the instances of the user modules; before them that of the module of shims, where a module needs shims or main imports
+    /// its memory, and after them that of the fixup, where a module needs shims.
     ///
-    /// `E9` where an import of a function has no string encoding, `E7` where a function is lowered with a memory and main exports
-    /// none, `E8` where it is lowered with a realloc and there is none for the module, `E10` where an adapter names one that is not
+    /// `E9` where an import of a function has no string encoding, `E7` where a function is lowered with a memory and main has none,
+    /// `E8` where it is lowered with a realloc and there is none for the module, `E10` where an adapter names one that is not
     /// instantiated before it, and `E11` where an exported interface uses types of another one that isn't exported before it.
     pub fn encode_core_instantiation(&mut self) -> Result<(), StateFault>
         requires users { AreUserModules self.old.world self.old.built.defs }

@@ -1,6 +1,6 @@
 -- The core modules that are generated for a component: their numbers, their bytes, and what each shim stands for (this
 -- project's own; component model, explainer: core instances).
-use Rattle.std.specs.Prelude.{◌≡◌, ◌<◌, ◌^◌, ℕ, suc, Bool, List, length, Option, Some, None, Contains, []}
+use Rattle.std.specs.Prelude.{◌≡◌, ◌<◌, ◌^◌, ℕ, suc, Bool, List, length, Option, Some, None, IsSome, Contains, []}
 use Rattle.std.specs.Map.{lookup}
 use Rattle.std.specs.Option.{option_map, option_and_then}
 use Rattle.comp_lists.specs.Found.{found}
@@ -14,6 +14,7 @@ use Rattle.wit_data.specs.declared.worlds.WorldKey.TheVariants as keys
 use Rattle.comp_roles.specs.declared.imports.Import.{Import}
 use Rattle.comp_roles.specs.declared.imports.Import.TheVariants as imports
 use Rattle.comp_roles.specs.declared.offered.ExternType.TheVariants as externs
+use Rattle.comp_worlds.specs.Offered.{shared_memory}
 use Rattle.comp_worlds.specs.Typed.{type_of_import}
 use Rattle.comp_worlds.specs.WorldContents.{items_of}
 use Rattle.comp_worlds.specs.Worlds.{IsImportRole}
@@ -35,17 +36,22 @@ shims_number w = length (user_modules w)
 abbrev pub fixup_number : ComponentWorld → ℕ
 fixup_number w = suc (shims_number w)
 
--- the bytes of the module of shims, and of the fixup
+-- the bytes of the module of shims, and of the fixup, where there is one
 pub record GeneratedBytes : Type 0 where
   pub shims : List ℕ
-  pub fixup : List ℕ
+  pub fixup : Option (List ℕ)
 
--- they encode the modules that are generated for the shims of the world, which has some
+-- there is a fixup where there are shims
+abbrev pub IsFixup : ComponentWorld → Bool → Option (List ℕ) → Type 0
+IsFixup w debug_names None = shims_of w ≡ []
+IsFixup w debug_names (Some bytes) = Encodes bytes (sections_of_fixup (shims_of w) debug_names) × (shims_of w ≡ [] → ⊥)
+
+-- they encode the modules that are generated for the shims of the world and the memory that main imports: it has shims or such a memory
 pub record AreGenerated (w : ComponentWorld) (g : GeneratedBytes) : Type 0 where
   pub debug_names : Bool
-  pub shims : Encodes g.shims (sections_of_shims None (shims_of w) debug_names)
-  pub fixup : Encodes g.fixup (sections_of_fixup (shims_of w) debug_names)
-  pub any : shims_of w ≡ [] → ⊥
+  pub shims : Encodes g.shims (sections_of_shims (shared_memory w) (shims_of w) debug_names)
+  pub fixup : IsFixup w debug_names g.fixup
+  pub any : shims_of w ≡ [] → IsSome (shared_memory w)
   pub room : length (shims_of w) < 2 ^ 32
 
 -- the same, where there are any
@@ -79,6 +85,7 @@ pub record IsShimOf (w : ComponentWorld) (s : Shim) (of : UserModule) (role : Im
 abbrev pub export_of_kind : ShimKind → Option ExportRef
 export_of_kind (kinds.Adapter adapter name) = Some (record { of = Adapter adapter; name = name })
 export_of_kind (kinds.ResourceDtor which name) = Some (record { of = module_of which; name = name })
+export_of_kind (kinds.Realloc which name) = Some (record { of = module_of which; name = name })
 export_of_kind kind = None
 
 -- the shim stands for this export, and has the core type that validation found

@@ -1,6 +1,6 @@
 -- Which terms the link table of a world asks for (Canonical ABI: `canon lower`, `canon lift`; component model, explainer:
 -- core instances), and what the instances of its modules are given.
-use Rattle.std.specs.Prelude.{◌≡◌, ◌⊎◌, ℕ, List, Some, slice_get}
+use Rattle.std.specs.Prelude.{◌≡◌, ◌⊎◌, ℕ, List, Option, Some, None, codes, slice_get}
 use Rattle.std.specs.Fmt.{decimal}
 use Rattle.std.specs.List.{AllZip}
 use Rattle.comp_bytes.specs.ItemIndices.{IsAt}
@@ -28,10 +28,11 @@ use Rattle.comp_links.specs.Targets as targets
 use Rattle.comp_links.specs.Modules.{IsModule, function_imported}
 use Rattle.comp_links.specs.Lists.{IsOriginOf, resource_of}
 use Rattle.comp_links.specs.Links.{link_of, module_of}
-use Rattle.comp_links.specs.Roles.{IsSuppliedImport}
+use Rattle.comp_links.specs.Supplied.{IsSuppliedImport}
 use Rattle.shim_plan.specs.declared.shims.Shim.{Shim}
 use Rattle.world_shims.specs.WorldShims.{shims_of}
 use Rattle.comp_terms.specs.Generated.{shims_number, Purpose, target_of, HasPurpose}
+use Rattle.comp_worlds.specs.Offered.{shared_memory}
 use Rattle.comp_terms.specs.Terms.{CoreExport, TermOption, Term, IsInstanceOf, IsExported, IsLifting, Is}
 use Rattle.comp_terms.specs.Terms as terms
 
@@ -40,16 +41,45 @@ pub record IsExportFor (w : ComponentWorld) (e : CoreExport) (export_ref : Expor
   pub of : IsModule w e.of export_ref.of
   pub named : e.name ≡ export_ref.name
 
--- the first memory that main exports
-pub record IsMemoryFor (w : ComponentWorld) (e : CoreExport) : Type 0 where
-  pub of : IsModule w e.of targets.Main
-  pub type : MemoryType
-  pub first : first_memory w.main.exports.exports ≡ Some (e.name, type)
+-- main's memory: what the module of shims exports for the first one that main imports, or, where it imports none, the first that main
+-- exports
+abbrev pub memory_from : ComponentWorld → Option MemoryType → Option (List ℕ × MemoryType) → Option CoreExport
+memory_from w (Some imported) exported = Some (record { of = shims_number w; kind = kinds.Memory; name = codes "$memory" })
+memory_from w None (Some (name, type)) = Some (record { of = 0; kind = kinds.Memory; name = name })
+memory_from w None None = None
+
+abbrev pub main_memory : ComponentWorld → Option CoreExport
+main_memory w = memory_from w (shared_memory w) (first_memory w.main.exports.exports)
+
+abbrev pub IsMemoryFor : ComponentWorld → CoreExport → Type 0
+IsMemoryFor w e = main_memory w ≡ Some e
+
+-- the shim of this place stands for what the target names
+pub record IsShimPlace (w : ComponentWorld) (place : ℕ) (target : Target) : Type 0 where
+  pub shim : Shim
+  pub purpose : Purpose
+  pub listed : slice_get (shims_of w) place ≡ Some shim
+  pub stands_for : HasPurpose w shim purpose
+  pub same : target_of w purpose ≡ target
+
+-- what the module of shims exports for the shim of a place
+abbrev pub shim_export : ComponentWorld → ℕ → CoreExport
+shim_export w place = record { of = shims_number w; kind = kinds.Func; name = decimal place }
+
+-- an export of the module of shims that stands for what the target names
+pub record IsShimExport (w : ComponentWorld) (e : CoreExport) (target : Target) : Type 0 where
+  pub place : ℕ
+  pub stands : IsShimPlace w place target
+  pub is : e ≡ shim_export w place
+
+-- the realloc of calls: the export itself, or a shim for it, where the calls are made before the module that exports it is instantiated
+abbrev pub IsReallocFor : ComponentWorld → CoreExport → ExportRef → Type 0
+IsReallocFor w e export_ref = IsExportFor w e export_ref ⊎ IsShimExport w e (targets.ExportOf export_ref)
 
 abbrev pub IsOptionFor : ComponentWorld → TermOption → TargetOption → Type 0
 IsOptionFor w (terms.Encoding e) (targets.Encoding e') = e ≡ e'
 IsOptionFor w (terms.Memory e) targets.Memory = IsMemoryFor w e
-IsOptionFor w (terms.Realloc e) (targets.Realloc export_ref) = IsExportFor w e export_ref
+IsOptionFor w (terms.Realloc e) (targets.Realloc export_ref) = IsReallocFor w e export_ref
 IsOptionFor w (terms.PostReturn e) (targets.PostReturn export_ref) = IsExportFor w e export_ref
 IsOptionFor w terms.Async targets.Async = Unit {0}
 IsOptionFor w (terms.Callback e) (targets.Callback export_ref) = IsExportFor w e export_ref
@@ -65,7 +95,7 @@ pub record IsTypeOf (w : ComponentWorld) (function : WorldFunction) (type : Func
   pub imported : function_imported w function ≡ Some wit
   pub typed : type ≡ type_of_function w wit
 
--- the term is what the target names, where no shim and no wrapper is between them
+-- the term is what the target names, where no shim and no wrapper is between them but for the realloc of calls
 abbrev pub IsTermFor : ComponentWorld → Target → Term → Type 0
 IsTermFor w (targets.Lowered function options) (terms.Lowering origin type written) = IsOriginOf w function origin × IsTypeOf w function type × AllZip (IsOptionFor w) written options
 IsTermFor w (targets.ExportOf export_ref) (terms.Exported e) = IsExportFor w e export_ref
@@ -83,13 +113,9 @@ pub record IsItemFor (w : ComponentWorld) (ds : List Def) (space : Space) (index
 -- the item of this index in a space is a shim that stands for what the target names
 pub record IsShimFor (w : ComponentWorld) (ds : List Def) (space : Space) (index : ℕ) (target : Target) : Type 0 where
   pub place : ℕ
-  pub shim : Shim
-  pub purpose : Purpose
-  pub listed : slice_get (shims_of w) place ≡ Some shim
-  pub stands_for : HasPurpose w shim purpose
-  pub same : target_of w purpose ≡ target
+  pub stands : IsShimPlace w place target
   pub in_space : space ≡ spaces.CoreFunc
-  pub is : IsExported ds index (record { of = shims_number w; kind = kinds.Func; name = decimal place })
+  pub is : IsExported ds index (shim_export w place)
 
 -- the item of this index is given where the target is asked for: it is what the target names, or a shim that stands for that
 abbrev pub IsGivenFor : ComponentWorld → List Def → Space → ℕ → Target → Type 0

@@ -1,7 +1,7 @@
 -- Rules that each definition keeps at its index, and the landmarks of the whole list (component model,
 -- explainer: component definitions). They are what the steps guarantee to the proof that the list runs; no rule is
 -- part of a public guarantee.
-use Rattle.std.specs.Prelude.{◌≡◌, ◌<◌, ◌⊎◌, ℕ, Bool, codes, List, [], ◌∷◌, ◌++◌, Option, Some, None, true, length, map, filter, get_or, slice_get}
+use Rattle.std.specs.Prelude.{◌≡◌, ◌<◌, ◌⊎◌, ℕ, Bool, codes, List, [], ◌∷◌, ◌++◌, Option, Some, None, IsSome, true, length, map, filter, get_or, slice_get}
 use Rattle.std.specs.Fmt.{decimal}
 use Rattle.std.specs.List.{AllByRecursion, AllZip, IsDistinct, flat_map, filter_map, list_any, range_with_len}
 use Rattle.std.specs.Str.{bytes_eq}
@@ -57,6 +57,7 @@ use Rattle.comp_terms.specs.Terms.{InstanceOf as InstanceTerm, imports_in, IsFun
 use Rattle.world_shims.specs.WorldShims.{shims_of}
 use Rattle.comp_terms.specs.UserBytes.{user_bytes}
 use Rattle.comp_terms.specs.Generated.{shims_number, fixup_number, GeneratedBytes, MayBeGenerated}
+use Rattle.comp_worlds.specs.Offered.{shared_memory}
 use Rattle.comp_terms.specs.Planned.{IsArgumentFor, AreFillsFor, IsShimFor}
 use Rattle.comp_terms.specs.Exports.{IsNestedRight, IsNestedFor, InstantiatesNested, ExportsFunction, ExportsInterface}
 
@@ -122,6 +123,7 @@ pub record InstantiatesShims (w : ComponentWorld) (earlier : List Def) (number :
 pub record InstantiatesFixup (w : ComponentWorld) (earlier : List Def) (number : ℕ) (arguments : List CoreArgument) : Type 0 where
   pub numbered : number ≡ fixup_number w
   pub scoped : number < items_in spaces.CoreModule earlier
+  pub any : shims_of w ≡ [] → ⊥
   pub last : instances_in earlier ≡ shims_number w ∷ range_with_len 0 (length (user_modules w))
   pub actual : ℕ
   pub shims : ℕ
@@ -149,6 +151,13 @@ pub record AliasesShim (w : ComponentWorld) (earlier : List Def) (kind : ExportK
   pub listed : place < length (shims_of w)
   pub named : name ≡ decimal place
   pub function : kind ≡ kinds.Func
+
+-- an alias of the memory that the module of shims defines for the one that main imports
+pub record AliasesMemory (w : ComponentWorld) (earlier : List Def) (kind : ExportKind) (instance : ℕ) (name : List ℕ) : Type 0 where
+  pub is : Is earlier spaces.CoreInstance instance (InstanceTerm (shims_number w))
+  pub shared : IsSome (shared_memory w)
+  pub named : name ≡ codes "$memory"
+  pub memory : kind ≡ kinds.Memory
 
 -- an entry of an inline instance names an earlier item
 pub record IsEntry (earlier : List Def) (e : CoreInlineExport) : Type 0 where
@@ -180,7 +189,7 @@ AliasesType earlier instance name = AliasesImported earlier spaces.Type instance
 abbrev pub IsAliasRight : ComponentWorld → List Def → Alias → Type 0
 IsAliasRight w earlier (aliases.Export exports.Func instance name) = AliasesImported earlier spaces.Func instance name
 IsAliasRight w earlier (aliases.Export exports.Type instance name) = AliasesType earlier instance name
-IsAliasRight w earlier (aliases.CoreExport kind instance name) = AliasesUser w earlier kind instance name ⊎ AliasesShim w earlier kind instance name
+IsAliasRight w earlier (aliases.CoreExport kind instance name) = AliasesUser w earlier kind instance name ⊎ AliasesShim w earlier kind instance name ⊎ AliasesMemory w earlier kind instance name
 IsAliasRight w earlier _ = ⊥
 
 -- a type of functions
@@ -350,12 +359,17 @@ bytes_marked debug_names w = map ModuleIs (user_bytes debug_names w)
 abbrev pub users_marked : ComponentWorld → List Landmark
 users_marked w = map InstanceOf (range_with_len 0 (length (user_modules w)))
 
+-- the landmarks of the fixup and its instance
+abbrev pub fixup_marked : ComponentWorld → Option (List ℕ) → List Landmark
+fixup_marked w None = []
+fixup_marked w (Some bytes) = ModuleIs bytes ∷ InstanceOf (fixup_number w) ∷ []
+
 -- the landmarks of the core modules and their instances, where these modules are generated. The resources are defined before the user
 -- modules are instantiated, and after the shims
 abbrev pub modules_marked : Bool → ComponentWorld → Option GeneratedBytes → List Landmark
 modules_marked debug_names w None = bytes_marked debug_names w ++ (resources_marked w ++ users_marked w)
 modules_marked debug_names w (Some g) =
-    bytes_marked debug_names w ++ (ModuleIs g.shims ∷ InstanceOf (shims_number w) ∷ (resources_marked w ++ (users_marked w ++ ModuleIs g.fixup ∷ InstanceOf (fixup_number w) ∷ [])))
+    bytes_marked debug_names w ++ (ModuleIs g.shims ∷ InstanceOf (shims_number w) ∷ (resources_marked w ++ (users_marked w ++ fixup_marked w g.fixup)))
 
 -- the landmarks of a component without the names of its items
 abbrev pub expected : Naming → ComponentWorld → Option GeneratedBytes → List Landmark

@@ -1,11 +1,12 @@
 -- What user modules give to each other: main its exports and its memory to all others, an adapter its functions, and any module its
 -- exports to the libraries that name it in their arguments (core standard: imports and exports; validation: import matching).
-use Rattle.std.specs.Prelude.{◌≡◌, ℕ, List, Some, true}
+use Rattle.std.specs.Prelude.{◌≡◌, ℕ, List, Option, Some, true}
+use Rattle.std.specs.Option.{option_map, option_or}
 use Rattle.comp_lists.specs.Found.{found}
 use Rattle.core_types.specs.declared.types.FuncType.{FuncType}
 use Rattle.core_types.specs.declared.types.MemoryType.{MemoryType}
 use Rattle.standard_kinds.specs.declared.kinds.ExportKind.{ExportKind}
-use Rattle.comp_roles.specs.Lookups.{first_memory}
+use Rattle.comp_roles.specs.Lookups.{imported_memory, first_memory}
 use Rattle.comp_roles.specs.Matching.{kind_of, matches, has_numbers}
 use Rattle.comp_roles.specs.declared.libraries.MainOrAdapter.{MainOrAdapter}
 use Rattle.comp_roles.specs.declared.offered.ExternType.{ExternType}
@@ -46,6 +47,14 @@ pub record AdapterOffers (w : ComponentWorld) (adapter name : List ℕ) (type : 
   pub offered : found name of.info.offered ≡ Some (externs.Func type)
   pub numbers : has_numbers type ≡ true
 
--- main's memory, the first that it exports, if it exports one, matches an import of this type
+-- the type of the memory that main imports, the first, if it imports one: all modules share it
+abbrev pub shared_memory : ComponentWorld → Option MemoryType
+shared_memory w = imported_memory w.main.imports.modules
+
+-- the type of main's memory: of the first that it imports, or, where it imports none, of the first that it exports
+abbrev pub memory_of_main : ValidatedModule → Option MemoryType
+memory_of_main m = option_or (imported_memory m.imports.modules) (option_map (λ e. e.1) (first_memory m.exports.exports))
+
+-- main's memory, where it has one, matches an import of this type
 pub record MemoryMatches (w : ComponentWorld) (required : MemoryType) : Type 0 where
-  pub matching : (name : List ℕ) (type : MemoryType) → first_memory w.main.exports.exports ≡ Some (name, type) → matches (externs.Memory required) (externs.Memory type) ≡ true
+  pub matching : (type : MemoryType) → memory_of_main w.main ≡ Some type → matches (externs.Memory required) (externs.Memory type) ≡ true

@@ -114,9 +114,8 @@ abbrev pub IsImportGroup : ComponentWorld → List ℕ × ImportInstance → Typ
 IsImportGroup w (name, instances.Names fields) = IsDistinct bytes_eq (map (λ f. f.0) fields) × AllByRecursion (λ f. IsImportRole w f.1) fields
 IsImportGroup w (name, instances.Whole which) = IsSome (found_module w which)
 
--- main imports nothing of its own, and is no library, so that it can be instantiated first
+-- main imports no export of its own, and is no library, so that it can be instantiated first
 abbrev pub IsNotOfMain : Import → Type 0
-IsNotOfMain (imports.MainModuleMemory type) = ⊥
 IsNotOfMain (imports.MainModuleExport name kind) = ⊥
 IsNotOfMain (imports.Item item) = ⊥
 IsNotOfMain role = Unit {0}

@@ -10,7 +10,7 @@ ghost use Rattle.world_values.specs.declared.gathered.Gathered.{Gathered};
 ghost use Rattle.world_values.specs.declared.gathered.Merged.{Merged};
 
 use crate::world::ComponentWorld;
-use comp_lists::Bytes;
+use comp_lists::SharedBytes;
 use std::alloc::Global;
 use std::error::Error;
 use world_values::{Gathered, Merged};
@@ -49,7 +49,11 @@ pub trait Lower {
         ensures { result ≡ empty_is self.now };
 
     /// Reads a module's metadata from its bytes.
-    fn decode(&self, alloc: Global, bytes: &[u8]) -> Result<(Bytes, Self::Bindgen), Self::Fault>
+    fn decode(
+        &self,
+        alloc: Global,
+        bytes: &[u8],
+    ) -> Result<(SharedBytes, Self::Bindgen), Self::Fault>
         ensures ok { IfOk result (λ p. p ≡ decoded self.now bytes.now) }
         ensures refused { IsOk result → (f : Self.Fault) → ¬ decode_cause self.now bytes.now f }
         ensures cause { IfErr result (λ f. memory_fault self.now f ≡ false → decode_cause self.now bytes.now f) };

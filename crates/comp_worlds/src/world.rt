@@ -4,13 +4,13 @@ ghost use Rattle.std.specs.Prelude.{◌≡◌, ◌<◌, length};
 ghost use Rattle.comp_worlds.specs.WorldContents.{items_of};
 
 use crate::lowerings::ImportedInterface;
-use comp_lists::{Bytes, Keyed, Seq, Text};
+use comp_lists::{Keyed, Seq, SharedBytes, Text};
 use comp_roles::{ExportMap, ExternType, ImportMap, ImportType, LibraryInfo, ModuleMetadata};
 use wit_data::{InterfaceId, Resolve, TypeId, World, WorldId, WorldKey};
 
 /// A core module: its bytes, the types of its imports and exports as validation found them, and the roles of these.
 pub struct ValidatedModule {
-    pub bytes: Bytes,
+    pub bytes: SharedBytes,
     pub imports: ImportMap,
     pub exports: ExportMap,
     /// The core imports with their types, in the module's order; those of types that can't be given are left out.

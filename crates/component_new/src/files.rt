@@ -4,7 +4,7 @@ ghost use Rattle.std.specs.Prelude.{None};
 
 use atomic_files::{CreateFault, FileSystem, Kind, SystemFault};
 use std::alloc::Global;
-use std::fs::File;
+use std::fs::{File, OpenFile};
 use std::io::{ErrorKind, Write};
 use std::rt::Files as SystemFiles;
 use std::{fs, io};
@@ -27,6 +27,16 @@ fn fault_of(error: &io::Error) -> SystemFault {
     } else {
         SystemFault::Device
     }
+}
+
+/// All bytes of a file. Room is made for its size at once, and the bytes come through a small buffer: `fs::read` would grow its own, and
+/// fill all of it with zeros first.
+fn read<R: SystemFiles + AllocGlobal>(rt: &R, name: &str) -> io::Result<Vec<u8>> {
+    let mut file = File::open(rt, name)?;
+    let size = file.metadata()?.len();
+    let mut bytes = Vec::with_capacity(rt.alloc(), size as usize)?;
+    io::copy(&mut file, &mut bytes)?;
+    Ok(bytes)
 }
 
 /// What a name names; a symbolic link is itself, and not what it leads to. A regular file is opened for writing, so that one
@@ -66,7 +76,7 @@ impl<R: SystemFiles + AllocGlobal> FileSystem for Files<'_, R> {
     ghost files = { λ _. None };
 
     fn read(&mut self, _alloc: Global, name: &str) -> Result<Vec<u8>, SystemFault> {
-        match fs::read(self.rt, name) {
+        match read(self.rt, name) {
             Ok(bytes) => Ok(bytes),
             Err(error) => Err(fault_of(&error)),
         }

@@ -8,7 +8,7 @@ use core_types::ValType;
 use std::alloc::{AllocError, Global};
 
 /// An instruction. Numbers are the indices that its bytes hold, and the numbers of constants.
-#[derive(Clone, Copy, Debug, PartialEq, Eq)]
+#[derive(Clone, Copy, PartialEq, Eq)]
 pub enum Instruction {
     Unreachable,
     Call(u32),
@@ -28,7 +28,7 @@ pub enum Instruction {
 }
 
 /// So many local variables of one type.
-#[derive(Clone, Copy, Debug, PartialEq, Eq)]
+#[derive(Clone, Copy, PartialEq, Eq)]
 pub struct LocalRun {
     pub count: u32,
     pub val_type: ValType,
@@ -36,7 +36,7 @@ pub struct LocalRun {
 
 /// The body of a function: its local variables after the parameters, and its instructions without
 /// their end.
-#[derive(Debug, Drop, PartialEq, Eq)]
+#[derive(Drop, PartialEq, Eq)]
 pub struct Body {
     pub locals: Seq<LocalRun>,
     pub instructions: Seq<Instruction>,

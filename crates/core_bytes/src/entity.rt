@@ -5,7 +5,7 @@
 use core_types::{GlobalType, MemoryType, TableType};
 
 /// What an import is: a function, by its type index, or an item of a type.
-#[derive(Clone, Copy, Debug, PartialEq, Eq)]
+#[derive(Clone, Copy, PartialEq, Eq)]
 pub enum EntityType {
     Function(u32),
     Table(TableType),
@@ -14,7 +14,7 @@ pub enum EntityType {
 }
 
 /// A constant expression: a number, or a function by its index.
-#[derive(Clone, Copy, Debug, PartialEq, Eq)]
+#[derive(Clone, Copy, PartialEq, Eq)]
 pub enum ConstExpr {
     I32(i32),
     I64(i64),

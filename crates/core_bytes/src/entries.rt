@@ -8,7 +8,7 @@ use std::marker::Model;
 
 /// A list of entries, which contracts see as the list alone. What can be appended to it is defined by the
 /// calls of each section.
-#[derive(Debug, Drop)]
+#[derive(Drop)]
 pub struct Entries<T> {
     items: Vec<T>,
 }

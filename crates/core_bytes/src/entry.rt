@@ -10,7 +10,7 @@ use standard_kinds::ExportKind;
 use std::alloc::{AllocError, Global};
 
 /// An import, by the two parts of its name.
-#[derive(Debug, Drop, PartialEq, Eq)]
+#[derive(Drop, PartialEq, Eq)]
 pub struct Import {
     pub module_name: Text,
     pub field: Text,
@@ -18,14 +18,14 @@ pub struct Import {
 }
 
 /// A global, and what it is at first.
-#[derive(Clone, Copy, Debug, PartialEq, Eq)]
+#[derive(Clone, Copy, PartialEq, Eq)]
 pub struct DefinedGlobal {
     pub global_type: GlobalType,
     pub init: ConstExpr,
 }
 
 /// An export, by the index of the item among those of its kind.
-#[derive(Debug, Drop, PartialEq, Eq)]
+#[derive(Drop, PartialEq, Eq)]
 pub struct Export {
     pub name: Text,
     pub kind: ExportKind,
@@ -34,7 +34,7 @@ pub struct Export {
 
 /// An element segment: functions for the slots of a table from `offset` on, or functions that are
 /// only declared. `table: None` is table 0, in the short form.
-#[derive(Debug, Drop, PartialEq, Eq)]
+#[derive(Drop, PartialEq, Eq)]
 pub enum ElementSegment {
     Active {
         table: Option<u32>,
@@ -45,14 +45,14 @@ pub enum ElementSegment {
 }
 
 /// A data segment: bytes for memory 0 from `offset` on.
-#[derive(Debug, Drop, PartialEq, Eq)]
+#[derive(Drop, PartialEq, Eq)]
 pub struct DataSegment {
     pub offset: i32,
     pub bytes: Bytes,
 }
 
 /// A debug name of the item of this index.
-#[derive(Debug, Drop, PartialEq, Eq)]
+#[derive(Drop, PartialEq, Eq)]
 pub struct Naming {
     pub index: u32,
     pub name: Text,

@@ -13,7 +13,7 @@ use crate::number::{put_blob, put_with_id};
 use crate::section::{ModuleNames, NameMap, Section};
 use byte_encoding::{BuildFault, Encode, put_bytes, put_each};
 use comp_bytes::CoreModule;
-use comp_lists::{Seq, Text};
+use comp_lists::{SharedBytes, Text};
 use std::alloc::{AllocError, Global};
 
 /// A core module: its sections, in their order in the module.
@@ -96,8 +96,8 @@ impl Entries<Section> {
         ensures ok { IfOk result (λ m. Encodes m self.now) }
         ensures err { IfErr result (Refused (encoding_of self.now).counts) }
     {
-        let bytes = self.bytes(alloc)?;
-        match CoreModule::from_bytes(Seq::from_vec(bytes)) {
+        let bytes = SharedBytes::from_vec(self.bytes(alloc)?)?;
+        match CoreModule::from_bytes(bytes) {
             Some(module) => Ok(module),
             None => unreachable!(),
         }

@@ -49,7 +49,7 @@ pub type DataSection = Entries<DataSegment>;
 pub type NameMap = Entries<Naming>;
 
 /// The debug names of a module: its own, and those of functions and of globals where they are given.
-#[derive(Debug, Drop, PartialEq, Eq)]
+#[derive(Drop, PartialEq, Eq)]
 pub struct ModuleNames {
     pub module_name: Text,
     pub functions: Option<NameMap>,
@@ -57,7 +57,7 @@ pub struct ModuleNames {
 }
 
 /// A section. `Start` holds the index of the start function.
-#[derive(Debug, PartialEq, Eq)]
+#[derive(PartialEq, Eq)]
 pub enum Section {
     Types(TypeSection),
     Imports(ImportSection),

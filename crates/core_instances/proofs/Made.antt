@@ -1,19 +1,17 @@
 -- What was imported stays what it is while definitions are added, and it is what main and the fixup are given.
 use Rattle.std.proofs.Common.{◌≡◌, ◌∙◌, ◌<◌, ℕ, List, [], Option, Some, None, ap, subst, sym}
-use Rattle.std.specs.Option.{option_copied}
 use Rattle.comp_builder.specs.Built.{Built}
 use Rattle.comp_items.specs.Items.{Extends}
 use Rattle.comp_bytes.specs.declared.def.Def.{Def}
-use Rattle.comp_items.proofs.Kept.{Longer, instance-kept}
 use Rattle.comp_items.proofs.Remembering.{longer}
 use Rattle.comp_roles.specs.declared.libraries.MainOrAdapter.{MainOrAdapter}
 use Rattle.comp_worlds.proofs.NotOfMain.{none_named}
 use Rattle.comp_worlds.specs.Made.{modules_of_imports}
 use Rattle.comp_worlds.specs.declared.world.ComponentWorld.{ComponentWorld}
-use Rattle.core_options.specs.MainOptions.{user_of, IsUser, AreUserInstances, memory_name}
+use Rattle.core_options.specs.MainOptions.{user_of, IsUser, AreUserInstances, IsMemoryIf}
 use Rattle.main_fixup.specs.Filling.{AreFillSources}
 use Rattle.main_fixup.specs.declared.sources.FillSources.{FillSources}
-use Rattle.main_instance.specs.Sources.{AreSources, IsShimInstance, IsMainInstance, IsMade}
+use Rattle.main_instance.specs.Sources.{AreSources, IsShimInstance, IsMemoryBefore, shared_export, IsMainInstance, IsMade}
 use Rattle.comp_links.specs.Targets.{Main}
 use Rattle.main_instance.specs.declared.instances.ImportSources.{ImportSources}
 use Rattle.root_imports.proofs.Finding.{FindsImports-kept}
@@ -28,9 +26,6 @@ use Rattle.comp_worlds.specs.WorldContents.{imported_types}
 use Rattle.root_imports.specs.Met.{next_of}
 use Rattle.root_imports.specs.Keeping.{Root, RootMoved}
 use Rattle.root_imports.specs.Met.{AreExportsMet}
-use Rattle.core_instances.specs.ExportedTypes.{AreDestructorSources, AreShimSources}
-use Rattle.core_instances.specs.declared.own_resources.DestructorSources.{DestructorSources}
-use Rattle.core_instances.specs.declared.own_resources.ShimSources.{ShimSources}
 use Rattle.core_instances.specs.Instances.{AreImportsMade}
 
 -- what names no module needs none
@@ -38,11 +33,11 @@ none_made : (w : ComponentWorld) (ds : List Def) (main : Option ℕ) (adapters :
 none_made w ds main adapters named none = subst (AllByRecursion (IsMade w ds main adapters)) (sym none) tt
 
 module _ {w : ComponentWorld} {met : MetTypes} {old new : Built} {maps : TypeEncodingMaps} {instances : List (InterfaceId × ℕ)} (g : Extends old new) where
-  pub sources_after : (s : ImportSources) → IsUser w s.user → AreImportsMade w s.functions.now met old.defs maps instances → AreExportsMet w met → s.shims.now ≡ shims_of w → IsShimInstance w new.defs s.shim_instance → user_of s.user.which ≡ Main → s.user.found.now ≡ w.main → AreSources w s met new.defs maps instances
-  sources_after s user h exports planned there main found = record { made = none_made w new.defs s.main s.adapters.now (modules_of_imports s.user.found.now) (ap modules_of_imports found ∙ none_named w h.valid.valid); main = subst (λ of. IsMainInstance new.defs of s.main) (sym main) tt; user = user; exports = exports; valid = h.valid; imports = FindsImports-kept (longer g) h.imports; used = h.used; shims = planned; shim_instance = there; tables = tables_kept w met instances old new maps g h.tables; passed = h.passed }
+  pub sources_after : (s : ImportSources) → IsUser w s.user → AreImportsMade w s.functions.now met old.defs maps instances → AreExportsMet w met → s.shims.now ≡ shims_of w → IsShimInstance w new.defs s.shim_instance → IsMemoryIf new.defs (shared_export w) s.memory → user_of s.user.which ≡ Main → s.user.found.now ≡ w.main → AreSources w s met new.defs maps instances
+  sources_after s user h exports planned there memory main found = record { memory = subst (λ of. IsMemoryBefore w new.defs of s.memory) (sym main) memory; made = none_made w new.defs s.main s.adapters.now (modules_of_imports s.user.found.now) (ap modules_of_imports found ∙ none_named w h.valid.valid); main = subst (λ of. IsMainInstance new.defs of s.main) (sym main) tt; user = user; exports = exports; valid = h.valid; imports = FindsImports-kept (longer g) h.imports; used = h.used; shims = planned; shim_instance = there; tables = tables_kept w met instances old new maps g h.tables; passed = h.passed }
 
-  pub fills_after : (s : FillSources) → AreImportsMade w s.functions.now met old.defs maps instances → AreUserInstances w new.defs s.instances.now → option_copied s.memory ≡ memory_name w → AreFillSources w s met new.defs maps instances
-  fills_after s h made memory = record { valid = h.valid; imports = FindsImports-kept (longer g) h.imports; used = h.used; memory = memory; users = made; tables = tables_kept w met instances old new maps g h.tables; passed = h.passed }
+  pub fills_after : (s : FillSources) → AreImportsMade w s.functions.now met old.defs maps instances → AreUserInstances w new.defs s.instances.now → AreFillSources w s met new.defs maps instances
+  fills_after s h made = record { valid = h.valid; imports = FindsImports-kept (longer g) h.imports; used = h.used; users = made; tables = tables_kept w met instances old new maps g h.tables; passed = h.passed }
 
 -- what was imported is still there in the root after more steps
 pub made_after : {w : ComponentWorld} {functions : List (List ℕ × ℕ)} (old new : Root) → RootMoved w old new → AreImportsMade w functions old.met old.items.defs old.maps old.instances →
@@ -54,14 +49,3 @@ made_after {w} old new k h = record {
   tables = k.tables;
   passed = subst (λ (last : Option TypeId). AllByRecursion (λ (t : List ℕ × TypeId). t.1.index < next_of last) (imported_types w)) (sym k.last) h.passed;
 }
-
--- so is the instance of the module of shims
-pub shim_instance-kept : (w : ComponentWorld) {old new : List Def} → Longer old new → (o : Option ℕ) → IsShimInstance w old o → IsShimInstance w new o
-shim_instance-kept w g None h = h
-shim_instance-kept w g (Some index) h = instance-kept g h
-
-pub shim_sources-kept : (w : ComponentWorld) {old new : List Def} → Longer old new → (s : ShimSources) → AreShimSources w old s → AreShimSources w new s
-shim_sources-kept w g s h = record { shims = h.shims; instance = shim_instance-kept w g s.instance h.instance }
-
-pub destructor_sources-kept : (w : ComponentWorld) {old new : List Def} → Longer old new → (s : DestructorSources) → AreDestructorSources w old s → AreDestructorSources w new s
-destructor_sources-kept w g s h = record { shims = shim_sources-kept w g s.shims h.shims; found = h.found }

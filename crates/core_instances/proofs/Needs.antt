@@ -2,18 +2,23 @@
 use Rattle.std.proofs.Common.{◌≡◌, ◌∙◌, Bool, true, false, ℕ, zero, suc, slice_get, is_some, List, [], ◌∷◌, Option, Some, None, IsSome, IsTrue, Contains, refl, sym, ap, subst, true≢false}
 use Rattle.std.proofs.lemmas.Option.{same_Some}
 use Rattle.std.specs.List.{AllByRecursion}
+use Rattle.std.specs.Option.{option_map, option_or}
+use Rattle.core_types.specs.declared.types.MemoryType.{MemoryType}
 use Rattle.standard_kinds.specs.declared.kinds.StringEncoding.{StringEncoding}
 use Rattle.comp_lists.proofs.Lists.{AllByRecursion-contains}
 use Rattle.interface_needs.proofs.Lists.{all_of_each}
 use Rattle.comp_options.specs.Options.{needs}
+use Rattle.comp_roles.specs.Lookups.{first_memory}
 use Rattle.comp_roles.specs.declared.imports.Import.{Import}
 use Rattle.comp_roles.specs.declared.imports.Import.TheVariants as imports
 use Rattle.comp_worlds.specs.Encodable.{IsEncodable}
+use Rattle.comp_worlds.specs.Offered.{shared_memory}
 use Rattle.comp_worlds.specs.declared.world.ComponentWorld.{ComponentWorld}
 use Rattle.comp_links.specs.Links.{lower_needs, lower_realloc}
 use Rattle.comp_links.specs.Modules.{UserImport, user_imports}
 use Rattle.comp_links.specs.Targets.{UserModule}
-use Rattle.comp_links.specs.Roles.{import_encoding, IsSuppliedImport}
+use Rattle.comp_links.specs.Roles.{import_encoding}
+use Rattle.comp_links.specs.Supplied.{IsSuppliedImport}
 use Rattle.shim_plan.specs.Plans.{shim_of}
 use Rattle.shim_plan.specs.declared.kinds.ShimKind.{ShimKind}
 use Rattle.shim_targets.specs.ShimTargets.{kind_of_import, StandsFor, StandsForOne}
@@ -45,9 +50,9 @@ module _ (w : ComponentWorld) (ok : IsEncodable w) (has : AllByRecursion (HasShi
       record { memory = λ h. absurd (true≢false (sym h ∙ e)); realloc = λ h. absurd (true≢false (sym h ∙ ap (λ n. needs n 2) none)) }
 
   -- those of a shim
-  through : (i : UserImport) → Contains (user_imports w) i → needs (lower_needs w i.core.role) 1 ≡ true → (encoding : StringEncoding) → import_encoding w i.of i.core.role ≡ Some encoding → (kind : ShimKind) → kind_of_import i.of i.core.role encoding ≡ Some kind → HasLowerOptions w i
-  through i there e encoding encoded kind is =
-      let s = known (shim_of kind (shims_of w)) (shim_there w ok i there encoding encoded e kind is) in
+  through : shared_memory w ≡ None → (i : UserImport) → Contains (user_imports w) i → needs (lower_needs w i.core.role) 1 ≡ true → (encoding : StringEncoding) → import_encoding w i.of i.core.role ≡ Some encoding → (kind : ShimKind) → kind_of_import i.of i.core.role encoding ≡ Some kind → HasLowerOptions w i
+  through unshared i there e encoding encoded kind is =
+      let s = known (shim_of kind (shims_of w)) (shim_there w ok unshared i there encoding encoded e kind is) in
       let at = found_shim w ok kind s.0 s.1 in
       let own : kind_of_import i.of i.core.role encoding ≡ Some s.0.kind = is ∙ ap Some (sym at.2) in
       let j : (j : UserImport) × StandsFor w s.0 j = for_role w s.0 i.of i.core.role encoding own (all_at (StandsForOne w) (shims_of w) at.0 s.0 (each_stands w ok) at.1) in
@@ -60,20 +65,32 @@ module _ (w : ComponentWorld) (ok : IsEncodable w) (has : AllByRecursion (HasShi
             subst (λ (p : UserModule × Import). IsSome (lower_realloc w p.0)) same (offered.realloc (subst (λ (p : UserModule × Import). IsTrue (needs (lower_needs w p.1) 2)) (sym same) h));
       }
 
-  one : (of : UserModule) (name field : List ℕ) (role : Import) → Contains (user_imports w) (record { of = of; core = record { module_name = name; field = field; role = role } }) → IsSuppliedImport w of role → (b : Bool) → needs (lower_needs w role) 1 ≡ b →
-      HasLowerOptions w (record { of = of; core = record { module_name = name; field = field; role = role } })
-  one of name field role there encoded false e = without (record { of = of; core = record { module_name = name; field = field; role = role } }) there e
-  one of name field (imports.WorldFunc key function abi) there encoded true e =
+  -- where main imports no memory
+  unshared_one : shared_memory w ≡ None → (of : UserModule) (name field : List ℕ) (role : Import) → Contains (user_imports w) (record { of = of; core = record { module_name = name; field = field; role = role } }) → IsSuppliedImport w of role → (b : Bool) →
+      needs (lower_needs w role) 1 ≡ b → HasLowerOptions w (record { of = of; core = record { module_name = name; field = field; role = role } })
+  unshared_one unshared of name field role there encoded false e = without (record { of = of; core = record { module_name = name; field = field; role = role } }) there e
+  unshared_one unshared of name field (imports.WorldFunc key function abi) there encoded true e =
       let i : UserImport = record { of = of; core = record { module_name = name; field = field; role = imports.WorldFunc key function abi } } in
       let n = known (import_encoding w of i.core.role) (encoded.encoding refl) in
-      through i there e n.0 n.1 _ refl
-  one of name field (imports.InterfaceFunc key id function abi) there encoded true e =
+      through unshared i there e n.0 n.1 _ refl
+  unshared_one unshared of name field (imports.InterfaceFunc key id function abi) there encoded true e =
       let i : UserImport = record { of = of; core = record { module_name = name; field = field; role = imports.InterfaceFunc key id function abi } } in
       let n = known (import_encoding w of i.core.role) (encoded.encoding refl) in
-      through i there e n.0 n.1 _ refl
-  one of name field role there encoded true e = absurd (true≢false (sym e))
+      through unshared i there e n.0 n.1 _ refl
+  unshared_one unshared of name field role there encoded true e = absurd (true≢false (sym e))
+
+  -- where main imports its memory, that is there, and so is the realloc with which the function was lowered
+  one : (i : UserImport) → Contains (user_imports w) i → IsSuppliedImport w i.of i.core.role → HasLowerOptions w i
+  one i there supplied = by (shared_memory w) refl
+    where
+      by : (o : Option MemoryType) → shared_memory w ≡ o → HasLowerOptions w i
+      by None e = unshared_one e i.of i.core.module_name i.core.field i.core.role there supplied (needs (lower_needs w i.core.role) 1) refl
+      by (Some type) e = record {
+        memory = λ h. ap is_some (ap (λ o. option_or o (option_map (λ m. m.1) (first_memory w.main.exports.exports))) e);
+        realloc = supplied.realloc (ap is_some e);
+      }
 
 pub all_lowered : (w : ComponentWorld) → IsEncodable w → AllByRecursion (HasShimOptions w) (shims_of w) → AllByRecursion (λ (i : UserImport). IsSuppliedImport w i.of i.core.role) (user_imports w) → AllByRecursion (HasLowerOptions w) (user_imports w)
 all_lowered w ok has encoded =
     all_of_each (HasLowerOptions w) (user_imports w)
-    (λ i there. one w ok has i.of i.core.module_name i.core.field i.core.role there (AllByRecursion-contains (λ (i : UserImport). IsSuppliedImport w i.of i.core.role) (user_imports w) i encoded there) (needs (lower_needs w i.core.role) 1) refl)
+    (λ i there. one w ok has i there (AllByRecursion-contains (λ (i : UserImport). IsSuppliedImport w i.of i.core.role) (user_imports w) i encoded there))

@@ -1,5 +1,5 @@
 -- The core instances in their order: each step leaves what the next one needs, and together they are what is added.
-use Rattle.std.proofs.Common.{◌≡◌, ◌∙◌, ◌+◌, Bool, ℕ, List, [], ◌∷◌, ◌++◌, append_assoc, append-nil, Option, Some, None, sym, ap, subst, length, filter_map, arith}
+use Rattle.std.proofs.Common.{◌≡◌, ◌∙◌, ◌+◌, Bool, ℕ, List, [], ◌∷◌, ◌++◌, append_assoc, append-nil, Option, Some, None, inl, inr, sym, ap, subst, length, filter_map, arith}
 use Rattle.std.specs.List.{range_with_len}
 use Rattle.comp_bytes.specs.Spaces.{items_in}
 use Rattle.comp_bytes.specs.declared.def.Def.{Def}
@@ -16,7 +16,7 @@ use Rattle.main_instance.specs.Shims.{MayAddShims}
 use Rattle.main_instance.specs.Sources.{IsShimInstance}
 use Rattle.core_instances.specs.Instances.{AreUserModules, HasUserModules, IsFixupNextIf, MayAddFixup, AddsInstances}
 use Rattle.core_instances.proofs.Counting.{module_mark, modules_grown, instances_grown, no_fewer, no_modules_defined, no_instances_defined, no_modules_made, instances_made}
-use Rattle.core_instances.proofs.Resourced.{resources_grown}
+use Rattle.exported_types.proofs.Resourced.{resources_grown}
 
 -- ---- after the core modules
 
@@ -32,7 +32,7 @@ has_modules : (w : ComponentWorld) (ds : List Def) → AreUserModules w ds → H
 has_modules w ds h = record { there = let count = h.count in omega (arith, count); room = h.room }
 
 pub modules_after : (w : ComponentWorld) (debug_names : Bool) (old new : List Def) (shims : Option ℕ) → MayAddShims w debug_names old new shims → AreUserModules w old → HasUserModules w new
-modules_after w debug_names old new None h f = subst (HasUserModules w) (sym h.1) (has_modules w old f)
+modules_after w debug_names old new None h f = subst (HasUserModules w) (sym h.2) (has_modules w old f)
 modules_after w debug_names old new (Some instance) h f = modules_kept h.0.grows (has_modules w old f)
 
 pub shims_after : (w : ComponentWorld) (debug_names : Bool) (old new : List Def) (shims : Option ℕ) → MayAddShims w debug_names old new shims → IsShimInstance w new shims
@@ -40,7 +40,7 @@ shims_after w debug_names old new None h = h.0
 shims_after w debug_names old new (Some instance) h = h.0.made
 
 pub none_after : (w : ComponentWorld) (debug_names : Bool) (old new : List Def) (shims : Option ℕ) → MayAddShims w debug_names old new shims → (inventory old).resources ≡ 0 → (inventory new).resources ≡ 0
-none_after w debug_names old new None h none = ap (λ ds. (inventory ds).resources) h.1 ∙ none
+none_after w debug_names old new None h none = ap (λ ds. (inventory ds).resources) h.2 ∙ none
 none_after w debug_names old new (Some instance) h none = let grown = resources_grown h.0.grows in omega (arith, grown, none)
 
 -- ---- after the instances of the user modules
@@ -55,14 +55,14 @@ no_module_more w =
     ∙ (ap (filter_map module_mark) (sym (append-nil (users_marked w))) ∙ no_modules_made (range_with_len 0 (length (user_modules w))) [])
 
 pub fixup_next : (w : ComponentWorld) (debug_names : Bool) (old mid new : List Def) (shims : Option ℕ) → AreUserModules w old → MayAddShims w debug_names old mid shims → Grows w mid new (resources_marked w ++ users_marked w) → IsFixupNextIf w new shims
-fixup_next w debug_names old mid new None users h g = h.0
-fixup_next w debug_names old mid new (Some instance) users h g =
+fixup_next w debug_names old mid new None users h g = λ any. absurd (any h.0)
+fixup_next w debug_names old mid new (Some instance) users h g = λ any.
     let a : items_in spaces.CoreModule mid ≡ items_in spaces.CoreModule old + 1 = modules_grown h.0.grows in
     let b : items_in spaces.CoreModule new ≡ items_in spaces.CoreModule mid + 0 = modules_grown g ∙ ap (λ (l : List (List ℕ)). items_in spaces.CoreModule mid + length l) (no_module_more w) in
     let count : items_in spaces.CoreModule old ≡ shims_number w = users.count in
     let first : instances_in mid ≡ shims_number w ∷ [] = instances_grown h.0.grows ∙ ap (λ l. l ++ shims_number w ∷ []) users.nothing in
     record {
-      any = h.1;
+      any = any;
       made = instance-kept (longer_by g) h.0.made;
       last = instances_grown g ∙ (ap (λ l. instances_in mid ++ l) (users_numbered w) ∙ ap (λ l. l ++ range_with_len 0 (length (user_modules w))) first);
       next = omega (arith, a, b, count);
@@ -70,12 +70,18 @@ fixup_next w debug_names old mid new (Some instance) users h g =
 
 -- ---- all of them
 
-pub all_added : (w : ComponentWorld) (debug_names : Bool) (a b c d : List Def) (shims : Option ℕ) → MayAddShims w debug_names a b shims → Grows w b c (resources_marked w ++ users_marked w) → MayAddFixup w debug_names c d shims → AddsInstances w a d
-all_added w debug_names a b c d None h g f = record { generated = None; are_generated = tt; grows = subst (λ l. Grows w a l (resources_marked w ++ users_marked w)) (sym f) (subst (λ l. Grows w l c (resources_marked w ++ users_marked w)) h.1 g) }
-all_added w debug_names a b c d (Some instance) h g f =
-    let fixed : List Landmark = ModuleIs f.bytes ∷ InstanceOf (fixup_number w) ∷ [] in
+pub all_added : (w : ComponentWorld) (debug_names : Bool) (a b c d : List Def) (shims : Option ℕ) → MayAddShims w debug_names a b shims → Grows w b c (resources_marked w ++ users_marked w) → MayAddFixup w debug_names c d → AddsInstances w a d
+all_added w debug_names a b c d None h g (inl f) = record { generated = None; are_generated = tt; grows = subst (λ l. Grows w a l (resources_marked w ++ users_marked w)) (sym f.1) (subst (λ l. Grows w l c (resources_marked w ++ users_marked w)) h.2 g) }
+all_added w debug_names a b c d None h g (inr f) = absurd (f.0 h.0)
+all_added w debug_names a b c d (Some instance) h g (inl f) = record {
+  generated = Some (record { shims = h.0.bytes; fixup = None });
+  are_generated = record { debug_names = debug_names; shims = h.0.encodes; fixup = f.0; any = h.1; room = h.0.room };
+  grows = subst (λ m. Grows w a d (ModuleIs h.0.bytes ∷ InstanceOf (shims_number w) ∷ m)) (ap (λ l. resources_marked w ++ l) (sym (append-nil (users_marked w)))) (Grows-then h.0.grows (subst (λ l. Grows w b l (resources_marked w ++ users_marked w)) (sym f.1) g));
+}
+all_added w debug_names a b c d (Some instance) h g (inr f) =
+    let fixed : List Landmark = ModuleIs f.1.bytes ∷ InstanceOf (fixup_number w) ∷ [] in
     record {
-      generated = Some (record { shims = h.0.bytes; fixup = f.bytes });
-      are_generated = record { debug_names = debug_names; shims = h.0.encodes; fixup = f.encodes; any = h.1; room = h.0.room };
-      grows = subst (λ m. Grows w a d (ModuleIs h.0.bytes ∷ InstanceOf (shims_number w) ∷ m)) (append_assoc (resources_marked w) (users_marked w) fixed) (Grows-then h.0.grows (Grows-then g f.grows));
+      generated = Some (record { shims = h.0.bytes; fixup = Some f.1.bytes });
+      are_generated = record { debug_names = debug_names; shims = h.0.encodes; fixup = (f.1.encodes, f.0); any = h.1; room = h.0.room };
+      grows = subst (λ m. Grows w a d (ModuleIs h.0.bytes ∷ InstanceOf (shims_number w) ∷ m)) (append_assoc (resources_marked w) (users_marked w) fixed) (Grows-then h.0.grows (Grows-then g f.1.grows));
     }

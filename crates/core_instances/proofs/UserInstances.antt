@@ -29,21 +29,25 @@ use Rattle.comp_worlds.specs.Uses.{imports_of}
 use Rattle.comp_worlds.specs.declared.world.ComponentWorld.{ComponentWorld}
 use Rattle.comp_worlds.specs.declared.world.ValidatedModule.{ValidatedModule}
 use Rattle.comp_worlds.specs.declared.world.WorldAdapter.{WorldAdapter}
+use Rattle.comp_roles.specs.Lookups.{first_memory}
+use Rattle.comp_terms.specs.Planned.{memory_from, main_memory}
 use Rattle.comp_worlds.specs.Lookups.{module_name}
+use Rattle.comp_worlds.specs.Offered.{shared_memory}
+use Rattle.core_types.specs.declared.types.MemoryType.{MemoryType}
 use Rattle.comp_links.specs.Modules.{WorldModule, adapter_module, user_modules, module_found, UserImport, imports_of_module, user_imports}
-use Rattle.comp_links.specs.Roles.{IsSuppliedImport}
+use Rattle.comp_links.specs.Supplied.{IsSuppliedImport}
 use Rattle.comp_links.specs.Targets.{UserModule as User, Main, Adapter}
 use Rattle.comp_terms.specs.Rules.{Grows, Landmark, InstanceOf, users_marked}
 use Rattle.comp_terms.specs.Terms.{IsInstanceOf}
 use Rattle.root_imports.specs.Growing.{Grows-none, Grows-then, longer_by}
-use Rattle.core_options.specs.MainOptions.{user_of_name, user_of, IsUser, IsAdapterInstance, AreUserInstances}
+use Rattle.core_options.specs.MainOptions.{user_of_name, user_of, IsMemoryIf, IsUser, IsAdapterInstance, AreUserInstances}
 use Rattle.core_options.specs.declared.modules.UserModule.{UserModule}
 use Rattle.core_options.specs.declared.modules.UserInstances.{UserInstances}
 use Rattle.core_options.specs.Causes.{IsMadeRefusal, IsCause}
 use Rattle.core_options.specs.declared.fault.StateFault.{StateFault}
 use Rattle.core_options.specs.declared.fault.StateFault.TheVariants as faults
 use Rattle.interface_needs.proofs.Lists.{all_both, contains_none, contains_cons, contains_later}
-use Rattle.main_instance.specs.Sources.{AreSources, IsShimInstance, IsBehindMain, IsMainInstance, IsMade}
+use Rattle.main_instance.specs.Sources.{AreSources, IsShimInstance, IsMemoryBefore, shared_export, IsBehindMain, IsMainInstance, IsMade}
 use Rattle.main_instance.specs.declared.instances.ImportSources.{ImportSources}
 use Rattle.main_instance.proofs.Growth.{sources-kept}
 use Rattle.root_imports.specs.Imports.{FindsImports, FindsUsed}
@@ -52,6 +56,7 @@ use Rattle.wit_types.specs.declared.maps.TypeEncodingMaps.{TypeEncodingMaps}
 use Rattle.wit_data.specs.declared.ids.InterfaceId.{InterfaceId}
 use Rattle.core_instances.specs.Instances.{HasUserModules, IsMainUser, IsSameUser, IsSuppliedUser, AreSuppliedAdapters, AreAdapterInstances, AllAdapters}
 use Rattle.core_instances.proofs.Counting.{no_fewer}
+use Rattle.exported_types.proofs.AdapterFound.{adapter_found}
 
 abbrev Adapters : Type 0
 Adapters = List (List ℕ × WorldAdapter)
@@ -267,13 +272,6 @@ pub record IsNextAdapter (w : ComponentWorld) (table : List (List ℕ × ℕ)) (
   pub absent : lookup (bytes_eq a.0) table ≡ None
   pub below : last + 1 < length (user_modules w)
 
-there_in : {X : Type 0} (done : List X) (x : X) (rest all : List X) → done ++ x ∷ rest ≡ all → Contains all x
-there_in {X = X} done x rest all e = subst (λ l. Contains l x) e (in_middle done)
-  where
-    in_middle : (xs : List X) → Contains (xs ++ x ∷ rest) x
-    in_middle [] = (0, omega arith, refl)
-    in_middle (y ∷ ys) = contains_later y (ys ++ x ∷ rest) x (in_middle ys)
-
 -- a name after the others is none of them
 first_of : {X : Type 0} (x : X) (xs : List X) (y : X) (ys : List X) → x ∷ xs ≡ y ∷ ys → (x ≡ y) × (xs ≡ ys)
 first_of {X = X} x xs y ys e = (same_Some x y (ap (λ l. slice_get l 0) e), ap (λ (l : List X). drop 1 l) e)
@@ -300,10 +298,6 @@ other_names (m ∷ names) name rest d (x ∷ table) e = by (bytes_eq name x.0) r
     by true same later =
         let is : m ≡ name = sym parts.0 ∙ sym ((bytes_eq-Decides name x.0).0 same) in
         absurd (true≢false (sym ((bytes_eq-Decides m name).1 is) ∙ name_apart names m name rest d.0))
-
--- an adapter is found by its name
-pub adapter_found : (w : ComponentWorld) → IsDistinct bytes_eq (keys_of w.adapters) → (done : Adapters) (a : List ℕ × WorldAdapter) (rest : Adapters) → done ++ a ∷ rest ≡ w.adapters → module_found w (Adapter a.0) ≡ Some a.1.info
-adapter_found w apart done a rest split = ap (option_map (λ (x : WorldAdapter). x.info)) (lookup-from_Contains bytes_laws a.0 a.1 w.adapters apart (there_in done a rest w.adapters split))
 
 pub next_adapter : (w : ComponentWorld) (old mid : Built) (table : List (List ℕ × ℕ)) (last : ℕ) (rest : Adapters) (a : List ℕ × WorldAdapter) → IsDistinct bytes_eq (keys_of w.adapters) → AdaptersSoFar w old mid table last (a ∷ rest) → IsNextAdapter w table last a
 next_adapter w old mid table last rest a apart h =
@@ -364,8 +358,8 @@ entry_of (e ∷ table) (a ∷ adapters) zero m name names at of =
 entry_of (e ∷ table) (a ∷ adapters) (suc place) m name names at of =
     entry_of table adapters place m name (first_of e.0 (map (λ (e : List ℕ × ℕ). e.0) table) a.0 (map (λ (a : List ℕ × WorldAdapter). a.0) adapters) names).1 at of
 
-pub instances_found : (w : ComponentWorld) (ds : List Def) (u : UserInstances) → IsInstanceOf ds u.main 0 → IsDistinct bytes_eq (keys_of w.adapters) → AreAdapterInstances w ds u.adapters w.adapters → AreUserInstances w ds u
-instances_found w ds u main apart h = record { main = main; adapters = each }
+pub instances_found : (w : ComponentWorld) (ds : List Def) (u : UserInstances) → IsInstanceOf ds u.main 0 → IsMemoryIf ds (main_memory w) u.memory → IsDistinct bytes_eq (keys_of w.adapters) → AreAdapterInstances w ds u.adapters w.adapters → AreUserInstances w ds u
+instances_found w ds u main memory apart h = record { main = main; memory = memory; adapters = each }
   where
     each : (number : ℕ) (name : List ℕ) (m : WorldModule) → slice_get (user_modules w) number ≡ Some m → m.of ≡ Adapter name → IsAdapterInstance ds u.adapters number name
     each zero name m at of = absurd (main_is_no_adapter (ap (λ (x : WorldModule). x.of) (same_Some (record { of = Main; found = w.main }) m at) ∙ of))
@@ -459,11 +453,32 @@ behind_main ds own main is made = by (user_of own.user.which)
     by Main = tt
     by (Adapter name) = subst (IsBehindMain ds) (sym is) made
 
+-- main's memory is there for an adapter's imports
+pub memory_behind_main : (w : ComponentWorld) (ds : List Def) (own : ImportSources) (name : List ℕ) (memory : Option ℕ) → module_name own.user.which ≡ Some name → own.memory ≡ memory → IsMemoryIf ds (main_memory w) memory → IsMemoryBefore w ds (user_of own.user.which) own.memory
+memory_behind_main w ds own name memory named is h =
+    subst (λ of. IsMemoryBefore w ds of own.memory) (sym (ap user_of_name named)) (subst (IsMemoryIf ds (main_memory w)) (sym is) h)
+
+-- the memory that main imports is main's
+pub memory_shared : (w : ComponentWorld) (ds : List Def) (index : ℕ) → IsMemoryIf ds (shared_export w) (Some index) → IsMemoryIf ds (main_memory w) (Some index)
+memory_shared w ds index h = by (shared_memory w) refl h
+  where
+    by : (o : Option MemoryType) → shared_memory w ≡ o → IsMemoryIf ds (memory_from w o None) (Some index) → IsMemoryIf ds (main_memory w) (Some index)
+    by (Some type) same h = subst (λ o. IsMemoryIf ds (memory_from w o (first_memory w.main.exports.exports)) (Some index)) (sym same) h
+    by None same h = absurd h
+
+-- where there is none, its memory is the one that it exports
+pub memory_unshared : (w : ComponentWorld) (ds : List Def) → IsMemoryIf ds (shared_export w) None → shared_memory w ≡ None
+memory_unshared w ds h = by (shared_memory w) h
+  where
+    by : (o : Option MemoryType) → IsMemoryIf ds (memory_from w o None) None → o ≡ None
+    by (Some type) h = absurd h
+    by None h = refl
+
 -- what is there for the imports of one module is there for those of another
 pub own_sources : {w : ComponentWorld} {s : ImportSources} {met : MetTypes} {old new : Built} {maps : TypeEncodingMaps} {instances : List (InterfaceId × ℕ)} → Extends old new → AreSources w s met old.defs maps instances →
-    (own : ImportSources) → IsUser w own.user → own.functions.now ≡ s.functions.now → own.shims.now ≡ s.shims.now → own.shim_instance ≡ s.shim_instance → IsMainInstance new.defs (user_of own.user.which) own.main →
+    (own : ImportSources) → IsUser w own.user → own.functions.now ≡ s.functions.now → own.shims.now ≡ s.shims.now → own.shim_instance ≡ s.shim_instance → IsMemoryBefore w new.defs (user_of own.user.which) own.memory → IsMainInstance new.defs (user_of own.user.which) own.main →
     AllByRecursion (IsMade w new.defs own.main own.adapters.now) (modules_of_imports own.user.found.now) → AreSources w own met new.defs maps instances
-own_sources {w} {s} {met} {old} {new} {maps} {instances} g h own user functions shims instance main made =
+own_sources {w} {s} {met} {old} {new} {maps} {instances} g h own user functions shims instance memory main made =
     let k : AreSources w s met new.defs maps instances = sources-kept g h in
     record {
       valid = k.valid;
@@ -472,6 +487,7 @@ own_sources {w} {s} {met} {old} {new} {maps} {instances} g h own user functions 
       used = subst (FindsUsed w) (sym functions) k.used;
       shims = shims ∙ k.shims;
       shim_instance = subst (IsShimInstance w new.defs) (sym instance) k.shim_instance;
+      memory = memory;
       main = main;
       made = made;
       tables = k.tables;

@@ -1,7 +1,7 @@
 -- What the core instances add to a component, and what is taken as given (component model, explainer: core instances; this
 -- project's own).
-use Rattle.std.specs.Prelude.{◌≡◌, ◌≤◌, ◌^◌, ℕ, suc, Bool, List, [], ◌∷◌, ◌++◌, length, map, slice_get, Option, Some, None}
-use Rattle.std.specs.List.{AllByRecursion, IsDistinct, range_with_len, flat_map}
+use Rattle.std.specs.Prelude.{◌≡◌, ◌≤◌, ◌^◌, ◌⊎◌, ℕ, suc, Bool, List, [], ◌∷◌, ◌++◌, length, map, slice_get, Option, Some, None}
+use Rattle.std.specs.List.{AllByRecursion, IsDistinct, range_with_len}
 use Rattle.std.specs.Map.{keys_of}
 use Rattle.std.specs.Str.{bytes_eq}
 use Rattle.core_bytes.specs.Modules.{Encodes}
@@ -9,21 +9,14 @@ use Rattle.comp_bytes.specs.Spaces.{items_in}
 use Rattle.comp_bytes.specs.declared.space.Space.TheVariants as spaces
 use Rattle.comp_bytes.specs.declared.def.Def.{Def}
 use Rattle.wit_data.specs.declared.ids.InterfaceId.{InterfaceId}
-use Rattle.wit_data.specs.declared.ids.TypeId.{TypeId}
 use Rattle.root_imports.specs.declared.met_types.MetTypes.{MetTypes}
 use Rattle.wit_types.specs.declared.maps.TypeEncodingMaps.{TypeEncodingMaps}
-use Rattle.wit_data.specs.Live.{named_types}
-use Rattle.wit_data.specs.declared.worlds.WorldKey.{WorldKey}
-use Rattle.comp_trees.specs.DefinedScopes.{Denotes}
-use Rattle.comp_inventories.specs.Inventories.{inventory, scope_of}
+use Rattle.comp_inventories.specs.Inventories.{inventory}
 use Rattle.comp_worlds.specs.Encodable.{IsEncodable}
 use Rattle.comp_worlds.specs.Made.{AreMadeInOrder}
-use Rattle.comp_worlds.specs.WorldContents.{exported_item, keys_required}
-use Rattle.comp_links.specs.Lists.{type_of_world}
-use Rattle.interface_needs.specs.RootNeeds.{interface_of_item}
 use Rattle.comp_worlds.specs.declared.world.ComponentWorld.{ComponentWorld}
 use Rattle.comp_links.specs.Modules.{user_modules}
-use Rattle.comp_links.specs.Roles.{IsSuppliedImport}
+use Rattle.comp_links.specs.Supplied.{IsSuppliedImport}
 use Rattle.comp_links.specs.Targets.{UserModule as User, Adapter}
 use Rattle.comp_worlds.specs.Uses.{imports_of}
 use Rattle.comp_worlds.specs.Lookups.{module_name}
@@ -31,7 +24,7 @@ use Rattle.core_options.specs.declared.modules.UserModule.{UserModule}
 use Rattle.comp_worlds.specs.declared.world.ValidatedModule.{ValidatedModule}
 use Rattle.comp_worlds.specs.declared.world.WorldAdapter.{WorldAdapter}
 use Rattle.comp_terms.specs.Generated.{shims_number, fixup_number, GeneratedBytes, MayBeGenerated}
-use Rattle.comp_terms.specs.Rules.{Grows, Landmark, ModuleIs, InstanceOf, instances_in, resources_marked, users_marked}
+use Rattle.comp_terms.specs.Rules.{Grows, Landmark, ModuleIs, InstanceOf, instances_in, resources_marked, users_marked, fixup_marked}
 use Rattle.comp_terms.specs.Terms.{IsInstanceOf}
 use Rattle.root_imports.specs.RootScopes.{AreTablesRight, ArePassed}
 use Rattle.root_imports.specs.Imports.{FindsImports, FindsUsed}
@@ -101,32 +94,13 @@ pub record AllAdapters (w : ComponentWorld) (old new : List Def) (table : List (
   pub supplied : AreSuppliedAdapters w w.adapters
   pub in_order : AreMadeInOrder w
 
--- ---- types of exported interfaces
-
--- the types that an interface lists
-abbrev pub types_listed : ComponentWorld → Option InterfaceId → List TypeId
-types_listed w (Some id) = map (λ t. t.1) (named_types w.resolve id)
-types_listed w None = []
-
--- those of the interface that a user module has to export at a key, and of all
-abbrev pub types_at : ComponentWorld → WorldKey → List TypeId
-types_at w key = types_listed w (interface_of_item (exported_item w key))
-
-abbrev pub exported_types : ComponentWorld → List TypeId
-exported_types w = flat_map (types_at w) (keys_required w)
-
--- the component has a type that is this one of the world
-pub record IsDefinedType (w : ComponentWorld) (ds : List Def) (t : TypeId) : Type 0 where
-  pub index : ℕ
-  pub denotes : Denotes (scope_of ds) index (type_of_world w t)
-
 -- ---- what is added
 
 -- the landmarks of the core instances and of the modules that are generated for them, and of the resources that are defined before
 -- the user modules are instantiated
 abbrev pub instances_marked : ComponentWorld → Option GeneratedBytes → List Landmark
 instances_marked w None = resources_marked w ++ users_marked w
-instances_marked w (Some g) = ModuleIs g.shims ∷ InstanceOf (shims_number w) ∷ (resources_marked w ++ (users_marked w ++ ModuleIs g.fixup ∷ InstanceOf (fixup_number w) ∷ []))
+instances_marked w (Some g) = ModuleIs g.shims ∷ InstanceOf (shims_number w) ∷ (resources_marked w ++ (users_marked w ++ fixup_marked w g.fixup))
 
 -- the instances of the user modules, between those of the shims and of the fixup, where there are any
 pub record AddsInstances (w : ComponentWorld) (old new : List Def) : Type 0 where
@@ -142,9 +116,12 @@ pub record IsFixupNext (w : ComponentWorld) (ds : List Def) (shim_instance : ℕ
   pub next : items_in spaces.CoreModule ds ≡ fixup_number w
 
 -- the same, where there are shims
+abbrev pub IsFixupNextAt : ComponentWorld → List Def → Option ℕ → Type 0
+IsFixupNextAt w ds None = ⊥
+IsFixupNextAt w ds (Some shim_instance) = IsFixupNext w ds shim_instance
+
 abbrev pub IsFixupNextIf : ComponentWorld → List Def → Option ℕ → Type 0
-IsFixupNextIf w ds None = shims_of w ≡ []
-IsFixupNextIf w ds (Some shim_instance) = IsFixupNext w ds shim_instance
+IsFixupNextIf w ds shim_instance = (shims_of w ≡ [] → ⊥) → IsFixupNextAt w ds shim_instance
 
 -- the fixup's module and its instance
 pub record AddsFixup (w : ComponentWorld) (debug_names : Bool) (old new : List Def) : Type 0 where
@@ -153,6 +130,5 @@ pub record AddsFixup (w : ComponentWorld) (debug_names : Bool) (old new : List D
   pub grows : Grows w old new (ModuleIs bytes ∷ InstanceOf (fixup_number w) ∷ [])
 
 -- the same, where there are shims
-abbrev pub MayAddFixup : ComponentWorld → Bool → List Def → List Def → Option ℕ → Type 0
-MayAddFixup w debug_names old new None = new ≡ old
-MayAddFixup w debug_names old new (Some shim_instance) = AddsFixup w debug_names old new
+abbrev pub MayAddFixup : ComponentWorld → Bool → List Def → List Def → Type 0
+MayAddFixup w debug_names old new = ((shims_of w ≡ []) × (new ≡ old)) ⊎ ((shims_of w ≡ [] → ⊥) × AddsFixup w debug_names old new)

@@ -49,13 +49,13 @@ fn add_fixup(
     ensures cause { IfErr result (IsCause root.old.world.now) }
 {
     let module = fixup_module(root.items.allocator(), shims, debug_names)?;
-    encode_fixup(root, sources, shims, shim_instance, module.as_slice())
+    encode_fixup(root, sources, shims, shim_instance, module.bytes())
 }
 
 /// Adds the fixup's module and its instance, where there are shims.
 ///
-/// `E7` where what a shim stands for is lowered with a memory and main exports none, `E8` where it is lowered with a realloc and
-/// main exports none for imports.
+/// `E7` where what a shim stands for is lowered with a memory and main has none, `E8` where it is lowered with a realloc and
+/// there is none for the module.
 pub(crate) fn encode_indirect_lowerings(
     root: &mut RootScope<'_, ComponentWorld>,
     sources: &FillSources<'_>,
@@ -68,12 +68,14 @@ pub(crate) fn encode_indirect_lowerings(
     requires next { IsFixupNextIf root.old.world.now root.old.items.defs shim_instance }
     ensures same { root.new ≡ record root.old { items = root.new.items } }
     ensures extends { Extends root.old.items root.new.items }
-    ensures added { OnOk result (MayAddFixup root.old.world.now debug_names root.old.items.defs root.new.items.defs shim_instance) }
+    ensures added { OnOk result (MayAddFixup root.old.world.now debug_names root.old.items.defs root.new.items.defs) }
     ensures offered { OnOk result (AllByRecursion (HasShimOptions root.old.world.now) (shims_of root.old.world.now)) }
     ensures cause { IfErr result (IsCause root.old.world.now) }
 {
-    match shim_instance {
-        Some(instance) => add_fixup(root, sources, shims, instance, debug_names),
-        None => Ok(()),
+    if shims.is_empty() {
+        return Ok(());
     }
+    let instance = shim_instance.unwrap();
+    add_fixup(root, sources, shims, instance, debug_names)?;
+    Ok(())
 }

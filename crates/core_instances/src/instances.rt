@@ -2,10 +2,9 @@
 #![tactic(auto, using(comp_items::proofs::Extending::extends_none, comp_items::proofs::Extending::extends_same, comp_items::proofs::Extending::extends_then))]
 
 ghost use Rattle.std.specs.Prelude.{◌≡◌, IfOk, IfErr, OnOk};
-ghost use Rattle.std.specs.Option.{option_copied};
 ghost use Rattle.std.specs.List.{AllByRecursion};
 ghost use Rattle.root_imports.specs.Keeping.{RootMoved};
-ghost use Rattle.comp_links.specs.Roles.{IsSuppliedImport};
+ghost use Rattle.comp_links.specs.Supplied.{IsSuppliedImport};
 ghost use Rattle.comp_links.specs.Modules.{UserImport, user_imports};
 ghost use Rattle.comp_worlds.specs.ExportOrder.{AreExportsInOrder};
 ghost use Rattle.comp_worlds.specs.Made.{AreMadeInOrder};
@@ -14,14 +13,13 @@ ghost use Rattle.core_instances.specs.Instances.{AreImportsMade, AreUserModules,
 ghost use Rattle.core_options.specs.Causes.{IsCause};
 ghost use Rattle.core_options.specs.MainOptions.{AreUserInstances, HasLowerOptions};
 
-use crate::exported_types::define_exported_types;
 use crate::fixup::encode_indirect_lowerings;
-use crate::own_resources::ShimSources;
 use crate::plan::plan_shims;
 use crate::users::{instantiate_users, main_user, sources_of};
 use comp_lists::{Keyed, Text};
 use comp_worlds::ComponentWorld;
-use core_options::{StateFault, UserInstances, memory_name};
+use core_options::{StateFault, UserInstances};
+use exported_types::{ShimSources, define_exported_types};
 use main_fixup::FillSources;
 use main_instance::encode_shim_instantiation;
 use root_imports::RootScope;
@@ -29,27 +27,25 @@ use root_imports::RootScope;
 /// What the fixup's lowerings are made from.
 fn fill_sources<'a>(
     functions: &'a Keyed<Text, u32>,
-    memory: Option<&'a str>,
     instances: &'a UserInstances,
 ) -> FillSources<'a>
     ensures functions { result.functions.now ≡ functions.now }
-    ensures memory { option_copied result.memory ≡ option_copied memory.entry }
     ensures instances { result.instances.now ≡ instances.now }
 {
     FillSources {
         functions,
-        memory,
         instances,
     }
 }
 
 /// Adds the module of shims and its instance, the types of exported interfaces, the instances of the user modules, and the fixup's
-/// module and its instance; without those of shims and fixup, where no module needs shims. It returns the instances of the user modules.
+/// module and its instance; without the fixup where no module needs shims, and then also without the module of shims, unless main
+/// imports its memory. It returns the instances of the user modules.
 /// `functions` has the root functions that were imported, by their names. After a refusal the definitions that were made until then
 /// stay.
 ///
 /// `E9` where an import of a function has no string encoding, `E7` where a function is lowered with a memory, or an import is main's
-/// memory, and main exports none,
+/// memory, and main has none,
 /// `E8` where it is lowered with a realloc and there is none for the module, `E10` where an adapter names one that is not instantiated
 /// before it, and `E11` where an exported interface uses types of another
 /// one that isn't exported before it.
@@ -71,24 +67,17 @@ pub fn encode_core_instantiation(
     ensures cause { IfErr result (IsCause root.old.world.now) }
 {
     let shims = plan_shims(root.items.allocator(), root.world)?;
-    let shim_instance = encode_shim_instantiation(root, &shims, debug_names)?;
+    let generated = encode_shim_instantiation(root, &shims, debug_names)?;
     let shims_made = ShimSources {
         shims: &shims,
-        instance: shim_instance,
+        instance: generated.instance,
     };
     define_exported_types(root, shims_made)?;
     let world = root.world;
     let none = Keyed::new(root.items.allocator());
-    let sources = sources_of(
-        main_user(world),
-        functions,
-        &shims,
-        shim_instance,
-        None,
-        &none,
-    );
+    let sources = sources_of(main_user(world), functions, &shims, generated, None, &none);
     let instances = instantiate_users(root, &sources)?;
-    let sources = fill_sources(functions, memory_name(world), &instances);
-    encode_indirect_lowerings(root, &sources, &shims, shim_instance, debug_names)?;
+    let sources = fill_sources(functions, &instances);
+    encode_indirect_lowerings(root, &sources, &shims, generated.instance, debug_names)?;
     Ok(instances)
 }

@@ -5,16 +5,14 @@
 //! lowerings behind the shims (component model, explainer: core instances). [`encode_core_instantiation`] adds all these instances, or
 //! those of the user modules alone where there are no shims.
 //!
-//! In reading order: `modules` (the core modules), `plan` (the shims), `exported_types` (the types of exported interfaces), `users` (the instances of the user
-//! modules), `fixup` (the fixup's module and instance), `instances` (all of them, in order). `specs/Instances.antt` says what is added.
+//! In reading order: `modules` (the core modules), `plan` (the shims), `users` (the instances of the user modules), `fixup` (the fixup's
+//! module and instance), `instances` (all of them, in order, with the types of exported interfaces between them). `specs/Instances.antt`
+//! says what is added.
 #![tactic(auto)]
 
-mod export_order;
-mod exported_types;
 mod fixup;
 mod instances;
 mod modules;
-mod own_resources;
 mod plan;
 mod users;
 

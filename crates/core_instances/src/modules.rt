@@ -15,7 +15,7 @@ ghost use Rattle.core_types.specs.Core.{IsCoreModule};
 ghost use Rattle.root_imports.specs.RootScopes.{IsRefusal};
 
 use byte_encoding::BuildFault;
-use comp_lists::Text;
+use comp_lists::{SharedBytes, Text};
 use comp_worlds::{ComponentWorld, WorldAdapter};
 use core_bytes::set_module_name;
 use root_imports::RootScope;
@@ -25,7 +25,7 @@ use std::alloc::{AllocError, Global};
 fn add_module(
     root: &mut RootScope<'_, ComponentWorld>,
     debug: &str,
-    bytes: &[u8],
+    bytes: &SharedBytes,
 ) -> Result<(), BuildFault>
     requires { IsCoreModule bytes.now }
     ensures same { root.new ≡ record root.old { items = root.new.items } }
@@ -68,10 +68,10 @@ fn add_adapter(
 {
     let alloc = root.items.allocator();
     let title = module_title(alloc, name, adapter)?;
-    let bytes = adapter.info.bytes.as_slice();
+    let bytes = &adapter.info.bytes;
     if debug_names {
-        let named = set_module_name(alloc, bytes, title.as_str())?;
-        add_module(root, title.as_str(), &named)
+        let named = set_module_name(alloc, bytes.as_slice(), title.as_str())?;
+        add_module(root, title.as_str(), &SharedBytes::from_vec(named)?)
     } else {
         add_module(root, title.as_str(), bytes)
     }
@@ -92,7 +92,7 @@ pub fn encode_core_modules(
     ensures cause { IfErr result IsRefusal }
 {
     let world = root.world;
-    add_module(root, "main", world.main.bytes.as_slice())?;
+    add_module(root, "main", &world.main.bytes)?;
     for (name, adapter) in world.adapters.iter() {
         add_adapter(root, name, adapter, debug_names)?;
     }

@@ -1,5 +1,5 @@
 -- The options that are written for a lowering or a lift are those of the link table, and what is missing is a cause.
-use Rattle.std.proofs.Common.{◌≡◌, ◌∙◌, ℕ, ◌<◌, List, [], ◌∷◌, ◌++◌, refl, sym, ap, subst, Some, None, Option, Bool, true, false, ◌&&◌, not, is_some, true≢false, IsTrue, IsSome, IfSome, Result, Ok, Err}
+use Rattle.std.proofs.Common.{◌≡◌, ◌∙◌, ℕ, ◌<◌, List, [], ◌∷◌, ◌++◌, refl, sym, ap, subst, Some, None, Option, Bool, true, false, ◌&&◌, not, is_some, true≢false, IsTrue, IsSome, IfSome, Result, Ok, Err, inl}
 use Rattle.std.specs.List.{AllZip, AllByRecursion}
 use Rattle.std.specs.Option.{option_map}
 use Rattle.comp_bytes.proofs.ItemIndices.{in_range}
@@ -7,32 +7,30 @@ use Rattle.comp_bytes.specs.Spaces.{kind_space, items_in}
 use Rattle.comp_bytes.specs.declared.canon.CanonicalOption.{CanonicalOption}
 use Rattle.comp_bytes.specs.declared.canon.CanonicalOption.TheVariants as canonical
 use Rattle.comp_bytes.specs.declared.def.Def.{Def}
-use Rattle.core_types.specs.declared.types.MemoryType.{MemoryType}
 use Rattle.standard_kinds.specs.declared.kinds.ExportKind.TheVariants as kinds
 use Rattle.standard_kinds.specs.declared.kinds.StringEncoding.{StringEncoding}
 use Rattle.standard_kinds.specs.declared.kinds.StringEncoding.TheVariants as encodings
-use Rattle.comp_roles.specs.Lookups.{first_memory}
 use Rattle.comp_options.specs.Options.{needs}
 use Rattle.comp_options.specs.OptionLists.{one_if, when, async_if, encoding_option, options_of, lacks_memory, lacks_realloc}
 use Rattle.comp_worlds.specs.declared.world.ComponentWorld.{ComponentWorld}
 use Rattle.comp_links.specs.Links.{if_needed, options_in}
-use Rattle.comp_links.specs.Modules.{IsModule}
-use Rattle.comp_links.specs.Targets.{Main, TargetOption}
+use Rattle.comp_links.specs.Targets.{TargetOption}
 use Rattle.comp_links.specs.Targets as targets
-use Rattle.comp_terms.specs.Planned.{IsExportFor, IsOptionFor}
+use Rattle.comp_terms.specs.Planned.{main_memory, IsOptionFor}
 use Rattle.comp_terms.specs.Rules.{IsOptionRight}
-use Rattle.comp_terms.specs.Terms.{TermOption, IsInstanceOf, IsOption}
+use Rattle.comp_terms.specs.Terms.{CoreExport, TermOption, IsInstanceOf, IsOption}
+use Rattle.comp_worlds.specs.Offered.{memory_of_main}
 use Rattle.comp_terms.specs.Terms as terms
 use Rattle.std.specs.Result.{IsErrAnd, IfErr}
 use Rattle.comp_items.proofs.Kept.{Longer, instance-kept, exported-kept, options-kept}
 use Rattle.core_options.specs.Causes.{IsListRefusal, IsOptionRefusal}
-use Rattle.core_options.specs.MainOptions.{memory_of_main, export_ref_of, IsInstanceExport, IsMemoryIf, IsAliasOf, IsAliasIf, AreOptionSources, AreUserInstances, memory_name, NameOptions}
+use Rattle.core_options.specs.MainOptions.{export_ref_of, IsInstanceExport, IsMemoryIf, IsAliasOf, IsAliasIf, IsReallocOf, IsReallocIf, AreOptionSources, AreUserInstances, NameOptions}
 use Rattle.core_options.specs.declared.modules.InstanceExport.{InstanceExport}
 use Rattle.core_options.specs.declared.modules.UserInstances.{UserInstances}
 use Rattle.core_options.specs.declared.options.OptionSources.{OptionSources}
 use Rattle.core_options.specs.declared.fault.StateFault.{StateFault}
 use Rattle.core_options.specs.declared.fault.StateFault.TheVariants as faults
-use Rattle.core_options.proofs.Offered.{main_module}
+use Rattle.core_options.proofs.Memories.{memory_kind, memory_there, memory_missing}
 
 zip_append : {A B : Type 0} (P : A → B → Type 0) (xs ys : List A) (us vs : List B) → AllZip P xs us → AllZip P ys vs → AllZip P (xs ++ ys) (us ++ vs)
 zip_append P [] ys [] vs h k = k
@@ -57,31 +55,25 @@ module _ (w : ComponentWorld) (ds : List Def) where
     asked = zip_append (IsOptionFor w) h.terms k.terms x y h.asked k.asked;
   }
 
-  main_is : IsModule w 0 Main
-  main_is = record { world_module = main_module w; listed = refl; same = refl }
-
-  fit_memory : (set : ℕ) (memory : Option ℕ) → IsMemoryIf ds (memory_name w) memory → lacks_memory set memory ≡ false → Fit (one_if canonical.Memory (when (needs set 1) memory)) (if_needed (needs set 1) (Some targets.Memory))
-  fit_memory set memory alias lacks = by (needs set 1) memory (first_memory w.main.exports.exports) refl alias lacks
+  fit_memory : (set : ℕ) (memory : Option ℕ) → (IsTrue (needs set 1) → IsMemoryIf ds (main_memory w) memory) → lacks_memory set memory ≡ false → Fit (one_if canonical.Memory (when (needs set 1) memory)) (if_needed (needs set 1) (Some targets.Memory))
+  fit_memory set memory alias lacks = by (needs set 1) memory (main_memory w) refl alias lacks
     where
-      by : (b : Bool) (memory : Option ℕ) (first : Option (List ℕ × MemoryType)) → first_memory w.main.exports.exports ≡ first → IsMemoryIf ds (option_map (λ m. m.0) first) memory → (b && not (is_some memory)) ≡ false →
+      by : (b : Bool) (memory : Option ℕ) (main : Option CoreExport) → main_memory w ≡ main → (IsTrue b → IsMemoryIf ds main memory) → (b && not (is_some memory)) ≡ false →
           Fit (one_if canonical.Memory (when b memory)) (if_needed b (Some targets.Memory))
-      by false memory first e alias lacks = fit_none
-      by true (Some index) (Some (name, type)) e alias lacks =
-          fit_one (canonical.Memory index) (terms.Memory (memory_of_main name)) targets.Memory (refl, alias) (record { of = main_is; type = type; first = e })
-      by true (Some index) None e alias lacks = absurd alias
-      by true None first e alias lacks = absurd (true≢false lacks)
+      by false memory main e alias lacks = fit_none
+      by true (Some index) (Some export) e alias lacks = fit_one (canonical.Memory index) (terms.Memory export) targets.Memory (memory_kind w export e, alias refl) e
+      by true (Some index) None e alias lacks = absurd (alias refl)
+      by true None main e alias lacks = absurd (true≢false lacks)
 
-  fit_function : (o : ℕ → CanonicalOption) (t : terms.CoreExport → TermOption) (g : targets.ExportRef → TargetOption) →
-      ((index : ℕ) (x : terms.CoreExport) → x.kind ≡ kinds.Func → terms.IsExported ds index x → IsOption ds (o index) (t x)) → ((x : terms.CoreExport) (e : targets.ExportRef) → IsExportFor w x e → IsOptionFor w (t x) (g e)) →
-      (b : Bool) (index : Option ℕ) (e : Option targets.ExportRef) → IsAliasIf w ds (when b e) index → (b && not (is_some index)) ≡ false → Fit (one_if o (when b index)) (if_needed b (option_map g e))
-  fit_function o t g is asked false index e alias lacks = fit_none
-  fit_function o t g is asked true (Some index) (Some e) alias lacks = fit_one (o index) (t alias.exported) (g e) (is index alias.exported alias.function alias.is) (asked alias.exported e alias.named)
-  fit_function o t g is asked true (Some index) None alias lacks = absurd alias
-  fit_function o t g is asked true None e alias lacks = absurd (true≢false lacks)
-
-  fit_realloc : (set : ℕ) (realloc : Option ℕ) (e : Option targets.ExportRef) → IsAliasIf w ds (when (needs set 2) e) realloc → lacks_realloc set realloc ≡ false →
+  fit_realloc : (set : ℕ) (realloc : Option ℕ) (e : Option targets.ExportRef) → (IsTrue (needs set 2) → IsReallocIf w ds e realloc) → lacks_realloc set realloc ≡ false →
       Fit (one_if canonical.Realloc (when (needs set 2) realloc)) (if_needed (needs set 2) (option_map targets.Realloc e))
-  fit_realloc set realloc e alias lacks = fit_function canonical.Realloc terms.Realloc targets.Realloc (λ index x k h. (k, h)) (λ x e h. h) (needs set 2) realloc e alias lacks
+  fit_realloc set realloc e alias lacks = by (needs set 2) realloc e alias lacks
+    where
+      by : (b : Bool) (realloc : Option ℕ) (e : Option targets.ExportRef) → (IsTrue b → IsReallocIf w ds e realloc) → (b && not (is_some realloc)) ≡ false → Fit (one_if canonical.Realloc (when b realloc)) (if_needed b (option_map targets.Realloc e))
+      by false realloc e alias lacks = fit_none
+      by true (Some index) (Some e) alias lacks = let r : IsReallocOf w ds index e = alias refl in fit_one (canonical.Realloc index) (terms.Realloc r.exported) (targets.Realloc e) (r.function, r.is) r.named
+      by true (Some index) None alias lacks = absurd (alias refl)
+      by true None e alias lacks = absurd (true≢false lacks)
 
   fit_encoding : (b : Bool) (e : StringEncoding) → Fit (one_if encoding_option (when b (Some e))) (if_needed b (option_map targets.Encoding (Some e)))
   fit_encoding false e = fit_none
@@ -94,7 +86,7 @@ module _ (w : ComponentWorld) (ds : List Def) where
   fit_async true = fit_one canonical.Async terms.Async targets.Async tt tt
 
   -- the options of a set
-  pub fit_set : (set : ℕ) (memory realloc : Option ℕ) (own : Option targets.ExportRef) (e : StringEncoding) → IsMemoryIf ds (memory_name w) memory → IsAliasIf w ds (when (needs set 2) own) realloc →
+  pub fit_set : (set : ℕ) (memory realloc : Option ℕ) (own : Option targets.ExportRef) (e : StringEncoding) → (IsTrue (needs set 1) → IsMemoryIf ds (main_memory w) memory) → (IsTrue (needs set 2) → IsReallocIf w ds own realloc) →
       lacks_memory set memory ≡ false → lacks_realloc set realloc ≡ false → Fit (options_of set e memory realloc) (options_in set own (Some e))
   fit_set set memory realloc own e m r no_m no_r =
       fit_append _ _ _ _ (fit_memory set memory m no_m) (fit_append _ _ _ _ (fit_realloc set realloc own r no_r) (fit_append _ _ _ _ (fit_encoding (needs set 4) e) (fit_async (needs set 8))))
@@ -129,23 +121,22 @@ fit_kept w old new g written options h = record { terms = h.terms; are = options
 
 -- ---- what is there, and what is missing
 
-module _ (w : ComponentWorld) (ds : List Def) (set : ℕ) (memory realloc : Option ℕ) (own : Option targets.ExportRef) (m : IsMemoryIf ds (memory_name w) memory) (r : IsAliasIf w ds (when (needs set 2) own) realloc) where
+module _ (w : ComponentWorld) (ds : List Def) (set : ℕ) (memory realloc : Option ℕ) (own : Option targets.ExportRef) (m : IsTrue (needs set 1) → IsMemoryIf ds (main_memory w) memory) (r : IsTrue (needs set 2) → IsReallocIf w ds own realloc) where
   -- what isn't missing is there
-  pub has_memory : lacks_memory set memory ≡ false → IsTrue (needs set 1) → IsSome (memory_name w)
-  has_memory no_m h = by (needs set 1) memory (memory_name w) m no_m h
+  pub has_memory : lacks_memory set memory ≡ false → IsTrue (needs set 1) → IsSome (memory_of_main w.main)
+  has_memory no_m h = by (needs set 1) memory m no_m h
     where
-      by : (b : Bool) (memory : Option ℕ) (name : Option (List ℕ)) → IsMemoryIf ds name memory → (b && not (is_some memory)) ≡ false → IsTrue b → IsSome name
-      by true (Some index) (Some name) alias lacks h = refl
-      by true (Some index) None alias lacks h = absurd alias
-      by true None name alias lacks h = absurd (true≢false lacks)
-      by false memory name alias lacks h = absurd (true≢false (sym h))
+      by : (b : Bool) (memory : Option ℕ) → (IsTrue b → IsMemoryIf ds (main_memory w) memory) → (b && not (is_some memory)) ≡ false → IsTrue b → IsSome (memory_of_main w.main)
+      by true (Some index) alias lacks h = memory_there w ds index (alias refl)
+      by true None alias lacks h = absurd (true≢false lacks)
+      by false memory alias lacks h = absurd (true≢false (sym h))
 
   pub has_realloc : lacks_realloc set realloc ≡ false → IsTrue (needs set 2) → IsSome own
   has_realloc no_r h = by (needs set 2) realloc own r no_r h
     where
-      by : (b : Bool) (realloc : Option ℕ) (own : Option targets.ExportRef) → IsAliasIf w ds (when b own) realloc → (b && not (is_some realloc)) ≡ false → IsTrue b → IsSome own
+      by : (b : Bool) (realloc : Option ℕ) (own : Option targets.ExportRef) → (IsTrue b → IsReallocIf w ds own realloc) → (b && not (is_some realloc)) ≡ false → IsTrue b → IsSome own
       by true (Some index) (Some e) alias lacks h = refl
-      by true (Some index) None alias lacks h = absurd alias
+      by true (Some index) None alias lacks h = absurd (alias refl)
       by true None own alias lacks h = absurd (true≢false lacks)
       by false realloc own alias lacks h = absurd (true≢false (sym h))
 
@@ -154,28 +145,27 @@ module _ (w : ComponentWorld) (ds : List Def) (set : ℕ) (memory realloc : Opti
   option_refused place faults.Memory h = tt
   option_refused place (faults.NotYetMade adapter name) h = absurd h
   option_refused place (faults.LaterExport interface used) h = absurd h
-  option_refused place (faults.NoMemory of) h = by (needs set 1) memory (memory_name w) refl refl m h.0
+  option_refused place (faults.NoMemory of) h = by (needs set 1) memory refl m h.0
     where
-      by : (b : Bool) (memory : Option ℕ) (first : Option (List ℕ)) → needs set 1 ≡ b → memory_name w ≡ first → IsMemoryIf ds first memory → IsTrue (b && not (is_some memory)) → IsTrue (needs set 1) × (memory_name w ≡ None) × (of ≡ place)
-      by true None None needed none alias l = (needed, none, h.1)
-      by true None (Some name) needed none alias l = absurd alias
-      by true (Some index) first needed none alias l = absurd (true≢false (sym l))
-      by false memory first needed none alias l = absurd (true≢false (sym l))
+      by : (b : Bool) (memory : Option ℕ) → needs set 1 ≡ b → (IsTrue b → IsMemoryIf ds (main_memory w) memory) → IsTrue (b && not (is_some memory)) → IsTrue (needs set 1) × (memory_of_main w.main ≡ None) × (of ≡ place)
+      by true None needed alias l = (needed, memory_missing w ds (alias refl), h.1)
+      by true (Some index) needed alias l = absurd (true≢false (sym l))
+      by false memory needed alias l = absurd (true≢false (sym l))
   option_refused place (faults.NoRealloc of) h = by (needs set 2) realloc own refl refl r h.0
     where
-      by : (b : Bool) (realloc : Option ℕ) (given : Option targets.ExportRef) → needs set 2 ≡ b → own ≡ given → IsAliasIf w ds (when b given) realloc → IsTrue (b && not (is_some realloc)) → IsTrue (needs set 2) × (own ≡ None) × (of ≡ place)
+      by : (b : Bool) (realloc : Option ℕ) (given : Option targets.ExportRef) → needs set 2 ≡ b → own ≡ given → (IsTrue b → IsReallocIf w ds given realloc) → IsTrue (b && not (is_some realloc)) → IsTrue (needs set 2) × (own ≡ None) × (of ≡ place)
       by true None None needed none alias l = (needed, none, h.1)
-      by true None (Some e) needed none alias l = absurd alias
+      by true None (Some e) needed none alias l = absurd (alias refl)
       by true (Some index) given needed none alias l = absurd (true≢false (sym l))
       by false realloc given needed none alias l = absurd (true≢false (sym l))
   option_refused place (faults.NoEncoding of) h = absurd h
   option_refused place (faults.TooMany excess) h = absurd h
 
 -- an alias stays one
-pub memory_kept : (old new : List Def) → Longer old new → (name : Option (List ℕ)) (index : Option ℕ) → IsMemoryIf old name index → IsMemoryIf new name index
-memory_kept old new g (Some name) (Some index) h = exported-kept g h
+pub memory_kept : (old new : List Def) → Longer old new → (e : Option CoreExport) (index : Option ℕ) → IsMemoryIf old e index → IsMemoryIf new e index
+memory_kept old new g (Some e) (Some index) h = exported-kept g h
 memory_kept old new g None None h = tt
-memory_kept old new g (Some name) None h = absurd h
+memory_kept old new g (Some e) None h = absurd h
 memory_kept old new g None (Some index) h = absurd h
 
 pub alias_of_kept : {w : ComponentWorld} {old new : List Def} {index : ℕ} {e : targets.ExportRef} → Longer old new → IsAliasOf w old index e → IsAliasOf w new index e
@@ -196,11 +186,12 @@ export_if_kept w old new g None h = tt
 export_if_kept w old new g (Some e) h = instance_export_kept g h
 
 pub option_sources_kept : {w : ComponentWorld} {old new : List Def} {s : OptionSources} → Longer old new → AreOptionSources w old s → AreOptionSources w new s
-option_sources_kept {w} {old} {new} {s} g h = record { made = instance-kept g h.made; memory = h.memory; realloc = export_if_kept w old new g s.realloc h.realloc }
+option_sources_kept {w} {old} {new} {s} g h = record { memory = memory_kept old new g (main_memory w) s.memory h.memory; realloc = export_if_kept w old new g s.realloc h.realloc }
 
 pub instances_kept : {w : ComponentWorld} {old new : List Def} {u : UserInstances} → Longer old new → AreUserInstances w old u → AreUserInstances w new u
 instances_kept {w} {old} {new} {u} g h = record {
   main = instance-kept g h.main;
+  memory = memory_kept old new g (main_memory w) u.memory h.memory;
   adapters = λ number name m listed same. let a = h.adapters number name m listed same in record { instance = a.instance; there = a.there; made = instance-kept g a.made };
 }
 
@@ -240,16 +231,25 @@ pub some_mapped : (e : Option InstanceExport) → IsSome e → IsSome (option_ma
 some_mapped (Some e) h = refl
 some_mapped None h = absurd (true≢false (sym h))
 
+-- an alias of an export is one of the realloc of calls, where it is needed
+realloc_of_alias : (w : ComponentWorld) (ds : List Def) (e : Option targets.ExportRef) (index : Option ℕ) → IsAliasIf w ds e index → IsReallocIf w ds e index
+realloc_of_alias w ds (Some e) (Some index) h = record { exported = h.exported; is = h.is; function = h.function; named = inl h.named }
+realloc_of_alias w ds None None h = tt
+realloc_of_alias w ds (Some e) None h = absurd h
+realloc_of_alias w ds None (Some index) h = absurd h
+
 -- the options that are listed, and what they name
 pub record AreListed (w : ComponentWorld) (ds : List Def) (set : ℕ) (memory realloc : Option ℕ) (own : Option targets.ExportRef) : Type 0 where
-  pub memory_is : IsMemoryIf ds (memory_name w) memory
-  pub realloc_is : IsAliasIf w ds (when (needs set 2) own) realloc
+  pub memory_is : IsTrue (needs set 1) → IsMemoryIf ds (main_memory w) memory
+  pub realloc_is : IsTrue (needs set 2) → IsReallocIf w ds own realloc
 
 pub aliases_of : (w : ComponentWorld) (mid ds : List Def) → Longer mid ds → (set : ℕ) (memory realloc : Option ℕ) (own wanted : Option InstanceExport) →
-    IsMemoryIf mid (memory_name w) memory → wanted ≡ when (needs set 2) own → IsAliasIf w ds (option_map export_ref_of wanted) realloc → AreListed w ds set memory realloc (option_map export_ref_of own)
+    IsMemoryIf mid (main_memory w) memory → wanted ≡ when (needs set 2) own → IsAliasIf w ds (option_map export_ref_of wanted) realloc → AreListed w ds set memory realloc (option_map export_ref_of own)
 aliases_of w mid ds g set memory realloc own wanted m is r = record {
-  memory_is = memory_kept mid ds g (memory_name w) memory m;
-  realloc_is = subst (λ o. IsAliasIf w ds o realloc) (ap (option_map export_ref_of) is ∙ when_map (needs set 2) own) r;
+  memory_is = λ needed. memory_kept mid ds g (main_memory w) memory m;
+  realloc_is = λ needed.
+      let all : IsAliasIf w ds (when (needs set 2) (option_map export_ref_of own)) realloc = subst (λ o. IsAliasIf w ds o realloc) (ap (option_map export_ref_of) is ∙ when_map (needs set 2) own) r in
+      realloc_of_alias w ds (option_map export_ref_of own) realloc (subst (λ b. IsAliasIf w ds (when b (option_map export_ref_of own)) realloc) needed all);
 }
 
 pub named_for : (w : ComponentWorld) (ds : List Def) (set : ℕ) (memory realloc : Option ℕ) (own : Option targets.ExportRef) (e : StringEncoding) (written : List CanonicalOption) → AreListed w ds set memory realloc own → written ≡ options_of set e memory realloc →

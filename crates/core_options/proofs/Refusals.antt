@@ -7,7 +7,7 @@ use Rattle.comp_links.specs.Links.{lower_needs, lower_realloc, lift_needs, lift_
 use Rattle.comp_links.specs.Lists.{RequiredFunction}
 use Rattle.comp_links.specs.Modules.{UserImport}
 use Rattle.comp_links.specs.Targets.{ExportRef}
-use Rattle.core_options.specs.Causes.{indirect_name, IsOptionRefusal, IsMemoryRefusal, IsCauseAmong, NeedsLowering, NeedsLift, ImportsMemory, LacksImportEncoding, LacksExportEncoding}
+use Rattle.core_options.specs.Causes.{lowering_place, IsOptionRefusal, IsMemoryRefusal, IsCauseAmong, NeedsLowering, NeedsLift, ImportsMemory, LacksImportEncoding, LacksExportEncoding}
 use Rattle.core_options.specs.declared.fault.StateFault.{StateFault}
 use Rattle.core_options.specs.declared.fault.StateFault.TheVariants as faults
 
@@ -48,7 +48,7 @@ pub one_export_lacks : (w : ComponentWorld) (r : RequiredFunction) (place : List
 one_export_lacks w r place none at = inr (record { required = r; present = (0, omega arith, refl); none = none; at = at })
 
 -- an option of the one import, or of the one export, that is refused
-pub one_import_refused : (w : ComponentWorld) (i : UserImport) (own : Option ExportRef) (set : ℕ) (place : List ℕ) → set ≡ lower_needs w i.core.role → place ≡ indirect_name i.core → (own ≡ None → lower_realloc w i.of ≡ None) → (e : StateFault) →
+pub one_import_refused : (w : ComponentWorld) (i : UserImport) (own : Option ExportRef) (set : ℕ) (place : List ℕ) → set ≡ lower_needs w i.core.role → place ≡ lowering_place w i.core → (own ≡ None → lower_realloc w i.of ≡ None) → (e : StateFault) →
     IsOptionRefusal w set own place e → IsCauseAmong w (i ∷ []) [] e
 one_import_refused w i own set place needed named none faults.Memory h = tt
 one_import_refused w i own set place needed named none (faults.TooMany excess) h = h

@@ -1,12 +1,13 @@
 -- When the encoding of a world is refused: out of memory, where a function has no string encoding, no memory or no realloc, or an import
 -- of main's memory finds none (Canonical ABI: `string-encoding`, `memory`, `realloc`), where an adapter is instantiated before one that it
 -- names, where an interface is exported before one that it uses, and where a count passes 32 bits (core standard, binary format: vectors).
-use Rattle.std.specs.Prelude.{◌≡◌, ◌≤◌, ◌^◌, ◌⊎◌, ◌++◌, ℕ, true, codes, List, Option, Some, None, Contains, IsSome, IsTrue}
+use Rattle.std.specs.Prelude.{◌≡◌, ◌≤◌, ◌^◌, ◌⊎◌, ◌++◌, ℕ, true, codes, List, Option, Some, None, is_some, if◌then◌else◌, Contains, IsSome, IsTrue}
 use Rattle.std.specs.List.{AllByRecursion}
 use Rattle.comp_roles.specs.CoreImports.{CoreImport}
 use Rattle.comp_worlds.specs.Absent.{absent_adapter}
 use Rattle.comp_worlds.specs.ExportOrder.{AreExportsInOrder, IsLaterExport}
 use Rattle.comp_worlds.specs.Made.{AreMadeInOrder, IsNotYetMade}
+use Rattle.comp_worlds.specs.Offered.{memory_of_main, shared_memory}
 use Rattle.comp_worlds.specs.WorldContents.{exported_item}
 use Rattle.wit_data.specs.Names.{key_text}
 use Rattle.wit_data.specs.declared.ids.InterfaceId.{InterfaceId}
@@ -26,8 +27,9 @@ use Rattle.comp_links.specs.Targets.{ExportRef}
 use Rattle.comp_links.specs.Modules.{UserImport, user_imports}
 use Rattle.comp_links.specs.Lists.{RequiredFunction, required_functions}
 use Rattle.comp_links.specs.Links.{lower_needs, lower_realloc, lift_needs, lift_realloc}
-use Rattle.core_options.specs.MainOptions.{memory_name, HasLowerOptions, HasLiftOptions}
-use Rattle.comp_links.specs.Roles.{needs_encoding, import_encoding, is_main_memory, IsSuppliedImport, export_encoding, field_path}
+use Rattle.core_options.specs.MainOptions.{HasLowerOptions, HasLiftOptions}
+use Rattle.comp_links.specs.Roles.{needs_encoding, import_encoding, is_main_memory, export_encoding, field_path}
+use Rattle.comp_links.specs.Supplied.{IsSuppliedImport}
 
 -- a fault of the builder, as one of the state
 abbrev pub of_build : BuildFault → StateFault
@@ -58,12 +60,17 @@ pub record LacksExportEncoding (w : ComponentWorld) (functions : List RequiredFu
 abbrev pub indirect_name : CoreImport → List ℕ
 indirect_name i = codes "indirect-" ++ (i.module_name ++ (codes "-" ++ i.field))
 
+-- what names the lowering of a core import in faults: the import, where main imports its memory, so that the function is lowered before
+-- main is instantiated; else its shim
+abbrev pub lowering_place : ComponentWorld → CoreImport → List ℕ
+lowering_place w i = if is_some (shared_memory w) then field_path i.module_name i.field else indirect_name i
+
 -- one of these core imports is lowered with an option of this bit
 pub record NeedsLowering (w : ComponentWorld) (bit : ℕ) (imports : List UserImport) (place : List ℕ) : Type 0 where
   pub given : UserImport
   pub present : Contains imports given
   pub needed : IsTrue (needs (lower_needs w given.core.role) bit)
-  pub at : place ≡ indirect_name given.core
+  pub at : place ≡ lowering_place w given.core
 
 -- one of these required functions is lifted with an option of this bit
 pub record NeedsLift (w : ComponentWorld) (bit : ℕ) (functions : List RequiredFunction) (place : List ℕ) : Type 0 where
@@ -79,10 +86,10 @@ pub record ImportsMemory (imports : List UserImport) (place : List ℕ) : Type 0
   pub is : is_main_memory given.core.role ≡ true
   pub at : place ≡ field_path given.core.module_name given.core.field
 
--- a function is lowered or lifted with a memory, or a module imports main's, and main exports none
+-- a function is lowered or lifted with a memory, or a module imports main's, and main neither imports nor exports one
 pub record LacksMemory (w : ComponentWorld) (imports : List UserImport) (functions : List RequiredFunction) (place : List ℕ) : Type 0 where
   pub needed : NeedsLowering w 1 imports place ⊎ NeedsLift w 1 functions place ⊎ ImportsMemory imports place
-  pub none : memory_name w ≡ None
+  pub none : memory_of_main w.main ≡ None
 
 -- a function is lowered, or lifted, with a realloc, and there is none for the module
 pub record LacksLowerRealloc (w : ComponentWorld) (imports : List UserImport) (place : List ℕ) : Type 0 where
@@ -131,7 +138,7 @@ IsListRefusal set memory realloc name fault = ⊥
 abbrev pub IsOptionRefusal : ComponentWorld → ℕ → Option ExportRef → List ℕ → StateFault → Type 0
 IsOptionRefusal w set realloc name faults.Memory = Unit {0}
 IsOptionRefusal w set realloc name (faults.TooMany excess) = 2 ^ 32 ≤ excess
-IsOptionRefusal w set realloc name (faults.NoMemory place) = IsTrue (needs set 1) × (memory_name w ≡ None) × (place ≡ name)
+IsOptionRefusal w set realloc name (faults.NoMemory place) = IsTrue (needs set 1) × (memory_of_main w.main ≡ None) × (place ≡ name)
 IsOptionRefusal w set realloc name (faults.NoRealloc place) = IsTrue (needs set 2) × (realloc ≡ None) × (place ≡ name)
 IsOptionRefusal w set realloc name (faults.NoEncoding place) = ⊥
 IsOptionRefusal w set realloc name (faults.NotYetMade adapter other) = ⊥
@@ -141,7 +148,7 @@ IsOptionRefusal w set realloc name (faults.LaterExport interface used) = ⊥
 abbrev pub IsMemoryRefusal : ComponentWorld → List ℕ → StateFault → Type 0
 IsMemoryRefusal w path faults.Memory = Unit {0}
 IsMemoryRefusal w path (faults.TooMany excess) = 2 ^ 32 ≤ excess
-IsMemoryRefusal w path (faults.NoMemory place) = (memory_name w ≡ None) × (place ≡ path)
+IsMemoryRefusal w path (faults.NoMemory place) = (memory_of_main w.main ≡ None) × (place ≡ path)
 IsMemoryRefusal w path fault = ⊥
 
 -- the cause of a fault where the adapter of a name is to be instantiated after those of a table: it names one that is none of them

@@ -1,7 +1,6 @@
 -- What the options of lowerings and lifts name (Canonical ABI: `canon lower`, `canon lift` and their options): exports of the
 -- instances of user modules.
 use Rattle.std.specs.Prelude.{◌≡◌, ℕ, List, Option, Some, None, IsTrue, IfSome, IsSome, slice_get}
-use Rattle.std.specs.Option.{option_copied, option_map}
 use Rattle.std.specs.List.{AllZip}
 use denote.Ref.{Bor}
 use Rattle.standard_kinds.specs.declared.kinds.ExportKind.TheVariants as kinds
@@ -16,18 +15,30 @@ use Rattle.comp_roles.specs.declared.offered.ExternType.TheVariants as externs
 use Rattle.comp_worlds.specs.declared.world.ComponentWorld.{ComponentWorld}
 use Rattle.comp_worlds.specs.declared.world.ValidatedModule.{ValidatedModule}
 use Rattle.comp_worlds.specs.Lookups.{module_name}
+use Rattle.comp_worlds.specs.Offered.{memory_of_main}
 use Rattle.comp_worlds.specs.declared.modules.CustomModule.{CustomModule}
 use Rattle.comp_worlds.specs.declared.modules.CustomModule.TheVariants as named
-use Rattle.comp_links.specs.Targets.{UserModule as User, Main, Adapter, ExportRef, TargetOption}
+use Rattle.comp_links.specs.Targets.{UserModule as User, Main, Adapter, ExportRef, WorldFunction, TargetOption}
 use Rattle.comp_links.specs.Modules.{WorldModule, user_modules, module_found, UserImport}
-use Rattle.comp_links.specs.Lists.{RequiredFunction}
+use Rattle.comp_links.specs.Lists.{IsOriginOf, RequiredFunction}
+use Rattle.comp_trees.specs.Trees.{Origin, FunctionTree}
 use Rattle.comp_links.specs.Links.{lower_needs, lower_realloc, lift_needs, lift_realloc}
-use Rattle.comp_terms.specs.Terms.{CoreExport, TermOption, IsInstanceOf, IsExported, IsOption}
-use Rattle.comp_terms.specs.Planned.{IsExportFor, IsOptionFor}
+use Rattle.comp_terms.specs.Terms.{CoreExport, TermOption, IsImportedFunction, IsInstanceOf, IsExported, IsOption}
+use Rattle.comp_terms.specs.Planned.{IsTypeOf, IsExportFor, memory_from, main_memory, IsReallocFor, IsOptionFor}
 use Rattle.core_options.specs.declared.modules.UserModule.{UserModule}
 use Rattle.core_options.specs.declared.modules.InstanceExport.{InstanceExport}
 use Rattle.core_options.specs.declared.modules.UserInstances.{UserInstances}
 use Rattle.core_options.specs.declared.options.OptionSources.{OptionSources}
+
+-- ---- functions of the world
+
+-- the function of this index is the world's, as it is imported, with its type
+pub record IsFunctionOf (w : ComponentWorld) (ds : List Def) (index : ℕ) (function : WorldFunction) : Type 0 where
+  pub origin : Origin
+  pub type : FunctionTree
+  pub of : IsOriginOf w function origin
+  pub typed : IsTypeOf w function type
+  pub is : IsImportedFunction ds index origin type
 
 -- ---- user modules
 
@@ -54,9 +65,16 @@ pub record IsAdapterInstance (ds : List Def) (table : List (List ℕ × ℕ)) (n
   pub there : found name table ≡ Some instance
   pub made : IsInstanceOf ds instance number
 
--- the instances of all user modules of the world
+-- the index is an alias of this memory, where there is one
+abbrev pub IsMemoryIf : List Def → Option CoreExport → Option ℕ → Type 0
+IsMemoryIf ds None None = Unit {0}
+IsMemoryIf ds (Some e) (Some index) = IsExported ds index e
+IsMemoryIf ds e index = ⊥
+
+-- the instances of all user modules of the world, and main's memory
 pub record AreUserInstances (w : ComponentWorld) (ds : List Def) (u : UserInstances) : Type 0 where
   pub main : IsInstanceOf ds u.main 0
+  pub memory : IsMemoryIf ds (main_memory w) u.memory
   pub adapters : (number : ℕ) (name : List ℕ) (m : WorldModule) → slice_get (user_modules w) number ≡ Some m → m.of ≡ Adapter name → IsAdapterInstance ds u.adapters number name
 
 -- ---- what they export
@@ -98,16 +116,11 @@ pub record IsAliasOf (w : ComponentWorld) (ds : List Def) (index : ℕ) (e : Exp
   pub function : exported.kind ≡ kinds.Func
   pub named : IsExportFor w exported e
 
--- the memory that main exports under this name
-abbrev pub memory_of_main : List ℕ → CoreExport
-memory_of_main name = record { of = 0; kind = kinds.Memory; name = name }
+-- the memory that main exports first
+abbrev pub exported_memory : ComponentWorld → Option CoreExport
+exported_memory w = memory_from w None (first_memory w.main.exports.exports)
 
--- the index is an alias of the memory of this name, or of this export, where there is one
-abbrev pub IsMemoryIf : List Def → Option (List ℕ) → Option ℕ → Type 0
-IsMemoryIf ds None None = Unit {0}
-IsMemoryIf ds (Some name) (Some index) = IsExported ds index (memory_of_main name)
-IsMemoryIf ds name index = ⊥
-
+-- the index is an alias of this export, where there is one
 abbrev pub IsAliasIf : ComponentWorld → List Def → Option ExportRef → Option ℕ → Type 0
 IsAliasIf w ds None None = Unit {0}
 IsAliasIf w ds (Some e) (Some index) = IsAliasOf w ds index e
@@ -115,14 +128,21 @@ IsAliasIf w ds e index = ⊥
 
 -- ---- options
 
--- the name of the memory of options
-abbrev pub memory_name : ComponentWorld → Option (List ℕ)
-memory_name w = option_map (λ m. m.0) (first_memory w.main.exports.exports)
+-- the index is an alias of a function that calls have as their realloc for this export
+pub record IsReallocOf (w : ComponentWorld) (ds : List Def) (index : ℕ) (e : ExportRef) : Type 0 where
+  pub exported : CoreExport
+  pub is : IsExported ds index exported
+  pub function : exported.kind ≡ kinds.Func
+  pub named : IsReallocFor w exported e
 
--- main's instance, the name of its memory, and the realloc, where there is one
+abbrev pub IsReallocIf : ComponentWorld → List Def → Option ExportRef → Option ℕ → Type 0
+IsReallocIf w ds None None = Unit {0}
+IsReallocIf w ds (Some e) (Some index) = IsReallocOf w ds index e
+IsReallocIf w ds e index = ⊥
+
+-- main's memory, and the realloc, where there are any
 pub record AreOptionSources (w : ComponentWorld) (ds : List Def) (s : OptionSources) : Type 0 where
-  pub made : IsInstanceOf ds s.instance 0
-  pub memory : option_copied s.memory ≡ memory_name w
+  pub memory : IsMemoryIf ds (main_memory w) s.memory
   pub realloc : IfSome s.realloc (IsInstanceExport w ds)
 
 -- the options name what those of the target do, by terms between them
@@ -133,10 +153,10 @@ pub record NameOptions (w : ComponentWorld) (ds : List Def) (written : List Cano
 
 -- main has the memory, and there is the realloc, that a lift of a required function needs
 pub record HasLiftOptions (w : ComponentWorld) (r : RequiredFunction) : Type 0 where
-  pub memory : IsTrue (needs (lift_needs w r.key r.function) 1) → IsSome (memory_name w)
+  pub memory : IsTrue (needs (lift_needs w r.key r.function) 1) → IsSome (memory_of_main w.main)
   pub realloc : IsTrue (needs (lift_needs w r.key r.function) 2) → IsSome (lift_realloc w r.of)
 
 -- and that a call of an imported function needs
 pub record HasLowerOptions (w : ComponentWorld) (i : UserImport) : Type 0 where
-  pub memory : IsTrue (needs (lower_needs w i.core.role) 1) → IsSome (memory_name w)
+  pub memory : IsTrue (needs (lower_needs w i.core.role) 1) → IsSome (memory_of_main w.main)
   pub realloc : IsTrue (needs (lower_needs w i.core.role) 2) → IsSome (lower_realloc w i.of)

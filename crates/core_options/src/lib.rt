@@ -20,4 +20,4 @@ pub use modules::{
     InstanceExport, UserInstances, UserModule, alias_if, alias_of, export_realloc_of,
     import_realloc_of,
 };
-pub use options::{OptionSources, encoding_of, memory_name, memory_of_main, options_for};
+pub use options::{OptionSources, encoding_of, exported_memory, list_options, options_for};

@@ -38,9 +38,11 @@ pub struct InstanceExport<'a> {
     pub name: &'a str,
 }
 
-/// The instances of all user modules: main's, and those of the adapters by their names.
+/// The instances of all user modules, main's, and those of the adapters by their names; and main's memory.
 pub struct UserInstances {
     pub main: u32,
+    /// The alias of main's memory, if it has one.
+    pub memory: Option<u32>,
     pub adapters: Keyed<Text, u32>,
 }
 
@@ -48,6 +50,7 @@ impl Drop for UserInstances {
     fn drop(self) {
         let UserInstances {
             main: _,
+            memory: _,
             adapters: _,
         } = self;
     }

@@ -4,7 +4,7 @@
 #![tactic(auto, using(comp_items::proofs::Extending::extends_none, comp_items::proofs::Extending::extends_same, comp_items::proofs::Extending::extends_then))]
 
 ghost use Rattle.std.specs.Prelude.{◌≡◌, [], Some, IfOk, IfErr, IfSome, OnOk, IsSome, IsTrue, false};
-ghost use Rattle.std.specs.Option.{option_copied, option_map};
+ghost use Rattle.std.specs.Option.{option_map};
 ghost use Rattle.comp_items.specs.Items.{Extends};
 ghost use Rattle.comp_links.specs.Links.{options_in};
 ghost use Rattle.comp_options.specs.Options.{needs};
@@ -13,8 +13,9 @@ ghost use Rattle.comp_roles.specs.Functions.{of_function};
 ghost use Rattle.comp_terms.specs.Rules.{Grows};
 ghost use Rattle.comp_terms.specs.Terms.{IsInstanceOf};
 ghost use Rattle.comp_worlds.specs.Encodable.{IsEncodable};
+ghost use Rattle.comp_worlds.specs.Offered.{memory_of_main};
 ghost use Rattle.core_options.specs.Causes.{IsListRefusal, IsOptionRefusal, of_option};
-ghost use Rattle.core_options.specs.MainOptions.{export_ref_of, IsMemoryIf, memory_name, AreOptionSources, NameOptions};
+ghost use Rattle.core_options.specs.MainOptions.{export_ref_of, IsMemoryIf, exported_memory, AreOptionSources, NameOptions};
 ghost use Rattle.root_imports.specs.RootScopes.{IsRefusal};
 ghost use Rattle.standard_kinds.specs.declared.kinds.ExportKind.TheVariants as kinds;
 
@@ -47,44 +48,31 @@ pub fn encoding_of(
     Ok(encodings.get(&wanted).copied())
 }
 
-/// Main's instance with the name of its memory, and the realloc, looked up once for all functions.
+/// What the options of calls name, looked up once for all functions.
 #[derive(Clone, Copy)]
 pub struct OptionSources<'a> {
-    /// Main's instance.
-    pub instance: u32,
-    /// The memory, the first that main exports, if it exports one.
-    pub memory: Option<&'a str>,
+    /// The alias of main's memory, if it has one.
+    pub memory: Option<u32>,
     /// The realloc of these calls, if there is one.
     pub realloc: Option<InstanceExport<'a>>,
 }
 
-/// The name of the memory that options name, the first that main exports, if it exports one.
-pub fn memory_name(world: &ComponentWorld) -> Option<&str>
-    ensures { option_copied result ≡ memory_name world.now }
-{
-    match world.main.exports.memory() {
-        Some((name, _)) => Some(name),
-        None => None,
-    }
-}
-
-/// The alias of the memory that options name, if there is one. `instance` is main's.
-pub fn memory_of_main(
+/// The alias of the memory that main exports first, if it exports one. `instance` is main's.
+pub fn exported_memory(
     root: &mut RootScope<'_, ComponentWorld>,
     instance: u32,
-    memory: Option<&str>,
 ) -> Result<Option<u32>, BuildFault>
     requires valid { IsEncodable root.old.world.now }
     requires made { IsInstanceOf root.old.items.defs instance 0 }
-    requires named { option_copied memory ≡ memory_name root.old.world.now }
     ensures same { root.new ≡ record root.old { items = root.new.items } }
     ensures extends { Extends root.old.items root.new.items }
     ensures grows { OnOk result (Grows root.old.world.now root.old.items.defs root.new.items.defs []) }
-    ensures memory { IfOk result (λ index. IsMemoryIf root.new.items.defs (memory_name root.old.world.now) index) }
+    ensures memory { IfOk result (λ index. IsMemoryIf root.new.items.defs (exported_memory root.old.world.now) index) }
     ensures cause { IfErr result IsRefusal }
 {
-    match memory {
-        Some(name) => {
+    let world = root.world;
+    match world.main.exports.memory() {
+        Some((name, _)) => {
             let index = root.items.core_memory(instance, name)?;
             Ok(Some(index))
         }
@@ -106,7 +94,7 @@ fn refused(alloc: Global, name: &Text, fault: OptionFault) -> Result<StateFault,
 /// The options of a set, in order, for a function of this name.
 ///
 /// `E7` where a memory is needed and missing, `E8` where a realloc is.
-fn list_options(
+pub fn list_options(
     alloc: Global,
     name: &Text,
     needed: RequiredOptions,
@@ -144,10 +132,10 @@ fn realloc_if_needed<'a>(
     }
 }
 
-/// The options of a set, in order, with which a function is lowered or lifted: the memory that main exports, the realloc, and the
-/// string encoding. `place` names the function in faults.
+/// The options of a set, in order, with which a function is lowered or lifted: main's memory, the realloc, and the string encoding.
+/// `place` names the function in faults.
 ///
-/// `E7` where a memory is needed and main exports none, `E8` where a realloc is needed and there is none for these calls.
+/// `E7` where a memory is needed and main has none, `E8` where a realloc is needed and there is none for these calls.
 pub fn options_for(
     root: &mut RootScope<'_, ComponentWorld>,
     sources: &OptionSources<'_>,
@@ -161,11 +149,10 @@ pub fn options_for(
     ensures extends { Extends root.old.items root.new.items }
     ensures grows { OnOk result (Grows root.old.world.now root.old.items.defs root.new.items.defs []) }
     ensures named { IfOk result (λ options. NameOptions root.old.world.now root.new.items.defs options (options_in needed.0 (option_map export_ref_of sources.now.realloc) (Some encoding))) }
-    ensures memory { OnOk result (IsTrue (needs needed.0 1) → IsSome (memory_name root.old.world.now)) }
+    ensures memory { OnOk result (IsTrue (needs needed.0 1) → IsSome (memory_of_main root.old.world.now.main)) }
     ensures realloc { OnOk result (IsTrue (needs needed.0 2) → IsSome sources.now.realloc) }
     ensures cause { IfErr result (IsOptionRefusal root.old.world.now needed.0 (option_map export_ref_of sources.now.realloc) place.now) }
 {
-    let memory = memory_of_main(root, sources.instance, sources.memory)?;
     let wanted = realloc_if_needed(needed, sources.realloc);
     let realloc = alias_if(root, wanted)?;
     let options = list_options(
@@ -173,7 +160,7 @@ pub fn options_for(
         place,
         needed,
         encoding,
-        memory,
+        sources.memory,
         realloc,
     )?;
     Ok(options)

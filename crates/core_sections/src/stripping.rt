@@ -86,7 +86,8 @@ fn strip_sections(alloc: Global, bytes: &[u8]) -> Result<Stripped<'_>, SectionFa
     if has_package(&records) {
         return Err(SectionFault::PackageBinary);
     }
-    let mut kept = Vec::from_slice(alloc, &PREAMBLE)?;
+    let mut kept = Vec::with_capacity(alloc, bytes.len())?;
+    kept.extend_from_slice(&PREAMBLE)?;
     append_kept(&mut kept, &sections)?;
     Ok(Stripped {
         bytes: kept,

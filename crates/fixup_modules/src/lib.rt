@@ -29,6 +29,3 @@ pub use fixup::FixupModule;
 pub use instances::ImportedInstance;
 pub use laws::{added_shims_are_filled, fixups_fill_shims, imports_are_from_instances};
 pub use tables::InstanceTable;
-
-#[cfg(test)]
-mod tests;

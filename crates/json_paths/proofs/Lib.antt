@@ -2,3 +2,4 @@ pub mod Escaping
 pub mod Loop
 pub mod Texts
 pub mod Arrays
+pub mod Others

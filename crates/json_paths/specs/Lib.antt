@@ -1,3 +1,4 @@
 pub mod Faults
 pub mod Paths
 pub mod Reading
+pub mod Taking

@@ -6,13 +6,14 @@
 //! gives, unless it runs out of memory. Nothing here knows the contents of a record.
 //!
 //! In reading order: `fault`, `paths` (JSON pointers), `members` (members of objects), `reading` (lists
-//! of anything), `text` (the JSON value of a text).
+//! of anything), `taking` (parts of values, taken out of them), `text` (the JSON value of a text).
 #![tactic(auto)]
 
 mod fault;
 mod members;
 mod paths;
 mod reading;
+mod taking;
 mod text;
 
 pub use fault::{Failure, Refusal};
@@ -21,4 +22,5 @@ pub use members::{
     only_member, pair_items, read_bool, read_number, read_text, required, text_member, under,
 };
 pub use reading::{FromJson, list_member, read_list, under_index};
+pub use taking::{found, take_items, take_member};
 pub use text::read_value;

@@ -246,20 +246,23 @@ fixup_made = refl
 abbrev generated : GeneratedModules
 generated = record { shims = Some shim_module; fixup = Some fixup_module }
 
+abbrev fixup_bytes : List ℕ
+fixup_bytes = (encoding_of fixup_module).bytes
+
 abbrev bytes : GeneratedBytes
-bytes = record { shims = (encoding_of shim_module).bytes; fixup = (encoding_of fixup_module).bytes }
+bytes = record { shims = (encoding_of shim_module).bytes; fixup = Some fixup_bytes }
 
 shims_encoded : Encodes bytes.shims shim_module
 unfolding leb128 signed_within
 shims_encoded = (all_below (encoding_of shim_module).counts refl, refl)
 
-fixup_encoded : Encodes bytes.fixup fixup_module
+fixup_encoded : Encodes fixup_bytes fixup_module
 unfolding leb128 signed_within
 fixup_encoded = (all_below (encoding_of fixup_module).counts refl, refl)
 
 unfoldable are_generated : AreGenerated world bytes
 unfolding values_from digits
-are_generated = record { debug_names = false; shims = shims_encoded; fixup = fixup_encoded; any = λ e. cc; room = omega arith }
+are_generated = record { debug_names = false; shims = shims_encoded; fixup = (fixup_encoded, λ e. cc); any = λ e. cc; room = omega arith }
 
 -- ---- a list for it, where r and s have these destructors, and the nested component is given these types for them
 
@@ -297,7 +300,7 @@ list_with of_r of_s arguments =
     ∷ items.Type (types.Resource (Some of_r))
     ∷ items.Type (types.Resource (Some of_s))
     ∷ items.CoreInstantiate 0 []
-    ∷ items.CoreModule bytes.fixup
+    ∷ items.CoreModule fixup_bytes
     ∷ items.Alias (aliases.CoreExport kinds.Func 1 d)
     ∷ items.Alias (aliases.CoreExport kinds.Func 1 e)
     ∷ items.CoreExports fills
@@ -330,11 +333,11 @@ stands_for_e = record { of_kind = refl; exporting = main_module world; listed = 
 
 shim_for_d : IsShimFor world (ds 5) spaces.CoreFunc 0 (ExportOf (of_main d))
 unfolding values_from digits
-shim_for_d = record { place = 0; shim = shim_d; purpose = OfExport (of_main d); same = refl; in_space = refl; listed = refl; stands_for = stands_for_d; is = record { instance = 0; made = record { made = refl }; of = shims_are 5 refl } }
+shim_for_d = record { place = 0; stands = record { shim = shim_d; purpose = OfExport (of_main d); listed = refl; stands_for = stands_for_d; same = refl }; in_space = refl; is = record { instance = 0; made = record { made = refl }; of = shims_are 5 refl } }
 
 shim_for_e : IsShimFor world (ds 6) spaces.CoreFunc 1 (ExportOf (of_main e))
 unfolding values_from digits
-shim_for_e = record { place = 1; shim = shim_e; purpose = OfExport (of_main e); same = refl; in_space = refl; listed = refl; stands_for = stands_for_e; is = record { instance = 0; made = record { made = refl }; of = shims_are 6 refl } }
+shim_for_e = record { place = 1; stands = record { shim = shim_e; purpose = OfExport (of_main e); listed = refl; stands_for = stands_for_e; same = refl }; in_space = refl; is = record { instance = 0; made = record { made = refl }; of = shims_are 6 refl } }
 
 pub r_defined_right : DefinesResource world (ds 5) (Some 0)
 unfolding values_from inventory
@@ -390,7 +393,7 @@ unfolding values_from digits
 both_filled = record { entries = fills; made = record { made = refl }; each = (fill_d, (fill_e, tt)) }
 
 fixup_right : InstantiatesFixup world (ds 12) 2 fixup_arguments
-fixup_right = record { numbered = refl; scoped = omega arith; last = refl; actual = 2; shims = 0; given = refl; of_shims = shims_are 12 refl; fills = both_filled }
+fixup_right = record { numbered = refl; scoped = omega arith; any = λ e. cc; last = refl; actual = 2; shims = 0; given = refl; of_shims = shims_are 12 refl; fills = both_filled }
 
 -- what the nested component imports are the resources
 abbrev pub resources_given : List ℕ → TypeTree
@@ -459,9 +462,9 @@ keeps_the_rules = record {
       (
         inr (inl (record { numbered = refl; scoped = omega arith; first = refl; closed = refl })),
         (
-          inr shim_aliased_0,
+          inr (inl shim_aliased_0),
           (
-            inr shim_aliased_1,
+            inr (inl shim_aliased_1),
             (
               r_defined_right,
               (
@@ -603,8 +606,8 @@ not_purpose_of_e (OfExport export_ref) stands same = not_d (ap (λ (x : ExportRe
 
 not_for_d : IsShimFor world (ds 5) spaces.CoreFunc 1 (ExportOf (of_main d)) → ⊥
 not_for_d h =
-    let shim : shim_e ≡ h.shim = shim_there h.place h.shim h.listed (ap name_of_alias h.is.made.made) in
-    not_purpose_of_e h.purpose (subst (λ (x : Shim). HasPurpose world x h.purpose) (sym shim) h.stands_for) h.same
+    let shim : shim_e ≡ h.stands.shim = shim_there h.place h.stands.shim h.stands.listed (ap name_of_alias h.is.made.made) in
+    not_purpose_of_e h.stands.purpose (subst (λ (x : Shim). HasPurpose world x h.stands.purpose) (sym shim) h.stands.stands_for) h.stands.same
 
 first_resource : (destructor : Option ℕ) (h : DefinesResource world (ds 5) destructor) → of_number 0 ≡ h.provided
 unfolding inventory

@@ -31,7 +31,7 @@ use Rattle.comp_trees.specs.DefinedTrees.{TypeTree, OfValues, OfFunctions}
 use Rattle.comp_trees.specs.DefinedScopes.{Denotes}
 use Rattle.comp_inventories.specs.Inventories.{TypeEntry, OfInstances, FunctionEntry, InstanceEntry, entry_tree, no_function, inventory, scope_of}
 use Rattle.comp_worlds.specs.declared.world.ComponentWorld.{ComponentWorld}
-use Rattle.comp_runs.specs.Store.{Thing, Export, HeldOption, HeldEncoding, HeldMemory, HeldRealloc, HeldPostReturn, HeldAsync, HeldCallback, Lowering, ExportedBy, Function, Imported, Lifting, TypeItem, TreeOf, tree_held, Store}
+use Rattle.comp_runs.specs.Store.{Thing, Export, HeldOption, HeldEncoding, HeldMemory, HeldRealloc, HeldPostReturn, HeldAsync, HeldCallback, Lowering, ExportedBy, Function, Imported, Lifting, TypeItem, TreeOf, tree_held, ModuleInstance, Store}
 use Rattle.comp_roles.specs.Matching.{kind_of}
 use Rattle.comp_roles.specs.declared.offered.ExternType.{ExternType}
 use Rattle.comp_roles.specs.declared.offered.ExternType.TheVariants as externs
@@ -42,14 +42,16 @@ use Rattle.comp_links.specs.Modules.{WorldModule, user_modules}
 use Rattle.comp_links.specs.Lists.{IsOriginOf, resource_of}
 use Rattle.shim_plan.specs.declared.shims.Shim.{Shim}
 use Rattle.world_shims.specs.WorldShims.{shims_of, type_of_shim}
-use Rattle.shim_runs.specs.ShimRuns.{IsShimAt, instance_exports}
+use Rattle.comp_roles.specs.Lookups.{first_memory}
+use Rattle.shim_runs.specs.ShimRuns.{IsShimAt, memory_name, memory_at}
 use Rattle.shim_runs.proofs.Placed.{shim_at}
 use Rattle.shim_runs.proofs.Exported.{shims_found}
 use Rattle.link_laws.specs.Composition.{at_root, item_instantiates}
 use Rattle.comp_terms.specs.Generated.{shims_number, fixup_number}
+use Rattle.comp_worlds.specs.Offered.{shared_memory}
 use Rattle.comp_terms.specs.Terms.{CoreExport, TermOption, Term, Is, IsFunctionType, IsImportedFunction, IsInstanceOf, IsExported, IsOption, IsLowering, IsOfResource, intrinsic_of, IsLifting}
 use Rattle.comp_terms.specs.Terms as terms
-use Rattle.comp_terms.specs.Planned.{IsExportFor, IsMemoryFor, IsOptionFor, IsTypeOf, IsTermFor, IsItemFor, IsShimFor, IsLiftFor}
+use Rattle.comp_terms.specs.Planned.{IsExportFor, memory_from, IsMemoryFor, IsShimPlace, shim_export, IsReallocFor, IsOptionFor, IsTypeOf, IsTermFor, IsItemFor, IsShimFor, IsLiftFor}
 use Rattle.comp_runs.specs.Machine.{Scope, address_at, is_of, export_named, export_in, export_of}
 use Rattle.comp_runs.specs.Instances.{type_space, type_at}
 use Rattle.comp_runs.specs.Signatures.{core_signature}
@@ -58,7 +60,7 @@ use Rattle.instance_laws.specs.InstanceEntries.{IsInstanceType, IsInstanceEntry}
 use Rattle.instance_laws.proofs.Held.{trees_of_held, held_of_entries, IsTypeThere, type_there as held_at, item_of_functions}
 use Rattle.link_laws.proofs.Zips.{AllZip-filter, AllZip-back, mapped_some, filter-both, found-zip, found-each}
 use Rattle.link_laws.proofs.Plain.{named_main}
-use Rattle.link_laws.proofs.Stores.{IsOpaqueOf, IsUserItem, IsUserExport, IsUserInstance, ShimsAt, AreModuleExports, IsModuleInstance, NamesUser, IsLoweredItem, IsTypeAt, IsResourceItem, IsLiftedItem, IsAliasedItem, DefIs, Means, makes, IsTypeEntry, entry_of, IsFunctionEntry, IsInstanceThing, IsLoweredFor, IsFunctionOf, IsFunctionExported, IsItemTyped, IsItemExported, IsServedAs, IsServedIn, main_module, IsShimGivenAt, IsShimGiven, MayHaveShims, AreShims, IsFirstMemory, IsHeldOption, IsOptionHeld, IsCoreExportAt, IsLiftedFrom, Agrees}
+use Rattle.link_laws.proofs.Stores.{IsOpaqueOf, IsUserItem, IsUserExport, IsUserInstance, ShimsAt, exports_of_shims, AreModuleExports, IsModuleInstance, NamesUser, IsLoweredItem, IsTypeAt, IsResourceItem, IsLiftedItem, IsAliasedItem, DefIs, Means, makes, IsTypeEntry, entry_of, IsFunctionEntry, IsInstanceThing, IsLoweredFor, IsFunctionOf, IsFunctionExported, IsItemTyped, IsItemExported, IsServedAs, IsServedIn, main_module, IsShimGivenAt, IsShimGiven, MayHaveShims, AreShims, IsMemoryExported, IsTypeOfMemory, IsMemoryOfMain, IsShimExported, IsReallocHeld, HasSharedMemory, IsHeldOption, IsOptionHeld, IsCoreExportAt, IsLiftedFrom, Agrees}
 
 makes-space : (space : Space) (d : Def) → is_space space (space_of d) ≡ true → makes d ≡ true
 makes-space space d e = by (space_of d) e
@@ -201,7 +203,7 @@ names_user w number kind name below (inr e) = absurd (not_shims w number below e
 
 -- the instance of the shims exports them
 pub of_shims : (w : ComponentWorld) (s : Store) (numbers : List ℕ) (user : ℕ) (exports : List Export) (shims : Option ShimsAt) → MayHaveShims w s numbers shims → AreModuleExports w shims s user (shims_number w) exports →
-    (at : ShimsAt) × (shims ≡ Some at) × (exports ≡ instance_exports (shims_of w) at.address at.table None) × (length (shims_of w) < 2 ^ 32)
+    (at : ShimsAt) × (shims ≡ Some at) × (exports ≡ exports_of_shims w at) × (length (shims_of w) < 2 ^ 32)
 of_shims w s numbers user exports shims there (inl k) = absurd (not_shims w (shims_number w) (user_below w (shims_number w) k.of k.listed) refl)
 of_shims w s numbers user exports None there (inr (inl k)) = absurd k
 of_shims w s numbers user exports (Some at) there (inr (inl k)) = (at, refl, k.1, there.room)
@@ -391,21 +393,80 @@ module _ {w : ComponentWorld} {earlier : List Def} {c : Scope} {s : Store} {g : 
         item = x.3;
       }
 
-  -- an alias of a shim is that shim
-  shim_exported : {index place : ℕ} → place < length (shims_of w) → IsExported earlier index (record { of = shims_number w; kind = kinds.Func; name = decimal place }) →
-      (x : ℕ) × (address_at spaces.CoreFunc index c.items ≡ Some x) × (at : ShimsAt) × (a.shims ≡ Some at) × (x ≡ at.address + place)
-  shim_exported {index} {place} listed h =
-      let name : List ℕ = decimal place in
-      let l : (x : ℕ) × (address_at spaces.CoreFunc index c.items ≡ Some x) × IsAliasedItem w earlier c.items s kinds.Func h.instance name x = thing_there h.made in
+  -- an alias of what the instance of the module of shims exports
+  pub record IsOfShims (name : List ℕ) (address : ℕ) : Type 0 where
+    pub at : ShimsAt
+    pub made : a.shims ≡ Some at
+    pub room : length (shims_of w) < 2 ^ 32
+    pub user : ℕ
+    pub instance : ModuleInstance
+    pub present : slice_get s.module_instances user ≡ Some instance
+    pub of : instance.module_number ≡ shims_number w
+    pub exports : instance.exports ≡ exports_of_shims w at
+    pub export : Export
+    pub found : export_named name (exports_of_shims w at) ≡ Some export
+    pub is : export.address ≡ address
+
+  shims_aliased : {index : ℕ} (kind : ExportKind) (name : List ℕ) → IsExported earlier index (record { of = shims_number w; kind = kind; name = name }) →
+      (x : ℕ) × (address_at (kind_space kind) index c.items ≡ Some x) × IsOfShims name x
+  shims_aliased {index} kind name h =
+      let l : (x : ℕ) × (address_at (kind_space kind) index c.items ≡ Some x) × IsAliasedItem w earlier c.items s kind h.instance name x = thing_there h.made in
       let m : (x : ℕ) × (address_at spaces.CoreInstance h.instance c.items ≡ Some x) × IsModuleInstance w a.shims s (shims_number w) x = module_there h.of in
       let same : m.0 ≡ l.2.from = same_Some m.0 l.2.from (sym m.1 ∙ l.2.at) in
       let exports : m.2.exports ≡ l.2.exports = same_Some m.2.exports l.2.exports (sym m.2.present ∙ (ap (slice_get s.core_instances) same ∙ l.2.present)) in
-      let at : (at : ShimsAt) × (a.shims ≡ Some at) × (m.2.exports ≡ instance_exports (shims_of w) at.address at.table None) × (length (shims_of w) < 2 ^ 32) =
-      of_shims w s (flat_map (at_root item_instantiates) earlier) m.2.user m.2.exports a.shims a.with_shims m.2.each in
-      let shim : Export = record { space = spaces.CoreFunc; name = name; address = at.0.address + place } in
-      let found : export_named name l.2.exports ≡ Some shim = ap (export_named name) (sym exports ∙ at.2) ∙ (shims_found (shims_of w) at.0.address at.0.table None).found place listed at.3 in
-      let is : l.2.export ≡ shim = same_Some l.2.export shim (sym l.2.found ∙ found) in
-      (l.0, l.1, at.0, at.1, sym l.2.is ∙ ap (λ (y : Export). y.address) is)
+      let at : (at : ShimsAt) × (a.shims ≡ Some at) × (m.2.exports ≡ exports_of_shims w at) × (length (shims_of w) < 2 ^ 32) =
+      of_shims w s (flat_map (at_root item_instantiates) earlier) m.2.user m.2.exports a.shims a.with_shims m.2.each in (
+        l.0,
+        l.1,
+        record {
+          at = at.0;
+          made = at.1;
+          room = at.3;
+          user = m.2.user;
+          instance = m.2.is.instance;
+          present = m.2.is.present;
+          of = m.2.is.of;
+          exports = m.2.same ∙ at.2;
+          export = l.2.export;
+          found = ap (export_named name) (sym at.2 ∙ exports) ∙ l.2.found;
+          is = l.2.is;
+        },
+      )
+
+  -- under the digits of its place, that is the shim of the place
+  shim_found : (place address : ℕ) → place < length (shims_of w) → (own : IsOfShims (decimal place) address) →
+      (export_named (decimal place) (exports_of_shims w own.at) ≡ Some (record { space = spaces.CoreFunc; name = decimal place; address = address })) × (address ≡ own.at.address + place)
+  shim_found place address listed own =
+      let shim : ℕ → Export = λ n. record { space = spaces.CoreFunc; name = decimal place; address = n } in
+      let found : export_named (decimal place) (exports_of_shims w own.at) ≡ Some (shim (own.at.address + place)) = (shims_found (shims_of w) own.at.address own.at.table own.at.memory).found place listed own.room in
+      let is : own.export ≡ shim (own.at.address + place) = same_Some own.export (shim (own.at.address + place)) (sym own.found ∙ found) in
+      let same : address ≡ own.at.address + place = sym own.is ∙ ap (λ (y : Export). y.address) is in
+      (found ∙ ap (λ n. Some (shim n)) (sym same), same)
+
+  -- an alias of a shim is that shim
+  shim_exported : {index place : ℕ} → place < length (shims_of w) → IsExported earlier index (shim_export w place) →
+      (x : ℕ) × (address_at spaces.CoreFunc index c.items ≡ Some x) × (at : ShimsAt) × (a.shims ≡ Some at) × (x ≡ at.address + place)
+  shim_exported {index} {place} listed h =
+      let x : (x : ℕ) × (address_at spaces.CoreFunc index c.items ≡ Some x) × IsOfShims (decimal place) x = shims_aliased kinds.Func (decimal place) h in
+      (x.0, x.1, x.2.at, x.2.made, (shim_found place x.0 listed x.2).1)
+
+  shim_held : {index place : ℕ} {target : Target} → IsShimPlace w place target → IsExported earlier index (shim_export w place) →
+      (x : ℕ) × (address_at spaces.CoreFunc index c.items ≡ Some x) × IsShimExported w s x target
+  shim_held {index} {place} {target} stands h =
+      let x : (x : ℕ) × (address_at spaces.CoreFunc index c.items ≡ Some x) × IsOfShims (decimal place) x = shims_aliased kinds.Func (decimal place) h in
+      let listed : place < length (shims_of w) = slice_get_within (shims_of w) place stands.shim stands.listed in (
+        x.0,
+        x.1,
+        record {
+          place = place;
+          stands = stands;
+          user = x.2.user;
+          instance = x.2.instance;
+          present = x.2.present;
+          of = x.2.of;
+          exported = ap (export_named (decimal place)) x.2.exports ∙ (shim_found place x.0 listed x.2).0;
+        },
+      )
 
   -- an alias of a function that a user module exports is that function
   pub function_exported : {index : ℕ} {e : CoreExport} {export_ref : ExportRef} → e.kind ≡ kinds.Func → IsExportFor w e export_ref → IsExported earlier index e →
@@ -461,33 +522,73 @@ module _ {w : ComponentWorld} {earlier : List Def} {c : Scope} {s : Store} {g : 
       subst (λ in_space. (x : ℕ) × (address_at in_space index c.items ≡ Some x) × IsItemExported w s in_space x export_ref) (sym same) (item_aliased (λ f. other (same ∙ ap kind_space f)) asked h)
 
   -- an alias of the first memory that main exports is that memory
-  memory_exported : {index : ℕ} {e : CoreExport} → e.kind ≡ kinds.Memory → IsMemoryFor w e → IsExported earlier index e →
-      (x : ℕ) × (address_at spaces.CoreMemory index c.items ≡ Some x) × IsFirstMemory w s x
-  memory_exported {index} {e} memory asked h =
-      let ref : ExportRef = record { of = targets.Main; name = e.name } in
-      let named : IsExportFor w e ref = record { of = asked.of; named = refl } in
-      let x : (x : ℕ) × (address_at spaces.CoreMemory index c.items ≡ Some x) × IsItemExported w s spaces.CoreMemory x ref = item_in spaces.CoreMemory memory_apart (sym (ap kind_space memory)) named h in
+  own_memory : {index : ℕ} (name : List ℕ) → IsExported earlier index (record { of = 0; kind = kinds.Memory; name = name }) →
+      (x : ℕ) × (address_at spaces.CoreMemory index c.items ≡ Some x) × IsMemoryExported s x (record { of = 0; kind = kinds.Memory; name = name })
+      × (type : MemoryType) × (slice_get s.code.memories x ≡ Some type) × (found name w.main.offered ≡ Some (externs.Memory type))
+  own_memory {index} name h =
+      let ref : ExportRef = record { of = targets.Main; name = name } in
+      let named : IsExportFor w (record { of = 0; kind = kinds.Memory; name = name }) ref = record { of = record { world_module = main_module w; listed = refl; same = refl }; named = refl } in
+      let x : (x : ℕ) × (address_at spaces.CoreMemory index c.items ≡ Some x) × IsItemExported w s spaces.CoreMemory x ref = item_in spaces.CoreMemory memory_apart refl named h in
       let m = x.2 in
       let is_main : (m.number ≡ 0) × (main_module w ≡ m.of.world_module) = named_main w m.number m.of in
       let type : (t : MemoryType) × (m.type ≡ externs.Memory t) = memory_of_space m.type m.in_space in (
         x.0,
         x.1,
         record {
-          name = e.name;
-          type = asked.type;
-          first = asked.first;
-          is = record {
-            user = m.user;
-            instance = m.instance.instance;
-            present = m.instance.present;
-            of = m.instance.of ∙ is_main.0;
-            exported = named_in_space spaces.CoreMemory refl e.name m.instance.instance.exports (record { space = spaces.CoreMemory; name = e.name; address = x.0 }) m.exported refl;
-          };
-          held = type.0;
-          present = subst (IsItemTyped s x.0) type.1 m.is;
-          offered = ap (λ (o : WorldModule). found e.name o.found.offered) is_main.1 ∙ (m.offered ∙ ap (λ (t : ExternType). Some t) type.1);
+          user = m.user;
+          instance = m.instance.instance;
+          present = m.instance.present;
+          of = m.instance.of ∙ is_main.0;
+          exported = named_in_space spaces.CoreMemory refl name m.instance.instance.exports (record { space = spaces.CoreMemory; name = name; address = x.0 }) m.exported refl;
         },
+        type.0,
+        subst (IsItemTyped s x.0) type.1 m.is,
+        ap (λ (o : WorldModule). found name o.found.offered) is_main.1 ∙ (m.offered ∙ ap (λ (t : ExternType). Some t) type.1),
       )
+
+  -- an alias of the memory that the module of shims exports is that memory
+  shared_there : {index : ℕ} (type : MemoryType) → shared_memory w ≡ Some type → IsExported earlier index (record { of = shims_number w; kind = kinds.Memory; name = memory_name }) →
+      (x : ℕ) × (address_at spaces.CoreMemory index c.items ≡ Some x) × IsMemoryExported s x (record { of = shims_number w; kind = kinds.Memory; name = memory_name }) × (slice_get s.code.memories x ≡ Some type)
+  shared_there {index} type imported h =
+      let x : (x : ℕ) × (address_at spaces.CoreMemory index c.items ≡ Some x) × IsOfShims memory_name x = shims_aliased kinds.Memory memory_name h in
+      let own : IsOfShims memory_name x.0 = x.2 in
+      let there : AreShims w s (flat_map (at_root item_instantiates) earlier) own.at = subst (MayHaveShims w s (flat_map (at_root item_instantiates) earlier)) own.made a.with_shims in
+      let made : (y : ℕ) × (own.at.memory ≡ Some y) × (slice_get s.code.memories y ≡ Some type) = by own.at.memory (subst (λ o. HasSharedMemory s o own.at.memory) imported there.memory) in
+      let all = shims_found (shims_of w) own.at.address own.at.table own.at.memory in
+      let found : export_named memory_name (exports_of_shims w own.at) ≡ Some (memory_at made.0) = all.memory_named own.room ∙ ap (option_map memory_at) made.1 in
+      let is : own.export ≡ memory_at made.0 = same_Some own.export (memory_at made.0) (sym own.found ∙ found) in
+      let same : made.0 ≡ x.0 = sym (ap (λ (y : Export). y.address) is) ∙ own.is in (
+        x.0,
+        x.1,
+        record {
+          user = own.user;
+          instance = own.instance;
+          present = own.present;
+          of = own.of;
+          exported = ap (export_of spaces.CoreMemory memory_name) own.exports ∙ (all.memory_found ∙ (ap (option_map memory_at) made.1 ∙ ap (λ n. Some (memory_at n)) same));
+        },
+        ap (slice_get s.code.memories) (sym same) ∙ made.2,
+      )
+    where
+      by : (memory : Option ℕ) → HasSharedMemory s (Some type) memory → (y : ℕ) × (memory ≡ Some y) × (slice_get s.code.memories y ≡ Some type)
+      by (Some y) held = (y, refl, held)
+      by None held = absurd held
+
+  -- an alias of main's memory is that memory
+  memory_exported : {index : ℕ} {e : CoreExport} → IsMemoryFor w e → IsExported earlier index e → (x : ℕ) × (address_at spaces.CoreMemory index c.items ≡ Some x) × IsMemoryOfMain w s x
+  memory_exported {index} {e} asked h = by (shared_memory w) refl (first_memory w.main.exports.exports) refl asked
+    where
+      by : (imported : Option MemoryType) → shared_memory w ≡ imported → (exported : Option (List ℕ × MemoryType)) → first_memory w.main.exports.exports ≡ exported → memory_from w imported exported ≡ Some e →
+          (x : ℕ) × (address_at spaces.CoreMemory index c.items ≡ Some x) × IsMemoryOfMain w s x
+      by (Some type) imported exported first is =
+          let own : CoreExport = record { of = shims_number w; kind = kinds.Memory; name = memory_name } in
+          let x = shared_there type imported (subst (IsExported earlier index) (sym (same_Some own e is)) h) in
+          (x.0, x.1, record { export = own; named = asked ∙ sym is; is = x.2; held = type; present = x.3; offered = subst (λ o. IsTypeOfMemory w o own type) (sym imported) refl })
+      by None imported (Some (name, type)) first is =
+          let own : CoreExport = record { of = 0; kind = kinds.Memory; name = name } in
+          let x = own_memory name (subst (IsExported earlier index) (sym (same_Some own e is)) h) in
+          (x.0, x.1, record { export = own; named = asked ∙ sym is; is = x.2; held = x.3; present = x.4; offered = subst (λ o. IsTypeOfMemory w o own x.3) (sym imported) x.5 })
+      by None imported None first is = absurd (none-some e is)
 
   -- ---- options
 
@@ -503,7 +604,7 @@ module _ {w : ComponentWorld} {earlier : List Def} {c : Scope} {s : Store} {g : 
 
   memory_there : (o : CanonicalOption) (x : HeldOption) (e : CoreExport) (target : TargetOption) → IsHeldOption c.items o x → IsOption earlier o (terms.Memory e) → IsOptionFor w (terms.Memory e) target → IsOptionHeld w s x target
   memory_there (options.Memory index) (HeldMemory a) e targets.Memory h is asked =
-      let f = memory_exported is.0 asked is.1 in subst (IsFirstMemory w s) (same_Some f.0 a (sym f.1 ∙ h)) f.2
+      let f = memory_exported asked is.1 in subst (IsMemoryOfMain w s) (same_Some f.0 a (sym f.1 ∙ h)) f.2
   memory_there (options.Memory index) x e targets.Memory h is asked = absurd h
   memory_there o x e targets.Memory h is asked = absurd is
   memory_there o x e target h is asked = absurd asked
@@ -514,8 +615,14 @@ module _ {w : ComponentWorld} {earlier : List Def} {c : Scope} {s : Store} {g : 
       let f = function_exported function asked is in
       subst (λ n. IsFunctionExported w s n export_ref) (same_Some f.0 a (sym f.1 ∙ at)) f.2
 
+  realloc_named : {index a : ℕ} {e : CoreExport} {export_ref : ExportRef} → e.kind ≡ kinds.Func → IsExported earlier index e → IsReallocFor w e export_ref → address_at spaces.CoreFunc index c.items ≡ Some a → IsReallocHeld w s a export_ref
+  realloc_named function is (inl asked) at = inl (function_named function is asked at)
+  realloc_named {index} {a} {e} {export_ref} function is (inr asked) at =
+      let x = shim_held asked.stands (subst (IsExported earlier index) asked.is is) in
+      inr (subst (λ n. IsShimExported w s n (ExportOf export_ref)) (same_Some x.0 a (sym x.1 ∙ at)) x.2)
+
   realloc_there : (o : CanonicalOption) (x : HeldOption) (e : CoreExport) (target : TargetOption) → IsHeldOption c.items o x → IsOption earlier o (terms.Realloc e) → IsOptionFor w (terms.Realloc e) target → IsOptionHeld w s x target
-  realloc_there (options.Realloc index) (HeldRealloc a) e (targets.Realloc export_ref) h is asked = function_named is.0 is.1 asked h
+  realloc_there (options.Realloc index) (HeldRealloc a) e (targets.Realloc export_ref) h is asked = realloc_named is.0 is.1 asked h
   realloc_there (options.Realloc index) x e (targets.Realloc export_ref) h is asked = absurd h
   realloc_there o x e (targets.Realloc export_ref) h is asked = absurd is
   realloc_there o x e target h is asked = absurd asked
@@ -646,7 +753,7 @@ module _ {w : ComponentWorld} {earlier : List Def} {c : Scope} {s : Store} {g : 
   -- so has the memory, the table or the global
   memory_target_there : (index : ℕ) (target : Target) (term : Term) → Is earlier spaces.CoreMemory index term → IsTermFor w target term → (x : ℕ) × (address_at spaces.CoreMemory index c.items ≡ Some x) × IsServedIn w s spaces.CoreMemory x target
   memory_target_there index (ExportOf export_ref) (terms.Exported e) is asked = item_in spaces.CoreMemory memory_apart is.0 asked is.1
-  memory_target_there index MainMemory (terms.Exported e) is asked = memory_exported asked.1 asked.0 is.1
+  memory_target_there index MainMemory (terms.Exported e) is asked = memory_exported asked.0 is.1
   memory_target_there index (Lowered function options) (terms.Lowering origin type written) is asked = absurd is
   memory_target_there index (OfResource function id) (terms.OfResource same resource) is asked = absurd is
   memory_target_there index (Lifted entry options) (terms.Lifting e written type) is asked = absurd is
@@ -678,12 +785,12 @@ module _ {w : ComponentWorld} {earlier : List Def} {c : Scope} {s : Store} {g : 
   -- so has a shim for what the target names
   pub shim_there : {space : Space} {index : ℕ} {target : Target} (h : IsShimFor w earlier space index target) → (x : ℕ) × (address_at spaces.CoreFunc index c.items ≡ Some x) × IsShimGiven w a.shims x target
   shim_there {space} {index} {target} h =
-      let x = shim_exported (slice_get_within (shims_of w) h.place h.shim h.listed) h.is in
-      let given : IsShimGivenAt w x.2 x.0 target = record { place = h.place; shim = h.shim; purpose = h.purpose; listed = h.listed; stands_for = h.stands_for; same = h.same; is = x.4 } in
+      let x = shim_exported (slice_get_within (shims_of w) h.place h.stands.shim h.stands.listed) h.is in
+      let given : IsShimGivenAt w x.2 x.0 target = record { place = h.place; stands = h.stands; is = x.4 } in
       (x.0, x.1, subst (λ o. IsShimGiven w o x.0 target) (sym x.3) given)
 
   -- and it is a function of its core type
-  pub shim_typed : {index : ℕ} (place : ℕ) (shim : Shim) → slice_get (shims_of w) place ≡ Some shim → IsExported earlier index (record { of = shims_number w; kind = kinds.Func; name = decimal place }) →
+  pub shim_typed : {index : ℕ} (place : ℕ) (shim : Shim) → slice_get (shims_of w) place ≡ Some shim → IsExported earlier index (shim_export w place) →
       (x : ℕ) × (address_at spaces.CoreFunc index c.items ≡ Some x) × IsFunctionTyped s x (type_of_shim shim)
   shim_typed {index} place shim listed h =
       let x = shim_exported (slice_get_within (shims_of w) place shim listed) h in

@@ -163,6 +163,7 @@ purpose_opaque w ok s address shim (OfExport e) stands h =
 one_kind : (w : ComponentWorld) (kind : ShimKind) (x : UserModule × Import) (e : ExportRef) → role_of_kind w kind ≡ Some x → export_of_kind kind ≡ Some e → ⊥
 one_kind w (shim_kinds.Adapter adapter name) x e h k = none-some x h
 one_kind w (shim_kinds.ResourceDtor which name) x e h k = none-some x h
+one_kind w (shim_kinds.Realloc which name) x e h k = none-some x h
 one_kind w _ x e h k = none-some e k
 
 -- a shim stands for one thing
@@ -292,14 +293,14 @@ module _ {w : ComponentWorld} {earlier : List Def} {c : Scope} {s : Store} {glob
       (x : ℕ) × (address_at spaces.CoreFunc index c.items ≡ Some x) × IsRoleServed w a.shims s globals of spaces.CoreFunc x role
   shim_served index role right h =
       let x : (x : ℕ) × (address_at spaces.CoreFunc index c.items ≡ Some x) × IsShimGiven w a.shims x (link_of w of role) = shim_there a h in
-      let y : (x : ℕ) × (address_at spaces.CoreFunc index c.items ≡ Some x) × IsFunctionTyped s x (type_of_shim h.shim) = shim_typed a h.place h.shim h.listed h.is in
+      let y : (x : ℕ) × (address_at spaces.CoreFunc index c.items ≡ Some x) × IsFunctionTyped s x (type_of_shim h.stands.shim) = shim_typed a h.place h.stands.shim h.stands.listed h.is in
       let same : y.0 ≡ x.0 = same_Some y.0 x.0 (sym y.1 ∙ x.1) in
-      let typed : IsFunctionTyped s x.0 (type_of_shim h.shim) = subst (λ n. IsFunctionTyped s n (type_of_shim h.shim)) same y.2 in (
+      let typed : IsFunctionTyped s x.0 (type_of_shim h.stands.shim) = subst (λ n. IsFunctionTyped s n (type_of_shim h.stands.shim)) same y.2 in (
         x.0,
         x.1,
         record {
           serves = inr (refl, x.2);
-          typed = λ type fits. subst (HasType s globals spaces.CoreFunc x.0) (sym (shim_fits w ok h.shim h.purpose h.stands_for of role right h.same type fits)) typed;
+          typed = λ type fits. subst (HasType s globals spaces.CoreFunc x.0) (sym (shim_fits w ok h.stands.shim h.stands.purpose h.stands.stands_for of role right h.stands.same type fits)) typed;
         },
       )
 

@@ -16,9 +16,11 @@ use Rattle.comp_bytes.specs.declared.def.Def.{Def}
 use Rattle.comp_bytes.specs.declared.def.Def.TheVariants as defs
 use Rattle.comp_worlds.specs.Worlds.{IsWorld}
 use Rattle.comp_inventories.specs.Inventories.{inventory}
-use Rattle.comp_terms.specs.Generated.{shims_number, fixup_number, target_of}
+use Rattle.core_types.specs.declared.types.MemoryType.{MemoryType}
+use Rattle.comp_terms.specs.Generated.{shims_number, fixup_number, IsFixup, target_of}
+use Rattle.comp_worlds.specs.Offered.{shared_memory}
 use Rattle.world_shims.specs.WorldShims.{shims_of, type_of_shim, sections_of_shims, sections_of_fixup}
-use Rattle.shim_runs.specs.ShimRuns.{instance_exports, with_shims, ShimsRun, IsActual, CanFix, with_slots, fixup_arguments, FixupRun}
+use Rattle.shim_runs.specs.ShimRuns.{with_shims, with_memory, memory_address, ShimsRun, IsActual, CanFix, with_slots, fixup_arguments, FixupRun}
 use Rattle.comp_roles.specs.declared.imports.ImportInstance.{ImportInstance}
 use Rattle.comp_worlds.specs.declared.world.ComponentWorld.{ComponentWorld}
 use Rattle.core_runs.specs.Store.{Opaque, Instantiated, Now}
@@ -36,7 +38,7 @@ use Rattle.instance_laws.proofs.Held.{KeepsEntries, keeps_same, keeps_more, keep
 use Rattle.link_laws.proofs.Outcomes.{machine, no_answers, IsNow, IsGood, good_answered, Continues, quiet, users_among, seen_by, Steps, few, one_event, cells, types-cells}
 use Rattle.link_laws.proofs.Steps.{filter-push, with_thing, numbered_at, given_same, export_beside, not_last, agrees_with}
 use Rattle.shim_runs.proofs.Placed.{shims_kept}
-use Rattle.shim_runs.proofs.ShimInstance.{shims_run, shim_table_there, shim_tables_kept}
+use Rattle.shim_runs.proofs.ShimInstance.{shims_run, shim_table_there, shim_tables_kept, shim_memories_kept}
 use Rattle.shim_runs.proofs.FixupInstance.{fixup_run}
 use Rattle.world_shims.proofs.Numbered.{shims_numbered}
 use Rattle.shim_plan.specs.declared.shims.Shim.{Shim}
@@ -47,24 +49,25 @@ use Rattle.std.proofs.lemmas.List.Elements.{filter_map-append, Contains-append_l
 use Rattle.link_laws.specs.Composition.{GeneratedModules, generated_sections, at_root, item_instantiates}
 use Rattle.link_laws.specs.Linking.{module_meanings}
 use Rattle.link_laws.proofs.Zips.{all_some-each}
-use Rattle.link_laws.proofs.Stores.{IsOpaqueOf, ShimsAt, IsModuleInstance, IsInlineInstance, IsFilledWith, AreFilled, AreShims, IsServedAs, IsNamedEntry, ExportsShims, MayHaveShims, IsPlanned, IsPlannedUser, NumberedFrom, AreResources, HasGlobalType, HasGlobals, Agrees}
+use Rattle.link_laws.proofs.Stores.{IsOpaqueOf, ShimsAt, exports_of_shims, HasSharedMemory, IsModuleInstance, IsInlineInstance, IsFilledWith, AreFilled, AreShims, IsServedAs, IsNamedEntry, ExportsShims, MayHaveShims, IsPlanned, IsPlannedUser, NumberedFrom, AreResources, HasGlobalType, HasGlobals, Agrees}
 use Rattle.link_laws.proofs.Given.{thing_there, target_there, user_below, apart, not_shims, not_fixup, of_shims, module_there, address_there}
 use Rattle.link_laws.proofs.GivenImports.{purpose_opaque, IsOffered, arguments_there, given_there}
 use Rattle.link_laws.proofs.Plain.{only, nothing_in, IsRightModule, module_right, IsGivenImport, given_imports}
 use Rattle.link_laws.proofs.UserExports.{Exports, Alike, all_exports, all_alike, same_exports, each_export, all_globals, each_global}
-use Rattle.link_laws.proofs.Kept.{sizes_kept, sizes_set, HasGlobals-kept, IsFilledWith-kept, ShimsKept, shims_same, MayHaveShims-kept, Keeps, things_kept, IsPlannedUser-kept, AreKeyExports-kept, AreResources-kept}
+use Rattle.link_laws.proofs.Kept.{sizes_kept, sizes_set, HasGlobals-kept, HasSharedMemory-kept, IsFilledWith-kept, ShimsKept, shims_same, MayHaveShims-kept, Keeps, things_kept, IsPlannedUser-kept, AreKeyExports-kept, AreResources-kept}
 
 -- ---- generated modules
 
 -- the modules that are generated for the shims of a world
-abbrev pub generated_for : ComponentWorld → Bool → GeneratedModules
-generated_for w debug_names = record { shims = Some (sections_of_shims None (shims_of w) debug_names); fixup = Some (sections_of_fixup (shims_of w) debug_names) }
+abbrev pub generated_for : ComponentWorld → Bool → Option (List ℕ) → GeneratedModules
+generated_for w debug_names fixup = record { shims = Some (sections_of_shims (shared_memory w) (shims_of w) debug_names); fixup = option_map (λ bytes. sections_of_fixup (shims_of w) debug_names) fixup }
 
 -- they are those of the list
 pub record IsGenerated (w : ComponentWorld) (gen : GeneratedModules) : Type 0 where
   pub debug_names : Bool
-  pub is : gen ≡ generated_for w debug_names
-  pub any : shims_of w ≡ [] → ⊥
+  pub fixup : Option (List ℕ)
+  pub is : gen ≡ generated_for w debug_names fixup
+  pub fixes : IsFixup w debug_names fixup
   pub room : length (shims_of w) < 2 ^ 32
 
 abbrev meaning_of_user : WorldModule → ModuleMeaning
@@ -87,15 +90,20 @@ user_meaning w gen number of listed =
     slice_get-append (map meaning_of_user (user_modules w)) (map (λ ss. OfGenerated ss) (generated_sections gen)) number (OfUser of.found.imported of.found.offered)
     (slice_get-map meaning_of_user (user_modules w) number ∙ ap (option_map meaning_of_user) listed)
 
-shims_meaning : (w : ComponentWorld) (gen : GeneratedModules) (h : IsGenerated w gen) → slice_get (module_meanings w gen) (shims_number w) ≡ Some (OfGenerated (sections_of_shims None (shims_of w) h.debug_names))
+shims_meaning : (w : ComponentWorld) (gen : GeneratedModules) (h : IsGenerated w gen) → slice_get (module_meanings w gen) (shims_number w) ≡ Some (OfGenerated (sections_of_shims (shared_memory w) (shims_of w) h.debug_names))
 shims_meaning w gen h =
     ap (λ x. meaning_at (user_modules w) x (shims_number w)) h.is
-    ∙ first_behind meaning_of_user (user_modules w) (map (λ ss. OfGenerated ss) (generated_sections (generated_for w h.debug_names)))
+    ∙ first_behind meaning_of_user (user_modules w) (map (λ ss. OfGenerated ss) (generated_sections (generated_for w h.debug_names h.fixup)))
 
-fixup_meaning : (w : ComponentWorld) (gen : GeneratedModules) (h : IsGenerated w gen) → slice_get (module_meanings w gen) (fixup_number w) ≡ Some (OfGenerated (sections_of_fixup (shims_of w) h.debug_names))
-fixup_meaning w gen h =
+fixup_meaning : (w : ComponentWorld) (gen : GeneratedModules) (h : IsGenerated w gen) → (shims_of w ≡ [] → ⊥) → slice_get (module_meanings w gen) (fixup_number w) ≡ Some (OfGenerated (sections_of_fixup (shims_of w) h.debug_names))
+fixup_meaning w gen h any =
     ap (λ x. meaning_at (user_modules w) x (fixup_number w)) h.is
-    ∙ second_behind meaning_of_user (user_modules w) (map (λ ss. OfGenerated ss) (generated_sections (generated_for w h.debug_names)))
+    ∙ (second_behind meaning_of_user (user_modules w) (map (λ ss. OfGenerated ss) (generated_sections (generated_for w h.debug_names h.fixup)))
+    ∙ by h.fixup h.fixes)
+  where
+    by : (fixup : Option (List ℕ)) → IsFixup w h.debug_names fixup → slice_get (map (λ ss. OfGenerated ss) (generated_sections (generated_for w h.debug_names fixup))) 1 ≡ Some (OfGenerated (sections_of_fixup (shims_of w) h.debug_names))
+    by None none = absurd (any none)
+    by (Some bytes) fixes = refl
 
 -- a user module is one, and none of the generated modules is
 one_among : (w : ComponentWorld) (n : ℕ) → n < length (user_modules w) → users_among w (n ∷ []) ≡ n ∷ []
@@ -153,6 +161,11 @@ set_there (z ∷ xs) (suc n) x y h = set_there xs n x y h
 mapped_twice : (es : List Export) → map (λ (e : Export). Some e.address) es ≡ map (λ f. Some f) (map (λ (e : Export). e.address) es)
 mapped_twice [] = refl
 mapped_twice (e ∷ es) = ap (λ l. Some e.address ∷ l) (mapped_twice es)
+
+-- the memory that is made with the shims is there
+memory_made : (type : Option MemoryType) (s t : Store) → t.code.memories ≡ with_memory type s.code.memories → HasSharedMemory t type (memory_address type s.code)
+memory_made None s t same = tt
+memory_made (Some type) s t same = ap (λ l. slice_get l (length s.code.memories)) same ∙ slice_get-end s.code.memories type
 
 -- what is given for a shim: a function of its type that is what the shim stands for
 abbrev IsFilling : ComponentWorld → Store → Shim → Export → Type 0
@@ -283,17 +296,18 @@ module _ {w : ComponentWorld} {earlier : List Def} {c : Scope} {s : Store} {g : 
       let numbers : List ℕ = flat_map (at_root item_instantiates) earlier in
       let none : numbers ≡ [] = sym (numbers_of earlier) ∙ h.first in
       let no_instance : s.module_instances ≡ [] = no_entries (λ (u : ModuleInstance). u.module_number) s.module_instances (a.instantiated ∙ none) in
-      let r : ShimsRun None shims there.debug_names number c s = shims_run None shims there.debug_names number c s in
-      let at : ShimsAt = record { address = length s.code.functions; table = length s.code.tables } in
-      let own : List Export = instance_exports shims at.address at.table None in
+      let memory : Option MemoryType = shared_memory w in
+      let r : ShimsRun memory shims there.debug_names number c s = shims_run memory shims there.debug_names number c s in
+      let at : ShimsAt = record { address = length s.code.functions; table = length s.code.tables; memory = memory_address memory s.code } in
+      let own : List Export = exports_of_shims w at in
       let instance : ModuleInstance = record { module_number = number; given = []; exports = own } in
       let t : Thing = record { space = spaces.CoreInstance; address = length s.core_instances } in
-      let s' : Store = record s { code = with_shims None shims r.functions s.code; core_instances = s.core_instances ++ own ∷ []; module_instances = s.module_instances ++ instance ∷ [] } in
+      let s' : Store = record s { code = with_shims memory shims r.functions s.code; core_instances = s.core_instances ++ own ∷ []; module_instances = s.module_instances ++ instance ∷ [] } in
       let k : Keeps c.items (c.items ++ t ∷ []) s s' = record {
         things = things_kept c.items t s;
         code = keeps_more s.code.functions r.functions;
         tables = sizes_kept (record { at = shim_tables_kept shims s.code.tables });
-        memories = keeps_same refl;
+        memories = record { at = shim_memories_kept memory s.code.memories };
         known = keeps_same refl;
         core_instances = keeps_more s.core_instances (own ∷ []);
         functions = keeps_same refl;
@@ -310,7 +324,8 @@ module _ {w : ComponentWorld} {earlier : List Def} {c : Scope} {s : Store} {g : 
         room = there.room;
         made = r.are;
         exported = AllByRecursion-push (ExportsShims w at) s.module_instances instance (subst (AllByRecursion (ExportsShims w at)) (sym no_instance) tt) (λ e. refl);
-        unfilled = λ no. shim_table_there None shims r.functions s.code there.any;
+        memory = memory_made memory s s' refl;
+        unfilled = λ any no. shim_table_there memory shims r.functions s.code any;
         filled = λ yes. absurd (no_fixup yes);
       } in (
         with_thing c t c.imports,
@@ -385,7 +400,7 @@ module _ {w : ComponentWorld} {earlier : List Def} {c : Scope} {s : Store} {g : 
       of : (x : ℕ) × (address_at spaces.CoreInstance h.shims c.items ≡ Some x) × IsModuleInstance w a.shims s (shims_number w) x
       of = module_there a h.of_shims
 
-      found : (at : ShimsAt) × (a.shims ≡ Some at) × (of.2.exports ≡ instance_exports shims at.address at.table None) × (length shims < 2 ^ 32)
+      found : (at : ShimsAt) × (a.shims ≡ Some at) × (of.2.exports ≡ exports_of_shims w at) × (length shims < 2 ^ 32)
       found = of_shims w s numbers of.2.user of.2.exports a.shims a.with_shims of.2.each
 
       at : ShimsAt
@@ -411,17 +426,17 @@ module _ {w : ComponentWorld} {earlier : List Def} {c : Scope} {s : Store} {g : 
 
       can : CanFix shims actual at.table s.code
       can = record {
-        any = there.any;
+        any = h.any;
         numbered = shims_numbered w;
         room = found.3;
         each = AllZip-weaker (λ shim e f. f.0) shims actual filling;
         slots = empty_table (length shims);
-        present = before.unfilled first;
+        present = before.unfilled h.any first;
         size = length-replicate (length shims) None;
       }
 
-      r : FixupRun shims there.debug_names actual at.address at.table None (fixup_number w) c s
-      r = fixup_run shims there.debug_names actual at.address at.table None (fixup_number w) c s can
+      r : FixupRun shims there.debug_names actual at.address at.table at.memory (fixup_number w) c s
+      r = fixup_run shims there.debug_names actual at.address at.table at.memory (fixup_number w) c s can
 
       instance : ModuleInstance
       instance = record { module_number = fixup_number w; given = r.given; exports = [] }
@@ -469,11 +484,12 @@ module _ {w : ComponentWorld} {earlier : List Def} {c : Scope} {s : Store} {g : 
         room = found.3;
         made = shims_kept s.code s'.code (λ i f e. e) at.table 0 at.address shims before.made;
         exported = AllByRecursion-push (ExportsShims w at) s.module_instances instance before.exported (λ e. let same : suc (shims_number w) ≡ shims_number w = e in absurd (omega (arith, same)));
-        unfilled = λ no. absurd (no (Contains-append_right numbers (fixup_number w ∷ []) (fixup_number w) (zero, omega arith, refl)));
+        memory = HasSharedMemory-kept k (shared_memory w) at.memory before.memory;
+        unfilled = λ any no. absurd (no (Contains-append_right numbers (fixup_number w ∷ []) (fixup_number w) (zero, omega arith, refl)));
         filled = λ yes. is_filled;
       }
 
-      arguments_held : (now : Now) → all_some (map (core_argument (machine c s now)) (record { name = codes "actual"; instance = h.actual } ∷ record { name = codes "shim"; instance = h.shims } ∷ [])) ≡ Some (fixup_arguments shims actual at.address at.table None)
+      arguments_held : (now : Now) → all_some (map (core_argument (machine c s now)) (record { name = codes "actual"; instance = h.actual } ∷ record { name = codes "shim"; instance = h.shims } ∷ [])) ≡ Some (fixup_arguments shims actual at.address at.table at.memory)
       arguments_held now = rw (inline.1, inline.2.present, of.1, of.2.present, found.2) refl
 
       steps : Steps w gen earlier c s g d
@@ -481,7 +497,7 @@ module _ {w : ComponentWorld} {earlier : List Def} {c : Scope} {s : Store} {g : 
         with_thing c t c.imports,
         s',
         g,
-        quiet w gen d c s g (with_thing c t c.imports) s' (none_among w (fixup_number w) (before_next (shims_number w))) (λ rest now. rw (module_address (fixup_number w) (subst (λ n. n < items_in spaces.CoreModule earlier) h.numbered h.scoped), fixup_meaning w gen there, arguments_held now) (r.runs now (run (module_meanings w gen) rest))),
+        quiet w gen d c s g (with_thing c t c.imports) s' (none_among w (fixup_number w) (before_next (shims_number w))) (λ rest now. rw (module_address (fixup_number w) (subst (λ n. n < items_in spaces.CoreModule earlier) h.numbered h.scoped), fixup_meaning w gen there h.any, arguments_held now) (r.runs now (run (module_meanings w gen) rest))),
         agrees_with a gen d (with_thing c t c.imports) s' g t a.shims here refl k
             (record {
               space = refl;

@@ -22,6 +22,7 @@ use Rattle.comp_bytes.specs.declared.def.Def.TheVariants as defs
 use Rattle.comp_bytes.specs.ItemIndices.{IsAt}
 use Rattle.comp_bytes.specs.declared.def.Argument.{Argument}
 use Rattle.core_types.specs.declared.types.FuncType.{FuncType}
+use Rattle.core_types.specs.declared.types.MemoryType.{MemoryType}
 use Rattle.core_types.specs.declared.types.ValType.{ValType}
 use Rattle.comp_trees.specs.Trees.{Origin, ResourceAt, FunctionTree}
 use Rattle.comp_trees.specs.DefinedTrees.{OfValues, OfFunctions}
@@ -39,6 +40,7 @@ use Rattle.comp_links.specs.Links.{destructor_of}
 use Rattle.shim_plan.specs.declared.shims.Shim.{Shim}
 use Rattle.world_shims.specs.WorldShims.{shims_of}
 use Rattle.comp_terms.specs.Generated.{shims_number, fixup_number, target_of}
+use Rattle.comp_worlds.specs.Offered.{shared_memory}
 use Rattle.core_runs.specs.Store.{Opaque}
 use Rattle.core_runs.specs.Instances.{empty_table}
 use Rattle.comp_runs.specs.Store.{Thing, Export, HeldOption, HeldMemory, HeldRealloc, HeldPostReturn, HeldCallback, CoreItem, Function, Imported, Lifting, TypeItem, TreeOf, OwnResource, own_resources as resources_among, ModuleInstance, Store, ComponentItem}
@@ -51,7 +53,7 @@ use Rattle.nested_laws.proofs.Kept.{AreGiven-kept, AreNestedExports-kept}
 use Rattle.wit_data.specs.declared.worlds.WorldItem.{WorldItem}
 use Rattle.wit_data.specs.declared.worlds.WorldItem.TheVariants as world_items
 use Rattle.link_laws.proofs.Zips.{mapped_some, AllByRecursion-join}
-use Rattle.link_laws.proofs.Stores.{IsOpaqueOf, HasSlots, IsItemTyped, IsUserItem, IsUserExport, IsInstance, ShimsAt, AreShimExports, AreModuleExports, IsModuleInstance, IsNamedEntry, IsTypeAt, IsHeldOption, IsArgumentHeld, ItemIs, DefIs, Means, IsEntryItem, IsTypeEntry, IsFunctionEntry, IsInstanceThing, IsFunctionExported, IsItemExported, HasGlobalType, HasGlobals, IsGlobalTyped, IsFirstMemory, IsOptionHeld, IsLoweringOf, IsServedAs, IsShimGiven, IsServedIn, Serves, IsPlanned, IsPlannedUser, IsFilledWith, AreFilled, ExportsShims, AreShims, MayHaveShims, IsLiftedFrom, function_at_key, IsRequiredAt, IsAmong, IsTypeAmong, IsItemExport, IsKeyExport, AreKeyExports, IsDestroyedBy, IsOwnResource, IsOwnIfDefined, AreResources, HasNumber}
+use Rattle.link_laws.proofs.Stores.{IsOpaqueOf, HasSlots, IsItemTyped, IsUserItem, IsUserExport, IsInstance, ShimsAt, AreShimExports, AreModuleExports, IsModuleInstance, IsNamedEntry, IsTypeAt, IsHeldOption, IsArgumentHeld, ItemIs, DefIs, Means, IsEntryItem, IsTypeEntry, IsFunctionEntry, IsInstanceThing, IsFunctionExported, IsItemExported, HasGlobalType, HasGlobals, IsGlobalTyped, IsMemoryOfMain, IsShimExported, IsReallocHeld, HasSharedMemory, IsOptionHeld, IsLoweringOf, IsServedAs, IsShimGiven, IsServedIn, Serves, IsPlanned, IsPlannedUser, IsFilledWith, AreFilled, ExportsShims, AreShims, MayHaveShims, IsLiftedFrom, function_at_key, IsRequiredAt, IsAmong, IsTypeAmong, IsItemExport, IsKeyExport, AreKeyExports, IsDestroyedBy, IsOwnResource, IsOwnIfDefined, AreResources, HasNumber}
 
 -- a table that is kept has as many slots as before
 pub record KeepsSizes (old new : List (List (Option ℕ))) : Type 0 where
@@ -338,8 +340,21 @@ module _ {a b : List Thing} {s t : Store} (k : Keeps a b s t) where
   IsFunctionExported-kept : {w : ComponentWorld} {address : ℕ} {export_ref : ExportRef} → IsFunctionExported w s address export_ref → IsFunctionExported w t address export_ref
   IsFunctionExported-kept h = record { number = h.number; of = h.of; user = h.user; instance = IsInstance-kept h.instance; type = h.type; is = IsOpaque-kept h.is; offered = h.offered }
 
-  IsFirstMemory-kept : (w : ComponentWorld) (address : ℕ) → IsFirstMemory w s address → IsFirstMemory w t address
-  IsFirstMemory-kept w address h = record { name = h.name; type = h.type; first = h.first; is = record { user = h.is.user; instance = h.is.instance; present = k.users.at h.is.user h.is.instance h.is.present; of = h.is.of; exported = h.is.exported }; held = h.held; present = k.memories.at address h.held h.present; offered = h.offered }
+  IsMemoryOfMain-kept : (w : ComponentWorld) (address : ℕ) → IsMemoryOfMain w s address → IsMemoryOfMain w t address
+  IsMemoryOfMain-kept w address h = record { export = h.export; named = h.named; is = record { user = h.is.user; instance = h.is.instance; present = k.users.at h.is.user h.is.instance h.is.present; of = h.is.of; exported = h.is.exported }; held = h.held; present = k.memories.at address h.held h.present; offered = h.offered }
+
+  IsShimExported-kept : {w : ComponentWorld} {address : ℕ} {target : Target} → IsShimExported w s address target → IsShimExported w t address target
+  IsShimExported-kept h = record { place = h.place; stands = h.stands; user = h.user; instance = h.instance; present = k.users.at h.user h.instance h.present; of = h.of; exported = h.exported }
+
+  IsReallocHeld-kept : {w : ComponentWorld} {address : ℕ} {export_ref : ExportRef} → IsReallocHeld w s address export_ref → IsReallocHeld w t address export_ref
+  IsReallocHeld-kept (inl h) = inl (IsFunctionExported-kept h)
+  IsReallocHeld-kept (inr h) = inr (IsShimExported-kept h)
+
+  pub HasSharedMemory-kept : (type : Option MemoryType) (address : Option ℕ) → HasSharedMemory s type address → HasSharedMemory t type address
+  HasSharedMemory-kept None None h = tt
+  HasSharedMemory-kept (Some type) (Some address) h = k.memories.at address type h
+  HasSharedMemory-kept None (Some address) h = absurd h
+  HasSharedMemory-kept (Some type) None h = absurd h
 
   IsItemExported-kept : {w : ComponentWorld} {space : Space} {address : ℕ} {export_ref : ExportRef} → IsItemExported w s space address export_ref → IsItemExported w t space address export_ref
   unfolding IsInstance-kept
@@ -356,8 +371,8 @@ module _ {a b : List Thing} {s t : Store} (k : Keeps a b s t) where
   }
 
   IsOptionHeld-kept : (w : ComponentWorld) (held : HeldOption) (o : TargetOption) → IsOptionHeld w s held o → IsOptionHeld w t held o
-  IsOptionHeld-kept w (HeldMemory a) targets.Memory h = IsFirstMemory-kept w a h
-  IsOptionHeld-kept w (HeldRealloc a) (targets.Realloc export_ref) h = IsFunctionExported-kept h
+  IsOptionHeld-kept w (HeldMemory a) targets.Memory h = IsMemoryOfMain-kept w a h
+  IsOptionHeld-kept w (HeldRealloc a) (targets.Realloc export_ref) h = IsReallocHeld-kept h
   IsOptionHeld-kept w (HeldPostReturn a) (targets.PostReturn export_ref) h = IsFunctionExported-kept h
   IsOptionHeld-kept w (HeldCallback a) (targets.Callback export_ref) h = IsFunctionExported-kept h
   IsOptionHeld-kept w held o h = h
@@ -381,7 +396,7 @@ module _ {a b : List Thing} {s t : Store} (k : Keeps a b s t) where
   IsServedIn-kept w spaces.CoreTable address (ExportOf export_ref) h = IsItemExported-kept h
   IsServedIn-kept w spaces.CoreMemory address (ExportOf export_ref) h = IsItemExported-kept h
   IsServedIn-kept w spaces.CoreGlobal address (ExportOf export_ref) h = IsItemExported-kept h
-  IsServedIn-kept w spaces.CoreMemory address MainMemory h = IsFirstMemory-kept w address h
+  IsServedIn-kept w spaces.CoreMemory address MainMemory h = IsMemoryOfMain-kept w address h
   IsServedIn-kept w space address target h = absurd h
 
   Serves-kept : (w : ComponentWorld) (old new : Option ShimsAt) → ShimsKept old new → (space : Space) (address : ℕ) (target : Target) → Serves w old s space address target → Serves w new t space address target
@@ -402,7 +417,8 @@ module _ {a b : List Thing} {s t : Store} (k : Keeps a b s t) where
     room = h.room;
     made = shims_kept s.code t.code k.code.at at.table 0 at.address (shims_of w) h.made;
     exported = exported;
-    unfilled = λ no. tables.at at.table (empty_table (length (shims_of w))) (h.unfilled (λ yes. no (Contains-append_left numbers more (fixup_number w) yes)));
+    memory = HasSharedMemory-kept (shared_memory w) at.memory h.memory;
+    unfilled = λ any no. tables.at at.table (empty_table (length (shims_of w))) (h.unfilled any (λ yes. no (Contains-append_left numbers more (fixup_number w) yes)));
     filled = λ yes.
         let f : AreFilled w s at.table = h.filled (no_fixup yes) in
         record { functions = f.functions; slots = tables.at at.table (map (λ f. Some f) f.functions) f.slots; each = AllZip-weaker (IsFilledWith-kept w) (shims_of w) f.functions f.each };

@@ -14,7 +14,7 @@ use Rattle.comp_worlds.specs.WorldContents.{exported_item}
 use Rattle.comp_links.specs.Naming.{Naming, name_of}
 use Rattle.comp_links.specs.Lists.{ImportEntry, ImportedInterface, WorldType, RootFunction, Stated, root_function, root_type, import_entries, names_of_interface, stated_import, stated_imports, names_in, instance_type_names, AreNames, stated_export, stated_exports, functions_of_interface, nested_export_names, nested_lists, nested_names, RequiredKey, required_keys, ProvidedType, provided_resources, own_resources}
 use Rattle.comp_terms.specs.UserBytes.{user_bytes}
-use Rattle.comp_terms.specs.Rules.{Landmark, Imported, ModuleIs, InstanceOf, Exported, CustomNamed, InstanceTypeOf, landmark, import_marked, imports_marked, resources_marked, bytes_marked, users_marked, modules_marked, exports_marked, IsBuilt, NestedOf, ResourceDefined, nested_marked, export_marked}
+use Rattle.comp_terms.specs.Rules.{Landmark, Imported, ModuleIs, InstanceOf, Exported, CustomNamed, InstanceTypeOf, landmark, import_marked, imports_marked, resources_marked, bytes_marked, users_marked, fixup_marked, modules_marked, exports_marked, IsBuilt, NestedOf, ResourceDefined, nested_marked, export_marked}
 use Rattle.comp_terms.specs.Generated.{shims_number, fixup_number, GeneratedBytes}
 use Rattle.comp_inventories.specs.Inventories.{Inventory, resources_made, with_def, inventory_after, inventory, empty_inventory}
 use Rattle.wit_data.specs.declared.worlds.WorldItem.{WorldItem}
@@ -23,7 +23,7 @@ use Rattle.nested_terms.specs.Naming.{import_names}
 use Rattle.nested_terms.specs.Nested.{NestedScope, function_import, with_item, IsItemRight, AreItemsRight}
 use Rattle.comp_trees.specs.DefinedTrees.{TypeTree}
 use Rattle.link_laws.specs.Composition.{at_root, item_module, item_instantiates, item_imports, item_exports, item_customs}
-use Rattle.link_laws.proofs.ModuleMarks.{bytes_listed, user_range, numbers_listed, mapped_nothing, mapped_each, read_of, reads_users}
+use Rattle.link_laws.proofs.ModuleMarks.{fixup_listed, number_listed, bytes_listed, user_range, numbers_listed, mapped_nothing, mapped_each, read_of, reads_users}
 use Rattle.link_laws.proofs.Zips.{flat_map-marked}
 
 abbrev import_mark : Landmark → List Stated
@@ -219,9 +219,22 @@ numbers_read : (ns : List ℕ) → flat_map instance_mark (map InstanceOf ns) �
 numbers_read [] = refl
 numbers_read (n ∷ ns) = ap (λ l. n ∷ l) (numbers_read ns)
 
-all_nothing : {A : Type 0} (bytes shims shim_instance instances fixup fixup_instance : List A) → bytes ≡ [] → shims ≡ [] → shim_instance ≡ [] → instances ≡ [] → fixup ≡ [] → fixup_instance ≡ [] →
-    bytes ++ (shims ++ (shim_instance ++ (instances ++ (fixup ++ (fixup_instance ++ []))))) ≡ []
-all_nothing bytes shims shim_instance instances fixup fixup_instance a b c d e f = rw (a, b, c, d, e, f) refl
+all_nothing : {A : Type 0} (bytes shims shim_instance instances fixup : List A) → bytes ≡ [] → shims ≡ [] → shim_instance ≡ [] → instances ≡ [] → fixup ≡ [] →
+    bytes ++ (shims ++ (shim_instance ++ (instances ++ fixup))) ≡ []
+all_nothing bytes shims shim_instance instances fixup a b c d e = rw (a, b, c, d, e) refl
+
+-- what is read of the fixup and its instance
+fixup_nothing : {A : Type 0} (g : Landmark → List A) → ((bytes : List ℕ) → g (ModuleIs bytes) ≡ []) → ((number : ℕ) → g (InstanceOf number) ≡ []) → (w : ComponentWorld) (o : Option (List ℕ)) → flat_map g (fixup_marked w o) ≡ []
+fixup_nothing g m i w None = refl
+fixup_nothing g m i w (Some bytes) = rw (m bytes, i (fixup_number w)) refl
+
+fixup_module : (w : ComponentWorld) (o : Option (List ℕ)) → flat_map module_mark (fixup_marked w o) ≡ fixup_listed o
+fixup_module w None = refl
+fixup_module w (Some bytes) = refl
+
+fixup_instance : (w : ComponentWorld) (o : Option (List ℕ)) → flat_map instance_mark (fixup_marked w o) ≡ number_listed w o
+fixup_instance w None = refl
+fixup_instance w (Some bytes) = refl
 
 same_bytes : (bytes : List (List ℕ)) → map (λ (b : List ℕ). b) bytes ≡ bytes
 same_bytes [] = refl
@@ -241,8 +254,8 @@ module _ (named : Bool) (w : ComponentWorld) where
       by : (o : Option GeneratedBytes) → read_of g named w o ≡ []
       by None = ap₂ (λ xs ys. xs ++ ys) no_bytes no_numbers
       by (Some b) =
-          all_nothing (flat_map g (bytes_marked named w)) (g (ModuleIs b.shims)) (g (InstanceOf (shims_number w))) (flat_map g (users_marked w)) (g (ModuleIs b.fixup)) (g (InstanceOf (fixup_number w)))
-          no_bytes (m b.shims) (i (shims_number w)) no_numbers (m b.fixup) (i (fixup_number w))
+          all_nothing (flat_map g (bytes_marked named w)) (g (ModuleIs b.shims)) (g (InstanceOf (shims_number w))) (flat_map g (users_marked w)) (flat_map g (fixup_marked w b.fixup))
+          no_bytes (m b.shims) (i (shims_number w)) no_numbers (fixup_nothing g m i w b.fixup)
 
   -- the modules
   users_modules : (o : Option GeneratedBytes) → flat_map module_mark (modules_marked named w o) ≡ user_bytes named w ++ bytes_listed o
@@ -256,7 +269,7 @@ module _ (named : Bool) (w : ComponentWorld) where
 
       by : (o : Option GeneratedBytes) → read_of module_mark named w o ≡ user_bytes named w ++ bytes_listed o
       by None = ap₂ (λ xs ys. xs ++ ys) own no_numbers
-      by (Some b) = ap₂ (λ xs ys. xs ++ (b.shims ∷ (ys ++ b.fixup ∷ []))) own no_numbers
+      by (Some b) = ap₂ (λ xs ys. xs ++ (b.shims ∷ (ys ++ flat_map module_mark (fixup_marked w b.fixup)))) own no_numbers ∙ ap (λ l. user_bytes named w ++ (b.shims ∷ l)) (fixup_module w b.fixup)
 
   -- the instances
   users_instances : (o : Option GeneratedBytes) → flat_map instance_mark (modules_marked named w o) ≡ numbers_listed w o
@@ -267,7 +280,9 @@ module _ (named : Bool) (w : ComponentWorld) where
 
       by : (o : Option GeneratedBytes) → read_of instance_mark named w o ≡ numbers_listed w o
       by None = ap₂ (λ xs ys. xs ++ ys) no_bytes (numbers_read (user_range w))
-      by (Some b) = ap₂ (λ xs ys. xs ++ (shims_number w ∷ (ys ++ fixup_number w ∷ []))) no_bytes (numbers_read (user_range w))
+      by (Some b) =
+          ap₂ (λ xs ys. xs ++ (shims_number w ∷ (ys ++ flat_map instance_mark (fixup_marked w b.fixup)))) no_bytes (numbers_read (user_range w))
+          ∙ ap (λ l. shims_number w ∷ (user_range w ++ l)) (fixup_instance w b.fixup)
 
   -- the resources
   users_resources : (o : Option GeneratedBytes) → flat_map resource_mark (modules_marked named w o) ≡ map (λ id. 0) (provided_resources w)
@@ -284,8 +299,9 @@ module _ (named : Bool) (w : ComponentWorld) where
           flat_map-append resource_mark (bytes_marked named w) (resources_marked w ++ users_marked w)
           ∙ ap₂ (λ xs ys. xs ++ ys) no_bytes (each_resource (provided_resources w) (users_marked w) no_numbers)
       by (Some b) =
-          let fixup : List Landmark = ModuleIs b.fixup ∷ InstanceOf (fixup_number w) ∷ [] in
-          let behind : flat_map resource_mark (users_marked w ++ fixup) ≡ [] = flat_map-append resource_mark (users_marked w) fixup ∙ ap (λ l. l ++ flat_map resource_mark fixup) no_numbers in
+          let fixup : List Landmark = fixup_marked w b.fixup in
+          let behind : flat_map resource_mark (users_marked w ++ fixup) ≡ [] =
+          flat_map-append resource_mark (users_marked w) fixup ∙ ap₂ (λ xs ys. xs ++ ys) no_numbers (fixup_nothing resource_mark (λ b. refl) (λ n. refl) w b.fixup) in
           flat_map-append resource_mark (bytes_marked named w) (ModuleIs b.shims ∷ InstanceOf (shims_number w) ∷ (resources_marked w ++ (users_marked w ++ fixup)))
           ∙ ap₂ (λ xs ys. xs ++ ys) no_bytes (each_resource (provided_resources w) (users_marked w ++ fixup) behind)
 

@@ -3,7 +3,7 @@ use Rattle.std.proofs.Common.{◌≡◌, ◌∙◌, ℕ, zero, suc, true, ◌&&�
 use Rattle.std.specs.Prelude.{nat_le}
 use Rattle.std.proofs.lemmas.Option.{none-some, same_Some, slice_get-map}
 use Rattle.std.specs.List.{slice_get, AllZip, AllByRecursion}
-use Rattle.std.specs.Option.{option_map, option_and_then}
+use Rattle.std.specs.Option.{option_map, option_and_then, option_or}
 use Rattle.comp_lists.specs.Found.{found}
 use Rattle.comp_bytes.specs.declared.space.Space.{Space}
 use Rattle.comp_bytes.specs.declared.space.Space.TheVariants as spaces
@@ -26,7 +26,7 @@ use Rattle.comp_roles.specs.declared.offered.ExternType.{ExternType}
 use Rattle.comp_roles.specs.declared.offered.ExternType.TheVariants as externs
 use Rattle.comp_worlds.proofs.Matched.{both, matched_function, matched_value, function_itself}
 use Rattle.comp_roles.specs.declared.libraries.MainOrAdapter.{MainOrAdapter}
-use Rattle.comp_worlds.specs.Offered.{NamedMatches}
+use Rattle.comp_worlds.specs.Offered.{NamedMatches, memory_of_main, shared_memory}
 use Rattle.comp_worlds.specs.Typed.{FitsRole, FitsExport}
 use Rattle.comp_worlds.specs.WorldContents.{items_of}
 use Rattle.comp_worlds.specs.Worlds.{IsWorld, IsImportRole}
@@ -37,12 +37,15 @@ use Rattle.comp_links.proofs.Named.{listed_found, named_found, listed_there}
 use Rattle.comp_links.specs.Links.{link_of, module_of}
 use Rattle.comp_links.specs.Modules.{WorldModule, user_modules, module_found}
 use Rattle.comp_links.specs.Targets.{UserModule, Main, Adapter, ExportRef, Target, ExportOf, MainMemory}
+use Rattle.standard_kinds.specs.declared.kinds.ExportKind.TheVariants as kinds
+use Rattle.comp_terms.specs.Planned.{memory_from}
+use Rattle.comp_terms.specs.Terms.{CoreExport}
 use Rattle.comp_runs.specs.Store.{Export, ModuleInstance, Store}
 use Rattle.comp_runs.specs.Machine.{Machine}
 use Rattle.comp_runs.specs.Instances.{matching, of_kind, type_space}
 use Rattle.link_laws.proofs.Given.{IsFunctionTyped, table_apart, memory_apart, global_apart}
 use Rattle.link_laws.proofs.Plain.{same_value_type-refl, same_signature-refl}
-use Rattle.link_laws.proofs.Stores.{HasSlots, IsItemTyped, IsItemExported, IsGlobalTyped, HasGlobalType, HasGlobals, IsServedIn}
+use Rattle.link_laws.proofs.Stores.{HasSlots, IsTypeOfMemory, IsItemTyped, IsItemExported, IsGlobalTyped, HasGlobalType, HasGlobals, IsServedIn}
 use Rattle.link_laws.proofs.Zips.{found-zip, mapped_some}
 
 -- ---- what is offered matches
@@ -199,6 +202,10 @@ module _ (w : ComponentWorld) (ok : IsWorld w) (s : Store) (globals : List ValTy
   export_typed spaces.CoreGlobal address e type all h = item_export_typed spaces.CoreGlobal global_apart address e type all h
   export_typed space address e type all h = absurd h
 
+  abbrev memory_in : MemoryType → ExternType → MemoryType
+  memory_in other (externs.Memory type) = type
+  memory_in other type = other
+
   -- the memory that main exports first has the type of its role
   memory_offered : (es : List (List ℕ × Role)) (name : List ℕ) (type : MemoryType) → AllByRecursion (FitsExport w.resolve (items_of w) w.main) es → first_memory es ≡ Some (name, type) → found name w.main.offered ≡ Some (externs.Memory type)
   memory_offered [] name type fits e = absurd (none-some (name, type) e)
@@ -210,9 +217,19 @@ module _ (w : ComponentWorld) (ok : IsWorld w) (s : Store) (globals : List ValTy
 
   pub main_memory_typed : (space : Space) (address : ℕ) (required : MemoryType) → IsImportRole w (imports.MainModuleMemory required) → IsServedIn w s space address MainMemory → HasType s globals space address (externs.Memory required)
   main_memory_typed spaces.CoreMemory address required right h =
-      let offered : found h.name w.main.offered ≡ Some (externs.Memory h.type) = memory_offered w.main.exports.exports h.name h.type ok.main.exported h.first in
-      let same : externs.Memory h.held ≡ externs.Memory h.type = same_Some (externs.Memory h.held) (externs.Memory h.type) (sym h.offered ∙ offered) in
-      record { offered = h.held; present = h.present; matching = ap (matches (externs.Memory required)) same ∙ right.matching h.name h.type h.first }
+      record { offered = h.held; present = h.present; matching = right.matching h.held (held_is (shared_memory w) refl (first_memory w.main.exports.exports) refl h.named h.offered) }
+    where
+      held_is : (imported : Option MemoryType) → shared_memory w ≡ imported → (exported : Option (List ℕ × MemoryType)) → first_memory w.main.exports.exports ≡ exported → memory_from w imported exported ≡ Some h.export → IsTypeOfMemory w imported h.export h.held →
+          memory_of_main w.main ≡ Some h.held
+      held_is (Some type) imported exported first named offered =
+          ap (λ o. option_or o (option_map (λ e. e.1) (first_memory w.main.exports.exports))) imported ∙ ap (λ (t : MemoryType). Some t) (sym offered)
+      held_is None imported (Some (name, type)) first named offered =
+          let own : CoreExport = record { of = 0; kind = kinds.Memory; name = name } in
+          let found_there : found name w.main.offered ≡ Some (externs.Memory type) = memory_offered w.main.exports.exports name type ok.main.exported first in
+          let held : found name w.main.offered ≡ Some (externs.Memory h.held) = ap (λ (e : CoreExport). found e.name w.main.offered) (same_Some own h.export named) ∙ offered in
+          let same : type ≡ h.held = ap (memory_in h.held) (same_Some (externs.Memory type) (externs.Memory h.held) (sym found_there ∙ held)) in
+          ap (λ o. option_or o (option_map (λ e. e.1) (first_memory w.main.exports.exports))) imported ∙ (ap (option_map (λ e. e.1)) first ∙ ap (λ (t : MemoryType). Some t) same)
+      held_is None imported None first named offered = absurd (none-some h.export named)
   main_memory_typed spaces.CoreFunc address required right h = absurd h
   main_memory_typed space address required right h = absurd h
 

@@ -7,15 +7,16 @@ use Rattle.std.proofs.lemmas.Option.{slice_get_within, none-some, same_Some}
 use Rattle.std.proofs.lemmas.List.Elements.{filter-append, Contains-append_right}
 use Rattle.std.proofs.lemmas.Grind.{flat_map-append}
 use Rattle.std.specs.Prelude.{Contains, ◌≢◌}
+use Rattle.std.specs.Option.{option_map}
 use Rattle.comp_lists.proofs.Lists.{there, AllByRecursion-weaker, AllByRecursion-front, AllByRecursion-back, AllByRecursion-contains, Contains-map}
 use Rattle.core_bytes.specs.Modules.{Encodes}
 use Rattle.shim_plan.specs.declared.shims.Shim.{Shim}
-use Rattle.world_shims.specs.WorldShims.{shims_of, type_of_shim}
-use Rattle.shim_runs.specs.ShimRuns.{IsShimAt, instance_exports}
+use Rattle.world_shims.specs.WorldShims.{shims_of, type_of_shim, sections_of_fixup}
+use Rattle.shim_runs.specs.ShimRuns.{IsShimAt}
 use Rattle.shim_runs.proofs.Acting.{empty_shims_trap}
 use Rattle.shim_runs.proofs.Placed.{shim_at}
 use Rattle.shim_runs.proofs.Exported.{shims_found}
-use Rattle.comp_terms.specs.Generated.{shims_number, fixup_number, GeneratedBytes, MayBeGenerated}
+use Rattle.comp_terms.specs.Generated.{shims_number, fixup_number, GeneratedBytes, IsFixup, MayBeGenerated}
 use Rattle.std.specs.List.{slice_get, flat_map, range_with_len, AllZip, AllByRecursion}
 use Rattle.comp_bytes.specs.ItemIndices.{in_space}
 use Rattle.comp_bytes.specs.declared.space.Space.TheVariants as spaces
@@ -44,10 +45,10 @@ use Rattle.comp_terms.specs.Rules.{IsRight, RightAfter, IsBuilt}
 use Rattle.link_laws.specs.Meeting.{task_hook}
 use Rattle.link_laws.specs.Composition.{GeneratedModules, generated_sections, IsComposed, numbers_from, instance_order, at_root, item_instantiates}
 use Rattle.link_laws.specs.Linking.{module_meanings, outcome, EndsAt, StartCall, start_calls, initialization, questions, LetsRun, IsLinked, imported_among, TypesServed, IsShim, TrapsAtOnce, BeforeFixup, Links}
-use Rattle.link_laws.proofs.Stores.{ShimsAt, ExportsShims, MayHaveShims, IsTypeEntry, IsFunctionEntry, IsInstanceThing, Agrees}
+use Rattle.link_laws.proofs.Stores.{ShimsAt, exports_of_shims, ExportsShims, MayHaveShims, IsTypeEntry, IsFunctionEntry, IsInstanceThing, Agrees}
 use Rattle.link_laws.proofs.Given.{not_shims, scope_there}
 use Rattle.link_laws.proofs.Plain.{nothing_in, no_initialize}
-use Rattle.link_laws.proofs.ModuleMarks.{bytes_listed, numbers_listed}
+use Rattle.link_laws.proofs.ModuleMarks.{fixup_listed, number_listed, bytes_listed, user_range, numbers_listed}
 use Rattle.link_laws.proofs.Zips.{AllByRecursion-join}
 use Rattle.link_laws.proofs.InstanceSteps.{IsGenerated, generated_for, none_among, at_least, before_next, step_instantiate}
 use Rattle.link_laws.proofs.Outcomes.{machine, IsNow, IsGood, users_among, users_in, asks, events_of, seen_by, Steps}
@@ -171,32 +172,47 @@ users_below w = by (user_count w)
 
 abbrev pub modules_of : (w : ComponentWorld) (o : Option GeneratedBytes) → MayBeGenerated w o → GeneratedModules
 modules_of w None h = no_modules
-modules_of w (Some b) h = generated_for w h.debug_names
+modules_of w (Some b) h = generated_for w h.debug_names b.fixup
 
 -- their bytes encode them
 bytes_encode : (w : ComponentWorld) (o : Option GeneratedBytes) (h : MayBeGenerated w o) → AllZip Encodes (bytes_listed o) (generated_sections (modules_of w o h))
 bytes_encode w None h = tt
-bytes_encode w (Some b) h = (h.shims, (h.fixup, tt))
+bytes_encode w (Some b) h = (h.shims, by b.fixup h.fixup)
+  where
+    by : (o : Option (List ℕ)) → IsFixup w h.debug_names o → AllZip Encodes (fixup_listed o) (generated_sections (record { shims = None; fixup = option_map (λ bytes. sections_of_fixup (shims_of w) h.debug_names) o }))
+    by None none = tt
+    by (Some bytes) fixes = (fixes.0, tt)
 
 -- the instances are in their order
 order_is : (w : ComponentWorld) (o : Option GeneratedBytes) (h : MayBeGenerated w o) → numbers_listed w o ≡ instance_order (length (user_modules w)) (modules_of w o h)
 order_is w None h = range_numbers 0 (user_count w) ∙ sym (append-nil (user_numbers w))
-order_is w (Some b) h = ap (λ ns. shims_number w ∷ (ns ++ fixup_number w ∷ [])) (range_numbers 0 (user_count w))
+order_is w (Some b) h = by b.fixup
+  where
+    by : (o : Option (List ℕ)) → shims_number w ∷ (user_range w ++ number_listed w o) ≡ instance_order (length (user_modules w)) (generated_for w h.debug_names o)
+    by None = ap (λ ns. shims_number w ∷ (ns ++ [])) (range_numbers 0 (user_count w))
+    by (Some bytes) = ap (λ ns. shims_number w ∷ (ns ++ fixup_number w ∷ [])) (range_numbers 0 (user_count w))
 
 -- among them are the user modules
 users_in_order : (w : ComponentWorld) (o : Option GeneratedBytes) (h : MayBeGenerated w o) → users_among w (instance_order (length (user_modules w)) (modules_of w o h)) ≡ numbers_from 0 (length (user_modules w))
 users_in_order w None h = ap (users_among w) (append-nil (user_numbers w)) ∙ all_among (user_count w) (user_numbers w) (users_below w)
-users_in_order w (Some b) h =
-    filter-append (λ n. ltb n (user_count w)) (user_count w ∷ []) (user_numbers w ++ suc (user_count w) ∷ [])
-    ∙ (ap₂ (λ xs ys. xs ++ ys) (none_among w (user_count w) (at_least (user_count w)))
-    (filter-append (λ n. ltb n (user_count w)) (user_numbers w) (suc (user_count w) ∷ [])
-    ∙ ap₂ (λ xs ys. xs ++ ys) (all_among (user_count w) (user_numbers w) (users_below w)) (none_among w (suc (user_count w)) (before_next (user_count w))))
-    ∙ append-nil (user_numbers w))
+users_in_order w (Some b) h = by b.fixup
+  where
+    by : (o : Option (List ℕ)) → users_among w (instance_order (length (user_modules w)) (generated_for w h.debug_names o)) ≡ numbers_from 0 (length (user_modules w))
+    by None =
+        filter-append (λ n. ltb n (user_count w)) (user_count w ∷ []) (user_numbers w ++ [])
+        ∙ ap₂ (λ xs ys. xs ++ ys) (none_among w (user_count w) (at_least (user_count w))) (ap (users_among w) (append-nil (user_numbers w)) ∙ all_among (user_count w) (user_numbers w) (users_below w))
+    by (Some bytes) =
+        filter-append (λ n. ltb n (user_count w)) (user_count w ∷ []) (user_numbers w ++ suc (user_count w) ∷ [])
+        ∙ (ap₂ (λ xs ys. xs ++ ys) (none_among w (user_count w) (at_least (user_count w)))
+        (filter-append (λ n. ltb n (user_count w)) (user_numbers w) (suc (user_count w) ∷ [])
+        ∙ ap₂ (λ xs ys. xs ++ ys) (all_among (user_count w) (user_numbers w) (users_below w)) (none_among w (suc (user_count w)) (before_next (user_count w))))
+        ∙ append-nil (user_numbers w))
 
 may_make : (w : ComponentWorld) (o : Option GeneratedBytes) (h : MayBeGenerated w o) → AllByRecursion (MayMake w (modules_of w o h)) (instance_order (length (user_modules w)) (modules_of w o h))
 may_make w None h =
     AllByRecursion-join (MayMake w no_modules) (user_numbers w) [] (AllByRecursion-weaker (λ n below no. absurd (no below)) (user_numbers w) (users_below w)) tt
-may_make w (Some b) h = each_number (λ n no. record { debug_names = h.debug_names; is = refl; any = h.any; room = h.room }) (instance_order (length (user_modules w)) (generated_for w h.debug_names))
+may_make w (Some b) h =
+    each_number (λ n no. record { debug_names = h.debug_names; fixup = b.fixup; is = refl; fixes = h.fixup; room = h.room }) (instance_order (length (user_modules w)) (generated_for w h.debug_names b.fixup))
 
 -- ---- as a list
 
@@ -228,31 +244,42 @@ start w =
     record { shims = None; with_shims = λ yes. nothing_in (shims_number w) yes; means = tt; types = subst (λ (v : Inventory). AllZip (IsTypeEntry (fresh_machine []).store) v.types []) (sym inventory-empty) tt; functions = subst (λ (v : Inventory). AllZip (IsFunctionEntry (fresh_machine []).store) v.functions []) (sym inventory-empty) tt; instances = subst (λ (v : Inventory). AllZip (IsInstanceThing (fresh_machine []).store) v.instances []) (sym inventory-empty) tt; resources = record { counted = sym none; each = tt; numbered = λ number less. let zero_is = none in absurd (omega (arith, less, zero_is)) }; modules = refl; instantiated = refl; served = tt; with_globals = tt; exports = refl; lifted = tt; imports = sym (ap (λ (v : Inventory). v.imports) inventory-empty) }
 
 -- where the shims are made, they are filled at the end
-filled_at_end : (w : ComponentWorld) (m : Machine) (o : Option GeneratedBytes) (g : MayBeGenerated w o) (shims : Option ShimsAt) (made : List ℕ) → made ≡ instance_order (length (user_modules w)) (modules_of w o g) → MayHaveShims w m.store made shims → (ok : IsWorld w) →
-    FilledAtEnd w ok m shims
-filled_at_end w m o g None made same h ok = tt
-filled_at_end w m None g (Some at) made same h ok =
+filled_at_end : (w : ComponentWorld) (m : Machine) (o : Option GeneratedBytes) (g : MayBeGenerated w o) (shims : Option ShimsAt) (made : List ℕ) → made ≡ instance_order (length (user_modules w)) (modules_of w o g) →
+    map (λ (u : ModuleInstance). u.module_number) m.store.module_instances ≡ made → MayHaveShims w m.store made shims → (ok : IsWorld w) → FilledAtEnd w ok m shims
+filled_at_end w m o g None made same numbers h ok = none_of m.store.module_instances (λ c. h (subst (λ l. Contains l (shims_number w)) numbers c))
+  where
+    none_of : (us : List ModuleInstance) → (Contains (map (λ (u : ModuleInstance). u.module_number) us) (shims_number w) → ⊥) → AllByRecursion (λ (u : ModuleInstance). u.module_number ≡ shims_number w → ⊥) us
+    none_of [] other = tt
+    none_of (u ∷ us) other = (
+      λ e. other (0, omega arith, e),
+      none_of us (λ c. other (Contains-append_right (u.module_number ∷ []) (map (λ (u : ModuleInstance). u.module_number) us) (shims_number w) c)),
+    )
+filled_at_end w m None g (Some at) made same numbers h ok =
     let own : Contains (user_numbers w) (shims_number w) = subst (λ l. Contains l (shims_number w)) (same ∙ append-nil (user_numbers w)) h.there in
     let below : shims_number w < user_count w = AllByRecursion-contains (λ n. n < user_count w) (user_numbers w) (shims_number w) (users_below w) own in
     absurd (not_shims w (shims_number w) below refl)
-filled_at_end w m (Some b) g (Some at) made same h ok =
-    let last : Contains (user_numbers w ++ fixup_number w ∷ []) (fixup_number w) = Contains-append_right (user_numbers w) (fixup_number w ∷ []) (fixup_number w) (0, omega arith, refl) in
-    let among : Contains (shims_number w ∷ (user_numbers w ++ fixup_number w ∷ [])) (fixup_number w) = Contains-append_right (shims_number w ∷ []) (user_numbers w ++ fixup_number w ∷ []) (fixup_number w) last in
-    (h.made, h.filled (subst (λ l. Contains l (fixup_number w)) (sym same) among), h.room)
+filled_at_end w m (Some b) g (Some at) made same numbers h ok = (h.made, λ any. h.filled (by b.fixup g.fixup same any), h.room, h.exported)
+  where
+    by : (o : Option (List ℕ)) → IsFixup w g.debug_names o → made ≡ instance_order (length (user_modules w)) (generated_for w g.debug_names o) → (shims_of w ≡ [] → ⊥) → Contains made (fixup_number w)
+    by None none same any = absurd (any none)
+    by (Some bytes) fixes same any =
+        let last : Contains (user_numbers w ++ fixup_number w ∷ []) (fixup_number w) = Contains-append_right (user_numbers w) (fixup_number w ∷ []) (fixup_number w) (0, omega arith, refl) in
+        let among : Contains (shims_number w ∷ (user_numbers w ++ fixup_number w ∷ [])) (fixup_number w) = Contains-append_right (shims_number w ∷ []) (user_numbers w ++ fixup_number w ∷ []) (fixup_number w) last in
+        subst (λ l. Contains l (fixup_number w)) (sym same) among
 
 -- the end of a run is linked
 linked_at_end : (n : Naming) (w : ComponentWorld) (ds : List Def) (m : Machine) → IsWorld w → AreExportsApart n w → (built : IsBuilt n w ds) → {globals : List ValType} → Agrees w ds m.scope m.store globals → m.now.events ≡ events_of (numbers_from 0 (length (user_modules w))) → IsLinked n w (modules_of w built.generated built.are_generated) m
 linked_at_end n w ds m ok apart built {globals} a events =
-    let filled : FilledAtEnd w ok m a.shims = filled_at_end w m built.generated built.are_generated a.shims (flat_map (at_root item_instantiates) ds) (instances_in_order n w ds built) a.with_shims ok in
+    let filled : FilledAtEnd w ok m a.shims = filled_at_end w m built.generated built.are_generated a.shims (flat_map (at_root item_instantiates) ds) (instances_in_order n w ds built) a.instantiated a.with_shims ok in
     record {
       origins = resource_of w;
       start_events = [];
       instances = a.instantiated ∙ instances_in_order n w ds built;
       imports = users_served w ok m a.shims filled a.served;
-      exports = each_provided n w ok apart m (a.exports ∙ root_export_names n w ds built) a.lifted;
-      types = each_type_provided n w ok apart m (a.exports ∙ root_export_names n w ds built) a.lifted;
+      exports = each_provided n w ok apart m a.shims filled (a.exports ∙ root_export_names n w ds built) a.lifted;
+      types = each_type_provided n w ok apart m a.shims filled (a.exports ∙ root_export_names n w ds built) a.lifted;
       resources = λ address number destructor present. resource_defined w ok m a.shims filled address number destructor present a.resources;
-      defined = λ number less. number_defined w ok m a.shims number a.resources (subst (λ n. number < n) (sym (all_resources n w ds built)) less);
+      defined = λ number less. number_defined w ok m a.shims filled number a.resources (subst (λ n. number < n) (sym (all_resources n w ds built)) less);
       events = events ∙ sym (append-nil (events_of (user_numbers w)));
       started = rw (no_calls w ok) tt;
     }
@@ -310,10 +337,10 @@ quiet_shims w m numbers None same h unfixed address s =
     absurd (h (subst (λ k. Contains numbers k) s.of (subst (λ l. Contains l s.made.module_number) same n)))
 quiet_shims w m numbers (Some at) same h unfixed address s =
     let shims : List Shim = shims_of w in
-    let exports : s.made.exports ≡ instance_exports shims at.address at.table None =
+    let exports : s.made.exports ≡ exports_of_shims w at =
     AllByRecursion-contains (ExportsShims w at) m.store.module_instances s.made h.exported (contained m.store.module_instances s.instance s.made s.present) s.of in
     let place : (place : ℕ) × (place < length shims) × (address ≡ at.address + place) =
-    (shims_found shims at.address at.table None).listed s.name address (subst (λ es. Contains es (record { space = spaces.CoreFunc; name = s.name; address = address })) exports s.exported) in
+    (shims_found shims at.address at.table at.memory).listed s.name address (subst (λ es. Contains es (record { space = spaces.CoreFunc; name = s.name; address = address })) exports s.exported) in
     let shim : (shim : Shim) × (slice_get shims place.0 ≡ Some shim) = there shims place.0 place.1 in
     let zero_is : 0 + place.0 ≡ place.0 = omega arith in
     let is : IsShimAt m.store.code at.table address place.0 (type_of_shim shim.0) =
@@ -321,10 +348,11 @@ quiet_shims w m numbers (Some at) same h unfixed address s =
     (subst (λ p. IsShimAt m.store.code at.table (at.address + place.0) p (type_of_shim shim.0)) zero_is (shim_at m.store.code at.table 0 at.address shims place.0 shim.0 h.made shim.1)) in
     let within = place.1 in
     let room = h.room in
+    let any : shims ≡ [] → ⊥ = λ none. let less : place.0 < 0 = subst (λ (ss : List Shim). place.0 < length ss) none place.1 in omega (arith, less) in
     record {
       function = Generated is.frame (type_of_shim shim.0) (table_shim (length (type_of_shim shim.0).params) place.0 is.index).locals (table_shim (length (type_of_shim shim.0).params) place.0 is.index).instructions;
       is = is.body;
-      traps = λ arguments now fits kept. empty_shims_trap m.store.code at.table address place.0 (type_of_shim shim.0) (length shims) is (h.unfilled unfixed) place.1 (omega (arith, within, room)) arguments now fits;
+      traps = λ arguments now fits kept. empty_shims_trap m.store.code at.table address place.0 (type_of_shim shim.0) (length shims) is (h.unfilled any unfixed) place.1 (omega (arith, within, room)) arguments now fits;
     }
 
 -- where the definitions don't instantiate the fixup, its number is none of theirs

@@ -4,6 +4,7 @@ use Rattle.std.proofs.lemmas.Option.{none-some, same_Some, slice_get_within, sli
 use Rattle.std.proofs.lemmas.Slice.Eq.{bytes_eq-Decides}
 use Rattle.std.specs.Str.{bytes_eq}
 use Rattle.std.specs.List.{slice_get, flat_map, AllZip, AllByRecursion}
+use Rattle.std.specs.Fmt.{decimal}
 use Rattle.std.specs.Option.{option_map, option_and_then}
 use Rattle.comp_lists.proofs.Lists.{AllZip-at, AllZip-weaker}
 use Rattle.comp_bytes.specs.declared.space.Space.TheVariants as spaces
@@ -37,10 +38,16 @@ use Rattle.comp_trees.specs.DefinedTrees.{OfOthers}
 use Rattle.comp_links.specs.Targets.{ExportRef, WorldFunction, TargetOption, Target, Lowered, ResourceFunction, New, Rep, Drop, ExportOf, OfResource, Lifted}
 use Rattle.comp_links.specs.Targets as targets
 use Rattle.comp_links.specs.Links.{lift_options, destructor_of}
-use Rattle.comp_terms.specs.Generated.{Purpose, target_of}
+use Rattle.comp_terms.specs.Generated.{shims_number, Purpose, target_of}
+use Rattle.comp_worlds.specs.Offered.{shared_memory}
+use Rattle.comp_terms.specs.Planned.{memory_from}
+use Rattle.comp_terms.specs.Terms.{CoreExport}
 use Rattle.shim_plan.specs.declared.shims.Shim.{Shim}
 use Rattle.world_shims.specs.WorldShims.{shims_of, type_of_shim}
-use Rattle.shim_runs.specs.ShimRuns.{IsShimAt, AreShimsFrom}
+use Rattle.standard_kinds.specs.declared.kinds.ExportKind.TheVariants as kinds
+use Rattle.core_types.specs.declared.types.MemoryType.{MemoryType}
+use Rattle.shim_runs.specs.ShimRuns.{IsShimAt, AreShimsFrom, memory_name}
+use Rattle.shim_runs.proofs.Exported.{shims_found}
 use Rattle.shim_runs.proofs.Acting.{filled_shims_forward}
 use Rattle.shim_runs.proofs.Placed.{shim_at}
 use Rattle.comp_links.specs.Modules.{WorldModule, user_modules}
@@ -48,18 +55,17 @@ use Rattle.comp_links.specs.Naming.{Naming, plain_name, name_of}
 use Rattle.comp_links.specs.Lists.{component_types, own_resources, resource_of, RequiredKey, required_keys, RequiredFunction, functions_required, required_functions, types_in, types_required, required_types, type_of_world, AreExportsApart}
 use Rattle.comp_runs.specs.Signatures.{core_signature}
 use Rattle.comp_runs.specs.Store.{Thing, Export, HeldOption, HeldEncoding, HeldMemory, HeldRealloc, HeldPostReturn, HeldAsync, HeldCallback, CoreItem, Lowering, IntrinsicOf, ExportedBy, Imported, TypeItem, OwnResource, item_tree, ModuleInstance, Store}
-use Rattle.comp_runs.specs.Machine.{Machine, export_in, export_of}
+use Rattle.comp_runs.specs.Machine.{Machine, export_named, export_in, export_of}
 use Rattle.nested_laws.proofs.Kept.{is_function}
 use Rattle.nested_laws.proofs.Exports.{front, other_space}
-use Rattle.link_laws.specs.Meeting.{CoreMeets, CoreExportMeets, task_hook, hooks_round, ItemMeets, MemoryMeets, IsMainMemory, MeetsOption, ItemIsExport, ItemIsLowering, IsResourceHeld, ItemIsOfResource, Meets, MeetsIn, entry_kind}
+use Rattle.link_laws.specs.Meeting.{CoreMeets, CoreExportMeets, task_hook, hooks_round, IsExportedItem, ItemMeets, MemoryMeets, IsMainMemory, MeetsOption, ItemIsExport, ItemIsLowering, IsResourceHeld, ItemIsOfResource, Meets, MeetsIn, entry_kind}
 use Rattle.instance_laws.proofs.Held.{tree_of_held}
 use Rattle.link_laws.specs.Linking.{IsServed, AreServed, UsersServed, IsProvided, IsTypeProvided, DestructorMeets, IsDefined, IsNumberDefined, exports_at}
 use Rattle.link_laws.proofs.Zips.{AllByRecursion-join, each_at}
-use Rattle.link_laws.proofs.Stores.{IsOpaqueOf, ShimsAt, resource_core, IsLoweredFor, IsFunctionOf, IsFunctionExported, IsItemExported, IsServedAs, IsServedIn, IsShimGivenAt, Serves, IsFilledWith, AreFilled, main_module, IsPlanned, IsPlannedUser, IsFirstMemory, IsOptionHeld, function_at_key, IsRequiredAt, IsFunctionExport, IsAmong, IsInterfaceExport, IsItemExport, IsKeyExport, AreKeyExports, type_at_key, IsTypeAmong, IsDestroyedBy, IsOwnResource, IsOwnIfDefined, AreResources, HasNumber}
+use Rattle.link_laws.proofs.Stores.{IsOpaqueOf, ShimsAt, resource_core, IsLoweredFor, IsFunctionOf, IsFunctionExported, IsItemExported, IsServedAs, IsServedIn, IsShimGivenAt, IsShimGiven, ExportsShims, exports_of_shims, Serves, IsFilledWith, AreFilled, main_module, IsPlanned, IsPlannedUser, IsMemoryOfMain, IsShimExported, IsReallocHeld, IsOptionHeld, function_at_key, IsRequiredAt, IsFunctionExport, IsAmong, IsInterfaceExport, IsItemExport, IsKeyExport, AreKeyExports, type_at_key, IsTypeAmong, IsDestroyedBy, IsOwnResource, IsOwnIfDefined, AreResources, HasNumber}
 use Rattle.link_laws.proofs.Given.{by_parts, named_in_space}
 use Rattle.comp_links.proofs.Keys.{one_provider}
 use Rattle.link_laws.proofs.GivenImports.{purpose_opaque, one_purpose}
-use Rattle.comp_worlds.proofs.NotOfMain.{no_memory_imported}
 use Rattle.link_laws.proofs.Plain.{no_hook, function_key}
 use Rattle.comp_worlds.specs.WorldContents.{exported_item}
 
@@ -123,7 +129,7 @@ module _ (w : ComponentWorld) (ok : IsWorld w) (m : Machine) where
   opaque_meets : (kind : Option Bracketed) (address : ℕ) (type : FuncType) (item : CoreItem) (P : CoreItem → Type 0) → IsOpaqueOf m.store address type item → P item → CoreMeets w m kind address P
   opaque_meets kind address type item P h p = forwarding_meets kind address address type item P (forwards_itself address type item h) h p
 
--- ---- options
+-- ---- exports of modules
 
 module _ (w : ComponentWorld) (ok : IsWorld w) (m : Machine) where
   -- what a user module exports is that export of an instance of it
@@ -138,28 +144,117 @@ module _ (w : ComponentWorld) (ok : IsWorld w) (m : Machine) where
   function_meets : (kind : Bracketed) (address : ℕ) (export_ref : ExportRef) → IsFunctionExported w m.store address export_ref → CoreExportMeets w m (Some kind) address export_ref
   function_meets kind address export_ref h = opaque_meets w ok m (Some kind) address h.type (ExportedBy h.user export_ref.name) (ItemIsExport w m export_ref) h.is (function_item h)
 
-  memory_meets : (address : ℕ) → IsFirstMemory w m.store address → IsMainMemory w m address
-  memory_meets address h =
-      subst (λ o. MemoryMeets w m address o (first_memory w.main.exports.exports)) (sym (no_memory_imported w ok))
-      (subst (λ o. MemoryMeets w m address None o) (sym h.first)
-      (record {
-        number = 0;
-        of = record { world_module = main_module w; listed = refl; same = refl };
-        is = record { made = h.is.instance; instance = h.is.user; present = h.is.present; of = h.is.of; exported = h.is.exported };
-      }))
+  memory_meets : (address : ℕ) → IsMemoryOfMain w m.store address → IsMainMemory w m address
+  memory_meets address h = by (shared_memory w) refl (first_memory w.main.exports.exports) refl h.named
+    where
+      exported : (e : CoreExport) → e ≡ h.export → IsExportedItem m e.of spaces.CoreMemory e.name address
+      exported e same = subst (λ (e : CoreExport). IsExportedItem m e.of spaces.CoreMemory e.name address) (sym same) (record { made = h.is.instance; instance = h.is.user; present = h.is.present; of = h.is.of; exported = h.is.exported })
+
+      by : (imported : Option MemoryType) → shared_memory w ≡ imported → (first : Option (List ℕ × MemoryType)) → first_memory w.main.exports.exports ≡ first → memory_from w imported first ≡ Some h.export → IsMainMemory w m address
+      by (Some type) imported first firsts named =
+          let own : CoreExport = record { of = shims_number w; kind = kinds.Memory; name = memory_name } in
+          subst (λ o. MemoryMeets w m address o (first_memory w.main.exports.exports)) (sym imported) (exported own (same_Some own h.export named))
+      by None imported (Some (name, type)) first named =
+          let own : CoreExport = record { of = 0; kind = kinds.Memory; name = name } in
+          subst (λ o. MemoryMeets w m address o (first_memory w.main.exports.exports)) (sym imported)
+          (subst (λ o. MemoryMeets w m address None o) (sym first)
+          (record { number = 0; of = record { world_module = main_module w; listed = refl; same = refl }; is = exported own (same_Some own h.export named) }))
+      by None imported None first named = absurd (none-some h.export named)
+
+-- ---- shims
+
+-- what holds of each entry holds of the one at a place
+entry_at : {X : Type 0} (P : X → Type 0) (xs : List X) (n : ℕ) (x : X) → AllByRecursion P xs → slice_get xs n ≡ Some x → P x
+entry_at P [] n x h e = absurd (none-some x e)
+entry_at P (y ∷ xs) zero x h e = subst P (same_Some y x e) h.0
+entry_at P (y ∷ xs) (suc n) x h e = entry_at P xs n x h.1 e
+
+module _ (w : ComponentWorld) (ok : IsWorld w) (m : Machine) where
+  -- the shims are filled at the end
+  abbrev pub FilledAtEnd : Option ShimsAt → Type 0
+  FilledAtEnd None = AllByRecursion (λ (i : ModuleInstance). i.module_number ≡ shims_number w → ⊥) m.store.module_instances
+  FilledAtEnd (Some at) =
+      AreShimsFrom m.store.code at.table 0 at.address (shims_of w) × ((shims_of w ≡ [] → ⊥) → AreFilled w m.store at.table) × (length (shims_of w) < 2 ^ 32)
+      × AllByRecursion (ExportsShims w at) m.store.module_instances
+
+  -- A shim forwards to what it stands for: for an import what that is to be given, or an export.
+  record ForwardsFor (address : ℕ) (target : Target) : Type 0 where
+    function : ℕ
+    serves : IsServedAs w m.store function target
+    same : (type : FuncType) (item : CoreItem) → IsOpaqueOf m.store function type item → Forwards w ok m address function type
+
+  shim_forwards : (address : ℕ) (at : ShimsAt) (target : Target) → FilledAtEnd (Some at) → IsShimGivenAt w at address target → ForwardsFor address target
+  shim_forwards address at target filled h =
+      let shims : List Shim = shims_of w in
+      let place : ℕ = h.place in
+      let shim : Shim = h.stands.shim in
+      let p : Purpose = h.stands.purpose in
+      let slots : AreFilled w m.store at.table = filled.1 (λ none. none-some shim (ap (λ l. slice_get l place) (sym none) ∙ h.stands.listed)) in
+      let f = AllZip-at (IsFilledWith w m.store) shims slots.functions place shim slots.each h.stands.listed in
+      let same : f.2.purpose ≡ p = one_purpose w shim f.2.purpose p f.2.stands_for h.stands.stands_for in
+      let serves : IsServedAs w m.store f.0 (target_of w p) = subst (λ q. IsServedAs w m.store f.0 (target_of w q)) same f.2.serves in
+      let place_is : 0 + place ≡ place = omega arith in
+      let shim_there : IsShimAt m.store.code at.table address place (type_of_shim shim) =
+      subst (λ n. IsShimAt m.store.code at.table n place (type_of_shim shim)) (sym h.is)
+      (subst (λ n. IsShimAt m.store.code at.table (at.address + place) n (type_of_shim shim)) place_is (shim_at m.store.code at.table 0 at.address shims place shim filled.0 h.stands.listed)) in
+      let slot : slice_get (map (λ f. Some f) slots.functions) place ≡ Some (Some f.0) = slice_get-map (λ f. Some f) slots.functions place ∙ ap (option_map (λ f. Some f)) f.1 in
+      let within = slice_get_within shims place shim h.stands.listed in
+      let room = filled.2 in
+      let small : place < 2 ^ 32 = omega (arith, within, room) in
+      let own : (item : CoreItem) × IsOpaqueOf m.store f.0 (type_of_shim shim) item = purpose_opaque w ok m.store f.0 shim p h.stands.stands_for serves in
+      record {
+        function = f.0;
+        serves = subst (IsServedAs w m.store f.0) h.stands.same serves;
+        same = λ type item o.
+            let typed : type_of_shim shim ≡ type = one_type m.store f.0 (type_of_shim shim) type own.0 item own.1 o in
+            subst (Forwards w ok m address f.0) typed
+            (λ arguments now fits. filled_shims_forward m.store.code at.table address place (type_of_shim shim) (map (λ f. Some f) slots.functions) f.0 own.1.what 0 shim_there slots.slots slot own.1.present small arguments now fits);
+      }
+
+  -- what an instance of their module exports for a place is the shim of that place
+  shim_held_at : (at : ShimsAt) → FilledAtEnd (Some at) → (address : ℕ) (target : Target) → IsShimExported w m.store address target → IsShimGivenAt w at address target
+  shim_held_at at filled address target h =
+      let exports : h.instance.exports ≡ exports_of_shims w at = entry_at (ExportsShims w at) m.store.module_instances h.user h.instance filled.3 h.present h.of in
+      let shim : ℕ → Export = λ n. record { space = spaces.CoreFunc; name = decimal h.place; address = n } in
+      let found : export_named (decimal h.place) (exports_of_shims w at) ≡ Some (shim (at.address + h.place)) =
+      (shims_found (shims_of w) at.address at.table at.memory).found h.place (slice_get_within (shims_of w) h.place h.stands.shim h.stands.listed) filled.2 in
+      let same : shim (at.address + h.place) ≡ shim address = same_Some (shim (at.address + h.place)) (shim address) (sym found ∙ (ap (export_named (decimal h.place)) (sym exports) ∙ h.exported)) in
+      record { place = h.place; stands = h.stands; is = sym (ap (λ (e : Export). e.address) same) }
+
+  export_meets : (kind : Option Bracketed) (address at : ℕ) (export_ref : ExportRef) (h : IsFunctionExported w m.store at export_ref) → Forwards w ok m address at h.type → CoreExportMeets w m kind address export_ref
+  export_meets kind address at export_ref h same =
+      forwarding_meets w ok m kind address at h.type (ExportedBy h.user export_ref.name) (ItemIsExport w m export_ref) same h.is (function_item w ok m h)
+
+  given_forwards : (shims : Option ShimsAt) → FilledAtEnd shims → (address : ℕ) (target : Target) → IsShimGiven w shims address target → ForwardsFor address target
+  given_forwards None filled address target h = absurd h
+  given_forwards (Some at) filled address target h = shim_forwards address at target filled h
+
+  -- a shim for an export meets it
+  shim_meets_export : (shims : Option ShimsAt) → FilledAtEnd shims → (kind : Bracketed) (address : ℕ) (export_ref : ExportRef) → IsShimExported w m.store address (ExportOf export_ref) → CoreExportMeets w m (Some kind) address export_ref
+  shim_meets_export None filled kind address export_ref h = absurd (entry_at (λ (i : ModuleInstance). i.module_number ≡ shims_number w → ⊥) m.store.module_instances h.user h.instance filled h.present h.of)
+  shim_meets_export (Some at) filled kind address export_ref h =
+      let x : ForwardsFor address (ExportOf export_ref) = shim_forwards address at (ExportOf export_ref) filled (shim_held_at at filled address (ExportOf export_ref) h) in
+      export_meets (Some kind) address x.function export_ref x.serves (x.same x.serves.type (ExportedBy x.serves.user export_ref.name) x.serves.is)
+
+-- ---- options
+
+module _ (w : ComponentWorld) (ok : IsWorld w) (m : Machine) (shims : Option ShimsAt) (filled : FilledAtEnd w ok m shims) where
+  realloc_meets : (address : ℕ) (export_ref : ExportRef) → IsReallocHeld w m.store address export_ref → CoreExportMeets w m (Some brackets.Realloc) address export_ref
+  realloc_meets address export_ref (inl h) = function_meets w ok m brackets.Realloc address export_ref h
+  realloc_meets address export_ref (inr h) = shim_meets_export w ok m shims filled brackets.Realloc address export_ref h
 
   option_meets : (held : HeldOption) (o : TargetOption) → IsOptionHeld w m.store held o → MeetsOption w m held o
   option_meets (HeldEncoding e) (targets.Encoding e') h = h
-  option_meets (HeldMemory a) targets.Memory h = memory_meets a h
-  option_meets (HeldRealloc a) (targets.Realloc export_ref) h = function_meets brackets.Realloc a export_ref h
-  option_meets (HeldPostReturn a) (targets.PostReturn export_ref) h = function_meets brackets.PostReturn a export_ref h
-  option_meets (HeldCallback a) (targets.Callback export_ref) h = function_meets brackets.Callback a export_ref h
+  option_meets (HeldMemory a) targets.Memory h = memory_meets w ok m a h
+  option_meets (HeldRealloc a) (targets.Realloc export_ref) h = realloc_meets a export_ref h
+  option_meets (HeldPostReturn a) (targets.PostReturn export_ref) h = function_meets w ok m brackets.PostReturn a export_ref h
+  option_meets (HeldCallback a) (targets.Callback export_ref) h = function_meets w ok m brackets.Callback a export_ref h
   option_meets HeldAsync targets.Async h = tt
   option_meets held o h = absurd h
 
 -- ---- imports
 
-module _ (w : ComponentWorld) (ok : IsWorld w) (m : Machine) where
+module _ (w : ComponentWorld) (ok : IsWorld w) (m : Machine) (shims : Option ShimsAt) (filled : FilledAtEnd w ok m shims) where
   import_meets : (address at : ℕ) (function : WorldFunction) (options : List TargetOption) (h : IsLoweredFor w m.store at function options) → Forwards w ok m address at (core_signature h.type []) → CoreMeets w m None address (ItemIsLowering w m (resource_of w) function options)
   import_meets address at function options h same =
       forwarding_meets w ok m None address at (core_signature h.type []) (Lowering h.lowered.of h.held) (ItemIsLowering w m (resource_of w) function options) same h.lowered.is (
@@ -170,7 +265,7 @@ module _ (w : ComponentWorld) (ok : IsWorld w) (m : Machine) where
           from = h.from;
           type_of = h.typed.imported;
         },
-        AllZip-weaker (option_meets w ok m) h.held options h.with_options,
+        AllZip-weaker (option_meets w ok m shims filled) h.held options h.with_options,
       )
 
   named_function : (function : ResourceFunction) (resource : Resource) (type : ℕ) → IsResourceHeld m resource type → ItemIsOfResource m function resource (IntrinsicOf (intrinsic_of function type))
@@ -184,10 +279,6 @@ module _ (w : ComponentWorld) (ok : IsWorld w) (m : Machine) where
       forwarding_meets w ok m None address at (resource_core function) (IntrinsicOf (intrinsic_of function h.of)) (ItemIsOfResource m function (resource_of w id)) same h.is
       (named_function function (resource_of w id) h.of (ap (λ o. elim o [ None ↦ OfOthers | Some i ↦ item_tree i ]) h.held.present ∙ h.held.denotes))
 
-  export_meets : (kind : Option Bracketed) (address at : ℕ) (export_ref : ExportRef) (h : IsFunctionExported w m.store at export_ref) → Forwards w ok m address at h.type → CoreExportMeets w m kind address export_ref
-  export_meets kind address at export_ref h same =
-      forwarding_meets w ok m kind address at h.type (ExportedBy h.user export_ref.name) (ItemIsExport w m export_ref) same h.is (function_item w ok m h)
-
   -- a function meets what another one is, where it forwards to that
   function_meets_as : (t : Thing) (at : ℕ) (target : Target) → t.space ≡ spaces.CoreFunc → ((type : FuncType) (item : CoreItem) → IsOpaqueOf m.store at type item → Forwards w ok m t.address at type) → IsServedAs w m.store at target → Meets w m (resource_of w) t target
   function_meets_as t at (Lowered function options) space same h =
@@ -198,68 +289,24 @@ module _ (w : ComponentWorld) (ok : IsWorld w) (m : Machine) where
       (resource_meets t.address at function id h (same (resource_core function) (IntrinsicOf (intrinsic_of function h.of)) h.is))
   function_meets_as t at (ExportOf export_ref) space same h =
       subst (λ space. MeetsIn w m (resource_of w) space t.address (ExportOf export_ref)) (sym space)
-      (export_meets None t.address at export_ref h (same h.type (ExportedBy h.user export_ref.name) h.is))
+      (export_meets w ok m None t.address at export_ref h (same h.type (ExportedBy h.user export_ref.name) h.is))
   function_meets_as t at target space same h = absurd h
-
-  -- the shims are filled at the end
-  abbrev pub FilledAtEnd : Option ShimsAt → Type 0
-  FilledAtEnd None = Unit {0}
-  FilledAtEnd (Some at) = AreShimsFrom m.store.code at.table 0 at.address (shims_of w) × AreFilled w m.store at.table × (length (shims_of w) < 2 ^ 32)
-
-  -- A shim forwards to what it stands for: for an import what that is to be given, or an export.
-  record ForwardsFor (address : ℕ) (target : Target) : Type 0 where
-    function : ℕ
-    serves : IsServedAs w m.store function target
-    same : (type : FuncType) (item : CoreItem) → IsOpaqueOf m.store function type item → Forwards w ok m address function type
-
-  shim_forwards : (address : ℕ) (at : ShimsAt) (target : Target) → FilledAtEnd (Some at) → IsShimGivenAt w at address target → ForwardsFor address target
-  shim_forwards address at target filled h =
-      let shims : List Shim = shims_of w in
-      let place : ℕ = h.place in
-      let shim : Shim = h.shim in
-      let p : Purpose = h.purpose in
-      let f = AllZip-at (IsFilledWith w m.store) shims filled.1.functions place shim filled.1.each h.listed in
-      let same : f.2.purpose ≡ p = one_purpose w shim f.2.purpose p f.2.stands_for h.stands_for in
-      let serves : IsServedAs w m.store f.0 (target_of w p) = subst (λ q. IsServedAs w m.store f.0 (target_of w q)) same f.2.serves in
-      let place_is : 0 + place ≡ place = omega arith in
-      let shim_there : IsShimAt m.store.code at.table address place (type_of_shim shim) =
-      subst (λ n. IsShimAt m.store.code at.table n place (type_of_shim shim)) (sym h.is)
-      (subst (λ n. IsShimAt m.store.code at.table (at.address + place) n (type_of_shim shim)) place_is (shim_at m.store.code at.table 0 at.address shims place shim filled.0 h.listed)) in
-      let slot : slice_get (map (λ f. Some f) filled.1.functions) place ≡ Some (Some f.0) = slice_get-map (λ f. Some f) filled.1.functions place ∙ ap (option_map (λ f. Some f)) f.1 in
-      let within = slice_get_within shims place shim h.listed in
-      let room = filled.2 in
-      let small : place < 2 ^ 32 = omega (arith, within, room) in
-      let own : (item : CoreItem) × IsOpaqueOf m.store f.0 (type_of_shim shim) item = purpose_opaque w ok m.store f.0 shim p h.stands_for serves in
-      record {
-        function = f.0;
-        serves = subst (IsServedAs w m.store f.0) h.same serves;
-        same = λ type item o.
-            let typed : type_of_shim shim ≡ type = one_type m.store f.0 (type_of_shim shim) type own.0 item own.1 o in
-            subst (Forwards w ok m address f.0) typed
-            (λ arguments now fits. filled_shims_forward m.store.code at.table address place (type_of_shim shim) (map (λ f. Some f) filled.1.functions) f.0 own.1.what 0 shim_there filled.1.slots slot own.1.present small arguments now fits);
-      }
-
-  shim_meets : (t : Thing) (at : ShimsAt) (target : Target) → t.space ≡ spaces.CoreFunc → FilledAtEnd (Some at) → IsShimGivenAt w at t.address target → Meets w m (resource_of w) t target
-  shim_meets t at target space filled h =
-      let x : ForwardsFor t.address target = shim_forwards t.address at target filled h in
-      function_meets_as t x.function target space x.same x.serves
 
   -- ---- the resources that the component defines
 
-  destructor_meets : (shims : Option ShimsAt) → FilledAtEnd shims → (destructor : Option ℕ) (e : Option ExportRef) → IsDestroyedBy w shims destructor e → DestructorMeets w m destructor e
-  destructor_meets shims filled None None h = tt
-  destructor_meets None filled (Some address) (Some e) h = absurd h
-  destructor_meets (Some at) filled (Some address) (Some e) h =
-      let x : ForwardsFor address (ExportOf e) = shim_forwards address at (ExportOf e) filled h in
-      export_meets (Some brackets.Destructor) address x.function e x.serves (x.same x.serves.type (ExportedBy x.serves.user e.name) x.serves.is)
-  destructor_meets shims filled None (Some e) h = absurd h
-  destructor_meets shims filled (Some address) None h = absurd h
+  destructor_meets : (destructor : Option ℕ) (e : Option ExportRef) → IsDestroyedBy w shims destructor e → DestructorMeets w m destructor e
+  destructor_meets None None h = tt
+  destructor_meets (Some address) (Some e) h =
+      let x : ForwardsFor w ok m address (ExportOf e) = given_forwards w ok m shims filled address (ExportOf e) h in
+      export_meets w ok m (Some brackets.Destructor) address x.function e x.serves (x.same x.serves.type (ExportedBy x.serves.user e.name) x.serves.is)
+  destructor_meets None (Some e) h = absurd h
+  destructor_meets (Some address) None h = absurd h
 
   -- each is one of the world's, with its destructor
-  pub resource_defined : (shims : Option ShimsAt) → FilledAtEnd shims → (address number : ℕ) (destructor : Option ℕ) → slice_get m.store.types address ≡ Some (OwnResource number destructor) → {count : ℕ} → AreResources w shims m.store.types count → IsDefined w m number destructor
-  resource_defined shims filled address number destructor present all =
+  pub resource_defined : (address number : ℕ) (destructor : Option ℕ) → slice_get m.store.types address ≡ Some (OwnResource number destructor) → {count : ℕ} → AreResources w shims m.store.types count → IsDefined w m number destructor
+  resource_defined address number destructor present all =
       let own : IsOwnResource w shims number destructor = among m.store.types address all.each present in
-      record { provided = own.provided; is = own.is; destroyed = destructor_meets shims filled destructor (destructor_of w own.provided) own.destroyed }
+      record { provided = own.provided; is = own.is; destroyed = destructor_meets destructor (destructor_of w own.provided) own.destroyed }
     where
       among : (types : List TypeItem) (n : ℕ) → AllByRecursion (IsOwnIfDefined w shims) types → slice_get types n ≡ Some (OwnResource number destructor) → IsOwnResource w shims number destructor
       among [] n h e = absurd (none-some (OwnResource number destructor) e)
@@ -267,8 +314,8 @@ module _ (w : ComponentWorld) (ok : IsWorld w) (m : Machine) where
       among (x ∷ types) (suc n) h e = among types n h.1 e
 
   -- and each number is that of one
-  pub number_defined : (shims : Option ShimsAt) (number : ℕ) → {count : ℕ} → AreResources w shims m.store.types count → number < count → IsNumberDefined m number
-  number_defined shims number all less = let r : HasNumber m.store.types number = all.numbered number less in record { address = r.address; destructor = r.destructor; is = r.is }
+  pub number_defined : (number : ℕ) → {count : ℕ} → AreResources w shims m.store.types count → number < count → IsNumberDefined m number
+  number_defined number all less = let r : HasNumber m.store.types number = all.numbered number less in record { address = r.address; destructor = r.destructor; is = r.is }
 
   -- ---- what a user module is given
 
@@ -306,29 +353,25 @@ module _ (w : ComponentWorld) (ok : IsWorld w) (m : Machine) where
   item_meets spaces.CoreGlobal address target h = global_met address target h
   item_meets space address target h = absurd h
 
-  serves_meets : (shims : Option ShimsAt) → FilledAtEnd shims → (t : Thing) (target : Target) → Serves w shims m.store t.space t.address target → Meets w m (resource_of w) t target
-  serves_meets shims filled t target (inl h) = item_meets t.space t.address target h
-  serves_meets None filled t target (inr h) = absurd h.1
-  serves_meets (Some at) filled t target (inr h) = shim_meets t at target h.0 filled h.1
+  serves_meets : (t : Thing) (target : Target) → Serves w shims m.store t.space t.address target → Meets w m (resource_of w) t target
+  serves_meets t target (inl h) = item_meets t.space t.address target h
+  serves_meets t target (inr h) =
+      let x : ForwardsFor w ok m t.address target = given_forwards w ok m shims filled t.address target h.1 in
+      function_meets_as t x.function target h.0 x.same x.serves
 
-  planned_served : (shims : Option ShimsAt) → FilledAtEnd shims → (of : WorldModule) (t : Thing) (i : ImportType) → IsPlanned w shims m.store of t i → IsServed w m (resource_of w) of t i
-  planned_served shims filled of t i h = record { target = h.target; said = h.said; meets = serves_meets shims filled t h.target h.serves }
+  planned_served : (of : WorldModule) (t : Thing) (i : ImportType) → IsPlanned w shims m.store of t i → IsServed w m (resource_of w) of t i
+  planned_served of t i h = record { target = h.target; said = h.said; meets = serves_meets t h.target h.serves }
 
-  instance_served : (shims : Option ShimsAt) → FilledAtEnd shims → (i : ModuleInstance) (of : WorldModule) → slice_get (user_modules w) i.module_number ≡ Some of → IsPlannedUser w shims m.store i → AreServed w m (resource_of w) of i
-  instance_served shims filled i of listed h = AllZip-weaker (planned_served shims filled of) i.given of.found.imported (h of listed)
+  instance_served : (i : ModuleInstance) (of : WorldModule) → slice_get (user_modules w) i.module_number ≡ Some of → IsPlannedUser w shims m.store i → AreServed w m (resource_of w) of i
+  instance_served i of listed h = AllZip-weaker (planned_served of) i.given of.found.imported (h of listed)
 
   -- each import of a user module is served
-  pub users_served : (shims : Option ShimsAt) → FilledAtEnd shims → AllByRecursion (IsPlannedUser w shims m.store) m.store.module_instances → UsersServed w m (resource_of w)
-  users_served shims filled all = record { resources = same_resources (component_types w ++ own_resources w); each = λ instance i of present listed. instance_served shims filled i of listed (at_index m.store.module_instances instance i all present) }
+  pub users_served : AllByRecursion (IsPlannedUser w shims m.store) m.store.module_instances → UsersServed w m (resource_of w)
+  users_served all = record { resources = same_resources (component_types w ++ own_resources w); each = λ instance i of present listed. instance_served i of listed (entry_at (IsPlannedUser w shims m.store) m.store.module_instances instance i all present) }
     where
       same_resources : (ts : List TypeId) → AllByRecursion (λ id. resource_of w id ≡ resource_of w id) ts
       same_resources [] = tt
       same_resources (t ∷ ts) = (refl, same_resources ts)
-
-      at_index : (is : List ModuleInstance) (n : ℕ) (i : ModuleInstance) → AllByRecursion (IsPlannedUser w shims m.store) is → slice_get is n ≡ Some i → IsPlannedUser w shims m.store i
-      at_index [] n i h e = absurd (none-some i e)
-      at_index (x ∷ is) zero i h e = subst (IsPlannedUser w shims m.store) (same_Some x i e) h.0
-      at_index (x ∷ is) (suc n) i h e = at_index is n i h.1 e
 
 -- ---- exports
 
@@ -406,7 +449,7 @@ is_instance : (space : Space) → is_space spaces.Instance (Some space) ≡ true
 is_instance spaces.Instance e = refl
 is_instance _ e = cc
 
-module _ (n : Naming) (w : ComponentWorld) (ok : IsWorld w) (apart : AreExportsApart n w) (m : Machine) (exported : AllZip (IsNamedExport n w m.store) (required_keys w) m.scope.exports) where
+module _ (n : Naming) (w : ComponentWorld) (ok : IsWorld w) (apart : AreExportsApart n w) (m : Machine) (shims : Option ShimsAt) (filled : FilledAtEnd w ok m shims) (exported : AllZip (IsNamedExport n w m.store) (required_keys w) m.scope.exports) where
   -- this is required, at this place
   abbrev IsListed : RequiredKey → Type 0
   IsListed r = (i : ℕ) × (slice_get (required_keys w) i ≡ Some r)
@@ -429,7 +472,7 @@ module _ (n : Naming) (w : ComponentWorld) (ok : IsWorld w) (apart : AreExportsA
           held = h.is.held;
           is = h.is.is;
           enters = function_meets w ok m (entry_kind lifted_with) h.is.core entry h.is.of;
-          same = AllZip-weaker (option_meets w ok m) h.is.held lifted_with h.is.with_options;
+          same = AllZip-weaker (option_meets w ok m shims filled) h.is.held lifted_with h.is.with_options;
         };
       }
 
@@ -545,10 +588,10 @@ module _ (n : Naming) (w : ComponentWorld) (ok : IsWorld w) (apart : AreExportsA
   all_types_provided (r ∷ rs) h =
       AllByRecursion-join (IsTypeProvided n w m) (types_required w r) (flat_map (types_required w) rs) (key_types_provided r h.0) (all_types_provided rs h.1)
 
-pub each_provided : (n : Naming) (w : ComponentWorld) → IsWorld w → AreExportsApart n w → (m : Machine) → map (λ (e : Export). e.name) m.scope.exports ≡ map (λ (r : RequiredKey). (name_of n w.resolve r.key).name) (required_keys w) →
+pub each_provided : (n : Naming) (w : ComponentWorld) → (ok : IsWorld w) → AreExportsApart n w → (m : Machine) (shims : Option ShimsAt) → FilledAtEnd w ok m shims → map (λ (e : Export). e.name) m.scope.exports ≡ map (λ (r : RequiredKey). (name_of n w.resolve r.key).name) (required_keys w) →
     AreKeyExports w m.store (required_keys w) m.scope.exports → AllByRecursion (IsProvided n w m (resource_of w)) (required_functions w)
-each_provided n w ok apart m names exported = keys_provided n w ok apart m (named_exports n w m.store (required_keys w) m.scope.exports names exported) (required_keys w) (each_at (required_keys w))
+each_provided n w ok apart m shims filled names exported = keys_provided n w ok apart m shims filled (named_exports n w m.store (required_keys w) m.scope.exports names exported) (required_keys w) (each_at (required_keys w))
 
-pub each_type_provided : (n : Naming) (w : ComponentWorld) → IsWorld w → AreExportsApart n w → (m : Machine) → map (λ (e : Export). e.name) m.scope.exports ≡ map (λ (r : RequiredKey). (name_of n w.resolve r.key).name) (required_keys w) →
+pub each_type_provided : (n : Naming) (w : ComponentWorld) → (ok : IsWorld w) → AreExportsApart n w → (m : Machine) (shims : Option ShimsAt) → FilledAtEnd w ok m shims → map (λ (e : Export). e.name) m.scope.exports ≡ map (λ (r : RequiredKey). (name_of n w.resolve r.key).name) (required_keys w) →
     AreKeyExports w m.store (required_keys w) m.scope.exports → AllByRecursion (IsTypeProvided n w m) (required_types w)
-each_type_provided n w ok apart m names exported = all_types_provided n w ok apart m (named_exports n w m.store (required_keys w) m.scope.exports names exported) (required_keys w) (each_at (required_keys w))
+each_type_provided n w ok apart m shims filled names exported = all_types_provided n w ok apart m shims filled (named_exports n w m.store (required_keys w) m.scope.exports names exported) (required_keys w) (each_at (required_keys w))

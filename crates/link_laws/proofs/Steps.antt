@@ -6,6 +6,7 @@ use Rattle.std.proofs.lemmas.Option.{none-some, get_or_from_slice_get}
 use Rattle.std.specs.Prelude.{Contains}
 use Rattle.std.specs.Fmt.{decimal}
 use Rattle.std.specs.List.{slice_get, flat_map, list_any, AllZip, AllByRecursion}
+use Rattle.std.specs.Prelude.{IsSome}
 use Rattle.std.specs.Option.{option_map, option_and_then}
 use Rattle.comp_lists.specs.Found.{found}
 use Rattle.comp_lists.proofs.Lists.{slice_get-end, AllZip-weaker, AllZip-end, AllByRecursion-weaker}
@@ -40,10 +41,12 @@ use Rattle.comp_trees.specs.DefinedScopes.{type_tree}
 use Rattle.nested_terms.specs.Nested.{type_named}
 use Rattle.comp_inventories.specs.Inventories.{Inventory, OfInstances, InstanceEntry, Denoting, ImportedInstance, NestedInstance, OtherInstance, entry_tree, no_type, type_if_named, type_of_instance, function_of_instance, instance_imported, types_made, functions_made, instances_made, imports_made, resources_made, surroundings_of, inventory, scope_of}
 use Rattle.comp_trees.specs.Members.{AreMembersRight}
+use Rattle.core_types.specs.declared.types.MemoryType.{MemoryType}
 use Rattle.comp_terms.specs.Generated.{shims_number}
+use Rattle.comp_worlds.specs.Offered.{shared_memory}
 use Rattle.comp_terms.specs.Terms.{IsInstanceOf, IsResource, intrinsic_of, imports_in}
 use Rattle.world_shims.specs.WorldShims.{shims_of}
-use Rattle.shim_runs.specs.ShimRuns.{instance_exports}
+use Rattle.shim_runs.specs.ShimRuns.{memory_at}
 use Rattle.shim_runs.proofs.Exported.{shims_found}
 use Rattle.comp_roles.specs.CoreTypes.{core_type}
 use Rattle.comp_trees.specs.Flattening.{tree_signature}
@@ -64,7 +67,7 @@ use Rattle.comp_roles.specs.Matching.{kind_of}
 use Rattle.comp_roles.specs.declared.offered.ExternType.{ExternType}
 use Rattle.comp_roles.specs.declared.offered.ExternType.TheVariants as externs
 use Rattle.comp_roles.specs.declared.offered.ImportType.{ImportType}
-use Rattle.comp_terms.specs.Rules.{AliasesUser, AliasesShim, IsEntry, AreEntries, AliasesImported, AliasesNested, AliasesType as MayAliasType, HasFunctionType, HasResource, HasOwnResource, HasImportedFunction, IsOptionRight, IsLowerOptionRight, IsTypeRight, IsDestructorRight, DefinesResource, IsItemRight}
+use Rattle.comp_terms.specs.Rules.{AliasesUser, AliasesShim, AliasesMemory, IsEntry, AreEntries, AliasesImported, AliasesNested, AliasesType as MayAliasType, HasFunctionType, HasResource, HasOwnResource, HasImportedFunction, IsOptionRight, IsLowerOptionRight, IsTypeRight, IsDestructorRight, DefinesResource, IsItemRight}
 use Rattle.comp_runs.specs.Machine.{Scope, Machine, with_some, address_at, is_of, export_named, all_some, with_opaque}
 use Rattle.comp_runs.specs.Instances.{matching, argument_for, given_to, type_scope, known_function, type_item}
 use Rattle.comp_runs.specs.Signatures.{is_async, core_signature, intrinsic_signature}
@@ -78,7 +81,7 @@ use Rattle.link_laws.specs.Composition.{GeneratedModules, at_root, item_instanti
 use Rattle.link_laws.specs.Linking.{module_meanings}
 use Rattle.link_laws.proofs.Zips.{all_some-self}
 use Rattle.link_laws.proofs.Outcomes.{machine, no_answers, quiet, users_among, Steps}
-use Rattle.link_laws.proofs.Stores.{IsOpaqueOf, IsUserItem, IsUserExport, IsUserInstance, ShimsAt, IsModuleInstance, IsNamedEntry, ExportsShims, MayHaveShims, IsTypeAt, resource_core, IsResourceItem, DefIs, Means, makes, IsTypeEntry, entry_of, IsFunctionEntry, IsInstanceThing, IsPlannedUser, IsAliasedItem, IsHeldOption, NumberedFrom, HasGlobals, Agrees, AreKeyExports, IsShimGiven, IsDestroyedBy, IsOwnResource, AreResources}
+use Rattle.link_laws.proofs.Stores.{IsOpaqueOf, IsUserItem, IsUserExport, IsUserInstance, ShimsAt, exports_of_shims, HasSharedMemory, IsModuleInstance, IsNamedEntry, ExportsShims, AreShims, MayHaveShims, IsTypeAt, resource_core, IsResourceItem, DefIs, Means, makes, IsTypeEntry, entry_of, IsFunctionEntry, IsInstanceThing, IsPlannedUser, IsAliasedItem, IsHeldOption, NumberedFrom, HasGlobals, Agrees, AreKeyExports, IsShimGiven, IsDestroyedBy, IsOwnResource, AreResources}
 use Rattle.link_laws.proofs.Given.{of_shims, module_there, address_there, all_held, scope_there, entry_there, held_there, type_there, instance_type_there, instance_there, imported_there, user_there, space_of_kind, offered_there, shim_there}
 use Rattle.link_laws.proofs.Plain.{only}
 use Rattle.link_laws.proofs.Kept.{sizes_kept, ShimsKept, shims_same, MayHaveShims-kept, keeps_all, IsHeldOption-kept, Keeps, address_at-append, things_kept, keeps_store, keeps_type, keeps_function, keeps_opaque, keeps_core_instance, keeps_module, Means-kept, IsTypeEntry-kept, IsFunctionEntry-kept, IsInstanceThing-kept, IsPlannedUser-kept, AreKeyExports-kept, AreResources-more, AreResources-push}
@@ -225,6 +228,12 @@ record FindsExport (w : ComponentWorld) (ds : List Def) (c : Scope) (s : Store) 
   pub space : export.space ≡ kind_space kind
   pub is : IsAliasedItem w ds c.items s kind instance name export.address
   pub found : export_named name is.exports ≡ Some export
+
+-- where main imports a memory, one is made with the shims
+shared_address : (s : Store) (type : Option MemoryType) (address : Option ℕ) → IsSome type → HasSharedMemory s type address → (y : ℕ) × (address ≡ Some y)
+shared_address s (Some type) (Some y) some there = (y, refl)
+shared_address s (Some type) None some there = absurd there
+shared_address s None address some there = cc
 
 -- the type that an alias finds in an instance
 record FindsAliasIn (earlier : List Def) (m : Machine) (instance : ℕ) (name : List ℕ) : Type 0 where
@@ -664,10 +673,10 @@ module _ {w : ComponentWorld} {earlier : List Def} {c : Scope} {s : Store} {g : 
   shim_found : (instance : ℕ) (name : List ℕ) → AliasesShim w earlier kinds.Func instance name → FindsExport w earlier c s kinds.Func instance name
   shim_found instance name h =
       let m : (x : ℕ) × (address_at spaces.CoreInstance instance c.items ≡ Some x) × IsModuleInstance w a.shims s (shims_number w) x = module_there a h.is in
-      let at : (at : ShimsAt) × (a.shims ≡ Some at) × (m.2.exports ≡ instance_exports (shims_of w) at.address at.table None) × (length (shims_of w) < 2 ^ 32) =
+      let at : (at : ShimsAt) × (a.shims ≡ Some at) × (m.2.exports ≡ exports_of_shims w at) × (length (shims_of w) < 2 ^ 32) =
       of_shims w s (flat_map (at_root item_instantiates) earlier) m.2.user m.2.exports a.shims a.with_shims m.2.each in
       let shim : Export = record { space = spaces.CoreFunc; name = decimal h.place; address = at.0.address + h.place } in
-      let there : export_named name m.2.exports ≡ Some shim = ap₂ export_named h.named at.2 ∙ (shims_found (shims_of w) at.0.address at.0.table None).found h.place h.listed at.3 in
+      let there : export_named name m.2.exports ≡ Some shim = ap₂ export_named h.named at.2 ∙ (shims_found (shims_of w) at.0.address at.0.table at.0.memory).found h.place h.listed at.3 in
       record {
         export = shim;
         space = refl;
@@ -675,9 +684,31 @@ module _ {w : ComponentWorld} {earlier : List Def} {c : Scope} {s : Store} {g : 
         found = there;
       }
 
-  alias_found : (kind : ExportKind) (instance : ℕ) (name : List ℕ) → AliasesUser w earlier kind instance name ⊎ AliasesShim w earlier kind instance name → FindsExport w earlier c s kind instance name
+  -- and one of the memory that is made with the shims
+  memory_found : (instance : ℕ) (name : List ℕ) → AliasesMemory w earlier kinds.Memory instance name → FindsExport w earlier c s kinds.Memory instance name
+  memory_found instance name h =
+      let numbers : List ℕ = flat_map (at_root item_instantiates) earlier in
+      let m : (x : ℕ) × (address_at spaces.CoreInstance instance c.items ≡ Some x) × IsModuleInstance w a.shims s (shims_number w) x = module_there a h.is in
+      let at : (at : ShimsAt) × (a.shims ≡ Some at) × (m.2.exports ≡ exports_of_shims w at) × (length (shims_of w) < 2 ^ 32) = of_shims w s numbers m.2.user m.2.exports a.shims a.with_shims m.2.each in
+      let made : AreShims w s numbers at.0 = subst (MayHaveShims w s numbers) at.1 a.with_shims in
+      let held : (y : ℕ) × (at.0.memory ≡ Some y) = shared_address s (shared_memory w) at.0.memory h.shared made.memory in
+      let there : export_named name m.2.exports ≡ Some (memory_at held.0) =
+      ap₂ export_named h.named at.2 ∙ ((shims_found (shims_of w) at.0.address at.0.table at.0.memory).memory_named at.3 ∙ ap (option_map memory_at) held.1) in
+      record {
+        export = memory_at held.0;
+        space = refl;
+        is = record { number = shims_number w; of = h.is; names = inr refl; from = m.0; exports = m.2.exports; export = memory_at held.0; at = m.1; present = m.2.present; found = there; is = refl };
+        found = there;
+      }
+
+  -- an alias of what the module of shims exports
+  abbrev pub AliasesGenerated : ExportKind → ℕ → List ℕ → Type 0
+  AliasesGenerated kind instance name = AliasesShim w earlier kind instance name ⊎ AliasesMemory w earlier kind instance name
+
+  alias_found : (kind : ExportKind) (instance : ℕ) (name : List ℕ) → AliasesUser w earlier kind instance name ⊎ AliasesGenerated kind instance name → FindsExport w earlier c s kind instance name
   alias_found kind instance name (inl h) = user_found kind instance name h
-  alias_found kind instance name (inr h) = subst (λ k. FindsExport w earlier c s k instance name) (sym h.function) (shim_found instance name (subst (λ k. AliasesShim w earlier k instance name) h.function h))
+  alias_found kind instance name (inr (inl h)) = subst (λ k. FindsExport w earlier c s k instance name) (sym h.function) (shim_found instance name (subst (λ k. AliasesShim w earlier k instance name) h.function h))
+  alias_found kind instance name (inr (inr h)) = subst (λ k. FindsExport w earlier c s k instance name) (sym h.memory) (memory_found instance name (subst (λ k. AliasesMemory w earlier k instance name) h.memory h))
 
   -- the same, in a scope with one item more
   aliased_item : (kind : ExportKind) (instance : ℕ) (name : List ℕ) (f : FindsExport w earlier c s kind instance name) (d : Def) (t : Thing) → IsAliasedItem w (earlier ++ d ∷ []) (c.items ++ t ∷ []) s kind instance name f.export.address
@@ -694,7 +725,7 @@ module _ {w : ComponentWorld} {earlier : List Def} {c : Scope} {s : Store} {g : 
     is = f.is.is;
   }
 
-  pub step_alias : (kind : ExportKind) (instance : ℕ) (name : List ℕ) → AliasesUser w earlier kind instance name ⊎ AliasesShim w earlier kind instance name → Steps w gen earlier c s g (defs.Item (items.Alias (aliases.CoreExport kind instance name)))
+  pub step_alias : (kind : ExportKind) (instance : ℕ) (name : List ℕ) → AliasesUser w earlier kind instance name ⊎ AliasesGenerated kind instance name → Steps w gen earlier c s g (defs.Item (items.Alias (aliases.CoreExport kind instance name)))
   step_alias kinds.Func instance name h =
       let d : Def = defs.Item (items.Alias (aliases.CoreExport kinds.Func instance name)) in
       let f : FindsExport w earlier c s kinds.Func instance name = alias_found kinds.Func instance name h in

@@ -1,6 +1,7 @@
 -- What the items of a run are, next to the definitions that made them.
 use Rattle.std.proofs.Common.{None, ◌≡◌, ◌<◌, ◌^◌, ◌+◌, ◌⊎◌, ℕ, suc, Option, Bool, List, [], ◌∷◌, length, map, filter, Some, is_some}
 use Rattle.std.specs.Prelude.{Contains}
+use Rattle.std.specs.Fmt.{decimal}
 use Rattle.std.specs.List.{slice_get, flat_map, AllZip, AllByRecursion}
 use Rattle.comp_bytes.specs.Spaces.{kind_space, space_of, sort_space}
 use Rattle.comp_bytes.specs.declared.space.Space.{Space}
@@ -11,7 +12,6 @@ use Rattle.comp_bytes.specs.declared.canon.CanonicalOption.{CanonicalOption}
 use Rattle.comp_bytes.specs.declared.canon.CanonicalOption.TheVariants as options
 use Rattle.core_types.specs.declared.types.MemoryType.{MemoryType}
 use Rattle.comp_lists.specs.Found.{found}
-use Rattle.comp_roles.specs.Lookups.{first_memory}
 use Rattle.comp_roles.specs.Matching.{kind_of}
 use Rattle.comp_bytes.specs.declared.types.Alias.TheVariants as aliases
 use Rattle.comp_bytes.specs.declared.canon.Intrinsic.TheVariants as intrinsics
@@ -44,8 +44,9 @@ use Rattle.shim_plan.specs.declared.shims.Shim.{Shim}
 use Rattle.world_shims.specs.WorldShims.{shims_of}
 use Rattle.shim_runs.specs.ShimRuns.{AreShimsFrom, instance_exports}
 use Rattle.comp_terms.specs.Generated.{shims_number, fixup_number, Purpose, target_of, HasPurpose}
+use Rattle.comp_worlds.specs.Offered.{shared_memory}
 use Rattle.comp_terms.specs.Terms.{CoreExport, IsInstanceOf, intrinsic_of, imports_in}
-use Rattle.comp_terms.specs.Planned.{IsTypeOf, type_of_function}
+use Rattle.comp_terms.specs.Planned.{main_memory, IsShimPlace, IsTypeOf, type_of_function}
 use Rattle.core_runs.specs.Store.{Opaque}
 use Rattle.core_runs.specs.Instances.{empty_table}
 use Rattle.comp_runs.specs.Store.{Thing, Export, HeldOption, HeldEncoding, HeldMemory, HeldRealloc, HeldPostReturn, HeldAsync, HeldCallback, CoreItem, Lowering, IntrinsicOf, ExportedBy, Function, Imported, Lifting, TypeItem, TreeOf, OwnResource, item_tree, own_resources as resources_among, ModuleInstance, Store, ComponentItem}
@@ -108,10 +109,15 @@ pub record IsUserInstance (s : Store) (number : ℕ) (of : WorldModule) (address
   pub same : is.instance.exports ≡ exports
   pub each : AllZip (IsUserExport s user) exports of.found.offered
 
--- where the shims are: the address of the first, and that of their table
+-- where the shims are: the address of the first, that of their table, and that of the memory which is made with them
 pub record ShimsAt : Type 0 where
   pub address : ℕ
   pub table : ℕ
+  pub memory : Option ℕ
+
+-- what an instance of their module exports
+abbrev pub exports_of_shims : ComponentWorld → ShimsAt → List Export
+exports_of_shims w at = instance_exports (shims_of w) at.address at.table at.memory
 
 -- what an instance of a module exports: of a user module, of the shims, or of the fixup
 pub record AreUserExports (w : ComponentWorld) (s : Store) (user number : ℕ) (exports : List Export) : Type 0 where
@@ -121,7 +127,7 @@ pub record AreUserExports (w : ComponentWorld) (s : Store) (user number : ℕ) (
 
 abbrev pub AreShimExports : ComponentWorld → Option ShimsAt → ℕ → List Export → Type 0
 AreShimExports w None number exports = ⊥
-AreShimExports w (Some at) number exports = (number ≡ shims_number w) × (exports ≡ instance_exports (shims_of w) at.address at.table None)
+AreShimExports w (Some at) number exports = (number ≡ shims_number w) × (exports ≡ exports_of_shims w at)
 
 abbrev pub AreModuleExports : ComponentWorld → Option ShimsAt → Store → ℕ → ℕ → List Export → Type 0
 AreModuleExports w at s user number exports = AreUserExports w s user number exports ⊎ AreShimExports w at number exports ⊎ (number ≡ fixup_number w)
@@ -200,7 +206,8 @@ pub record IsLiftedItem (things : List Thing) (s : Store) (core : ℕ) (written 
   pub typed : IsTypeAt things s kind type
   pub is : slice_get s.functions address ≡ Some (Lifting of held type)
 
--- what an alias names of an instance of a module: an export of a user module, of a kind that validation found, or a shim
+-- what an alias names of an instance of a module: an export of a user module, of a kind that validation found, or what the module of
+-- shims exports
 pub record NamesUser (w : ComponentWorld) (number : ℕ) (kind : ExportKind) (name : List ℕ) : Type 0 where
   pub of : WorldModule
   pub listed : slice_get (user_modules w) number ≡ Some of
@@ -326,29 +333,47 @@ pub record IsItemExported (w : ComponentWorld) (s : Store) (space : Space) (addr
   pub is : IsItemTyped s address type
   pub offered : found export_ref.name of.world_module.found.offered ≡ Some type
 
--- the memory is what an instance of main exports under this name
-pub record IsMemoryOfMain (s : Store) (address : ℕ) (name : List ℕ) : Type 0 where
+-- the memory is this export of an instance of a module
+pub record IsMemoryExported (s : Store) (address : ℕ) (e : CoreExport) : Type 0 where
   pub user : ℕ
   pub instance : ModuleInstance
   pub present : slice_get s.module_instances user ≡ Some instance
-  pub of : instance.module_number ≡ 0
-  pub exported : export_of spaces.CoreMemory name instance.exports ≡ Some (record { space = spaces.CoreMemory; name = name; address = address })
+  pub of : instance.module_number ≡ e.of
+  pub exported : export_of spaces.CoreMemory e.name instance.exports ≡ Some (record { space = spaces.CoreMemory; name = e.name; address = address })
 
--- the memory is the first that main exports
-pub record IsFirstMemory (w : ComponentWorld) (s : Store) (address : ℕ) : Type 0 where
-  pub name : List ℕ
-  pub type : MemoryType
-  pub first : first_memory w.main.exports.exports ≡ Some (name, type)
-  pub is : IsMemoryOfMain s address name
+-- a memory of this type is offered as main's: the type that main imports, or the one that validation found of its export
+abbrev pub IsTypeOfMemory : ComponentWorld → Option MemoryType → CoreExport → MemoryType → Type 0
+IsTypeOfMemory w (Some imported) e type = type ≡ imported
+IsTypeOfMemory w None e type = found e.name w.main.offered ≡ Some (externs.Memory type)
+
+-- the memory is main's
+pub record IsMemoryOfMain (w : ComponentWorld) (s : Store) (address : ℕ) : Type 0 where
+  pub export : CoreExport
+  pub named : main_memory w ≡ Some export
+  pub is : IsMemoryExported s address export
   pub held : MemoryType
   pub present : slice_get s.code.memories address ≡ Some held
-  pub offered : found name w.main.offered ≡ Some (externs.Memory held)
+  pub offered : IsTypeOfMemory w (shared_memory w) export held
+
+-- the core function is a shim for what the target names, among what an instance of the module of shims exports
+pub record IsShimExported (w : ComponentWorld) (s : Store) (address : ℕ) (target : Target) : Type 0 where
+  pub place : ℕ
+  pub stands : IsShimPlace w place target
+  pub user : ℕ
+  pub instance : ModuleInstance
+  pub present : slice_get s.module_instances user ≡ Some instance
+  pub of : instance.module_number ≡ shims_number w
+  pub exported : export_named (decimal place) instance.exports ≡ Some (record { space = spaces.CoreFunc; name = decimal place; address = address })
+
+-- the core function is an export of a user module that calls have as their realloc, or a shim for it
+abbrev pub IsReallocHeld : ComponentWorld → Store → ℕ → ExportRef → Type 0
+IsReallocHeld w s address export_ref = IsFunctionExported w s address export_ref ⊎ IsShimExported w s address (ExportOf export_ref)
 
 -- an option is what the target names
 abbrev pub IsOptionHeld : ComponentWorld → Store → HeldOption → TargetOption → Type 0
 IsOptionHeld w s (HeldEncoding e) (targets.Encoding e') = e ≡ e'
-IsOptionHeld w s (HeldMemory a) targets.Memory = IsFirstMemory w s a
-IsOptionHeld w s (HeldRealloc a) (targets.Realloc export_ref) = IsFunctionExported w s a export_ref
+IsOptionHeld w s (HeldMemory a) targets.Memory = IsMemoryOfMain w s a
+IsOptionHeld w s (HeldRealloc a) (targets.Realloc export_ref) = IsReallocHeld w s a export_ref
 IsOptionHeld w s (HeldPostReturn a) (targets.PostReturn export_ref) = IsFunctionExported w s a export_ref
 IsOptionHeld w s (HeldCallback a) (targets.Callback export_ref) = IsFunctionExported w s a export_ref
 IsOptionHeld w s HeldAsync targets.Async = Unit {0}
@@ -386,11 +411,7 @@ IsServedAs w s address target = ⊥
 -- the core function is a shim that hands on to what this target names
 pub record IsShimGivenAt (w : ComponentWorld) (at : ShimsAt) (address : ℕ) (target : Target) : Type 0 where
   pub place : ℕ
-  pub shim : Shim
-  pub purpose : Purpose
-  pub listed : slice_get (shims_of w) place ≡ Some shim
-  pub stands_for : HasPurpose w shim purpose
-  pub same : target_of w purpose ≡ target
+  pub stands : IsShimPlace w place target
   pub is : address ≡ at.address + place
 
 abbrev pub IsShimGiven : ComponentWorld → Option ShimsAt → ℕ → Target → Type 0
@@ -403,7 +424,7 @@ IsServedIn w s spaces.CoreFunc address target = IsServedAs w s address target
 IsServedIn w s spaces.CoreTable address (ExportOf export_ref) = IsItemExported w s spaces.CoreTable address export_ref
 IsServedIn w s spaces.CoreMemory address (ExportOf export_ref) = IsItemExported w s spaces.CoreMemory address export_ref
 IsServedIn w s spaces.CoreGlobal address (ExportOf export_ref) = IsItemExported w s spaces.CoreGlobal address export_ref
-IsServedIn w s spaces.CoreMemory address MainMemory = IsFirstMemory w s address
+IsServedIn w s spaces.CoreMemory address MainMemory = IsMemoryOfMain w s address
 IsServedIn w s space address target = ⊥
 
 -- it is what the target names, or a function that is a shim for it
@@ -436,16 +457,23 @@ pub record AreFilled (w : ComponentWorld) (s : Store) (table : ℕ) : Type 0 whe
 
 -- an instance of the module of shims exports those that are here
 abbrev pub ExportsShims : ComponentWorld → ShimsAt → ModuleInstance → Type 0
-ExportsShims w at i = i.module_number ≡ shims_number w → i.exports ≡ instance_exports (shims_of w) at.address at.table None
+ExportsShims w at i = i.module_number ≡ shims_number w → i.exports ≡ exports_of_shims w at
 
--- The instance of the shims is made, where these modules are instantiated. Its slots are empty until the fixup is, and then
--- hold what the shims stand for.
+-- the memory that is made with the shims has the type that main imports, where it imports one
+abbrev pub HasSharedMemory : Store → Option MemoryType → Option ℕ → Type 0
+HasSharedMemory s None None = Unit {0}
+HasSharedMemory s (Some type) (Some address) = slice_get s.code.memories address ≡ Some type
+HasSharedMemory s type address = ⊥
+
+-- The instance of the shims is made, where these modules are instantiated. Its slots, where there are shims, are empty until the fixup
+-- is made, and then hold what the shims stand for.
 pub record AreShims (w : ComponentWorld) (s : Store) (numbers : List ℕ) (at : ShimsAt) : Type 0 where
   pub there : Contains numbers (shims_number w)
   pub room : length (shims_of w) < 2 ^ 32
   pub made : AreShimsFrom s.code at.table 0 at.address (shims_of w)
   pub exported : AllByRecursion (ExportsShims w at) s.module_instances
-  pub unfilled : (Contains numbers (fixup_number w) → ⊥) → slice_get s.code.tables at.table ≡ Some (empty_table (length (shims_of w)))
+  pub memory : HasSharedMemory s (shared_memory w) at.memory
+  pub unfilled : (shims_of w ≡ [] → ⊥) → (Contains numbers (fixup_number w) → ⊥) → slice_get s.code.tables at.table ≡ Some (empty_table (length (shims_of w)))
   pub filled : Contains numbers (fixup_number w) → AreFilled w s at.table
 
 abbrev pub MayHaveShims : ComponentWorld → Store → List ℕ → Option ShimsAt → Type 0

@@ -383,7 +383,7 @@ f_offered = record {
   serves = record {
     entries = record { name = f; kind = kinds.Func; index = 0 } ∷ [];
     made = record { made = refl };
-    each = (record { named = refl; serves = inl (record { term = terms.Lowering (root_import 0) plain_tree []; is = f_lowered; asked = ((refl, refl), f_typed, tt) }); supplied = record { encoding = λ e. refl; memory = λ e. cc } }, tt);
+    each = (record { named = refl; serves = inl (record { term = terms.Lowering (root_import 0) plain_tree []; is = f_lowered; asked = ((refl, refl), f_typed, tt) }); supplied = record { encoding = λ e. refl; memory = λ e. cc; realloc = λ shared needed. cc } }, tt);
   };
 }
 

@@ -223,10 +223,10 @@ pub not_true : {P : Type 0} → IsTrue false → P
 not_true e = cc
 
 r_given : IsEntryFor world Main (ds 6) (record { name = drop_r; kind = kinds.Func; index = 0 }) (drop_r, drop_of r 0)
-r_given = record { named = refl; serves = inl (record { term = terms.OfResource Drop (resource 0); is = r_dropped; asked = (refl, refl) }); supplied = record { encoding = not_true; memory = not_true } }
+r_given = record { named = refl; serves = inl (record { term = terms.OfResource Drop (resource 0); is = r_dropped; asked = (refl, refl) }); supplied = record { encoding = not_true; memory = not_true; realloc = λ shared needed. cc } }
 
 s_given : IsEntryFor world Main (ds 6) (record { name = drop_s; kind = kinds.Func; index = 1 }) (drop_s, drop_of s 1)
-s_given = record { named = refl; serves = inl (record { term = terms.OfResource Drop (resource 1); is = s_dropped; asked = (refl, refl) }); supplied = record { encoding = not_true; memory = not_true } }
+s_given = record { named = refl; serves = inl (record { term = terms.OfResource Drop (resource 1); is = s_dropped; asked = (refl, refl) }); supplied = record { encoding = not_true; memory = not_true; realloc = λ shared needed. cc } }
 
 both_given : IsArgumentFor world Main (ds 6) (record { name = root; instance = 0 }) (root, instances.Names fields)
 both_given = record { named = refl; serves = record { entries = entries; made = record { made = refl }; each = (r_given, (s_given, tt)) } }

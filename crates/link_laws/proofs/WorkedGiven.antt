@@ -105,7 +105,7 @@ unfolding IsDistinct
 two_apart = ((refl, tt), (tt, tt))
 
 memory_matches : MemoryMatches world one_page
-memory_matches = record { matching = λ name type e. ap (λ (p : List ℕ × MemoryType). matches (externs.Memory one_page) (externs.Memory p.1)) (sym (same_Some (memory, one_page) (name, type) e)) }
+memory_matches = record { matching = λ type e. ap (λ (t : MemoryType). matches (externs.Memory one_page) (externs.Memory t)) (sym (same_Some one_page type e)) }
 
 is_world : IsWorld world
 is_world = record {
@@ -189,9 +189,9 @@ both_given = record {
         serves = inl (record {
           term = terms.Exported (record { of = 0; kind = kinds.Memory; name = memory });
           is = (refl, record { instance = 0; made = record { made = refl }; of = main_made 6 refl });
-          asked = (record { of = record { world_module = main_module world; listed = refl; same = refl }; type = one_page; first = refl }, refl);
+          asked = (refl, refl);
         });
-        supplied = record { encoding = not_true; memory = λ e. refl };
+        supplied = record { encoding = not_true; memory = λ e. refl; realloc = λ shared needed. cc };
       },
       (
         record {
@@ -201,7 +201,7 @@ both_given = record {
             is = (refl, record { instance = 0; made = record { made = refl }; of = main_made 6 refl });
             asked = record { of = record { world_module = main_module world; listed = refl; same = refl }; named = refl };
           });
-          supplied = record { encoding = not_true; memory = not_true };
+          supplied = record { encoding = not_true; memory = not_true; realloc = λ shared needed. cc };
         },
         tt,
       ),

@@ -237,21 +237,21 @@ new_given : IsEntryFor world Main (ds 7) (record { name = new_r; kind = kinds.Fu
 new_given = record {
   named = refl;
   serves = inl (record { term = terms.OfResource New (DefinedAt 0); is = record { type = 0; made = record { made = refl }; of = r_at_7 }; asked = (refl, sym r_is_first) });
-  supplied = record { encoding = not_true; memory = not_true };
+  supplied = record { encoding = not_true; memory = not_true; realloc = λ shared needed. cc };
 }
 
 rep_given : IsEntryFor world Main (ds 7) (record { name = rep_r; kind = kinds.Func; index = 1 }) (rep_r, imports.ExportedResourceRep key (type_id 0))
 rep_given = record {
   named = refl;
   serves = inl (record { term = terms.OfResource Rep (DefinedAt 0); is = record { type = 0; made = record { made = refl }; of = r_at_7 }; asked = (refl, sym r_is_first) });
-  supplied = record { encoding = not_true; memory = not_true };
+  supplied = record { encoding = not_true; memory = not_true; realloc = λ shared needed. cc };
 }
 
 drop_given : IsEntryFor world Main (ds 7) (record { name = drop_r; kind = kinds.Func; index = 2 }) (drop_r, imports.ExportedResourceDrop key (type_id 0))
 drop_given = record {
   named = refl;
   serves = inl (record { term = terms.OfResource Drop (DefinedAt 0); is = record { type = 0; made = record { made = refl }; of = r_at_7 }; asked = (refl, sym r_is_first) });
-  supplied = record { encoding = not_true; memory = not_true };
+  supplied = record { encoding = not_true; memory = not_true; realloc = λ shared needed. cc };
 }
 
 all_given : IsArgumentFor world Main (ds 7) (record { name = exported_i; instance = 0 }) (exported_i, instances.Names fields)

@@ -226,11 +226,11 @@ r_dropped = record { type = 2; made = record { made = refl }; of = record { deno
 
 s_given : IsEntryFor world Main (ds 8) (record { name = drop_s; kind = kinds.Func; index = 0 }) (drop_s, drop_of 1)
 unfolding values_from
-s_given = record { named = refl; serves = inl (record { term = terms.OfResource Drop (resource s); is = s_dropped; asked = (refl, refl) }); supplied = record { encoding = not_true; memory = not_true } }
+s_given = record { named = refl; serves = inl (record { term = terms.OfResource Drop (resource s); is = s_dropped; asked = (refl, refl) }); supplied = record { encoding = not_true; memory = not_true; realloc = λ shared needed. cc } }
 
 r_given : IsEntryFor world Main (ds 8) (record { name = drop_r; kind = kinds.Func; index = 1 }) (drop_r, drop_of 0)
 unfolding values_from
-r_given = record { named = refl; serves = inl (record { term = terms.OfResource Drop (resource r); is = r_dropped; asked = (refl, refl) }); supplied = record { encoding = not_true; memory = not_true } }
+r_given = record { named = refl; serves = inl (record { term = terms.OfResource Drop (resource r); is = r_dropped; asked = (refl, refl) }); supplied = record { encoding = not_true; memory = not_true; realloc = λ shared needed. cc } }
 
 both_given : IsArgumentFor world Main (ds 8) (record { name = env; instance = 0 }) (env, instances.Names fields)
 both_given = record { named = refl; serves = record { entries = entries; made = record { made = refl }; each = (s_given, (r_given, tt)) } }

@@ -239,7 +239,7 @@ g_lifted = record {
   };
   asked = (
     main_export kinds.Func g,
-    (record { of = record { world_module = main_module world; listed = refl; same = refl }; type = memory_type; first = refl }, (main_export kinds.Func r, (refl, (main_export kinds.Func p, tt)))),
+    (refl, (inl (main_export kinds.Func r), (refl, (main_export kinds.Func p, tt)))),
   );
 }
 

@@ -191,7 +191,7 @@ unfolding values_from
 f_given = record {
   named = refl;
   serves = inl (record { term = terms.Lowering f_origin (f_tree x) []; is = f_lowered; asked = ((keys.Interface (interface_id 1), refl, refl), f_as_said, tt) });
-  supplied = record { encoding = λ e. refl; memory = λ e. cc };
+  supplied = record { encoding = λ e. refl; memory = λ e. cc; realloc = λ shared needed. cc };
 }
 
 f_offered : IsArgumentFor world Main (ds 9) (record { name = from_u; instance = 0 }) (from_u, instances.Names ((f, f_role) ∷ []))

@@ -240,20 +240,23 @@ fixup_made = refl
 abbrev generated : GeneratedModules
 generated = record { shims = Some shim_module; fixup = Some fixup_module }
 
+abbrev fixup_bytes : List ℕ
+fixup_bytes = (encoding_of fixup_module).bytes
+
 abbrev bytes : GeneratedBytes
-bytes = record { shims = (encoding_of shim_module).bytes; fixup = (encoding_of fixup_module).bytes }
+bytes = record { shims = (encoding_of shim_module).bytes; fixup = Some fixup_bytes }
 
 shims_encoded : Encodes bytes.shims shim_module
 unfolding leb128 signed_within
 shims_encoded = (all_below (encoding_of shim_module).counts refl, refl)
 
-fixup_encoded : Encodes bytes.fixup fixup_module
+fixup_encoded : Encodes fixup_bytes fixup_module
 unfolding leb128 signed_within
 fixup_encoded = (all_below (encoding_of fixup_module).counts refl, refl)
 
 unfoldable are_generated : AreGenerated world bytes
 unfolding values_from digits
-are_generated = record { debug_names = false; shims = shims_encoded; fixup = fixup_encoded; any = λ e. cc; room = omega arith }
+are_generated = record { debug_names = false; shims = shims_encoded; fixup = (fixup_encoded, λ e. cc); any = λ e. cc; room = omega arith }
 
 -- ---- a list for it, where the resource is defined with this destructor
 
@@ -279,7 +282,7 @@ list_with destructor =
     ∷ items.Alias (aliases.CoreExport kinds.Func 0 zero_text)
     ∷ items.Type (types.Resource destructor)
     ∷ items.CoreInstantiate 0 []
-    ∷ items.CoreModule bytes.fixup
+    ∷ items.CoreModule fixup_bytes
     ∷ items.Alias (aliases.CoreExport kinds.Func 1 d)
     ∷ items.CoreExports (record { name = zero_text; kind = kinds.Func; index = 1 } ∷ [])
     ∷ items.CoreInstantiate 2 fixup_arguments
@@ -309,7 +312,7 @@ stands_for_d = record { of_kind = refl; exporting = main_module world; listed = 
 -- core function 0 is the shim
 shim_for_d : IsShimFor world (ds 4) spaces.CoreFunc 0 (ExportOf main_d)
 unfolding values_from digits
-shim_for_d = record { place = 0; shim = only_shim; purpose = OfExport main_d; listed = refl; stands_for = stands_for_d; same = refl; in_space = refl; is = record { instance = 0; made = record { made = refl }; of = shims_are 4 refl } }
+shim_for_d = record { place = 0; stands = record { shim = only_shim; purpose = OfExport main_d; listed = refl; stands_for = stands_for_d; same = refl }; in_space = refl; is = record { instance = 0; made = record { made = refl }; of = shims_are 4 refl } }
 
 pub defined_right : DefinesResource world (ds 4) (Some 0)
 unfolding values_from inventory
@@ -374,7 +377,7 @@ d_filled = record {
 }
 
 fixup_right : InstantiatesFixup world (ds 9) 2 fixup_arguments
-fixup_right = record { numbered = refl; scoped = omega arith; last = refl; actual = 2; shims = 0; given = refl; of_shims = shims_are 9 refl; fills = d_filled }
+fixup_right = record { numbered = refl; scoped = omega arith; any = λ e. cc; last = refl; actual = 2; shims = 0; given = refl; of_shims = shims_are 9 refl; fills = d_filled }
 
 -- what the nested component imports is the resource
 abbrev own_resource : List ℕ → TypeTree
@@ -438,7 +441,7 @@ keeps_the_rules = record {
       (
         inr (inl (record { numbered = refl; scoped = omega arith; first = refl; closed = refl })),
         (
-          inr shim_aliased,
+          inr (inl shim_aliased),
           (
             defined_right,
             (

@@ -272,14 +272,14 @@ f_as_said = record { wit = wit_f; imported = refl; typed = refl }
 
 drop_given : IsEntryFor world Main (ds 11) (record { name = drop_r; kind = kinds.Func; index = 0 }) (drop_r, drop_role)
 unfolding values_from
-drop_given = record { named = refl; serves = inl (record { term = terms.OfResource Drop (resource 0); is = r_dropped; asked = (refl, refl) }); supplied = record { encoding = not_true; memory = not_true } }
+drop_given = record { named = refl; serves = inl (record { term = terms.OfResource Drop (resource 0); is = r_dropped; asked = (refl, refl) }); supplied = record { encoding = not_true; memory = not_true; realloc = λ shared needed. cc } }
 
 f_given : IsEntryFor world Main (ds 11) (record { name = f; kind = kinds.Func; index = 1 }) (f, f_role)
 unfolding values_from
 f_given = record {
   named = refl;
   serves = inl (record { term = terms.Lowering f_origin (f_tree 0) []; is = f_lowered; asked = ((keys.Interface (interface_id 1), refl, refl), f_as_said, tt) });
-  supplied = record { encoding = λ e. refl; memory = λ e. cc };
+  supplied = record { encoding = λ e. refl; memory = λ e. cc; realloc = λ shared needed. cc };
 }
 
 from_t_given : IsArgumentFor world Main (ds 11) (record { name = from_t; instance = 0 }) (from_t, instances.Names ((drop_r, drop_role) ∷ []))

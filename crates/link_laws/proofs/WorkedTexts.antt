@@ -178,20 +178,23 @@ all_below (n ∷ ns) h =
     let both : (ltb n (2 ^ 32) ≡ true) × (list_all (λ m. ltb m (2 ^ 32)) ns ≡ true) = and_parts (ltb n (2 ^ 32)) (list_all (λ m. ltb m (2 ^ 32)) ns) h in
     (ltb-true n (2 ^ 32) both.0, all_below ns both.1)
 
+abbrev pub fixup_bytes : List ℕ
+fixup_bytes = (encoding_of table_fixup).bytes
+
 abbrev pub bytes : GeneratedBytes
-bytes = record { shims = (encoding_of table_shim).bytes; fixup = (encoding_of table_fixup).bytes }
+bytes = record { shims = (encoding_of table_shim).bytes; fixup = Some fixup_bytes }
 
 pub shims_encoded : Encodes bytes.shims table_shim
 unfolding leb128 signed_within
 shims_encoded = (all_below (encoding_of table_shim).counts refl, refl)
 
-pub fixup_encoded : Encodes bytes.fixup table_fixup
+pub fixup_encoded : Encodes fixup_bytes table_fixup
 unfolding leb128 signed_within
 fixup_encoded = (all_below (encoding_of table_fixup).counts refl, refl)
 
 unfoldable pub are_generated : AreGenerated world bytes
 unfolding values_from digits
-are_generated = record { debug_names = false; shims = shims_encoded; fixup = fixup_encoded; any = λ e. cc; room = omega arith }
+are_generated = record { debug_names = false; shims = shims_encoded; fixup = (fixup_encoded, λ e. cc); any = λ e. cc; room = omega arith }
 
 -- ---- a list for it, where the lowering has these options
 
@@ -209,7 +212,7 @@ lowering options = map defs.Item (
     ∷ items.CoreExports (record { name = f; kind = kinds.Func; index = 0 } ∷ [])
     ∷ items.CoreInstantiate 0 (record { name = root; instance = 1 } ∷ [])
     ∷ items.Alias (aliases.CoreExport kinds.Memory 2 memory)
-    ∷ items.CoreModule bytes.fixup
+    ∷ items.CoreModule fixup_bytes
     ∷ items.Lower 0 options
     ∷ items.CoreExports (record { name = zero_text; kind = kinds.Func; index = 1 } ∷ [])
     ∷ items.CoreInstantiate 2 (record { name = actual; instance = 3 } ∷ record { name = shim; instance = 0 } ∷ [])

@@ -93,8 +93,8 @@ f_given = record {
     each = (
       record {
         named = refl;
-        serves = inr (record { place = 0; shim = only_shim; purpose = OfImport Main role_f; listed = refl; stands_for = stands_for_f; same = refl; in_space = refl; is = record { instance = 0; made = record { made = refl }; of = shims_made 7 refl } });
-        supplied = record { encoding = λ e. refl; memory = λ e. cc };
+        serves = inr (record { place = 0; stands = record { shim = only_shim; purpose = OfImport Main role_f; listed = refl; stands_for = stands_for_f; same = refl }; in_space = refl; is = record { instance = 0; made = record { made = refl }; of = shims_made 7 refl } });
+        supplied = record { encoding = λ e. refl; memory = λ e. cc; realloc = λ shared needed. cc };
       },
       tt,
     );
@@ -132,7 +132,7 @@ f_filled = record {
       serves = record {
         term = terms.Lowering (root_import 0) f_tree term_options;
         is = f_lowered;
-        asked = ((refl, refl), f_as_said, (record { of = record { world_module = main_module world; listed = refl; same = refl }; type = memory_type; first = refl }, (refl, tt)));
+        asked = ((refl, refl), f_as_said, (refl, (refl, tt)));
       };
     },
     tt,
@@ -140,7 +140,7 @@ f_filled = record {
 }
 
 fixup_right : InstantiatesFixup world (ds 12) 2 (record { name = actual; instance = 3 } ∷ record { name = shim; instance = 0 } ∷ [])
-fixup_right = record { numbered = refl; scoped = omega arith; last = refl; actual = 3; shims = 0; given = refl; of_shims = shims_made 12 refl; fills = f_filled }
+fixup_right = record { numbered = refl; scoped = omega arith; any = λ e. cc; last = refl; actual = 3; shims = 0; given = refl; of_shims = shims_made 12 refl; fills = f_filled }
 
 keeps_the_rules : IsBuilt own_names world (lowering right_options)
 keeps_the_rules = record {
@@ -160,7 +160,7 @@ keeps_the_rules = record {
           (
             inr (inl (record { numbered = refl; scoped = omega arith; first = refl; closed = refl })),
             (
-              inr shim_aliased,
+              inr (inl shim_aliased),
               (
                 record { each = (record { scoped = omega arith }, tt); apart = one_apart f },
                 (

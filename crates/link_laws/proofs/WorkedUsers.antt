@@ -242,7 +242,7 @@ f_offered = record {
       record {
         named = refl;
         serves = inl (record { term = terms.Lowering (root_import 0) plain_tree []; is = record { function = 0; written = []; made = record { made = refl }; of = f_imported_later; with_options = tt }; asked = ((refl, refl), f_as_said, tt) });
-        supplied = record { encoding = λ e. refl; memory = λ e. cc };
+        supplied = record { encoding = λ e. refl; memory = λ e. cc; realloc = λ shared needed. cc };
       },
       tt,
     );

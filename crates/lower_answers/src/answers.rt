@@ -2,7 +2,7 @@
 
 ghost use Rattle.std.specs.Prelude.{IsSome};
 
-use comp_lists::{Bytes, Keyed, Seq, Text};
+use comp_lists::{Keyed, Seq, SharedBytes, Text};
 use comp_worlds::{LibraryInfo, Lower};
 use std::alloc::{AllocError, Global};
 use std::fmt;
@@ -59,7 +59,7 @@ fn prepare_answer<L: Lower>(
 }
 
 /// A module without its records, what it says, and what it says merged with those before it.
-type Given<B> = (Bytes, B, Merged<B>);
+type Given<B> = (SharedBytes, B, Merged<B>);
 
 /// A module that is given after others, whose merged records are these.
 fn given_after<L: Lower>(
@@ -92,7 +92,7 @@ fn given_first<L: Lower>(
 /// Main as it was given last, which has to export this.
 fn gathered_with<B>(
     alloc: Global,
-    bytes: Bytes,
+    bytes: SharedBytes,
     own: B,
     combined: B,
     required: Seq<ExportKey>,
@@ -240,7 +240,7 @@ fn one_more<L: Lower>(
 
 /// What was gathered of main and these adapters.
 fn gathered_beside<B>(
-    bytes: Bytes,
+    bytes: SharedBytes,
     own: B,
     required: Seq<ExportKey>,
     beside: Beside<B>,

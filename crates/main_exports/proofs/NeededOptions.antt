@@ -10,11 +10,12 @@ use Rattle.comp_options.specs.Options.{needs, export_set}
 use Rattle.comp_roles.specs.declared.metadata.FunctionKey.{FunctionKey}
 use Rattle.comp_worlds.specs.WorldContents.{function_exported}
 use Rattle.comp_worlds.specs.declared.world.ComponentWorld.{ComponentWorld}
+use Rattle.comp_worlds.specs.Offered.{memory_of_main}
 use Rattle.comp_links.specs.Links.{options_in, lift_needs, lift_realloc, needed_options}
 use Rattle.comp_links.specs.Roles.{export_encoding}
 use Rattle.comp_links.specs.Targets.{UserModule as User, ExportRef}
 use Rattle.core_options.specs.Causes.{IsOptionRefusal, IsCauseAmong}
-use Rattle.core_options.specs.MainOptions.{export_ref_of, memory_name, NameOptions, HasLiftOptions}
+use Rattle.core_options.specs.MainOptions.{export_ref_of, NameOptions, HasLiftOptions}
 use Rattle.core_options.specs.declared.modules.InstanceExport.{InstanceExport}
 use Rattle.core_options.specs.declared.fault.StateFault.{StateFault}
 use Rattle.core_options.proofs.Refusals.{one_export_refused}
@@ -44,7 +45,7 @@ module _ (w : ComponentWorld) (of : User) (f : FunctionKey) (set : ℕ) (realloc
       subst (λ o. NameOptions w ds written (options_in (lift_needs w f.key f.function) o (Some e))) a.found of_function in
       subst (λ o. NameOptions w ds written (options_in (lift_needs w f.key f.function) (lift_realloc w of) o)) (sym encoded) of_module
 
-  pub needed_there : (IsTrue (needs set 1) → IsSome (memory_name w)) → (IsTrue (needs set 2) → IsSome realloc) → HasLiftOptions w (function_of of f)
+  pub needed_there : (IsTrue (needs set 1) → IsSome (memory_of_main w.main)) → (IsTrue (needs set 2) → IsSome realloc) → HasLiftOptions w (function_of of f)
   needed_there memory own = record {
     memory = λ h. memory (subst (λ n. IsTrue (needs n 1)) (sym a.needed) h);
     realloc = λ h. subst (λ o. IsSome o) a.found (own (subst (λ n. IsTrue (needs n 2)) (sym a.needed) h));

@@ -50,7 +50,7 @@ impl ModuleExports<'_> {
 
     /// Lifts a required function from the core export that implements it: one of an interface, or one at the root.
     ///
-    /// `E7` where its type needs a memory and main exports none, `E8` where it needs a realloc and there is none for the module,
+    /// `E7` where its type needs a memory and main has none, `E8` where it needs a realloc and there is none for the module,
     /// `E9` where it has no string encoding, and `E16` where a space would have more than 2^32 - 1 items.
     pub(crate) fn lift(
         &self,

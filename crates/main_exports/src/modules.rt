@@ -10,7 +10,6 @@ ghost use Rattle.comp_links.specs.Lists.{keys_of_adapter, required_functions};
 ghost use Rattle.comp_links.specs.Targets.{Main};
 ghost use Rattle.comp_terms.specs.Exports.{exports_in};
 ghost use Rattle.comp_terms.specs.Rules.{Grows, exports_marked};
-ghost use Rattle.comp_terms.specs.Terms.{IsInstanceOf};
 ghost use Rattle.comp_worlds.specs.Encodable.{IsEncodable};
 ghost use Rattle.comp_worlds.specs.ExportOrder.{AreExportsInOrder};
 ghost use Rattle.comp_worlds.specs.Lookups.{module_name};
@@ -25,22 +24,22 @@ use crate::tables::ExportTables;
 use comp_imports::ImportNames;
 use comp_lists::Text;
 use comp_worlds::{ComponentWorld, CustomModule, WorldAdapter};
-use core_options::{OptionSources, StateFault, UserInstances, export_realloc_of, memory_name};
+use core_options::{OptionSources, StateFault, UserInstances, export_realloc_of};
 use root_imports::RootScope;
 use wit_data::WorldKey;
 
 /// Lifts and exports what is required of a user module, in order: the next keys of the world. Functions are lifted from the
-/// module's own instance, with its realloc, its string encodings and its post-returns, and with the memory of main's instance.
+/// module's own instance, with its realloc, its string encodings and its post-returns, and with main's memory.
 fn export_module(
     root: &mut RootScope<'_, ComponentWorld>,
     user: UserInstance<'_>,
     keys: &[WorldKey],
-    main: u32,
+    instances: &UserInstances,
     names: &ImportNames<'_>,
 ) -> Result<(), StateFault>
     requires ready { AreExportsReady root.old.world.now root.old }
     requires user { IsUserInstance root.old.world.now root.old.items.defs user }
-    requires main { IsInstanceOf root.old.items.defs main 0 }
+    requires made { AreUserInstances root.old.world.now root.old.items.defs instances.now }
     requires next { AreNextKeys root.old.world.now (user_of user.which) user.found.now (exports_in root.old.items.defs) keys.now }
     ensures moved { RootMoved root.old.world.now root.old root.new }
     ensures at_hand { AreExportsAtHand root.old.world.now root.new.met (exports_in root.new.items.defs) }
@@ -53,23 +52,28 @@ fn export_module(
         user,
         tables,
         sources: OptionSources {
-            instance: main,
-            memory: memory_name(world),
-            realloc: export_realloc_of(world, user.which, user.found, main, user.instance),
+            memory: instances.memory,
+            realloc: export_realloc_of(
+                world,
+                user.which,
+                user.found,
+                instances.main,
+                user.instance,
+            ),
         },
         names: *names,
     };
     exports.export_keys(root, keys)
 }
 
-/// Exports what is required of main: `main` is its instance.
+/// Exports what is required of main.
 fn export_main(
     root: &mut RootScope<'_, ComponentWorld>,
-    main: u32,
+    instances: &UserInstances,
     names: &ImportNames<'_>,
 ) -> Result<(), StateFault>
     requires ready { AreExportsReady root.old.world.now root.old }
-    requires main { IsInstanceOf root.old.items.defs main 0 }
+    requires made { AreUserInstances root.old.world.now root.old.items.defs instances.now }
     requires none { exports_in root.old.items.defs ≡ 0 }
     ensures moved { RootMoved root.old.world.now root.old root.new }
     ensures at_hand { AreExportsAtHand root.old.world.now root.new.met (exports_in root.new.items.defs) }
@@ -80,9 +84,9 @@ fn export_main(
     let user = UserInstance {
         which: CustomModule::Main,
         found: &world.main,
-        instance: main,
+        instance: instances.main,
     };
-    export_module(root, user, world.main_exports.as_slice(), main, names)
+    export_module(root, user, world.main_exports.as_slice(), instances, names)
 }
 
 /// An adapter, and its instance, which is found by the adapter's name.
@@ -128,7 +132,7 @@ fn export_adapter(
         root,
         user,
         adapter.required_exports.as_slice(),
-        instances.main,
+        instances,
         names,
     )
 }
@@ -175,7 +179,7 @@ pub fn export_all(
     ensures has { OnOk result (AllByRecursion (HasLiftOptions root.old.world.now) (required_functions root.old.world.now)) }
     ensures cause { IfErr result (IsCause root.old.world.now) }
 {
-    export_main(root, instances.main, names)?;
+    export_main(root, instances, names)?;
     export_adapters(root, instances, names)?;
     Ok(())
 }

@@ -84,7 +84,7 @@ impl ModuleExports<'_> {
 
     /// The options with which a function is lifted: those that its type needs, and its post-return.
     ///
-    /// `E7` where it needs a memory and main exports none, `E8` where it needs a realloc and there is none for the module, `E9`
+    /// `E7` where it needs a memory and main has none, `E8` where it needs a realloc and there is none for the module, `E9`
     /// where it has no string encoding.
     pub(crate) fn lift_options(
         &self,

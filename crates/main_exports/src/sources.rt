@@ -27,7 +27,7 @@ pub(crate) struct ModuleExports<'a> {
     pub user: UserInstance<'a>,
     /// Its core exports, by the functions that they belong to.
     pub tables: ExportTables,
-    /// Main's instance with its memory, and the realloc of calls of the module's exports.
+    /// Main's memory, and the realloc of calls of the module's exports.
     pub sources: OptionSources<'a>,
     /// How the names of interfaces are made.
     pub names: ImportNames<'a>,

@@ -50,7 +50,6 @@ sources-kept {w} {s} {met} {old} {new} {maps} {instances} g h = record {
   valid = h.valid;
   imports = FindsImports-kept (longer g) h.imports;
   used = h.used;
-  memory = h.memory;
   users = instances_kept (longer g) h.users;
   tables = tables_kept w met instances old new maps g h.tables;
   passed = h.passed;

@@ -1,34 +1,33 @@
 -- The lowering behind a shim: its options are those of the link table, it keeps its rule, and what is missing is a cause.
-use Rattle.std.proofs.Common.{◌≡◌, ◌∙◌, ℕ, List, [], ◌∷◌, ◌++◌, sym, ap, subst, Some, None, Option, Bool, true, false, IsTrue, IsSome, Contains, codes, append_assoc}
+use Rattle.std.proofs.Common.{◌≡◌, ◌∙◌, ℕ, List, [], ◌∷◌, ◌++◌, sym, ap, subst, Some, None, Option, Bool, true, false, is_some, if◌then◌else◌, IsTrue, IsSome, Contains, codes, append_assoc}
 use Rattle.std.specs.List.{AllByRecursion, AllZip}
 use Rattle.std.specs.Option.{option_map}
 use Rattle.std.proofs.lemmas.Option.{same_Some}
 use Rattle.comp_bytes.specs.declared.canon.CanonicalOption.{CanonicalOption}
-use Rattle.comp_bytes.specs.declared.canon.CanonicalOption.TheVariants as canonical
 use Rattle.comp_bytes.specs.declared.def.Def.{Def}
 use Rattle.standard_kinds.specs.declared.kinds.StringEncoding.{StringEncoding}
 use Rattle.comp_options.specs.Options.{needs}
 use Rattle.comp_roles.specs.declared.imports.Import.{Import}
+use Rattle.comp_worlds.specs.Offered.{memory_of_main}
 use Rattle.comp_worlds.specs.declared.world.ComponentWorld.{ComponentWorld}
-use Rattle.comp_links.specs.Links.{if_needed, options_in, link_of, lower_needs, lower_options, lower_realloc}
+use Rattle.comp_links.specs.Links.{options_in, link_of, lower_needs, lower_options, lower_realloc}
 use Rattle.comp_links.specs.Modules.{UserImport, user_imports}
-use Rattle.comp_links.specs.Roles.{import_encoding}
+use Rattle.comp_links.specs.Roles.{import_encoding, field_path}
 use Rattle.comp_links.specs.Targets.{UserModule as User, ExportRef, TargetOption, Lowered}
-use Rattle.comp_links.specs.Targets as targets
 use Rattle.comp_terms.specs.Generated.{OfImport}
-use Rattle.comp_terms.specs.Planned.{IsOptionFor, IsTermFor}
-use Rattle.comp_terms.specs.Rules.{IsOptionRight, IsLowerOptionRight}
-use Rattle.comp_terms.specs.Terms.{TermOption, IsOption, IsLowering}
+use Rattle.comp_terms.specs.Planned.{IsTermFor}
+use Rattle.comp_terms.specs.Rules.{IsLowerOptionRight}
+use Rattle.comp_terms.specs.Terms.{IsLowering}
 use Rattle.comp_terms.specs.Terms as terms
 use Rattle.comp_items.proofs.Kept.{Longer, imported_function-kept}
-use Rattle.interface_needs.proofs.Lists.{all_both, contains_one}
+use Rattle.interface_needs.proofs.Lists.{contains_one}
 use Rattle.shim_plan.specs.declared.shims.Shim.{Shim}
 use Rattle.shim_targets.proofs.Synchronous.{role_waits}
 use Rattle.shim_targets.specs.ShimTargets.{StandsFor}
-use Rattle.core_options.proofs.OptionTerms.{options_right}
+use Rattle.core_options.proofs.LoweredOptions.{lowered_right}
 use Rattle.core_options.proofs.Refusals.{among_more, one_import_refused}
-use Rattle.core_options.specs.Causes.{indirect_name, IsCauseAmong, IsOptionRefusal}
-use Rattle.core_options.specs.MainOptions.{NameOptions, memory_name}
+use Rattle.core_options.specs.Causes.{indirect_name, lowering_place, IsCauseAmong, IsOptionRefusal}
+use Rattle.core_options.specs.MainOptions.{NameOptions}
 use Rattle.core_options.specs.declared.fault.StateFault.{StateFault}
 use Rattle.main_fixup.specs.Filling.{HasShimOptions, IsBehind, ServesShim}
 
@@ -46,7 +45,7 @@ same_module : (w : ComponentWorld) (s : Shim) (i j : UserImport) → StandsFor w
 same_module w s i j h k = ap (λ (p : Caller). p.0) (same_Some (caller i.of i.core.role) (caller j.of j.core.role) (sym h.is.of_kind ∙ k.is.of_kind))
 
 -- what there is for the options that are listed
-pub options_there : (w : ComponentWorld) (s : Shim) (i : UserImport) → StandsFor w s i → (own : Option ExportRef) → own ≡ lower_realloc w i.of → (IsTrue (needs s.options.0 1) → IsSome (memory_name w)) → (IsTrue (needs s.options.0 2) → IsSome own) →
+pub options_there : (w : ComponentWorld) (s : Shim) (i : UserImport) → StandsFor w s i → (own : Option ExportRef) → own ≡ lower_realloc w i.of → (IsTrue (needs s.options.0 1) → IsSome (memory_of_main w.main)) → (IsTrue (needs s.options.0 2) → IsSome own) →
     HasShimOptions w s
 options_there w s i h own is memory realloc j k = record {
   memory = λ n. memory (subst (λ (set : ℕ). IsTrue (needs set 1)) (sym k.options) n);
@@ -64,46 +63,6 @@ options_linked w s i encoding own h encoded is =
     ap (λ (set : ℕ). options_in set own (Some encoding)) h.options
     ∙ (ap (λ o. options_in (lower_needs w i.core.role) o (Some encoding)) is ∙ ap (λ o. options_in (lower_needs w i.core.role) (lower_realloc w i.of) o) (sym encoded))
 
--- ---- no option is that of an asynchronous call
-
-abbrev Waits : TargetOption → Type 0
-Waits targets.Async = ⊥
-Waits option = Unit {0}
-
-memory_waits : (b : Bool) → AllByRecursion Waits (if_needed b (Some targets.Memory))
-memory_waits true = (tt, tt)
-memory_waits false = tt
-
-realloc_waits : (b : Bool) (o : Option targets.ExportRef) → AllByRecursion Waits (if_needed b (option_map targets.Realloc o))
-realloc_waits true (Some e) = (tt, tt)
-realloc_waits true None = tt
-realloc_waits false o = tt
-
-encoding_waits : (b : Bool) (o : Option StringEncoding) → AllByRecursion Waits (if_needed b (option_map targets.Encoding o))
-encoding_waits true (Some e) = (tt, tt)
-encoding_waits true None = tt
-encoding_waits false o = tt
-
-set_waits : (set : ℕ) (realloc : Option targets.ExportRef) (encoding : Option StringEncoding) → needs set 8 ≡ false → AllByRecursion Waits (options_in set realloc encoding)
-set_waits set realloc encoding e =
-    all_both Waits (if_needed (needs set 1) (Some targets.Memory)) _ (memory_waits (needs set 1))
-    (all_both Waits (if_needed (needs set 2) (option_map targets.Realloc realloc)) _ (realloc_waits (needs set 2) realloc)
-    (all_both Waits (if_needed (needs set 4) (option_map targets.Encoding encoding)) (if_needed (needs set 8) (Some targets.Async)) (encoding_waits (needs set 4) encoding)
-    (subst (λ b. AllByRecursion Waits (if_needed b (Some targets.Async))) (sym e) tt)))
-
-one_right : (w : ComponentWorld) (ds : List Def) (o : CanonicalOption) (t : TermOption) (g : TargetOption) → IsOption ds o t → IsOptionFor w t g → Waits g → IsOptionRight ds o → IsLowerOptionRight ds o
-one_right w ds canonical.Async terms.Async targets.Async h k n r = n
-one_right w ds canonical.Async terms.Async g h k n r = absurd k
-one_right w ds canonical.Async t g h k n r = absurd h
-one_right w ds o t g h k n r = r
-
-each_right : (w : ComponentWorld) (ds : List Def) (os : List CanonicalOption) (ts : List TermOption) (gs : List TargetOption) → AllZip (IsOption ds) os ts → AllZip (IsOptionFor w) ts gs → AllByRecursion Waits gs → AllByRecursion (IsOptionRight ds) os →
-    AllByRecursion (IsLowerOptionRight ds) os
-each_right w ds [] ts gs h k n r = tt
-each_right w ds (o ∷ os) (t ∷ ts) (g ∷ gs) h k n r = (one_right w ds o t g h.0 k.0 n.0 r.0, each_right w ds os ts gs h.1 k.1 n.1 r.1)
-each_right w ds (o ∷ os) [] gs h k n r = absurd h
-each_right w ds (o ∷ os) (t ∷ ts) [] h k n r = absurd k
-
 -- ---- the lowering
 
 module _ (w : ComponentWorld) (s : Shim) (encoding : StringEncoding) (own : Option ExportRef) where
@@ -114,7 +73,7 @@ module _ (w : ComponentWorld) (s : Shim) (encoding : StringEncoding) (own : Opti
   pub lower_options_right : (ds : List Def) (i : UserImport) → StandsFor w s i → (written : List CanonicalOption) → NameOptions w ds written wanted → AllByRecursion (IsLowerOptionRight ds) written
   lower_options_right ds i h written named =
       let waits : needs s.options.0 8 ≡ false = ap (λ (set : ℕ). needs set 8) h.options ∙ role_waits w i.core.role h.is.right in
-      each_right w ds written named.terms wanted named.are named.asked (set_waits s.options.0 own (Some encoding) waits) (options_right w ds written named.terms named.are)
+      lowered_right w ds s.options.0 own (Some encoding) written waits named
 
   -- a lowering with these options is what the shim stands for
   pub lowering_for : (mid new : List Def) (function index : ℕ) (written : List CanonicalOption) → (b : IsBehind w mid s encoding own function) → (named : NameOptions w mid written wanted) → IsLowering new index b.is.origin b.is.type named.terms →
@@ -143,6 +102,7 @@ behind-kept w old new g s encoding own index b = record {
 -- what is missing is a cause
 pub shim_refused : (w : ComponentWorld) (s : Shim) (i : UserImport) → StandsFor w s i → (own : Option ExportRef) → own ≡ lower_realloc w i.of → (e : StateFault) → IsOptionRefusal w s.options.0 own s.debug_name e → IsCauseAmong w (user_imports w) [] e
 shim_refused w s i h own is e refused =
-    let named : s.debug_name ≡ indirect_name i.core = h.named ∙ (append_assoc (codes "indirect-" ++ i.core.module_name) (codes "-") i.core.field ∙ append_assoc (codes "indirect-") i.core.module_name (codes "-" ++ i.core.field)) in
+    let as_shim : s.debug_name ≡ indirect_name i.core = h.named ∙ (append_assoc (codes "indirect-" ++ i.core.module_name) (codes "-") i.core.field ∙ append_assoc (codes "indirect-") i.core.module_name (codes "-" ++ i.core.field)) in
+    let named : s.debug_name ≡ lowering_place w i.core = as_shim ∙ ap (λ o. if is_some o then field_path i.core.module_name i.core.field else indirect_name i.core) (sym h.unshared) in
     among_more w (i ∷ []) (user_imports w) [] [] (λ x c. subst (λ (y : UserImport). Contains (user_imports w) y) (contains_one i x c) h.present) (λ k c. c) e
     (one_import_refused w i own s.options.0 s.debug_name h.options named (λ none. sym is ∙ none) e refused)

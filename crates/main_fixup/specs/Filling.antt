@@ -1,7 +1,7 @@
 -- What is behind shims, and what that needs (Canonical ABI: `canon lower`; component model, explainer: core instances, the
 -- destructor of a resource type).
 use Rattle.std.specs.Prelude.{◌≡◌, ℕ, List, Option, Some, None, true, map, Contains, IsTrue}
-use Rattle.std.specs.Option.{option_copied, option_map}
+use Rattle.std.specs.Option.{option_map}
 use Rattle.standard_kinds.specs.declared.kinds.StringEncoding.{StringEncoding}
 use Rattle.comp_bytes.specs.declared.def.Def.{Def}
 use Rattle.comp_bytes.specs.declared.space.Space.TheVariants as spaces
@@ -26,7 +26,7 @@ use Rattle.comp_terms.specs.Terms.{IsImportedFunction, IsInstanceOf}
 use Rattle.wit_types.specs.declared.maps.TypeEncodingMaps.{TypeEncodingMaps}
 use Rattle.root_imports.specs.RootScopes.{AreTablesRight, ArePassed}
 use Rattle.root_imports.specs.Imports.{FindsImports, FindsUsed}
-use Rattle.core_options.specs.MainOptions.{memory_name, AreUserInstances, OffersFunction, HasLowerOptions}
+use Rattle.core_options.specs.MainOptions.{IsFunctionOf, AreUserInstances, OffersFunction, HasLowerOptions}
 use Rattle.shim_targets.specs.ShimTargets.{StandsFor}
 use Rattle.main_fixup.specs.declared.sources.FillSources.{FillSources}
 
@@ -35,7 +35,6 @@ pub record AreFillSources (w : ComponentWorld) (s : FillSources) (met : MetTypes
   pub valid : IsEncodable w
   pub imports : FindsImports w ds s.functions.now
   pub used : FindsUsed w s.functions.now
-  pub memory : option_copied s.memory ≡ memory_name w
   pub users : AreUserInstances w ds s.instances.now
   pub tables : AreTablesRight w met instances ds maps
   pub passed : ArePassed w met
@@ -86,14 +85,6 @@ pub record IsUsedAt (w : ComponentWorld) (interface : Option WorldKey) (name : L
   pub function : WorldFunction
   pub at : function_at w interface name ≡ Some function
   pub used : IsUsed w function
-
--- the function of this index is the world's, as it is imported, with its type
-pub record IsFunctionOf (w : ComponentWorld) (ds : List Def) (index : ℕ) (function : WorldFunction) : Type 0 where
-  pub origin : Origin
-  pub type : FunctionTree
-  pub of : IsOriginOf w function origin
-  pub typed : IsTypeOf w function type
-  pub is : IsImportedFunction ds index origin type
 
 -- the function of this index is the one at the root, or in the interface of a key
 abbrev pub IsFunctionAt : ComponentWorld → List Def → Option WorldKey → List ℕ → ℕ → Type 0

@@ -1,7 +1,7 @@
 //! The fixup's module and its instance.
 #![tactic(auto, using(comp_items::proofs::Extending::extends_none, comp_items::proofs::Extending::extends_same, comp_items::proofs::Extending::extends_then))]
 
-ghost use Rattle.std.specs.Prelude.{◌≡◌, ◌<◌, [], ◌∷◌, codes, length, IfOk, IfErr, OnOk};
+ghost use Rattle.std.specs.Prelude.{◌≡◌, ◌≢◌, ◌<◌, [], ◌∷◌, codes, length, IfOk, IfErr, OnOk};
 ghost use Rattle.std.specs.List.{AllByRecursion, range_with_len};
 ghost use Rattle.comp_bytes.specs.Spaces.{items_in};
 ghost use Rattle.comp_bytes.specs.declared.space.Space.TheVariants as spaces;
@@ -21,7 +21,7 @@ use crate::fills::actual_instance;
 use crate::sources::FillSources;
 use byte_encoding::BuildFault;
 use comp_bytes::CoreArgument;
-use comp_lists::{Seq, Text};
+use comp_lists::{Seq, SharedBytes, Text};
 use comp_worlds::ComponentWorld;
 use core_options::StateFault;
 use root_imports::RootScope;
@@ -54,6 +54,7 @@ fn instantiate_fixup(
     shims: u32,
 ) -> Result<(), BuildFault>
     requires numbered { «module» ≡ fixup_number root.old.world.now }
+    requires any { shims_of root.old.world.now ≢ [] }
     requires scoped { «module» < items_in spaces.CoreModule root.old.items.defs }
     requires last { instances_in root.old.items.defs ≡ shims_number root.old.world.now ∷ range_with_len 0 (length (user_modules root.old.world.now)) }
     requires shims { IsInstanceOf root.old.items.defs shims (shims_number root.old.world.now) }
@@ -71,17 +72,18 @@ fn instantiate_fixup(
 /// Adds the fixup's module, by its bytes, and its instance, which is given what the shims stand for (`actual`), and the instance
 /// of the module of shims (`shim`), whose index is `shim_instance`. It is the last core instance of a component.
 ///
-/// `E7` where what a shim stands for is lowered with a memory and main exports none, `E8` where it is lowered with a realloc and
+/// `E7` where what a shim stands for is lowered with a memory and main has none, `E8` where it is lowered with a realloc and
 /// there is none for the imports of the module. After a refusal the definitions that were made until then stay.
 pub fn encode_fixup(
     root: &mut RootScope<'_, ComponentWorld>,
     sources: &FillSources<'_>,
     shims: &Shims,
     shim_instance: u32,
-    module: &[u8],
+    module: &SharedBytes,
 ) -> Result<(), StateFault>
     requires sources { AreFillSources root.old.world.now sources.now root.old.met root.old.items.defs root.old.maps root.old.instances }
     requires shims { shims.now ≡ shims_of root.old.world.now }
+    requires any { shims_of root.old.world.now ≢ [] }
     requires made { IsInstanceOf root.old.items.defs shim_instance (shims_number root.old.world.now) }
     requires binary { IsCoreModule «module».now }
     requires last { instances_in root.old.items.defs ≡ shims_number root.old.world.now ∷ range_with_len 0 (length (user_modules root.old.world.now)) }

@@ -9,7 +9,8 @@ ghost use Rattle.comp_links.specs.Targets.{OfRoot, OfInterface};
 ghost use Rattle.comp_terms.specs.Generated.{interface_in, interface_imported};
 ghost use Rattle.comp_terms.specs.Rules.{Grows};
 ghost use Rattle.comp_worlds.specs.Encodable.{IsEncodable};
-ghost use Rattle.main_fixup.specs.Filling.{AreFillSources, IsUsedOfInterface, IsUsedAt, IsFunctionOf, IsFunctionAt};
+ghost use Rattle.main_fixup.specs.Filling.{AreFillSources, IsUsedOfInterface, IsUsedAt, IsFunctionAt};
+ghost use Rattle.core_options.specs.MainOptions.{IsFunctionOf};
 ghost use Rattle.root_imports.specs.RootScopes.{IsRefusal};
 
 use crate::sources::FillSources;

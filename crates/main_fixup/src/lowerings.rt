@@ -1,10 +1,12 @@
 //! The core function behind a shim.
 #![tactic(auto, using(comp_items::proofs::Extending::extends_none, comp_items::proofs::Extending::extends_same, comp_items::proofs::Extending::extends_then))]
 
-ghost use Rattle.std.specs.Prelude.{◌≡◌, [], IfOk, IfErr, OnOk};
+ghost use Rattle.std.specs.Prelude.{◌≡◌, [], Some, IfOk, IfErr, OnOk};
 ghost use Rattle.std.specs.Option.{option_map};
 ghost use Rattle.comp_items.specs.Items.{Extends};
+ghost use Rattle.comp_links.specs.Links.{export_of, module_of};
 ghost use Rattle.comp_links.specs.Modules.{user_imports};
+ghost use Rattle.comp_terms.specs.Generated.{export_of_kind};
 ghost use Rattle.comp_terms.specs.Rules.{Grows};
 ghost use Rattle.comp_worlds.specs.Encodable.{IsEncodable};
 ghost use Rattle.core_options.specs.Causes.{IsCauseAmong};
@@ -16,6 +18,8 @@ use crate::exports::{export_of_adapter, export_of_module};
 use crate::functions::imported_function;
 use crate::modules::options_of_calls;
 use crate::sources::FillSources;
+use comp_lists::Text;
+use comp_roles::MainOrAdapter;
 use comp_worlds::ComponentWorld;
 use core_options::{OptionSources, StateFault, options_for};
 use root_imports::RootScope;
@@ -24,7 +28,7 @@ use standard_kinds::StringEncoding;
 
 /// Lowers the function that a shim stands for, with the shim's options and a string encoding.
 ///
-/// `E7` where the options need a memory and main exports none, `E8` where they need a realloc and there is none for these calls.
+/// `E7` where the options need a memory and main has none, `E8` where they need a realloc and there is none for these calls.
 fn lower_function(
     root: &mut RootScope<'_, ComponentWorld>,
     sources: &OptionSources<'_>,
@@ -48,10 +52,32 @@ fn lower_function(
     Ok(index)
 }
 
+/// An alias of what a user module exports, where a shim stands for that: a destructor or a realloc.
+fn export_behind(
+    root: &mut RootScope<'_, ComponentWorld>,
+    sources: &FillSources<'_>,
+    shim: &Shim,
+    which: &MainOrAdapter,
+    export: &Text,
+) -> Result<u32, StateFault>
+    requires sources { AreFillSources root.old.world.now sources.now root.old.met root.old.items.defs root.old.maps root.old.instances }
+    requires stands { StandsForOne root.old.world.now shim.now }
+    requires kind { export_of_kind shim.now.kind ≡ Some (export_of (module_of which.now) export.now) }
+    ensures same { root.new ≡ record root.old { items = root.new.items } }
+    ensures extends { Extends root.old.items root.new.items }
+    ensures grows { OnOk result (Grows root.old.world.now root.old.items.defs root.new.items.defs []) }
+    ensures serves { IfOk result (ServesShim root.old.world.now root.new.items.defs shim.now) }
+    ensures offered { OnOk result (HasShimOptions root.old.world.now shim.now) }
+    ensures cause { IfErr result (IsCauseAmong root.old.world.now (user_imports root.old.world.now) []) }
+{
+    let aliased = export_of_module(root, sources, which, export)?;
+    Ok(aliased)
+}
+
 /// The core function that a shim stands for: the lowering of the function at the root, or of an alias of that of an imported
 /// interface; or an alias of what a user module exports.
 ///
-/// `E7` where a lowering needs a memory and main exports none, `E8` where it needs a realloc and there is none for the imports of
+/// `E7` where a lowering needs a memory and main has none, `E8` where it needs a realloc and there is none for the imports of
 /// the module.
 pub(crate) fn function_behind(
     root: &mut RootScope<'_, ComponentWorld>,
@@ -80,9 +106,9 @@ pub(crate) fn function_behind(
             Ok(lowered)
         }
         ShimKind::ResourceDtor { module, export } => {
-            let aliased = export_of_module(root, sources, module, export)?;
-            Ok(aliased)
+            export_behind(root, sources, shim, module, export)
         }
+        ShimKind::Realloc { module, export } => export_behind(root, sources, shim, module, export),
         ShimKind::Adapter { adapter, func } => {
             let aliased = export_of_adapter(root, sources, adapter, func)?;
             Ok(aliased)

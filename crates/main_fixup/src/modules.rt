@@ -96,8 +96,7 @@ pub(crate) fn options_of_calls<'a>(
 {
     let realloc = realloc_of_calls(root, sources, which);
     OptionSources {
-        instance: sources.instances.main,
-        memory: sources.memory,
+        memory: sources.instances.memory,
         realloc,
     }
 }

@@ -8,8 +8,6 @@ use core_options::UserInstances;
 pub struct FillSources<'a> {
     /// The root functions that were imported, by their names.
     pub functions: &'a Keyed<Text, u32>,
-    /// The memory of main that options name, the first that it exports, if it exports one.
-    pub memory: Option<&'a str>,
-    /// The instances of the user modules.
+    /// The instances of the user modules, and main's memory.
     pub instances: &'a UserInstances,
 }

@@ -34,7 +34,9 @@ use Rattle.root_imports.proofs.Growth.{tables_kept}
 use Rattle.root_imports.proofs.Finding.{FindsImports-kept}
 use Rattle.main_instance.specs.declared.instances.ImportSources.{ImportSources}
 use Rattle.comp_worlds.specs.Made.{modules_of_imports}
-use Rattle.main_instance.specs.Sources.{AreSources, IsShimInstance, IsBehindMain, IsMainInstance, IsMade}
+use Rattle.core_options.proofs.OptionTerms.{memory_kept}
+use Rattle.comp_terms.specs.Planned.{main_memory}
+use Rattle.main_instance.specs.Sources.{shared_export, IsMemoryBefore, AreSources, IsShimInstance, IsBehindMain, IsMainInstance, IsMade}
 
 pub ruleset growing = (extends_none, extends_same, extends_then)
 
@@ -46,7 +48,7 @@ module _ {w : ComponentWorld} {old new : List Def} (g : Longer old new) where
 
   IsShimFor-kept : {space : Space} {i : ℕ} {target : Target} → IsShimFor w old space i target → IsShimFor w new space i target
   IsShimFor-kept {space} {i} {target} h =
-      record { place = h.place; shim = h.shim; purpose = h.purpose; listed = h.listed; stands_for = h.stands_for; same = h.same; in_space = h.in_space; is = exported-kept g h.is }
+      record { place = h.place; stands = h.stands; in_space = h.in_space; is = exported-kept g h.is }
 
   pub IsGivenFor-kept : {space : Space} {i : ℕ} {target : Target} → IsGivenFor w old space i target → IsGivenFor w new space i target
   IsGivenFor-kept (inl h) = inl (IsItemFor-kept h)
@@ -68,6 +70,10 @@ shim_instance-kept : (w : ComponentWorld) {old new : List Def} (instance : Optio
 shim_instance-kept w None g h = h
 shim_instance-kept w (Some instance) g h = instance-kept g h
 
+memory_before-kept : (w : ComponentWorld) {old new : List Def} (of : UserModule) (memory : Option ℕ) → Longer old new → IsMemoryBefore w old of memory → IsMemoryBefore w new of memory
+memory_before-kept w {old} {new} Main memory g h = memory_kept old new g (shared_export w) memory h
+memory_before-kept w {old} {new} (Adapter name) memory g h = memory_kept old new g (main_memory w) memory h
+
 behind_main-kept : {old new : List Def} (instance : Option ℕ) → Longer old new → IsBehindMain old instance → IsBehindMain new instance
 behind_main-kept None g h = absurd h
 behind_main-kept (Some instance) g h = instance-kept g h
@@ -81,7 +87,7 @@ made-kept w main adapters g [] h = tt
 made-kept w main adapters g (which ∷ named) h = (record { instance = h.0.instance; there = h.0.there; number = h.0.number; of = h.0.of; is = instance-kept g h.0.is }, made-kept w main adapters g named h.1)
 
 pub sources-kept : {w : ComponentWorld} {s : ImportSources} {met : MetTypes} {old new : Built} {maps : TypeEncodingMaps} {instances : List (InterfaceId × ℕ)} → Extends old new → AreSources w s met old.defs maps instances → AreSources w s met new.defs maps instances
-sources-kept {w} {s} {met} {old} {new} {maps} {instances} g h = record { valid = h.valid; user = h.user; imports = FindsImports-kept (longer g) h.imports; used = h.used; shims = h.shims; shim_instance = shim_instance-kept w s.shim_instance (longer g) h.shim_instance; main = main_instance-kept (user_of s.user.which) s.main (longer g) h.main; made = made-kept w s.main s.adapters.now (longer g) (modules_of_imports s.user.found.now) h.made; tables = tables_kept w met instances old new maps g h.tables; passed = h.passed; exports = h.exports }
+sources-kept {w} {s} {met} {old} {new} {maps} {instances} g h = record { valid = h.valid; user = h.user; imports = FindsImports-kept (longer g) h.imports; used = h.used; shims = h.shims; shim_instance = shim_instance-kept w s.shim_instance (longer g) h.shim_instance; memory = memory_before-kept w (user_of s.user.which) s.memory (longer g) h.memory; main = main_instance-kept (user_of s.user.which) s.main (longer g) h.main; made = made-kept w s.main s.adapters.now (longer g) (modules_of_imports s.user.found.now) h.made; tables = tables_kept w met instances old new maps g h.tables; passed = h.passed; exports = h.exports }
 
 -- ---- the entries of an inline instance name items
 

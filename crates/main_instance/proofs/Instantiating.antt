@@ -1,21 +1,30 @@
 -- The module of shims and its instance keep the rules.
-use Rattle.std.proofs.Common.{◌≡◌, ◌∙◌, ◌<◌, ◌^◌, ℕ, Bool, List, [], ◌∷◌, ◌++◌, length, ap, subst, refl, filter_map, inl, inr, None}
+use Rattle.std.proofs.Common.{◌≡◌, ◌∙◌, ◌<◌, ◌^◌, ℕ, Bool, IsSome, List, [], ◌∷◌, ◌++◌, length, ap, ap₂, sym, subst, refl, filter_map, inl, inr, Option, Some, None}
+use Rattle.std.specs.Prelude.{codes}
+use Rattle.std.proofs.lemmas.Option.{none-some}
+use Rattle.core_bytes.specs.declared.section.Section.{Section}
+use Rattle.core_types.specs.declared.types.MemoryType.{MemoryType}
+use Rattle.world_shims.specs.Refusals.{if_needed}
 use Rattle.core_bytes.specs.Modules.{Encodes}
 use Rattle.comp_builder.specs.Built.{Built}
 use Rattle.comp_bytes.proofs.ItemIndices.{in_range}
 use Rattle.comp_bytes.specs.declared.name.Name.{Name}
-use Rattle.comp_items.specs.Items.{Extends}
+use Rattle.comp_bytes.specs.declared.types.Alias.TheVariants as aliases
+use Rattle.standard_kinds.specs.declared.kinds.ExportKind.TheVariants as kinds
+use Rattle.comp_items.specs.Items.{Extends, MayAdd}
+use Rattle.comp_items.proofs.Kept.{Longer, instance-kept}
 use Rattle.comp_bytes.specs.ItemIndices.{IsAt}
 use Rattle.comp_bytes.specs.Spaces.{items_in}
 use Rattle.comp_bytes.specs.declared.def.Def.{Def}
 use Rattle.comp_bytes.specs.declared.def.Def.TheVariants as defs
 use Rattle.comp_bytes.specs.declared.def.Item.TheVariants as items
 use Rattle.comp_bytes.specs.declared.space.Space.TheVariants as spaces
+use Rattle.comp_worlds.specs.Offered.{shared_memory}
 use Rattle.comp_worlds.specs.declared.world.ComponentWorld.{ComponentWorld}
 use Rattle.comp_terms.specs.Generated.{shims_number}
 use Rattle.comp_terms.specs.Rules.{Grows, ModuleIs, InstanceOf, instance_number, landmark, landmarks, instances_in}
 use Rattle.comp_terms.specs.Terms.{IsInstanceOf}
-use Rattle.root_imports.specs.Growing.{Grows-by, Grows-then}
+use Rattle.root_imports.specs.Growing.{Grows-by, Grows-may, Grows-then}
 use Rattle.std.proofs.lemmas.List.Elements.{filter_map-append}
 use Rattle.world_shims.specs.WorldShims.{shims_of, sections_of_shims}
 use Rattle.main_instance.specs.Shims.{AddsShims}
@@ -29,7 +38,7 @@ still_first bytes old mid appended first =
     ap instances_in appended ∙ (ap (λ l. filter_map instance_number l) (filter_map-append landmark old (defs.Item (items.CoreModule bytes) ∷ [])) ∙ (filter_map-append instance_number (landmarks old) (ModuleIs bytes ∷ []) ∙ ap (λ l. l ++ []) first))
 
 pub adds_shims : (w : ComponentWorld) (debug_names : Bool) (old mid new : List Def) (bytes : List ℕ) (index instance : ℕ) →
-    Encodes bytes (sections_of_shims None (shims_of w) debug_names) → length (shims_of w) < 2 ^ 32 → instances_in old ≡ [] → items_in spaces.CoreModule old ≡ shims_number w →
+    Encodes bytes (sections_of_shims (shared_memory w) (shims_of w) debug_names) → length (shims_of w) < 2 ^ 32 → instances_in old ≡ [] → items_in spaces.CoreModule old ≡ shims_number w →
     index ≡ items_in spaces.CoreModule old → mid ≡ old ++ defs.Item (items.CoreModule bytes) ∷ [] → IsAt mid spaces.CoreModule index (defs.Item (items.CoreModule bytes)) →
     new ≡ mid ++ defs.Item (items.CoreInstantiate index []) ∷ [] → IsInstanceOf new instance index → AddsShims w debug_names old new instance
 adds_shims w debug_names old mid new bytes index instance encodes room first next is module_added at instance_added made =
@@ -44,3 +53,22 @@ adds_shims w debug_names old mid new bytes index instance encodes room first nex
       grows = subst (λ n. Grows w old new (ModuleIs bytes ∷ InstanceOf n ∷ [])) number (Grows-then one two);
       made = subst (λ n. IsInstanceOf new instance n) number made;
     }
+
+-- an alias of the memory that it exports for the one that main imports keeps its rule
+pub shared_alias_grows : (w : ComponentWorld) (old new : List Def) (instance : ℕ) (name : List ℕ) → IsInstanceOf old instance (shims_number w) → IsSome (shared_memory w) → name ≡ codes "$memory" →
+    MayAdd old new (defs.Item (items.Alias (aliases.CoreExport kinds.Memory instance name))) → Grows w old new []
+shared_alias_grows w old new instance name made shared named adds =
+    Grows-may (defs.Item (items.Alias (aliases.CoreExport kinds.Memory instance name))) refl adds (inr (inr (record { is = made; shared = shared; named = named; memory = refl })))
+
+-- and adds nothing else
+pub adds_alias : (w : ComponentWorld) (debug_names : Bool) (old mid new : List Def) (instance : ℕ) → AddsShims w debug_names old mid instance → Longer mid new → Grows w mid new [] → AddsShims w debug_names old new instance
+adds_alias w debug_names old mid new instance a longer grows =
+    record { bytes = a.bytes; encodes = a.encodes; room = a.room; grows = Grows-then a.grows grows; made = instance-kept longer a.made }
+
+-- where the module is made and there are no shims, main imports its memory
+pub needed_for : (w : ComponentWorld) (sections made : List Section) → Some made ≡ if_needed (shared_memory w) (shims_of w) sections → shims_of w ≡ [] → IsSome (shared_memory w)
+needed_for w sections made h none = by (shared_memory w) refl
+  where
+    by : (o : Option MemoryType) → shared_memory w ≡ o → IsSome o
+    by (Some type) e = refl
+    by None e = absurd (none-some made (sym (h ∙ ap₂ (λ m s. if_needed m s sections) e none)))

@@ -17,6 +17,8 @@ use Rattle.comp_links.specs.Modules.{module_found}
 use Rattle.comp_links.specs.Targets.{UserModule as User, OfInterface}
 use Rattle.comp_terms.specs.Planned.{IsTypeOf, type_of_function}
 use Rattle.comp_terms.specs.Rules.{AliasesImported}
+use Rattle.comp_terms.specs.Terms.{IsImportedFunction}
+use Rattle.core_options.specs.MainOptions.{IsFunctionOf}
 use Rattle.comp_worlds.specs.Encodable.{IsEncodable}
 use Rattle.comp_worlds.specs.Uses.{imports_of}
 use Rattle.comp_worlds.specs.Worlds.{IsImportRole}
@@ -90,6 +92,10 @@ module _ {w : ComponentWorld} {ds : List Def} {instance : ℕ} {id : InterfaceId
 
   pub aliased : AliasesImported ds spaces.Func instance name
   aliased = record { number = h.import.number; outer = h.import.outer; members = h.import.members; imported = h.import.imported; exported = h.exported.there }
+
+  -- an alias of it is that function
+  pub aliased_function : (new : List Def) (index : ℕ) → IsImportedFunction new index (record { number = h.import.number; inner = Some name }) h.type → IsFunctionOf w new index (OfInterface id name)
+  aliased_function new index is = record { origin = record { number = h.import.number; inner = Some name }; type = h.type; of = origin_of; typed = h.typed; is = is }
 
 -- ---- which functions are used
 

@@ -2,6 +2,8 @@ pub mod Growth
 pub mod Serving
 pub mod Interfaces
 pub mod Giving
+mod GivenCalls
+pub mod DirectCalls
 pub mod Instantiating
 mod OwnHandles
 pub mod OfMain

@@ -1,9 +1,9 @@
 -- What imports are given of other user modules: the memory and the exports of main, and the instances and items that libraries name.
-use Rattle.std.proofs.Common.{◌≡◌, ◌∙◌, ℕ, List, [], ◌∷◌, map, Option, Some, None, is_some, refl, sym, ap, subst, Contains, inl, inr}
+use Rattle.std.proofs.Common.{◌≡◌, ◌∙◌, ℕ, List, [], ◌∷◌, map, Option, Some, None, is_some, true≢false, refl, sym, ap, subst, Contains, inl, inr}
 use Rattle.std.specs.List.{flat_map}
 use Rattle.std.proofs.lemmas.List.Elements.{Contains-append_right}
 use Rattle.std.specs.Prelude.{IsSome}
-use Rattle.std.specs.Option.{option_map}
+use Rattle.std.specs.Option.{option_or}
 use Rattle.std.proofs.lemmas.Option.{same_Some}
 use Rattle.comp_bytes.specs.Spaces.{kind_space}
 use Rattle.comp_bytes.specs.declared.def.CoreArgument.{CoreArgument}
@@ -19,20 +19,21 @@ use Rattle.comp_links.specs.Links.{module_of}
 use Rattle.comp_links.specs.Modules.{WorldModule, user_modules, IsModule}
 use Rattle.comp_links.specs.Targets.{UserModule, Main, Adapter, ExportOf, MainMemory}
 use Rattle.core_options.proofs.Aliases.{grows_alias}
-use Rattle.core_options.specs.MainOptions.{IsMemoryIf, memory_name, memory_of_main}
+use Rattle.core_options.proofs.Memories.{memory_kind}
+use Rattle.core_options.specs.MainOptions.{IsMemoryIf}
 use Rattle.core_types.specs.declared.types.MemoryType.{MemoryType}
 use Rattle.comp_lists.specs.Found.{found}
-use Rattle.comp_roles.specs.CoreImports.{CoreImport, imports_from}
-use Rattle.comp_roles.specs.Lookups.{first_memory}
+use Rattle.comp_roles.specs.CoreImports.{CoreImport, imports_from, fields_of}
+use Rattle.comp_roles.specs.Lookups.{memory_of_import, memory_of_fields, imported_memory}
 use Rattle.comp_roles.specs.declared.imports.Import.{Import}
 use Rattle.comp_roles.specs.declared.imports.Import.TheVariants as imports
 use Rattle.comp_roles.specs.declared.imports.ImportInstance.{ImportInstance}
 use Rattle.comp_roles.specs.declared.imports.ImportInstance.TheVariants as instances
 use Rattle.comp_roles.specs.declared.libraries.Item.{Item}
 use Rattle.comp_roles.specs.declared.libraries.MainOrAdapter.{MainOrAdapter}
-use Rattle.comp_terms.specs.Planned.{IsItemFor, IsArgumentFor}
+use Rattle.comp_terms.specs.Planned.{main_memory, IsItemFor, IsArgumentFor}
 use Rattle.comp_terms.specs.Rules.{Grows}
-use Rattle.comp_terms.specs.Terms.{Is, IsInstanceOf, IsExported}
+use Rattle.comp_terms.specs.Terms.{CoreExport, Is, IsInstanceOf, IsExported}
 use Rattle.comp_terms.specs.Terms as terms
 use Rattle.comp_worlds.proofs.NotOfMain.{each_of_other}
 use Rattle.comp_worlds.specs.Made.{module_of_item, modules_of_group, modules_of_imports}
@@ -43,7 +44,8 @@ use Rattle.comp_worlds.specs.declared.world.ComponentWorld.{ComponentWorld}
 use Rattle.comp_worlds.specs.declared.world.ValidatedModule.{ValidatedModule}
 use Rattle.comp_links.specs.Modules.{module_found}
 use Rattle.interface_needs.proofs.Lists.{contains_none, contains_cons, contains_first, contains_flat, IsInOne, flat_contains}
-use Rattle.main_instance.specs.Sources.{IsBehindMain, IsMainInstance, IsMade, instance_in}
+use Rattle.main_instance.proofs.DirectCalls.{memory_before}
+use Rattle.main_instance.specs.Sources.{IsBehindMain, IsMainInstance, IsMemoryBefore, IsMade, instance_in}
 use Rattle.standard_kinds.specs.declared.kinds.ExportKind.{ExportKind}
 use Rattle.standard_kinds.specs.declared.kinds.ExportKind.TheVariants as kinds
 
@@ -133,24 +135,49 @@ whole_given w of ds main adapters name which argument h named there =
 
 -- ---- the memory
 
--- an alias of the memory that main exports is it
-pub memory_given : (w : ComponentWorld) (ds : List Def) (index : ℕ) → IsMemoryIf ds (memory_name w) (Some index) → IsItemFor w ds spaces.CoreMemory index MainMemory
-memory_given w ds index h = by (first_memory w.main.exports.exports) refl h
+-- an alias of main's memory is it
+pub memory_given : (w : ComponentWorld) (ds : List Def) (index : ℕ) → IsMemoryIf ds (main_memory w) (Some index) → IsItemFor w ds spaces.CoreMemory index MainMemory
+memory_given w ds index h = by (main_memory w) refl h
   where
-    by : (o : Option (List ℕ × MemoryType)) → first_memory w.main.exports.exports ≡ o → IsMemoryIf ds (option_map (λ m. m.0) o) (Some index) → IsItemFor w ds spaces.CoreMemory index MainMemory
+    by : (o : Option CoreExport) → main_memory w ≡ o → IsMemoryIf ds o (Some index) → IsItemFor w ds spaces.CoreMemory index MainMemory
     by None e k = absurd k
-    by (Some m) e k = record { term = terms.Exported (memory_of_main m.0); is = (refl, k); asked = (record { of = is_main w; type = m.1; first = e }, refl) }
+    by (Some export) e k =
+        let memory : export.kind ≡ kinds.Memory = memory_kind w export e in
+        record { term = terms.Exported export; is = (sym (ap kind_space memory), k); asked = (e, memory) }
 
-pub memory_there : (w : ComponentWorld) (ds : List Def) (index : ℕ) → IsMemoryIf ds (memory_name w) (Some index) → IsSome (first_memory w.main.exports.exports)
-memory_there w ds index h = by (first_memory w.main.exports.exports) refl h
-  where
-    by : (o : Option (List ℕ × MemoryType)) → first_memory w.main.exports.exports ≡ o → IsMemoryIf ds (option_map (λ m. m.0) o) (Some index) → IsSome (first_memory w.main.exports.exports)
-    by None e k = absurd k
-    by (Some m) e k = ap is_some e
+-- where main imports its memory, there is one
+module _ (i : CoreImport) (type : MemoryType) (is : i.role ≡ imports.MainModuleMemory type) where
+  some_left : (a b : Option MemoryType) → IsSome a → IsSome (option_or a b)
+  some_left (Some x) b h = refl
+  some_left None b h = absurd (true≢false (sym h))
 
-pub memory_missing : (w : ComponentWorld) (ds : List Def) → IsMemoryIf ds (memory_name w) None → memory_name w ≡ None
-memory_missing w ds h = by (memory_name w) h
-  where
-    by : (o : Option (List ℕ)) → IsMemoryIf ds o None → o ≡ None
-    by None k = refl
-    by (Some name) k = absurd k
+  some_right : (a b : Option MemoryType) → IsSome b → IsSome (option_or a b)
+  some_right (Some x) b h = refl
+  some_right None b h = h
+
+  memory_in_fields : (name : List ℕ) (fields : List (List ℕ × Import)) → Contains (map (λ f. record { module_name = name; field = f.0; role = f.1 }) fields) i → IsSome (memory_of_fields fields)
+  memory_in_fields name [] c = contains_none i c
+  memory_in_fields name (f ∷ fields) c = elim (contains_cons (record { module_name = name; field = f.0; role = f.1 }) (map (λ f. record { module_name = name; field = f.0; role = f.1 }) fields) i c) [
+    | inl same ↦ some_left (memory_of_import f.1) (memory_of_fields fields) (ap is_some (ap memory_of_import (ap (λ (x : CoreImport). x.role) same ∙ is)))
+    | inr later ↦ some_right (memory_of_import f.1) (memory_of_fields fields) (memory_in_fields name fields later)
+  ]
+
+  memory_in_group : (g : List ℕ × ImportInstance) → Contains (imports_from g) i → IsSome (memory_of_fields (fields_of g.1))
+  memory_in_group (name, instances.Names fields) c = memory_in_fields name fields c
+  memory_in_group (name, instances.Whole which) c = contains_none i c
+
+  memory_in_groups : (groups : List (List ℕ × ImportInstance)) (g : List ℕ × ImportInstance) → Contains groups g → IsSome (memory_of_fields (fields_of g.1)) → IsSome (imported_memory groups)
+  memory_in_groups [] g c h = contains_none g c
+  memory_in_groups (x ∷ groups) g c h = elim (contains_cons x groups g c) [
+    | inl same ↦ some_left (memory_of_fields (fields_of x.1)) (imported_memory groups) (subst (λ (y : List ℕ × ImportInstance). IsSome (memory_of_fields (fields_of y.1))) (sym same) h)
+    | inr later ↦ some_right (memory_of_fields (fields_of x.1)) (imported_memory groups) (memory_in_groups groups g later h)
+  ]
+
+  memory_imported : (groups : List (List ℕ × ImportInstance)) → Contains (flat_map imports_from groups) i → IsSome (imported_memory groups)
+  memory_imported groups c = let g : IsInOne imports_from groups i = flat_contains imports_from groups i c in memory_in_groups groups g.x g.one (memory_in_group g.x g.there)
+
+  -- so that main's memory is there for every import of it
+  pub memory_for_import : (w : ComponentWorld) (of : UserModule) (m : ValidatedModule) → module_found w of ≡ Some m → Contains (imports_of m) i → (ds : List Def) (memory : Option ℕ) → IsMemoryBefore w ds of memory → IsMemoryIf ds (main_memory w) memory
+  memory_for_import w Main m there c ds memory h =
+      memory_before w ds Main memory (memory_imported w.main.imports.modules (subst (λ (m : ValidatedModule). Contains (imports_of m) i) (sym (same_Some w.main m there)) c)) h
+  memory_for_import w (Adapter name) m there c ds memory h = h

@@ -1,3 +1,4 @@
 pub mod Calls
 pub mod Sources
+pub mod Direct
 pub mod Shims

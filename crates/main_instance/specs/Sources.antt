@@ -17,6 +17,7 @@ use Rattle.comp_roles.specs.declared.libraries.MainOrAdapter.TheVariants as user
 use Rattle.comp_worlds.specs.Encodable.{IsEncodable}
 use Rattle.comp_worlds.specs.ExportOrder.{required_interfaces}
 use Rattle.comp_worlds.specs.Made.{modules_of_imports}
+use Rattle.comp_worlds.specs.Offered.{shared_memory}
 use Rattle.comp_worlds.specs.WorldContents.{items_of}
 use Rattle.comp_worlds.specs.Worlds.{IsOwnResource}
 use Rattle.comp_worlds.specs.declared.world.ComponentWorld.{ComponentWorld}
@@ -25,7 +26,8 @@ use Rattle.comp_links.specs.Modules.{UserImport, IsModule}
 use Rattle.comp_links.specs.Roles.{is_used_of}
 use Rattle.comp_links.specs.Targets.{UserModule as User, Main, Adapter}
 use Rattle.comp_terms.specs.Generated.{shims_number}
-use Rattle.comp_terms.specs.Terms.{IsInstanceOf, IsExported}
+use Rattle.comp_terms.specs.Planned.{memory_from, main_memory}
+use Rattle.comp_terms.specs.Terms.{CoreExport, IsInstanceOf, IsExported}
 use Rattle.shim_plan.specs.Plans.{shim_of}
 use Rattle.shim_plan.specs.declared.kinds.ShimKind.{ShimKind}
 use Rattle.shim_plan.specs.declared.kinds.ShimKind.TheVariants as kinds_of_shims
@@ -34,7 +36,7 @@ use Rattle.world_shims.specs.WorldShims.{shims_of}
 use Rattle.root_imports.specs.RootScopes.{AreTablesRight, ArePassed}
 use Rattle.root_imports.specs.Imports.{FindsImports, FindsUsed}
 use Rattle.root_imports.specs.Met.{has_types}
-use Rattle.core_options.specs.MainOptions.{IsUser, user_of}
+use Rattle.core_options.specs.MainOptions.{IsUser, user_of, IsMemoryIf}
 use Rattle.main_instance.specs.declared.instances.ImportSources.{ImportSources}
 
 -- imports, as those of a user module
@@ -57,10 +59,19 @@ pub record IsDefinedHere (w : ComponentWorld) (id : TypeId) : Type 0 where
 abbrev pub AreExportsMet : ComponentWorld → MetTypes → Type 0
 AreExportsMet w met = AllByRecursion (λ interface. has_types met interface ≡ true) (required_interfaces w)
 
--- the instance of the shims, where there are any
+-- the instance of the module of shims, without which there are no shims
 abbrev pub IsShimInstance : ComponentWorld → List Def → Option ℕ → Type 0
 IsShimInstance w ds None = shims_of w ≡ []
 IsShimInstance w ds (Some instance) = IsInstanceOf ds instance (shims_number w)
+
+-- the memory that main imports, as the module of shims exports it
+abbrev pub shared_export : ComponentWorld → Option CoreExport
+shared_export w = memory_from w (shared_memory w) None
+
+-- main's memory is there for all user modules, but for main only where main imports it
+abbrev pub IsMemoryBefore : ComponentWorld → List Def → User → Option ℕ → Type 0
+IsMemoryBefore w ds Main memory = IsMemoryIf ds (shared_export w) memory
+IsMemoryBefore w ds (Adapter name) memory = IsMemoryIf ds (main_memory w) memory
 
 -- main's instance is there
 abbrev pub IsBehindMain : List Def → Option ℕ → Type 0
@@ -97,6 +108,7 @@ pub record AreSources (w : ComponentWorld) (s : ImportSources) (met : MetTypes) 
   pub used : FindsUsed w s.functions.now
   pub shims : s.shims.now ≡ shims_of w
   pub shim_instance : IsShimInstance w ds s.shim_instance
+  pub memory : IsMemoryBefore w ds (user_of s.user.which) s.memory
   pub main : IsMainInstance ds (user_of s.user.which) s.main
   pub made : AllByRecursion (IsMade w ds s.main s.adapters.now) (modules_of_imports s.user.found.now)
   pub tables : AreTablesRight w met instances ds maps

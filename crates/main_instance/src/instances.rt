@@ -1,15 +1,16 @@
 //! The instance of a user module: each of its imports is given what its role needs.
 #![tactic(auto, using(crate::proofs::Growth::growing))]
 
-ghost use Rattle.std.specs.Prelude.{◌≡◌, [], ◌∷◌, None, IfOk, IfErr, OnOk, IsSome, map, Contains};
+ghost use Rattle.std.specs.Prelude.{◌≡◌, [], ◌∷◌, None, IfOk, IfErr, OnOk, IsSome, IsTrue, map, Contains};
 ghost use Rattle.std.specs.List.{AllZip, IsDistinct};
 ghost use Rattle.std.specs.Option.{option_copied};
 ghost use Rattle.std.specs.Str.{bytes_eq};
 ghost use Rattle.comp_bytes.specs.Spaces.{kind_space};
 ghost use Rattle.comp_bytes.specs.declared.space.Space.TheVariants.{CoreFunc};
 ghost use Rattle.comp_items.specs.Items.{Extends};
-ghost use Rattle.comp_links.specs.Roles.{IsSuppliedImport};
-ghost use Rattle.comp_links.specs.Links.{link_of};
+ghost use Rattle.comp_links.specs.Supplied.{IsSuppliedImport};
+ghost use Rattle.comp_links.specs.Links.{link_of, lower_needs, lower_options, lower_realloc};
+ghost use Rattle.comp_options.specs.Options.{needs};
 ghost use Rattle.comp_links.specs.Targets.{OfRoot, OfInterface, Drop, Lowered, OfResource};
 ghost use Rattle.comp_lists.specs.Found.{found};
 ghost use Rattle.comp_roles.specs.CoreImports.{imports_from};
@@ -17,17 +18,19 @@ ghost use Rattle.comp_roles.specs.declared.imports.Import.TheVariants as imports
 ghost use Rattle.comp_roles.specs.declared.imports.ImportInstance.TheVariants.{Names};
 ghost use Rattle.core_options.specs.Causes.{IsCause, IsCauseAmong};
 ghost use Rattle.main_instance.specs.Calls.{import_at, lowering_kind};
+ghost use Rattle.main_instance.specs.Direct.{IsDirectCall, IsLoweringWith};
 ghost use Rattle.core_options.specs.MainOptions.{user_of};
 ghost use Rattle.shim_targets.specs.ShimTargets.{which_of};
 ghost use Rattle.main_instance.specs.Sources.{imports_by, AreSources, IsShimAlias, IsUsedOfInterface};
 ghost use Rattle.root_imports.specs.RootScopes.{IsRefusal};
 ghost use Rattle.comp_terms.specs.Planned.{IsItemFor, IsGivenFor, IsEntryFor, IsArgumentFor};
-ghost use Rattle.comp_terms.specs.Rules.{Grows};
+ghost use Rattle.comp_terms.specs.Rules.{Grows, HasImportedFunction};
 ghost use Rattle.comp_worlds.specs.Uses.{imports_of};
 ghost use Rattle.interface_needs.specs.RootNeeds.{IsDropKnown};
 ghost use Rattle.wit_data.specs.declared.worlds.WorldKey.TheVariants as keys;
 
 use crate::calls::{CorePlace, import_encoding, kind_of_call};
+use crate::direct::DirectCall;
 use crate::shims::shim_alias;
 use byte_encoding::BuildFault;
 use comp_bytes::{CoreArgument, CoreInlineExport};
@@ -47,8 +50,11 @@ pub struct ImportSources<'a> {
     pub user: UserModule<'a>,
     pub functions: &'a Keyed<Text, u32>,
     pub shims: &'a Shims,
-    /// The instance of the module of shims, where there are shims.
+    /// The instance of the module of shims, where there is one.
     pub shim_instance: Option<u32>,
+    /// The alias of main's memory, where it is there by now: for main's own imports the one that main imports, for those of
+    /// other modules the one that it imports or exports.
+    pub memory: Option<u32>,
     /// Main's instance, where these are the imports of another module.
     pub main: Option<u32>,
     /// The instances of the adapters that were made before, by their names.
@@ -56,49 +62,80 @@ pub struct ImportSources<'a> {
 }
 
 impl ImportSources<'_> {
-    /// Lowers a root function that was imported.
-    fn lower_function(
+    /// Lowers the function that an import calls, which is imported as this one, with the options of the call.
+    ///
+    /// `E8` where it needs a realloc and there is none for the module.
+    fn lower_call(
         &self,
         root: &mut RootScope<'_, ComponentWorld>,
+        call: DirectCall<'_>,
         name: &Text,
-    ) -> Result<u32, BuildFault>
+        function: u32,
+    ) -> Result<u32, StateFault>
         requires sources { AreSources root.old.world.now self.now root.old.met root.old.items.defs root.old.maps root.old.instances }
-        requires used { IsSome (found name.now self.now.functions.now) }
+        requires direct { IsDirectCall root.old.world.now (user_of self.now.user.which) self.now.user.found.now call }
+        requires imported { HasImportedFunction root.old.items.defs function }
         ensures same { root.new ≡ record root.old { items = root.new.items } }
         ensures extends { Extends root.old.items root.new.items }
         ensures grows { OnOk result (Grows root.old.world.now root.old.items.defs root.new.items.defs []) }
-        ensures lowered { IfOk result (λ index. IsItemFor root.old.world.now root.new.items.defs CoreFunc index (Lowered (OfRoot name.now) [])) }
-        ensures cause { IfErr result IsRefusal }
+        ensures lowered { IfOk result (IsLoweringWith root.old.world.now root.old.items.defs root.new.items.defs function (lower_options root.old.world.now (user_of self.now.user.which) call.entry.import.now)) }
+        ensures realloc { OnOk result (IsTrue (needs (lower_needs root.old.world.now call.entry.import.now) 2) → IsSome (lower_realloc root.old.world.now (user_of self.now.user.which))) }
+        ensures cause { IfErr result (IsCauseAmong root.old.world.now (record { of = user_of self.now.user.which; core = import_at call.entry.place call.entry.import.now } ∷ []) []) }
     {
-        let function = *self.functions.get(name).unwrap();
-        let options = Seq::new(root.items.allocator());
+        let options = self.direct_options(root, call)?;
         let index = root
             .items
             .lower_function(Some(name.as_str()), function, options)?;
         Ok(index)
     }
 
+    /// Lowers a root function that was imported.
+    ///
+    /// `E8` where it needs a realloc and there is none for the module.
+    fn lower_function(
+        &self,
+        root: &mut RootScope<'_, ComponentWorld>,
+        call: DirectCall<'_>,
+        name: &Text,
+    ) -> Result<u32, StateFault>
+        requires sources { AreSources root.old.world.now self.now root.old.met root.old.items.defs root.old.maps root.old.instances }
+        requires direct { IsDirectCall root.old.world.now (user_of self.now.user.which) self.now.user.found.now call }
+        requires used { IsSome (found name.now self.now.functions.now) }
+        ensures same { root.new ≡ record root.old { items = root.new.items } }
+        ensures extends { Extends root.old.items root.new.items }
+        ensures grows { OnOk result (Grows root.old.world.now root.old.items.defs root.new.items.defs []) }
+        ensures lowered { IfOk result (λ index. IsItemFor root.old.world.now root.new.items.defs CoreFunc index (Lowered (OfRoot name.now) (lower_options root.old.world.now (user_of self.now.user.which) call.entry.import.now))) }
+        ensures realloc { OnOk result (IsTrue (needs (lower_needs root.old.world.now call.entry.import.now) 2) → IsSome (lower_realloc root.old.world.now (user_of self.now.user.which))) }
+        ensures cause { IfErr result (IsCauseAmong root.old.world.now (record { of = user_of self.now.user.which; core = import_at call.entry.place call.entry.import.now } ∷ []) []) }
+    {
+        let function = *self.functions.get(name).unwrap();
+        let index = self.lower_call(root, call, name, function)?;
+        Ok(index)
+    }
+
     /// Lowers a function of an imported interface, as the interface's instance exports it.
+    ///
+    /// `E8` where it needs a realloc and there is none for the module.
     fn lower_interface_function(
         &self,
         root: &mut RootScope<'_, ComponentWorld>,
+        call: DirectCall<'_>,
         interface: InterfaceId,
         name: &Text,
-    ) -> Result<u32, BuildFault>
+    ) -> Result<u32, StateFault>
         requires sources { AreSources root.old.world.now self.now root.old.met root.old.items.defs root.old.maps root.old.instances }
+        requires direct { IsDirectCall root.old.world.now (user_of self.now.user.which) self.now.user.found.now call }
         requires imported { IsUsedOfInterface root.old.world.now interface name.now }
         ensures same { root.new ≡ record root.old { items = root.new.items } }
         ensures extends { Extends root.old.items root.new.items }
         ensures grows { OnOk result (Grows root.old.world.now root.old.items.defs root.new.items.defs []) }
-        ensures lowered { IfOk result (λ index. IsItemFor root.old.world.now root.new.items.defs CoreFunc index (Lowered (OfInterface interface name.now) [])) }
-        ensures cause { IfErr result IsRefusal }
+        ensures lowered { IfOk result (λ index. IsItemFor root.old.world.now root.new.items.defs CoreFunc index (Lowered (OfInterface interface name.now) (lower_options root.old.world.now (user_of self.now.user.which) call.entry.import.now))) }
+        ensures realloc { OnOk result (IsTrue (needs (lower_needs root.old.world.now call.entry.import.now) 2) → IsSome (lower_realloc root.old.world.now (user_of self.now.user.which))) }
+        ensures cause { IfErr result (IsCauseAmong root.old.world.now (record { of = user_of self.now.user.which; core = import_at call.entry.place call.entry.import.now } ∷ []) []) }
     {
         let instance = *root.instances.get(&interface).unwrap();
         let aliased = root.items.alias_function(instance, name)?;
-        let options = Seq::new(root.items.allocator());
-        let index = root
-            .items
-            .lower_function(Some(name.as_str()), aliased, options)?;
+        let index = self.lower_call(root, call, name, aliased)?;
         Ok(index)
     }
 
@@ -166,68 +203,88 @@ impl ImportSources<'_> {
         self.shim(root, &kind)
     }
 
-    /// What an import of a root function is given: its shim, or else a lowering without options.
+    /// What an import of a root function is given: its shim, or else a lowering.
     ///
-    /// `E9` where it has no string encoding.
+    /// `E8` where it is lowered with a realloc and there is none for the module, `E9` where it has no string encoding.
     fn give_root_function(
         &self,
         root: &mut RootScope<'_, ComponentWorld>,
         place: CorePlace<'_>,
+        import: &Import,
         name: &Text,
         function: &Text,
         abi: AbiVariant,
     ) -> Result<u32, StateFault>
         requires sources { AreSources root.old.world.now self.now root.old.met root.old.items.defs root.old.maps root.old.instances }
-        requires present { Contains (imports_of self.now.user.found.now) (import_at place (imports.WorldFunc (keys.Name name.now) function.now abi)) }
+        requires role { import.now ≡ imports.WorldFunc (keys.Name name.now) function.now abi }
+        requires present { Contains (imports_of self.now.user.found.now) (import_at place import.now) }
         ensures same { root.new ≡ record root.old { items = root.new.items } }
         ensures extends { Extends root.old.items root.new.items }
         ensures grows { OnOk result (Grows root.old.world.now root.old.items.defs root.new.items.defs []) }
-        ensures given { IfOk result (λ index. IsGivenFor root.old.world.now root.new.items.defs CoreFunc index (link_of root.old.world.now (user_of self.now.user.which) (imports.WorldFunc (keys.Name name.now) function.now abi))) }
-        ensures supplied { OnOk result (IsSuppliedImport root.old.world.now (user_of self.now.user.which) (imports.WorldFunc (keys.Name name.now) function.now abi)) }
-        ensures cause { IfErr result (IsCauseAmong root.old.world.now (record { of = user_of self.now.user.which; core = import_at place.entry (imports.WorldFunc (keys.Name name.now) function.now abi) } ∷ []) []) }
+        ensures given { IfOk result (λ index. IsGivenFor root.old.world.now root.new.items.defs CoreFunc index (link_of root.old.world.now (user_of self.now.user.which) import.now)) }
+        ensures supplied { OnOk result (IsSuppliedImport root.old.world.now (user_of self.now.user.which) import.now) }
+        ensures cause { IfErr result (IsCauseAmong root.old.world.now (record { of = user_of self.now.user.which; core = import_at place.entry import.now } ∷ []) []) }
     {
         let alloc = root.items.allocator();
         let key = WorldKey::Name(name.clone(alloc)?);
         let encoding = import_encoding(alloc, self.user.found, place, &key, function)?;
         match self.shim_of_call(root, None, function, abi, encoding)? {
             Some(index) => Ok(index),
-            None => Ok(self.lower_function(root, name)?),
+            None => {
+                let call = DirectCall {
+                    place,
+                    import,
+                    encoding,
+                };
+                let lowered = self.lower_function(root, call, name)?;
+                Ok(lowered)
+            }
         }
     }
 
-    /// What an import of a function of an interface is given: its shim, or else a lowering without options of what the
-    /// interface's instance exports.
+    /// What an import of a function of an interface is given: its shim, or else a lowering of what the interface's instance exports.
     ///
-    /// `E9` where it has no string encoding.
+    /// `E8` where it is lowered with a realloc and there is none for the module, `E9` where it has no string encoding.
     fn give_interface_function(
         &self,
         root: &mut RootScope<'_, ComponentWorld>,
         place: CorePlace<'_>,
+        import: &Import,
         key: &WorldKey,
         interface: InterfaceId,
         function: &Text,
         abi: AbiVariant,
     ) -> Result<u32, StateFault>
         requires sources { AreSources root.old.world.now self.now root.old.met root.old.items.defs root.old.maps root.old.instances }
-        requires present { Contains (imports_of self.now.user.found.now) (import_at place (imports.InterfaceFunc key.now interface function.now abi)) }
+        requires role { import.now ≡ imports.InterfaceFunc key.now interface function.now abi }
+        requires present { Contains (imports_of self.now.user.found.now) (import_at place import.now) }
         ensures same { root.new ≡ record root.old { items = root.new.items } }
         ensures extends { Extends root.old.items root.new.items }
         ensures grows { OnOk result (Grows root.old.world.now root.old.items.defs root.new.items.defs []) }
-        ensures given { IfOk result (λ index. IsGivenFor root.old.world.now root.new.items.defs CoreFunc index (link_of root.old.world.now (user_of self.now.user.which) (imports.InterfaceFunc key.now interface function.now abi))) }
-        ensures supplied { OnOk result (IsSuppliedImport root.old.world.now (user_of self.now.user.which) (imports.InterfaceFunc key.now interface function.now abi)) }
-        ensures cause { IfErr result (IsCauseAmong root.old.world.now (record { of = user_of self.now.user.which; core = import_at place.entry (imports.InterfaceFunc key.now interface function.now abi) } ∷ []) []) }
+        ensures given { IfOk result (λ index. IsGivenFor root.old.world.now root.new.items.defs CoreFunc index (link_of root.old.world.now (user_of self.now.user.which) import.now)) }
+        ensures supplied { OnOk result (IsSuppliedImport root.old.world.now (user_of self.now.user.which) import.now) }
+        ensures cause { IfErr result (IsCauseAmong root.old.world.now (record { of = user_of self.now.user.which; core = import_at place.entry import.now } ∷ []) []) }
     {
         let alloc = root.items.allocator();
         let encoding = import_encoding(alloc, self.user.found, place, key, function)?;
         match self.shim_of_call(root, Some(key), function, abi, encoding)? {
             Some(index) => Ok(index),
-            None => Ok(self.lower_interface_function(root, interface, function)?),
+            None => {
+                let call = DirectCall {
+                    place,
+                    import,
+                    encoding,
+                };
+                let lowered = self.lower_interface_function(root, call, interface, function)?;
+                Ok(lowered)
+            }
         }
     }
 
     /// What an import of the module is given: the kind and the index of a core item.
     ///
-    /// `E7` where the import is main's memory and main exports none, `E9` where the function of the import has no string encoding.
+    /// `E7` where the import is main's memory and main has none, `E8` where the function of the import is lowered with a realloc and
+    /// there is none for the module, `E9` where it has no string encoding.
     pub fn materialize_import(
         &self,
         root: &mut RootScope<'_, ComponentWorld>,
@@ -247,12 +304,12 @@ impl ImportSources<'_> {
         let place = CorePlace { module, field };
         match import {
             Import::WorldFunc(WorldKey::Name(name), function, abi) => {
-                let index = self.give_root_function(root, place, name, function, *abi)?;
+                let index = self.give_root_function(root, place, import, name, function, *abi)?;
                 Ok((ExportKind::Func, index))
             }
             Import::InterfaceFunc(key, interface, function, abi) => {
                 let index = self.give_interface_function(
-                    root, place, key, *interface, function, *abi,
+                    root, place, import, key, *interface, function, *abi,
                 )?;
                 Ok((ExportKind::Func, index))
             }

@@ -11,11 +11,11 @@ ghost use Rattle.comp_items.specs.Items.{Extends};
 ghost use Rattle.comp_links.specs.Links.{module_of};
 ghost use Rattle.comp_links.specs.Roles.{field_path};
 ghost use Rattle.comp_links.specs.Targets.{Main, Adapter, ExportOf, MainMemory};
-ghost use Rattle.comp_roles.specs.Lookups.{first_memory};
-ghost use Rattle.comp_terms.specs.Planned.{IsItemFor, IsShimFor};
+ghost use Rattle.comp_terms.specs.Planned.{main_memory, IsItemFor, IsShimFor};
 ghost use Rattle.comp_terms.specs.Rules.{Grows};
-ghost use Rattle.comp_worlds.specs.Offered.{OffersItem, NamedOffers};
+ghost use Rattle.comp_worlds.specs.Offered.{memory_of_main, OffersItem, NamedOffers};
 ghost use Rattle.core_options.specs.Causes.{IsMemoryRefusal};
+ghost use Rattle.core_options.specs.MainOptions.{IsMemoryIf};
 ghost use Rattle.main_instance.specs.Sources.{AreSources, IsBehindMain, IsMade, instance_in, adapter_kind};
 ghost use Rattle.root_imports.specs.RootScopes.{IsRefusal};
 ghost use Rattle.shim_plan.specs.Plans.{shim_of};
@@ -27,7 +27,7 @@ use byte_encoding::BuildFault;
 use comp_bytes::CoreArgument;
 use comp_lists::Text;
 use comp_worlds::{ComponentWorld, Item, MainOrAdapter};
-use core_options::{StateFault, memory_name, memory_of_main};
+use core_options::StateFault;
 use root_imports::RootScope;
 use shim_plan::ShimKind;
 use standard_kinds::ExportKind;
@@ -43,26 +43,20 @@ fn kind_of_adapter(alloc: Global, adapter: &Text, function: &Text) -> Result<Shi
 }
 
 impl ImportSources<'_> {
-    /// Main's memory, the first that it exports, for the core import of this place.
+    /// Main's memory, for the core import of this place.
     ///
-    /// `E7` where main exports none.
+    /// `E7` where main has none.
     pub(crate) fn main_memory(
         &self,
-        root: &mut RootScope<'_, ComponentWorld>,
+        root: &RootScope<'_, ComponentWorld>,
         place: CorePlace<'_>,
     ) -> Result<u32, StateFault>
-        requires sources { AreSources root.old.world.now self.now root.old.met root.old.items.defs root.old.maps root.old.instances }
-        requires behind { IsBehindMain root.old.items.defs self.now.main }
-        ensures same { root.new ≡ record root.old { items = root.new.items } }
-        ensures extends { Extends root.old.items root.new.items }
-        ensures grows { OnOk result (Grows root.old.world.now root.old.items.defs root.new.items.defs []) }
-        ensures given { IfOk result (λ index. IsItemFor root.old.world.now root.new.items.defs CoreMemory index MainMemory) }
-        ensures there { OnOk result (IsSome (first_memory root.old.world.now.main.exports.exports)) }
-        ensures cause { IfErr result (IsMemoryRefusal root.old.world.now (field_path place.entry.«module».now place.entry.field.now)) }
+        requires memory { IsMemoryIf root.now.items.defs (main_memory root.now.world.now) self.now.memory }
+        ensures given { IfOk result (λ index. IsItemFor root.now.world.now root.now.items.defs CoreMemory index MainMemory) }
+        ensures there { OnOk result (IsSome (memory_of_main root.now.world.now.main)) }
+        ensures cause { IfErr result (IsMemoryRefusal root.now.world.now (field_path place.entry.«module».now place.entry.field.now)) }
     {
-        let instance = self.main.unwrap();
-        let memory = memory_name(root.world);
-        match memory_of_main(root, instance, memory)? {
+        match self.memory {
             Some(index) => Ok(index),
             None => {
                 let place = path_of_import(root.items.allocator(), place)?;

@@ -3,8 +3,11 @@
 
 ghost use Rattle.std.specs.Prelude.{◌≡◌, ◌<◌, ◌^◌, [], length, None, IfOk, IfErr, OnOk};
 ghost use Rattle.comp_terms.specs.Rules.{Grows};
+ghost use Rattle.comp_terms.specs.Terms.{IsInstanceOf};
 ghost use Rattle.comp_worlds.specs.Encodable.{IsEncodable};
-ghost use Rattle.main_instance.specs.Sources.{IsShimAlias, IsShimInstance};
+ghost use Rattle.comp_worlds.specs.Offered.{shared_memory};
+ghost use Rattle.core_options.specs.MainOptions.{IsMemoryIf};
+ghost use Rattle.main_instance.specs.Sources.{IsShimAlias, IsShimInstance, shared_export};
 ghost use Rattle.comp_bytes.specs.Spaces.{items_in};
 ghost use Rattle.comp_bytes.specs.declared.space.Space.TheVariants as spaces;
 ghost use Rattle.comp_items.specs.Items.{Extends};
@@ -28,7 +31,7 @@ fn instantiate_shims(
     module: &Module,
     debug_names: bool,
 ) -> Result<u32, BuildFault>
-    requires module { «module».now ≡ sections_of_shims None (shims_of root.old.world.now) debug_names }
+    requires module { «module».now ≡ sections_of_shims (shared_memory root.old.world.now) (shims_of root.old.world.now) debug_names }
     requires room { length (shims_of root.old.world.now) < 2 ^ 32 }
     requires first { instances_in root.old.items.defs ≡ [] }
     requires next { items_in spaces.CoreModule root.old.items.defs ≡ shims_number root.old.world.now }
@@ -41,7 +44,7 @@ fn instantiate_shims(
     let module = module.core_module(alloc)?;
     let index = root
         .items
-        .core_module(Some("wit-component-shim-module"), module.as_slice())?;
+        .core_module(Some("wit-component-shim-module"), module.bytes())?;
     let instance = root.items.core_instance(
         Some("wit-component-shim-instance"),
         index,
@@ -76,26 +79,65 @@ pub fn shim_alias(
     Ok(Some(index))
 }
 
-/// Adds the module of shims and its instance, where there are shims: it is the first core instance of a component. The answer is
-/// the index of the instance. After a refusal the definitions that were made until then stay.
+/// The alias of the memory that main imports, as the module of shims exports it, if main imports one.
+fn shared_memory(
+    root: &mut RootScope<'_, ComponentWorld>,
+    shim_instance: u32,
+) -> Result<Option<u32>, BuildFault>
+    requires made { IsInstanceOf root.old.items.defs shim_instance (shims_number root.old.world.now) }
+    ensures same { root.new ≡ record root.old { items = root.new.items } }
+    ensures extends { Extends root.old.items root.new.items }
+    ensures grows { OnOk result (Grows root.old.world.now root.old.items.defs root.new.items.defs []) }
+    ensures memory { IfOk result (IsMemoryIf root.new.items.defs (shared_export root.old.world.now)) }
+    ensures cause { IfErr result IsRefusal }
+{
+    match root.world.main.imports.imported_memory() {
+        Some(_) => {
+            let index = root.items.core_memory(shim_instance, "$memory")?;
+            Ok(Some(index))
+        }
+        None => Ok(None),
+    }
+}
+
+/// What is made of the module of shims.
+#[derive(Clone, Copy)]
+pub struct MadeShims {
+    /// Its instance, where there is one.
+    pub instance: Option<u32>,
+    /// The alias of the memory that main imports, if it imports one.
+    pub memory: Option<u32>,
+}
+
+/// Adds the module of shims and its instance, where there are shims or main imports its memory: it is the first core instance of a
+/// component. With an alias of that memory. After a refusal the definitions that were made until then stay.
 pub fn encode_shim_instantiation(
     root: &mut RootScope<'_, ComponentWorld>,
     shims: &Shims,
     debug_names: bool,
-) -> Result<Option<u32>, BuildFault>
+) -> Result<MadeShims, BuildFault>
     requires shims { shims.now ≡ shims_of root.old.world.now }
     requires first { instances_in root.old.items.defs ≡ [] }
     requires next { items_in spaces.CoreModule root.old.items.defs ≡ shims_number root.old.world.now }
     ensures same { root.new ≡ record root.old { items = root.new.items } }
     ensures extends { Extends root.old.items root.new.items }
-    ensures added { IfOk result (MayAddShims root.old.world.now debug_names root.old.items.defs root.new.items.defs) }
+    ensures added { IfOk result (λ made. MayAddShims root.old.world.now debug_names root.old.items.defs root.new.items.defs made.instance) }
+    ensures memory { IfOk result (λ made. IsMemoryIf root.new.items.defs (shared_export root.old.world.now) made.memory) }
     ensures cause { IfErr result IsRefusal }
 {
-    match module_of_shims(root.items.allocator(), None, shims, debug_names)? {
+    let memory = root.world.main.imports.imported_memory();
+    match module_of_shims(root.items.allocator(), memory, shims, debug_names)? {
         Some(module) => {
             let instance = instantiate_shims(root, &module, debug_names)?;
-            Ok(Some(instance))
+            let memory = shared_memory(root, instance)?;
+            Ok(MadeShims {
+                instance: Some(instance),
+                memory,
+            })
         }
-        None => Ok(None),
+        None => Ok(MadeShims {
+            instance: None,
+            memory: None,
+        }),
     }
 }

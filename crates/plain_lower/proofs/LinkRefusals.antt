@@ -11,7 +11,6 @@ use Rattle.core_types.specs.contracts.types.FuncTypePartialEq.TheImpl as same_fu
 use Rattle.standard_kinds.specs.declared.kinds.ExportKind.{ExportKind}
 use Rattle.standard_kinds.specs.contracts.kinds.ExportKindPartialEq.TheImpl as same_kind
 use Rattle.comp_roles.specs.CoreImports.{CoreImport, fields_of, role_at}
-use Rattle.comp_roles.specs.Lookups.{memory_of_import, imported_memory, first_memory}
 use Rattle.comp_roles.specs.Matching.{kind_of, matches, has_numbers}
 use Rattle.comp_roles.specs.declared.imports.Import.{Import}
 use Rattle.comp_roles.specs.declared.imports.Import.TheVariants as imports
@@ -23,7 +22,7 @@ use Rattle.comp_roles.specs.declared.offered.ExternType.{ExternType}
 use Rattle.comp_roles.specs.declared.offered.ExternType.TheVariants as externs
 use Rattle.comp_roles.specs.declared.offered.ImportType.{ImportType}
 use Rattle.comp_worlds.specs.Lookups.{found_module}
-use Rattle.comp_worlds.specs.Offered.{OffersItem, OffersMatching, NamedOffers, NamedMatches, AdapterOffers, MemoryMatches}
+use Rattle.comp_worlds.specs.Offered.{OffersItem, OffersMatching, NamedOffers, NamedMatches, AdapterOffers, memory_of_main, MemoryMatches}
 use Rattle.comp_worlds.specs.Uses.{imports_of}
 use Rattle.comp_worlds.specs.WorldTables.{whole_of}
 use Rattle.comp_worlds.specs.Worlds.{IsNotOfMain}
@@ -40,12 +39,12 @@ use Rattle.record_imports.specs.Memories.{memories_fit}
 use Rattle.record_imports.proofs.Refusing.{has_memory_cause, no_memory_cause}
 use Rattle.supported_worlds.specs.Links.{IsRoleLinked, IsImportLinked}
 use Rattle.plain_lower.specs.Giving.{importer_of, passes_if, exports_name, not_offered, memory_matches, memory_given, offered_given, export_given, is_function, offered_function, of_adapter, adapter_export_given, module_named, of_module, argument_given, role_given, match_given, match_named, type_given, whole_given, matching_given}
-use Rattle.plain_lower.specs.LinkCauses.{NotOffered, not_exported, not_given, RoleCause, unmatched_memory, own_export, not_of_main, of_another_kind, for_main_or_libraries, no_adapter, not_of_adapter, of_another_type, with_references, item_of_main, no_module_of_item, item_not_offered, item_of_another_kind, NotMatching, no_module, not_of_named, of_unmatched_type, TypeCause, not_there, unmatched, of_item, of_instance, instance_of_main, GivenCause, by_role, by_type, LinkCause, memories, to_main, own_memory, to_adapter}
-use Rattle.plain_lower.specs.Linking.{each_passes, import_given, typed_given, module_given, adapter_given, no_own_memory, links_pass}
+use Rattle.plain_lower.specs.LinkCauses.{NotOffered, not_exported, not_given, RoleCause, unmatched_memory, own_export, not_of_main, of_another_kind, for_main_or_libraries, no_adapter, not_of_adapter, of_another_type, with_references, item_of_main, no_module_of_item, item_not_offered, item_of_another_kind, NotMatching, no_module, not_of_named, of_unmatched_type, TypeCause, not_there, unmatched, of_item, of_instance, instance_of_main, GivenCause, by_role, by_type, LinkCause, memories, to_main, to_adapter}
+use Rattle.plain_lower.specs.Linking.{each_passes, import_given, typed_given, module_given, adapter_given, links_pass}
 use Rattle.plain_lower.specs.Reports.{missing, unfit}
 use Rattle.plain_lower.specs.declared.giving.Importer.{Importer}
 use Rattle.plain_lower.specs.declared.giving.Importer.TheVariants as importers
-use Rattle.plain_lower.proofs.Linked.{NotOwn, named_is, role_linked, not_of_main as is_not_of_main, type_linked, PassesAll, links_hold}
+use Rattle.plain_lower.proofs.Linked.{named_is, role_linked, not_of_main as is_not_of_main, type_linked, PassesAll, links_hold}
 use Rattle.plain_lower.proofs.SameTypes.{same_kinds, same_functions}
 
 -- ---- checks that fail
@@ -71,12 +70,6 @@ none-some o x a b = absurd cc
 
 same_some : {X : Type 0} (o : Option X) (x y : X) → o ≡ Some x → o ≡ Some y → x ≡ y
 same_some o x y a b = cc
-
-adapter_is_main : importers.Adapter ≡ importers.Main → ⊥
-adapter_is_main e = absurd cc
-
-library_is_main : importers.Library ≡ importers.Main → ⊥
-library_is_main e = absurd cc
 
 left_false : (b : Bool) → (b && true) ≡ false → b ≡ false
 left_false true h = absurd (true≢false h)
@@ -108,17 +101,12 @@ module _ (p : WorldParts) where
   -- ---- roles that are refused
 
   module _ (importer : Importer) (i : CoreImport) (f : Refusal) where
-    memory_fails : (required : MemoryType) → (importer ≡ importers.Main → ⊥) → i.role ≡ imports.MainModuleMemory required → (o : Option (List ℕ × MemoryType)) → first_memory p.main.exports.exports ≡ o
+    memory_fails : (required : MemoryType) → i.role ≡ imports.MainModuleMemory required → (o : Option MemoryType) → memory_of_main p.main ≡ o
         → passes_if (memory_matches required o) (unfit i.field) ≡ refused f → RoleCause p importer i f
-    memory_fails required other role None is e = absurd cc
-    memory_fails required other role (Some m) is e =
-        let h = failed_if (memory_matches required (Some m)) (unfit i.field) f e in
-        reported (RoleCause p importer i) (refusals.CoreType i.field) f h.1 (unmatched_memory required m.1 m.0 other role is h.0)
-
-    memory_refused : (required : MemoryType) → i.role ≡ imports.MainModuleMemory required → (from : Importer) → importer ≡ from → memory_given from p.main i.field required ≡ refused f → RoleCause p importer i f
-    memory_refused required role importers.Main is e = absurd cc
-    memory_refused required role importers.Adapter is e = memory_fails required (λ main. adapter_is_main (sym is ∙ main)) role (first_memory p.main.exports.exports) refl e
-    memory_refused required role importers.Library is e = memory_fails required (λ main. library_is_main (sym is ∙ main)) role (first_memory p.main.exports.exports) refl e
+    memory_fails required role None is e = absurd cc
+    memory_fails required role (Some memory) is e =
+        let h = failed_if (memory_matches required (Some memory)) (unfit i.field) f e in
+        reported (RoleCause p importer i) (refusals.CoreType i.field) f h.1 (unmatched_memory required memory role is h.0)
 
     item_fails : (name : List ℕ) (kind : ExportKind) → i.role ≡ imports.MainModuleExport name kind → (o : Option ExternType) → found name p.main.offered ≡ o
         → offered_given p.main i.module_name i.field name kind o ≡ refused f → RoleCause p importer i f
@@ -176,7 +164,7 @@ module _ (p : WorldParts) where
       argument_refused importers.Library is e = module_fails (module_named p.main p.adapters item.which) refl e
 
     role_refused : (role : Import) → i.role ≡ role → role_given importer p.main p.adapters i.module_name i.field role ≡ refused f → RoleCause p importer i f
-    role_refused (imports.MainModuleMemory required) is e = memory_refused required is importer refl e
+    role_refused (imports.MainModuleMemory required) is e = memory_fails required is (memory_of_main p.main) refl e
     role_refused (imports.MainModuleExport name kind) is e = export_refused name kind is importer refl e
     role_refused (imports.AdapterExport adapter name required) is e = adapter_refused adapter name required is importer refl e
     role_refused (imports.Item item) is e = argument_refused item is importer refl e
@@ -227,25 +215,17 @@ module _ (p : WorldParts) where
     | inr a ↦ let one = one_fails (typed_given importer p.main p.adapters m.imports.modules) m.imported f a.2 in by_type one.0 f one.1 (type_refused importer m one.0 f (found one.0.module_name m.imports.modules) refl one.2)
   ]
 
-  own_refused : (f : Refusal) (o : Option MemoryType) → imported_memory p.main.imports.modules ≡ o → no_own_memory o ≡ refused f → LinkCause p f
-  own_refused f None is e = absurd cc
-  own_refused f (Some type) is e = reported (LinkCause p) (refusals.LeftOut (codes "memory")) f (cc (e)) (own_memory type is)
-
   links_refused : (f : Refusal) → links_pass p ≡ refused f → LinkCause p f
   unfolding links_pass
   links_refused f e =
-      let last : Result ⊤ Failure = no_own_memory (imported_memory p.main.imports.modules) in
       let others : Result ⊤ Failure = each_passes (adapter_given p.main p.adapters) p.adapters in
-      elim (bind_err (memories_fit p.main.imports.modules) (λ _. module_given importers.Main p.main p.adapters p.main >>= λ _. others >>= λ _. last) (failures.Refused f) e) [
+      elim (bind_err (memories_fit p.main.imports.modules) (λ _. module_given importers.Main p.main p.adapters p.main >>= λ _. others) (failures.Refused f) e) [
         | inl h ↦ memories f (has_memory_cause p.main.imports.modules (failures.Refused f) (λ other. h) f refl)
-        | inr a ↦ elim (bind_err (module_given importers.Main p.main p.adapters p.main) (λ _. others >>= λ _. last) (failures.Refused f) a.2) [
+        | inr a ↦ elim (bind_err (module_given importers.Main p.main p.adapters p.main) (λ _. others) (failures.Refused f) a.2) [
           | inl h ↦ to_main f (module_refused importers.Main p.main f h)
-          | inr b ↦ elim (bind_err others (λ _. last) (failures.Refused f) b.2) [
-            | inl h ↦
-                let one = one_fails (adapter_given p.main p.adapters) p.adapters f h in
-                to_adapter one.0 f one.1 (module_refused (importer_of one.0.1.library_info) one.0.1.info f one.2)
-            | inr c ↦ own_refused f (imported_memory p.main.imports.modules) refl c.2
-          ]
+          | inr b ↦
+              let one = one_fails (adapter_given p.main p.adapters) p.adapters f b.2 in
+              to_adapter one.0 f one.1 (module_refused (importer_of one.0.1.library_info) one.0.1.info f one.2)
         ]
       ]
 
@@ -255,16 +235,13 @@ module _ (p : WorldParts) where
 
   -- ---- where all pass there is no cause
 
-  module _ (importer : Importer) (i : CoreImport) (other : NotOwn importer i.role) (pass : import_given importer p.main p.adapters i ≡ Ok tt) where
-    other_as : (role : Import) → i.role ≡ role → NotOwn importer role
-    other_as role is main = ap memory_of_import (sym is) ∙ other main
-
+  module _ (importer : Importer) (i : CoreImport) (pass : import_given importer p.main p.adapters i ≡ Ok tt) where
     linked_as : (role : Import) → i.role ≡ role → IsRoleLinked (whole_of p) role
-    linked_as role is = role_linked p importer i.module_name i.field role tt (other_as role is) (ap (role_given importer p.main p.adapters i.module_name i.field) (sym is) ∙ pass)
+    linked_as role is = role_linked p importer i.module_name i.field role tt (ap (role_given importer p.main p.adapters i.module_name i.field) (sym is) ∙ pass)
 
     not_own : (role : Import) → importer ≡ importers.Main → i.role ≡ role → IsNotOfMain role
     not_own role main is =
-        is_not_of_main p i.module_name i.field role tt (λ _. other_as role is main)
+        is_not_of_main p i.module_name i.field role tt
         (ap (λ (from : Importer). role_given from p.main p.adapters i.module_name i.field role) (sym main) ∙ (ap (role_given importer p.main p.adapters i.module_name i.field) (sym is) ∙ pass))
 
     no_adapters : (adapter name : List ℕ) (required : FuncType) → importer ≡ importers.Adapter → i.role ≡ imports.AdapterExport adapter name required → ⊥
@@ -275,8 +252,8 @@ module _ (p : WorldParts) where
         absurd cc
 
     no_role_cause : (f : Refusal) → RoleCause p importer i f → ⊥
-    no_role_cause f (unmatched_memory required memory name elsewhere is first fails) =
-        let h : MemoryMatches (whole_of p) required = linked_as (imports.MainModuleMemory required) is in true≢false (sym (h.matching name memory first) ∙ fails)
+    no_role_cause f (unmatched_memory required memory is first fails) =
+        let h : MemoryMatches (whole_of p) required = linked_as (imports.MainModuleMemory required) is in true≢false (sym (h.matching memory first) ∙ fails)
     no_role_cause f (own_export name kind main is) = not_own (imports.MainModuleExport name kind) main is
     no_role_cause f (not_of_main name kind g is none) =
         let h : OffersItem p.main name kind = linked_as (imports.MainModuleExport name kind) is in none-some (found name p.main.offered) h.type (is_none p.main name i.module_name i.field g none) h.offered
@@ -342,14 +319,13 @@ module _ (p : WorldParts) where
 
   no_given_cause : (importer : Importer) (m : ValidatedModule) (f : Refusal) → PassesAll p importer m → GivenCause p importer m f → ⊥
   no_given_cause importer m f h (by_role i g there c) =
-      no_role_cause importer i (AllByRecursion-contains (λ x. NotOwn importer x.role) (imports_of m) i h.others there) (AllByRecursion-contains (λ x. import_given importer p.main p.adapters x ≡ Ok tt) (imports_of m) i h.by_role there) g c
+      no_role_cause importer i (AllByRecursion-contains (λ x. import_given importer p.main p.adapters x ≡ Ok tt) (imports_of m) i h.by_role there) g c
   no_given_cause importer m f h (by_type i g there c) =
       no_type_cause importer m i (AllByRecursion-contains (λ x. typed_given importer p.main p.adapters m.imports.modules x ≡ Ok tt) m.imported i h.by_type there) g c
 
   pub no_cause : (t : ⊤) → links_pass p ≡ Ok t → (f : Refusal) → LinkCause p f → ⊥
   no_cause t e f (memories g c) = let h = links_hold p t e in no_memory_cause p.main.imports.modules tt h.memories g c
   no_cause t e f (to_main g c) = let h = links_hold p t e in no_given_cause importers.Main p.main g h.main c
-  no_cause t e f (own_memory type is) = let h = links_hold p t e in none-some (imported_memory p.main.imports.modules) type h.none is
   no_cause t e f (to_adapter a g there c) =
       let h = links_hold p t e in
       no_given_cause (importer_of a.1.library_info) a.1.info g (AllByRecursion-contains (λ x. PassesAll p (importer_of x.1.library_info) x.1.info) p.adapters a h.adapters there) c

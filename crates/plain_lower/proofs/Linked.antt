@@ -11,14 +11,12 @@ use Rattle.core_types.specs.declared.types.MemoryType.{MemoryType}
 use Rattle.core_types.specs.contracts.types.FuncTypePartialEq.TheImpl as same_function
 use Rattle.standard_kinds.specs.declared.kinds.ExportKind.{ExportKind}
 use Rattle.standard_kinds.specs.contracts.kinds.ExportKindPartialEq.TheImpl as same_kind
-use Rattle.comp_roles.specs.CoreImports.{CoreImport, fields_of, imports_from}
-use Rattle.comp_roles.specs.Lookups.{memory_of_import, memory_of_fields, imported_memory, first_memory}
+use Rattle.comp_roles.specs.CoreImports.{CoreImport, fields_of}
 use Rattle.comp_roles.specs.Matching.{kind_of, matches, has_numbers}
 use Rattle.comp_roles.specs.declared.imports.Import.{Import}
 use Rattle.comp_roles.specs.declared.imports.Import.TheVariants as imports
 use Rattle.comp_roles.specs.declared.imports.ImportInstance.{ImportInstance}
 use Rattle.comp_roles.specs.declared.imports.ImportInstance.TheVariants as instances
-use Rattle.comp_roles.specs.declared.libraries.LibraryInfo.{LibraryInfo}
 use Rattle.comp_roles.specs.declared.libraries.MainOrAdapter.{MainOrAdapter}
 use Rattle.comp_roles.specs.declared.libraries.MainOrAdapter.TheVariants as users
 use Rattle.comp_roles.specs.declared.offered.ExternType.{ExternType}
@@ -26,7 +24,7 @@ use Rattle.comp_roles.specs.declared.offered.ExternType.TheVariants as externs
 use Rattle.comp_roles.specs.declared.offered.ImportType.{ImportType}
 use Rattle.comp_worlds.proofs.Matched.{one_function}
 use Rattle.comp_worlds.specs.Lookups.{found_module}
-use Rattle.comp_worlds.specs.Offered.{OffersItem, OffersMatching, NamedOffers, NamedMatches, AdapterOffers, MemoryMatches}
+use Rattle.comp_worlds.specs.Offered.{OffersItem, OffersMatching, NamedOffers, NamedMatches, AdapterOffers, memory_of_main, MemoryMatches}
 use Rattle.comp_worlds.specs.Uses.{imports_of}
 use Rattle.comp_worlds.specs.WorldTables.{whole_of}
 use Rattle.comp_worlds.specs.Worlds.{IsNotOfMain}
@@ -39,7 +37,7 @@ use Rattle.record_faults.proofs.Chains.{bind_ok}
 use Rattle.record_imports.specs.Memories.{memories_fit}
 use Rattle.supported_worlds.specs.Links.{IsRoleLinked, IsTypeLinked, IsFromInstance, IsImportLinked, IsModuleLinked, AreLinked}
 use Rattle.plain_lower.specs.Giving.{importer_of, passes_if, memory_matches, memory_given, offered_given, export_given, is_function, offered_function, of_adapter, adapter_export_given, module_named, of_module, argument_given, role_given, match_given, match_named, type_given, whole_given, matching_given}
-use Rattle.plain_lower.specs.Linking.{each_passes, import_given, typed_given, module_given, adapter_given, no_own_memory, links_pass}
+use Rattle.plain_lower.specs.Linking.{each_passes, import_given, typed_given, module_given, adapter_given, links_pass}
 use Rattle.plain_lower.specs.declared.giving.Importer.{Importer}
 use Rattle.plain_lower.specs.declared.giving.Importer.TheVariants as importers
 use Rattle.plain_lower.proofs.SameTypes.{one_kind}
@@ -57,57 +55,14 @@ both : (a b : Bool) → (a && b) ≡ true → (a ≡ true) × (b ≡ true)
 both true b e = (refl, e)
 both false b e = absurd (true≢false (sym e))
 
--- ---- main's own memory
-
--- an import of main isn't its memory
-abbrev pub NotOwn : Importer → Import → Type 0
-NotOwn importer role = importer ≡ importers.Main → memory_of_import role ≡ None
-
-no_memory : (type : MemoryType) → memory_of_import (imports.MainModuleMemory type) ≡ None → ⊥
-no_memory type e = absurd cc
-
-split_none : {A : Type 0} (a b : Option A) → option_or a b ≡ None → (a ≡ None) × (b ≡ None)
-split_none None b e = (refl, e)
-split_none (Some x) b e = absurd cc
-
-joined : {X : Type 0} (P : X → Type 0) (xs ys : List X) → AllByRecursion P xs → AllByRecursion P ys → AllByRecursion P (xs ++ ys)
-joined P [] ys h k = k
-joined P (x ∷ xs) ys h k = (h.0, joined P xs ys h.1 k)
-
-none_in_fields : (name : List ℕ) (fields : List (List ℕ × Import)) → memory_of_fields fields ≡ None → AllByRecursion (λ (i : CoreImport). memory_of_import i.role ≡ None) (map (λ f. record { module_name = name; field = f.0; role = f.1 }) fields)
-none_in_fields name [] e = tt
-none_in_fields name (f ∷ fields) e = let s = split_none (memory_of_import f.1) (memory_of_fields fields) e in (s.0, none_in_fields name fields s.1)
-
--- where no memory is imported, no import is one
-none_imported : (groups : List (List ℕ × ImportInstance)) → imported_memory groups ≡ None → AllByRecursion (λ (i : CoreImport). memory_of_import i.role ≡ None) (flat_map imports_from groups)
-none_imported [] e = tt
-none_imported (g ∷ groups) e =
-    let s = split_none (memory_of_fields (fields_of g.1)) (imported_memory groups) e in
-    joined (λ (i : CoreImport). memory_of_import i.role ≡ None) (imports_from g) (flat_map imports_from groups) (none_in_fields g.0 (fields_of g.1) s.0) (none_imported groups s.1)
-
-none_passed : (o : Option MemoryType) (t : ⊤) → no_own_memory o ≡ Ok t → o ≡ None
-none_passed None t e = refl
-none_passed (Some type) t e = absurd cc
-
--- an adapter isn't main
-is_no_main : (o : Option LibraryInfo) → importer_of o ≡ importers.Main → ⊥
-is_no_main None e = absurd cc
-is_no_main (Some info) e = absurd cc
-
-for_all : {X : Type 0} (P : X → Type 0) (xs : List X) → ((x : X) → P x) → AllByRecursion P xs
-for_all P [] h = tt
-for_all P (x ∷ xs) h = (h x, for_all P xs h)
-
 module _ (p : WorldParts) where
   -- ---- roles
 
-  memory_right : (required : MemoryType) → memory_matches required (first_memory p.main.exports.exports) ≡ true → MemoryMatches (whole_of p) required
-  memory_right required h = record { matching = λ name type is. ap (memory_matches required) (sym is) ∙ h }
+  memory_right : (required : MemoryType) → memory_matches required (memory_of_main p.main) ≡ true → MemoryMatches (whole_of p) required
+  memory_right required h = record { matching = λ type is. ap (memory_matches required) (sym is) ∙ h }
 
-  memory_linked : (importer : Importer) (field : List ℕ) (required : MemoryType) (t : ⊤) → NotOwn importer (imports.MainModuleMemory required) → memory_given importer p.main field required ≡ Ok t → MemoryMatches (whole_of p) required
-  memory_linked importers.Main field required t other e = absurd (no_memory required (other refl))
-  memory_linked importers.Adapter field required t other e = memory_right required (passed_if (memory_matches required (first_memory p.main.exports.exports)) _ t e)
-  memory_linked importers.Library field required t other e = memory_right required (passed_if (memory_matches required (first_memory p.main.exports.exports)) _ t e)
+  memory_linked : (field : List ℕ) (required : MemoryType) (t : ⊤) → memory_given p.main field required ≡ Ok t → MemoryMatches (whole_of p) required
+  memory_linked field required t e = memory_right required (passed_if (memory_matches required (memory_of_main p.main)) _ t e)
 
   item_linked : (m : ValidatedModule) (from field name : List ℕ) (kind : ExportKind) (o : Option ExternType) (t : ⊤) → found name m.offered ≡ o → offered_given m from field name kind o ≡ Ok t → OffersItem m name kind
   item_linked m from field name kind None t is e = absurd cc
@@ -155,19 +110,18 @@ module _ (p : WorldParts) where
   argument_linked importers.Adapter which from field name kind t e = of_module_linked which from field name kind (module_named p.main p.adapters which) t refl e
   argument_linked importers.Library which from field name kind t e = of_module_linked which from field name kind (module_named p.main p.adapters which) t refl e
 
-  pub role_linked : (importer : Importer) (from field : List ℕ) (role : Import) (t : ⊤) → NotOwn importer role → role_given importer p.main p.adapters from field role ≡ Ok t → IsRoleLinked (whole_of p) role
-  role_linked importer from field (imports.MainModuleMemory required) t other e = memory_linked importer field required t other e
-  role_linked importer from field (imports.MainModuleExport name kind) t other e = export_linked importer from field name kind t e
-  role_linked importer from field (imports.AdapterExport adapter name required) t other e = adapter_export_linked importer adapter from field name required t e
-  role_linked importer from field (imports.Item item) t other e = argument_linked importer item.which from field item.name item.kind t e
-  role_linked importer from field role t other e = tt
+  pub role_linked : (importer : Importer) (from field : List ℕ) (role : Import) (t : ⊤) → role_given importer p.main p.adapters from field role ≡ Ok t → IsRoleLinked (whole_of p) role
+  role_linked importer from field (imports.MainModuleMemory required) t e = memory_linked field required t e
+  role_linked importer from field (imports.MainModuleExport name kind) t e = export_linked importer from field name kind t e
+  role_linked importer from field (imports.AdapterExport adapter name required) t e = adapter_export_linked importer adapter from field name required t e
+  role_linked importer from field (imports.Item item) t e = argument_linked importer item.which from field item.name item.kind t e
+  role_linked importer from field role t e = tt
 
-  -- main imports nothing of its own
-  pub not_of_main : (from field : List ℕ) (role : Import) (t : ⊤) → NotOwn importers.Main role → role_given importers.Main p.main p.adapters from field role ≡ Ok t → IsNotOfMain role
-  not_of_main from field (imports.MainModuleMemory required) t other e = no_memory required (other refl)
-  not_of_main from field (imports.MainModuleExport name kind) t other e = absurd cc
-  not_of_main from field (imports.Item item) t other e = absurd cc
-  not_of_main from field role t other e = tt
+  -- main imports no export of its own
+  pub not_of_main : (from field : List ℕ) (role : Import) (t : ⊤) → role_given importers.Main p.main p.adapters from field role ≡ Ok t → IsNotOfMain role
+  not_of_main from field (imports.MainModuleExport name kind) t e = absurd cc
+  not_of_main from field (imports.Item item) t e = absurd cc
+  not_of_main from field role t e = tt
 
   -- ---- types
 
@@ -212,61 +166,46 @@ module _ (p : WorldParts) where
   pub record PassesAll (importer : Importer) (m : ValidatedModule) : Type 0 where
     pub by_role : AllByRecursion (λ i. import_given importer p.main p.adapters i ≡ Ok tt) (imports_of m)
     pub by_type : AllByRecursion (λ i. typed_given importer p.main p.adapters m.imports.modules i ≡ Ok tt) m.imported
-    pub others : AllByRecursion (λ i. NotOwn importer i.role) (imports_of m)
 
-  module_passes : (importer : Importer) (m : ValidatedModule) (t : ⊤) → AllByRecursion (λ i. NotOwn importer i.role) (imports_of m) → module_given importer p.main p.adapters m ≡ Ok t → PassesAll importer m
-  module_passes importer m t others e =
+  module_passes : (importer : Importer) (m : ValidatedModule) (t : ⊤) → module_given importer p.main p.adapters m ≡ Ok t → PassesAll importer m
+  module_passes importer m t e =
       let a = bind_ok (each_passes (import_given importer p.main p.adapters) (imports_of m)) (λ _. each_passes (typed_given importer p.main p.adapters m.imports.modules) m.imported) t e in
       record {
         by_role = all_pass (import_given importer p.main p.adapters) (imports_of m) tt a.1;
         by_type = all_pass (typed_given importer p.main p.adapters m.imports.modules) m.imported t a.2;
-        others = others;
       }
 
-  roles_linked : (importer : Importer) (all : List CoreImport) → AllByRecursion (λ i. import_given importer p.main p.adapters i ≡ Ok tt) all → AllByRecursion (λ i. NotOwn importer i.role) all
-      → AllByRecursion (λ i. IsRoleLinked (whole_of p) i.role) all
-  roles_linked importer [] h others = tt
-  roles_linked importer (i ∷ all) h others = (role_linked importer i.module_name i.field i.role tt others.0 h.0, roles_linked importer all h.1 others.1)
+  roles_linked : (importer : Importer) (all : List CoreImport) → AllByRecursion (λ i. import_given importer p.main p.adapters i ≡ Ok tt) all → AllByRecursion (λ i. IsRoleLinked (whole_of p) i.role) all
+  roles_linked importer all h = AllByRecursion-weaker (λ (i : CoreImport) (e : import_given importer p.main p.adapters i ≡ Ok tt). role_linked importer i.module_name i.field i.role tt e) all h
 
-  none_of_main : (all : List CoreImport) → AllByRecursion (λ i. import_given importers.Main p.main p.adapters i ≡ Ok tt) all → AllByRecursion (λ i. NotOwn importers.Main i.role) all → AllByRecursion (λ i. IsNotOfMain i.role) all
-  none_of_main [] h others = tt
-  none_of_main (i ∷ all) h others = (not_of_main i.module_name i.field i.role tt others.0 h.0, none_of_main all h.1 others.1)
+  none_of_main : (all : List CoreImport) → AllByRecursion (λ i. import_given importers.Main p.main p.adapters i ≡ Ok tt) all → AllByRecursion (λ i. IsNotOfMain i.role) all
+  none_of_main all h = AllByRecursion-weaker (λ (i : CoreImport) (e : import_given importers.Main p.main p.adapters i ≡ Ok tt). not_of_main i.module_name i.field i.role tt e) all h
 
   module_linked : (importer : Importer) (m : ValidatedModule) → PassesAll importer m → IsModuleLinked (whole_of p) m
   module_linked importer m h = record {
-    roles = roles_linked importer (imports_of m) h.by_role h.others;
+    roles = roles_linked importer (imports_of m) h.by_role;
     types = AllByRecursion-weaker (λ (i : ImportType) (e : typed_given importer p.main p.adapters m.imports.modules i ≡ Ok tt). type_linked importer m i tt e) m.imported h.by_type;
   }
 
   -- all of them pass
   pub record AllPass : Type 0 where
     pub memories : memories_fit p.main.imports.modules ≡ Ok tt
-    pub none : imported_memory p.main.imports.modules ≡ None
     pub main : PassesAll importers.Main p.main
     pub adapters : AllByRecursion (λ a. PassesAll (importer_of a.1.library_info) a.1.info) p.adapters
 
   adapter_passes : (a : List ℕ × WorldAdapter) → adapter_given p.main p.adapters a ≡ Ok tt → PassesAll (importer_of a.1.library_info) a.1.info
-  adapter_passes a h =
-      let importer = importer_of a.1.library_info in
-      module_passes importer a.1.info tt (for_all (λ (i : CoreImport). NotOwn importer i.role) (imports_of a.1.info) (λ i main. absurd (is_no_main a.1.library_info main))) h
+  adapter_passes a h = module_passes (importer_of a.1.library_info) a.1.info tt h
 
   pub links_hold : (t : ⊤) → links_pass p ≡ Ok t → AllPass
   unfolding links_pass
   links_hold t e =
-      let last : Result ⊤ Failure = no_own_memory (imported_memory p.main.imports.modules) in
       let others : Result ⊤ Failure = each_passes (adapter_given p.main p.adapters) p.adapters in
-      let a = bind_ok (memories_fit p.main.imports.modules) (λ _. module_given importers.Main p.main p.adapters p.main >>= λ _. others >>= λ _. last) t e in
-      let b = bind_ok (module_given importers.Main p.main p.adapters p.main) (λ _. others >>= λ _. last) t a.2 in
-      let c = bind_ok others (λ _. last) t b.2 in
-      let none = none_passed (imported_memory p.main.imports.modules) t c.2 in
-      let elsewhere : (i : CoreImport) → memory_of_import i.role ≡ None → NotOwn importers.Main i.role = λ i h main. h in
+      let a = bind_ok (memories_fit p.main.imports.modules) (λ _. module_given importers.Main p.main p.adapters p.main >>= λ _. others) t e in
+      let b = bind_ok (module_given importers.Main p.main p.adapters p.main) (λ _. others) t a.2 in
       record {
         memories = a.1;
-        none = none;
-        main =
-            module_passes importers.Main p.main tt
-            (AllByRecursion-weaker elsewhere (imports_of p.main) (none_imported p.main.imports.modules none)) b.1;
-        adapters = AllByRecursion-weaker adapter_passes p.adapters (all_pass (adapter_given p.main p.adapters) p.adapters tt c.1);
+        main = module_passes importers.Main p.main tt b.1;
+        adapters = AllByRecursion-weaker adapter_passes p.adapters (all_pass (adapter_given p.main p.adapters) p.adapters t b.2);
       }
 
   pub are_linked : (t : ⊤) → links_pass p ≡ Ok t → AreLinked p
@@ -275,7 +214,7 @@ module _ (p : WorldParts) where
       let main = h.main in
       record {
         main_first = record {
-          roles = none_of_main (imports_of p.main) main.by_role main.others;
+          roles = none_of_main (imports_of p.main) main.by_role;
           by_roles = AllByRecursion-weaker (λ (i : ImportType) (e : typed_given importers.Main p.main p.adapters p.main.imports.modules i ≡ Ok tt). none_whole i tt e) p.main.imported main.by_type;
         };
         main = module_linked importers.Main p.main main;

@@ -11,7 +11,6 @@ use Rattle.standard_kinds.specs.declared.kinds.ExportKind.{ExportKind}
 use Rattle.core_sections.specs.Entries.{module_of}
 use Rattle.core_sections.specs.declared.core_module.CoreModule.{CoreModule}
 use Rattle.core_sections.specs.declared.fault.SectionFault.{SectionFault}
-use Rattle.comp_roles.specs.Lookups.{first_memory}
 use Rattle.comp_roles.specs.Matching.{kind_of, matches, has_numbers}
 use Rattle.comp_roles.specs.declared.imports.Import.{Import}
 use Rattle.comp_roles.specs.declared.imports.Import.TheVariants as imports
@@ -23,6 +22,7 @@ use Rattle.comp_roles.specs.declared.libraries.MainOrAdapter.TheVariants as user
 use Rattle.comp_roles.specs.declared.offered.ExternType.{ExternType}
 use Rattle.comp_roles.specs.declared.offered.ExternType.TheVariants as externs
 use Rattle.comp_roles.specs.declared.offered.ImportType.{ImportType}
+use Rattle.comp_worlds.specs.Offered.{memory_of_main}
 use Rattle.comp_worlds.specs.declared.world.ValidatedModule.{ValidatedModule}
 use Rattle.comp_worlds.specs.declared.world.WorldAdapter.{WorldAdapter}
 use Rattle.record_faults.specs.declared.fault.Failure.{Failure}
@@ -54,15 +54,13 @@ not_offered m name from field = Err (if exports_name m.bytes name then unfit fie
 
 -- ---- main's memory
 
--- an offered memory, if there is one, may be given where one of this type is imported
-abbrev pub memory_matches : MemoryType → Option (List ℕ × MemoryType) → Bool
+-- a memory of this type, if there is one, may be given where one of the other type is imported
+abbrev pub memory_matches : MemoryType → Option MemoryType → Bool
 memory_matches required None = true
-memory_matches required (Some m) = matches (externs.Memory required) (externs.Memory m.1)
+memory_matches required (Some type) = matches (externs.Memory required) (externs.Memory type)
 
--- it is given to all but main itself
-abbrev pub memory_given : Importer → ValidatedModule → List ℕ → MemoryType → Result ⊤ Failure
-memory_given importers.Main main field required = Ok tt
-memory_given importer main field required = passes_if (memory_matches required (first_memory main.exports.exports)) (unfit field)
+abbrev pub memory_given : ValidatedModule → List ℕ → MemoryType → Result ⊤ Failure
+memory_given main field required = passes_if (memory_matches required (memory_of_main main)) (unfit field)
 
 -- ---- exports of main
 
@@ -124,7 +122,7 @@ argument_given importer source from field name kind = of_module source from fiel
 
 -- an import of this module and field is given what its role names
 abbrev pub role_given : Importer → ValidatedModule → List (List ℕ × WorldAdapter) → List ℕ → List ℕ → Import → Result ⊤ Failure
-role_given importer main adapters from field (imports.MainModuleMemory required) = memory_given importer main field required
+role_given importer main adapters from field (imports.MainModuleMemory required) = memory_given main field required
 role_given importer main adapters from field (imports.MainModuleExport name kind) = export_given importer main from field name kind
 role_given importer main adapters from field (imports.AdapterExport adapter name required) = adapter_export_given importer (found adapter adapters) from field name required
 role_given importer main adapters from field (imports.Item item) = argument_given importer (module_named main adapters item.which) from field item.name item.kind

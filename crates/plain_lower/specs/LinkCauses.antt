@@ -1,12 +1,11 @@
 -- When the refusal of what modules import from each other is right: what is not there, or doesn't match. (Which module may import which
 -- is this project's own; the rest is from the core standard: imports and exports; validation: import matching.)
-use Rattle.std.specs.Prelude.{◌≡◌, ℕ, true, false, List, Some, None, codes, Contains}
+use Rattle.std.specs.Prelude.{◌≡◌, ℕ, true, false, List, Some, None, Contains}
 use Rattle.comp_lists.specs.Found.{found}
 use Rattle.core_types.specs.declared.types.FuncType.{FuncType}
 use Rattle.core_types.specs.declared.types.MemoryType.{MemoryType}
 use Rattle.standard_kinds.specs.declared.kinds.ExportKind.{ExportKind}
 use Rattle.comp_roles.specs.CoreImports.{CoreImport, role_at}
-use Rattle.comp_roles.specs.Lookups.{first_memory, imported_memory}
 use Rattle.comp_roles.specs.Matching.{kind_of, matches, has_numbers}
 use Rattle.comp_roles.specs.declared.imports.Import.TheVariants as imports
 use Rattle.comp_roles.specs.declared.imports.ImportInstance.TheVariants.{Whole}
@@ -16,6 +15,7 @@ use Rattle.comp_roles.specs.declared.offered.ExternType.{ExternType}
 use Rattle.comp_roles.specs.declared.offered.ExternType.TheVariants as externs
 use Rattle.comp_roles.specs.declared.offered.ImportType.{ImportType}
 use Rattle.comp_worlds.specs.Lookups.{found_module}
+use Rattle.comp_worlds.specs.Offered.{memory_of_main}
 use Rattle.comp_worlds.specs.Uses.{imports_of}
 use Rattle.comp_worlds.specs.WorldTables.{whole_of}
 use Rattle.comp_worlds.specs.declared.world.ValidatedModule.{ValidatedModule}
@@ -37,8 +37,8 @@ pub data NotOffered (m : ValidatedModule) (name from field : List ℕ) : Refusal
 
 -- why an import of main, of an adapter or of a library is refused by its role
 pub data RoleCause (p : WorldParts) (importer : Importer) (i : CoreImport) : Refusal → Type 0 where
-  -- main's memory doesn't match, in another module
-  unmatched_memory : (required memory : MemoryType) (name : List ℕ) → (importer ≡ importers.Main → ⊥) → i.role ≡ imports.MainModuleMemory required → first_memory p.main.exports.exports ≡ Some (name, memory)
+  -- main's memory doesn't match
+  unmatched_memory : (required memory : MemoryType) → i.role ≡ imports.MainModuleMemory required → memory_of_main p.main ≡ Some memory
       → matches (externs.Memory required) (externs.Memory memory) ≡ false → RoleCause p importer i (refusals.CoreType i.field)
   -- main imports an export of its own
   own_export : (name : List ℕ) (kind : ExportKind) → importer ≡ importers.Main → i.role ≡ imports.MainModuleExport name kind → RoleCause p importer i (refusals.RoleMissing i.module_name i.field)
@@ -105,6 +105,4 @@ pub data LinkCause (p : WorldParts) : Refusal → Type 0 where
   -- main imports its memory several times, and the first such import doesn't fit another
   memories : (f : Refusal) → MemoryCause p.main.imports.modules f → LinkCause p f
   to_main : (f : Refusal) → GivenCause p importers.Main p.main f → LinkCause p f
-  -- main imports its own memory, which is not encoded yet
-  own_memory : (type : MemoryType) → imported_memory p.main.imports.modules ≡ Some type → LinkCause p (refusals.LeftOut (codes "memory"))
   to_adapter : (a : List ℕ × WorldAdapter) (f : Refusal) → Contains p.adapters a → GivenCause p (importer_of a.1.library_info) a.1.info f → LinkCause p f

@@ -1,10 +1,8 @@
 -- What the modules of a world give to each other: main its memory and its exports, adapters their functions, and both what arguments of
 -- libraries name. (Which module may import which is this project's own.)
-use Rattle.std.specs.Prelude.{ℕ, List, [], ◌∷◌, Option, Some, None, Result, Ok, Err, codes, ⊤}
+use Rattle.std.specs.Prelude.{ℕ, List, [], ◌∷◌, Result, Ok, ⊤}
 use Rattle.comp_lists.specs.Found.{found}
-use Rattle.core_types.specs.declared.types.MemoryType.{MemoryType}
 use Rattle.comp_roles.specs.CoreImports.{CoreImport}
-use Rattle.comp_roles.specs.Lookups.{imported_memory}
 use Rattle.comp_roles.specs.declared.imports.ImportInstance.{ImportInstance}
 use Rattle.comp_roles.specs.declared.offered.ImportType.{ImportType}
 use Rattle.comp_worlds.specs.Uses.{imports_of}
@@ -15,7 +13,6 @@ use Rattle.record_faults.specs.declared.fault.Failure.{Failure}
 use Rattle.record_faults.specs.Faults.{◌>>=◌}
 use Rattle.record_imports.specs.Memories.{memories_fit}
 use Rattle.plain_lower.specs.Giving.{importer_of, role_given, matching_given}
-use Rattle.plain_lower.specs.Reports.{left_out}
 use Rattle.plain_lower.specs.declared.giving.Importer.{Importer}
 use Rattle.plain_lower.specs.declared.giving.Importer.TheVariants as importers
 
@@ -41,15 +38,9 @@ module_given importer main adapters m = do
 abbrev pub adapter_given : ValidatedModule → List (List ℕ × WorldAdapter) → List ℕ × WorldAdapter → Result ⊤ Failure
 adapter_given main adapters a = module_given (importer_of a.1.library_info) main adapters a.1.info
 
--- main imports no memory: it would be given its own, which is not encoded yet
-abbrev pub no_own_memory : Option MemoryType → Result ⊤ Failure
-no_own_memory None = Ok tt
-no_own_memory (Some type) = Err (left_out (codes "memory"))
-
 -- the imports of main, and then those of the adapters in order; where main imports its memory several times, the first import gives it
 unfoldable pub links_pass : WorldParts → Result ⊤ Failure
 links_pass p = do
   _ ← memories_fit p.main.imports.modules
   _ ← module_given importers.Main p.main p.adapters p.main
-  _ ← each_passes (adapter_given p.main p.adapters) p.adapters
-  no_own_memory (imported_memory p.main.imports.modules)
+  each_passes (adapter_given p.main p.adapters) p.adapters

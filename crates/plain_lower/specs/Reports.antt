@@ -1,11 +1,8 @@
--- The refusals of what modules import from each other, and of what is not encoded yet. (This project's own.)
+-- The refusals of what modules import from each other. (This project's own.)
 use Rattle.std.specs.Prelude.{ℕ, List}
 use Rattle.record_faults.specs.declared.fault.Failure.{Failure}
 use Rattle.record_faults.specs.declared.fault.Failure.TheVariants as failures
 use Rattle.record_faults.specs.declared.fault.Refusal.TheVariants as refusals
-
-abbrev pub left_out : List ℕ → Failure
-left_out what = failures.Refused (refusals.LeftOut what)
 
 abbrev pub missing : List ℕ → List ℕ → Failure
 missing from field = failures.Refused (refusals.RoleMissing from field)

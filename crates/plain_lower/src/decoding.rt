@@ -9,7 +9,7 @@ ghost use Rattle.record_faults.specs.Faults.{Gives, flat};
 ghost use Rattle.json_paths.specs.Faults.{Gives as GivesRecord};
 ghost use Rattle.plain_lower.specs.ModuleRecords.{records_in, said_in, decoding, merging};
 
-use comp_lists::{Bytes, Seq};
+use comp_lists::{Seq, SharedBytes};
 use core_sections::strip;
 use json_paths::Failure as RecordFailure;
 use record_faults::Failure;
@@ -44,14 +44,14 @@ fn read_said(alloc: Global, texts: &[&[u8]]) -> Result<Bindgen, RecordFailure>
 
 /// A module without its records, and what these say.
 #[tactic(auto, unfolding(crate::specs::ModuleRecords::decoding))]
-pub(crate) fn decode(alloc: Global, bytes: &[u8]) -> Result<(Bytes, Bindgen), Failure>
+pub(crate) fn decode(alloc: Global, bytes: &[u8]) -> Result<(SharedBytes, Bindgen), Failure>
     ensures exact { Gives (λ d. d) result (decoding bytes.now) }
     ensures cause { IfErr result (λ e. e ≢ failures.Memory → DecodeCause bytes.now (flat e)) }
     ensures refused { IsOk result → (f : PlainFault) → ¬ DecodeCause bytes.now f }
 {
     let stripped = strip(alloc, bytes)?;
     let said = read_said(alloc, stripped.records.as_slice())?;
-    Ok((Bytes::from_vec(stripped.bytes), said))
+    Ok((SharedBytes::from_vec(stripped.bytes)?, said))
 }
 
 /// What two modules say of their world together.

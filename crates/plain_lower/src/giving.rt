@@ -5,7 +5,7 @@
 ghost use Rattle.std.specs.Prelude.{◌≡◌, Ok};
 ghost use Rattle.std.specs.Option.{option_copied};
 ghost use Rattle.comp_lists.specs.Found.{found};
-ghost use Rattle.comp_roles.specs.Borrowed.{lent_pair};
+ghost use Rattle.comp_worlds.specs.Offered.{memory_of_main};
 ghost use Rattle.record_faults.specs.Faults.{Gives};
 ghost use Rattle.plain_lower.specs.Giving.{importer_of, exports_name, not_offered, memory_matches, memory_given, item_given, export_given, is_function, function_given, of_adapter, adapter_export_given, module_named, of_module, argument_given, role_given, match_given, match_named, type_given, whole_given, matching_given};
 
@@ -77,36 +77,39 @@ fn not_offered(
 
 // ---- main's memory
 
-/// Whether an offered memory, if there is one, may be given where one of this type is imported.
-fn memory_matches(required: MemoryType, offered: Option<(&str, MemoryType)>) -> bool
-    ensures { result ≡ memory_matches required (lent_pair offered.entry) }
+/// The type of main's memory: of the first that it imports, or, where it imports none, of the first that it exports.
+fn memory_of_main(main: &ValidatedModule) -> Option<MemoryType>
+    ensures { result ≡ memory_of_main main.now }
 {
-    match offered {
-        Some((_, memory)) => ExternType::Memory(required).is_matched_by(&ExternType::Memory(
-            memory,
-        )),
+    if let Some(imported) = main.imports.imported_memory() {
+        return Some(imported);
+    }
+    let (_, exported) = main.exports.memory()?;
+    Some(exported)
+}
+
+/// Whether a memory of this type, if there is one, may be given where one of the other type is imported.
+fn memory_matches(required: MemoryType, given: Option<MemoryType>) -> bool
+    ensures { result ≡ memory_matches required given }
+{
+    match given {
+        Some(given) => ExternType::Memory(required).is_matched_by(&ExternType::Memory(given)),
         None => true,
     }
 }
 
 fn check_memory(
     alloc: Global,
-    importer: Importer,
     main: &ValidatedModule,
     field: &str,
     required: MemoryType,
 ) -> Result<(), Failure>
-    ensures { Gives (λ x. x) result (memory_given importer main.now field.now required) }
+    ensures { Gives (λ x. x) result (memory_given main.now field.now required) }
 {
-    match importer {
-        Importer::Main => Ok(()),
-        Importer::Adapter | Importer::Library => {
-            if memory_matches(required, main.exports.memory()) {
-                Ok(())
-            } else {
-                unfit(alloc, field)
-            }
-        }
+    if memory_matches(required, memory_of_main(main)) {
+        Ok(())
+    } else {
+        unfit(alloc, field)
     }
 }
 
@@ -287,7 +290,7 @@ pub(crate) fn check_role(
     ensures { Gives (λ x. x) result (role_given importer main.now adapters.now from.now field.now role.now) }
 {
     match role {
-        Import::MainModuleMemory(ty) => check_memory(alloc, importer, main, field, *ty),
+        Import::MainModuleMemory(ty) => check_memory(alloc, main, field, *ty),
         Import::MainModuleExport { name, kind } => {
             check_export(alloc, importer, main, from, field, name, *kind)
         }

@@ -3,16 +3,14 @@
 
 ghost use Rattle.std.specs.Prelude.{◌≡◌, map, IfErr, IsOk};
 ghost use Rattle.comp_roles.specs.Borrowed.{core_import};
-ghost use Rattle.comp_roles.specs.Lookups.{imported_memory};
 ghost use Rattle.record_faults.specs.Faults.{Gives};
 ghost use Rattle.record_faults.specs.declared.fault.Failure.TheVariants as failures;
 ghost use Rattle.record_faults.specs.declared.fault.Refusal.{Refusal};
 ghost use Rattle.supported_worlds.specs.Links.{AreLinked};
 ghost use Rattle.plain_lower.specs.LinkCauses.{LinkCause};
-ghost use Rattle.plain_lower.specs.Linking.{each_passes, import_given, typed_given, module_given, adapter_given, no_own_memory, links_pass};
+ghost use Rattle.plain_lower.specs.Linking.{each_passes, import_given, typed_given, module_given, adapter_given, links_pass};
 
 use crate::giving::{Importer, check_instance, check_role, importer_of};
-use crate::reports::left_out;
 use comp_lists::{Keyed, Text};
 use comp_roles::{ImportMap, ImportType, NamedImport};
 use comp_worlds::{ValidatedModule, WorldAdapter, WorldParts};
@@ -93,16 +91,6 @@ fn check_adapters(
     Ok(())
 }
 
-/// Refuses that main imports its own memory.
-fn refuse_own_memory(alloc: Global, map: &ImportMap) -> Result<(), Failure>
-    ensures { Gives (λ x. x) result (no_own_memory (imported_memory map.now.modules)) }
-{
-    match map.imported_memory() {
-        Some(_) => left_out(alloc, "memory"),
-        None => Ok(()),
-    }
-}
-
 #[tactic(auto, unfolding(crate::specs::Linking::links_pass))]
 fn check_modules(alloc: Global, parts: &WorldParts) -> Result<(), Failure>
     ensures { Gives (λ x. x) result (links_pass parts.now) }
@@ -110,17 +98,15 @@ fn check_modules(alloc: Global, parts: &WorldParts) -> Result<(), Failure>
     let main = &parts.main;
     check_memories(alloc, &main.imports)?;
     check_module(alloc, Importer::Main, main, &parts.adapters, main)?;
-    check_adapters(alloc, main, &parts.adapters)?;
-    refuse_own_memory(alloc, &main.imports)
+    check_adapters(alloc, main, &parts.adapters)
 }
 
 /// Refuses the parts of a world in which an import isn't given what it asks for.
 ///
 /// An import that names what isn't there, or what its module may not import, is refused by its names
-/// (`RoleMissing`), and one whose type doesn't match what is there by its field (`CoreType`). That main
-/// imports its own memory is not encoded yet (`LeftOut`). The only other refusal is out of memory. Each
-/// import is looked up once by its names, and once in what its role or its argument names; a module is read
-/// again only for a refusal.
+/// (`RoleMissing`), and one whose type doesn't match what is there by its field (`CoreType`). The only other
+/// refusal is out of memory. Each import is looked up once by its names, and once in what its role or its
+/// argument names; a module is read again only for a refusal.
 #[tactic(auto, using(crate::proofs::Linked::are_linked, crate::proofs::LinkRefusals::no_cause, crate::proofs::LinkRefusals::has_cause))]
 pub(crate) fn check_links(alloc: Global, parts: &WorldParts) -> Result<(), Failure>
     ensures exact { Gives (λ x. x) result (links_pass parts.now) }

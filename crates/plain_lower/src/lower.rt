@@ -4,7 +4,7 @@ ghost use Rattle.std.specs.Prelude.{◌≡◌};
 
 use crate::decoding::{decode, merge};
 use crate::preparing::prepare;
-use comp_lists::Bytes;
+use comp_lists::SharedBytes;
 use comp_worlds::{ComponentWorld, Lower};
 use record_faults::PlainFault;
 use record_merge::{Bindgen, no_bindgen};
@@ -51,7 +51,7 @@ impl Lower for PlainLower {
         no_bindgen(alloc)
     }
 
-    fn decode(&self, alloc: Global, bytes: &[u8]) -> Result<(Bytes, Bindgen), PlainFault> {
+    fn decode(&self, alloc: Global, bytes: &[u8]) -> Result<(SharedBytes, Bindgen), PlainFault> {
         Ok(decode(alloc, bytes)?)
     }
 

@@ -11,7 +11,7 @@ ghost use Rattle.plain_lower.specs.Guarantees.{IsUsable, AreChecked, user_module
 ghost use Rattle.plain_lower.specs.Causes.{RolesCause, ModuleCause};
 
 use crate::checking::{CheckedRoles, check_roles};
-use comp_lists::{Bytes, Keyed, Seq, Text};
+use comp_lists::{Keyed, Seq, SharedBytes, Text};
 use comp_roles::{ExportMap, ExternType, ImportType, ModuleMetadata};
 use comp_worlds::ValidatedModule;
 use core_sections::{CoreModule, read_module};
@@ -29,7 +29,7 @@ use world_values::Part;
 /// string encodings.
 #[derive(Drop)]
 struct Own {
-    bytes: Bytes,
+    bytes: SharedBytes,
     imported: Seq<ImportType>,
     offered: Keyed<Text, ExternType>,
     metadata: ModuleMetadata,
@@ -50,7 +50,7 @@ fn own_of(
 ) -> Result<Own, AllocError>
     ensures { IfOk result (λ o. o ≡ own_of resolved.now part.now core.now) }
 {
-    let bytes = part.bytes.clone(alloc)?;
+    let bytes = part.bytes.share()?;
     let imported = imported(alloc, core)?;
     let offered = offered(alloc, core)?;
     let metadata = resolved_metadata(alloc, resolved, &part.own.roles)?;

@@ -1,21 +1,12 @@
-//! The refusals of what modules import from each other, and of what is not encoded yet.
+//! The refusals of what modules import from each other.
 
 ghost use Rattle.std.specs.Prelude.{◌≡◌, Err};
 ghost use Rattle.record_faults.specs.Faults.{Gives};
-ghost use Rattle.plain_lower.specs.Reports.{left_out, missing, unfit};
+ghost use Rattle.plain_lower.specs.Reports.{missing, unfit};
 
 use comp_lists::Text;
 use record_faults::{Failure, Refusal};
 use std::alloc::Global;
-
-/// The refusal of what is not encoded yet.
-pub(crate) fn left_out(alloc: Global, what: &str) -> Result<(), Failure>
-    ensures { Gives (λ x. x) result (Err (left_out what.now)) }
-{
-    Err(Failure::Refused(Refusal::LeftOut {
-        what: Text::from_str(alloc, what)?,
-    }))
-}
 
 /// The refusal of an import that names what isn't there, or what its module may not import.
 pub(crate) fn missing(alloc: Global, from: &str, field: &str) -> Result<(), Failure>

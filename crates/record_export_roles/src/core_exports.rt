@@ -1,8 +1,7 @@
 //! The roles of all core exports.
 
-ghost use Rattle.std.specs.Prelude.{◌≡◌, codes};
+ghost use Rattle.std.specs.Prelude.{◌≡◌, option_map};
 ghost use Rattle.std.specs.Fmt.{decimal};
-ghost use Rattle.serde_json.specs.Find.{get};
 ghost use Rattle.serde_json.specs.View.{view, items_view};
 ghost use Rattle.json_paths.specs.Faults.{Gives};
 ghost use Rattle.json_paths.specs.Reading.{under, items_from};
@@ -84,16 +83,16 @@ fn read_array(
     }
 }
 
-/// The role of each core export, from the member `core-exports` of a record of this world.
+/// The role of each core export, from the member `core-exports` of a record of this world, if it is there.
 pub fn read_core_exports(
     alloc: Global,
     world: &RecordWorld,
-    value: &Value,
+    member: Option<Value>,
 ) -> Result<Seq<Assigned<Text, ExportRole>>, Failure>
-    ensures { Gives (λ x. x) result (core_exports_if world.now (get (codes "core-exports") (view value.now))) }
+    ensures { Gives (λ x. x) result (core_exports_if world.now (option_map view member)) }
 {
-    match value.get("core-exports") {
+    match member {
         None => Ok(Seq::new(alloc)),
-        Some(member) => under(alloc, "core-exports", read_array(alloc, world, member)),
+        Some(member) => under(alloc, "core-exports", read_array(alloc, world, &member)),
     }
 }

@@ -6,7 +6,7 @@ ghost use Rattle.record_export_roles.specs.Kinds.{plain_from, export_from};
 use record_values::PlainExport;
 
 /// A kind of export role.
-#[derive(Clone, Copy, Debug, PartialEq, Eq)]
+#[derive(Clone, Copy, PartialEq, Eq)]
 pub(crate) enum ExportRoleKind {
     WorldFunc,
     InterfaceFunc,

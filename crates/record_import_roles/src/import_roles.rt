@@ -9,8 +9,8 @@ ghost use Rattle.record_sides.specs.declared.sides.Side.TheVariants as sides;
 ghost use Rattle.record_import_roles.specs.ImportRoles.{made, called, task_return_of, encoding_argument, address_argument, slot_argument, subtask_cancel_of, main_export_of, adapter_export_of, alone, import_role_of_kind, some_import_role, import_role_of};
 
 use crate::kinds::{ImportKind, import_kind};
+use crate::met_world::MetWorld;
 use crate::payload_roles::read_payload_role;
-use crate::payloads::Met;
 use crate::values::{read_address, read_flag, read_sort};
 use core_types::ValType;
 use json_paths::{Failure, fault_at, read_number, read_text, under};
@@ -227,13 +227,14 @@ fn read_adapter_export(alloc: Global, value: &Value) -> Result<ImportRole, Failu
 
 fn read_import_kind(
     alloc: Global,
-    world: &RecordWorld,
-    met: &Met,
+    met: &mut MetWorld<'_>,
     value: &Value,
     kind: ImportKind,
 ) -> Result<ImportRole, Failure>
-    ensures { Gives (λ r. r) result (import_role_of_kind world.now met.now (view value.now) kind) }
+    ensures exact { Gives (λ r. r) result (import_role_of_kind met.old.world met.old.types (view value.now) kind) }
+    ensures same { met.new ≡ met.old }
 {
+    let world = met.world();
     match kind {
         ImportKind::WorldFunc => read_world_func(alloc, world, value),
         ImportKind::InterfaceFunc => read_interface_func(alloc, world, value),
@@ -247,7 +248,7 @@ fn read_import_kind(
         }
         ImportKind::SubtaskCancel => read_subtask_cancel(alloc, value),
         ImportKind::Payload(kind, operation) => {
-            read_payload_role(alloc, world, met, kind, operation, value)
+            read_payload_role(alloc, met, kind, operation, value)
         }
         ImportKind::ErrorContextNew => read_error_context_new(alloc, value),
         ImportKind::ErrorContextDebugMessage => read_debug_message(alloc, value),
@@ -265,15 +266,15 @@ fn read_import_kind(
 #[tactic(auto, unfolding(crate::specs::ImportRoles::import_role_of))]
 pub(crate) fn read_import_role(
     alloc: Global,
-    world: &RecordWorld,
-    met: &Met,
+    met: &mut MetWorld<'_>,
     value: &Value,
 ) -> Result<ImportRole, Failure>
-    ensures { Gives (λ r. r) result (import_role_of world.now met.now (view value.now)) }
+    ensures exact { Gives (λ r. r) result (import_role_of met.old.world met.old.types (view value.now)) }
+    ensures same { met.new ≡ met.old }
 {
     let name = read_kind(alloc, value)?;
     match import_kind(name.as_str()) {
-        Some(kind) => read_import_kind(alloc, world, met, value, kind),
+        Some(kind) => read_import_kind(alloc, met, value, kind),
         None => Err(fault_at(alloc, "0")),
     }
 }

@@ -6,7 +6,7 @@ ghost use Rattle.record_import_roles.specs.Kinds.{intrinsic_from, payload_from, 
 use record_values::{Intrinsic, PayloadKind, PayloadOperation};
 
 /// A kind of import role. The arguments follow it.
-#[derive(Clone, Copy, Debug, PartialEq, Eq)]
+#[derive(Clone, Copy, PartialEq, Eq)]
 pub(crate) enum ImportKind {
     WorldFunc,
     InterfaceFunc,

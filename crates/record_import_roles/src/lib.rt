@@ -5,12 +5,14 @@
 //! topic). A role names something in the record's own world, on the side that the role is of.
 //!
 //! In reading order: `values` (values that roles take), `payloads` (streams and futures that functions
-//! have), `kinds` (names of kinds), `payload_roles`, `import_roles`, `core_imports`.
+//! have), `met_world` (a world with these), `kinds` (names of kinds), `payload_roles`, `import_roles`,
+//! `core_imports`.
 #![tactic(auto)]
 
 mod core_imports;
 mod import_roles;
 mod kinds;
+mod met_world;
 mod payload_roles;
 mod payloads;
 mod values;

@@ -3,21 +3,20 @@
 ghost use Rattle.std.specs.Prelude.{◌≡◌, ◌<◌, ◌^◌, IfOk, codes};
 ghost use Rattle.serde_json.specs.View.{view};
 ghost use Rattle.json_paths.specs.Faults.{Gives};
-ghost use Rattle.record_import_roles.specs.ImportRoles.{kind_name, unit_of, side_of, is_kind, is_met, bool_at, owner_member, function_member, index_member, met_payload, met_of, payload_of, can_be_async, sync_payload_of, async_payload_of, payload_role_of};
+ghost use Rattle.record_import_roles.specs.ImportRoles.{kind_name, unit_of, bool_at, owner_member, function_member, index_member, met_payload, met_of, payload_of, can_be_async, sync_payload_of, async_payload_of, payload_role_of};
 
-use crate::payloads::{Met, met_in_function};
+use crate::met_world::{FunctionName, MetWorld, side_of};
 use crate::values::read_flag;
 use comp_lists::Text;
 use json_paths::{
     Failure, check_members, fault_at, read_bool, read_number, required, text_member, under,
 };
 use record_sides::{
-    Named, RecordWorld, Side, function_at, one_argument, owner_at, read_name, read_owner,
-    two_arguments,
+    Named, RecordWorld, Side, one_argument, owner_at, read_name, read_owner, two_arguments,
 };
 use record_values::{ImportRole, Payload, PayloadKind, PayloadOperation};
 use serde_json::Value;
-use std::alloc::{AllocError, Global};
+use std::alloc::Global;
 
 fn kind_name(kind: PayloadKind) -> &'static str
     ensures { result.now ≡ kind_name kind }
@@ -38,45 +37,6 @@ fn read_unit(alloc: Global, kind: PayloadKind, value: &Value) -> Result<Payload,
         Ok(Payload::Unit)
     } else {
         Err(fault_at(alloc, "unit"))
-    }
-}
-
-fn side_of(imported: bool) -> Side
-    ensures { result ≡ side_of imported }
-{
-    if imported { Side::Import } else { Side::Export }
-}
-
-fn is_kind(kind: PayloadKind, other: PayloadKind) -> bool
-    ensures { result ≡ is_kind kind other }
-{
-    match (kind, other) {
-        (PayloadKind::Stream, PayloadKind::Stream) => true,
-        (PayloadKind::Future, PayloadKind::Future) => true,
-        _ => false,
-    }
-}
-
-/// Whether what occurs at an index in a function is of this kind.
-fn is_met(
-    alloc: Global,
-    world: &RecordWorld,
-    met: &Met,
-    kind: PayloadKind,
-    side: Side,
-    owner_index: Option<usize>,
-    function: &Text,
-    index: usize,
-) -> Result<bool, AllocError>
-    ensures { IfOk result (λ b. b ≡ is_met world.now met.now kind side owner_index function.now index) }
-{
-    let Some(function) = function_at(alloc, world, side, owner_index, function)? else {
-        return Ok(false);
-    };
-    let kinds = met_in_function(alloc, met, function)?;
-    match kinds.as_slice().get(index) {
-        Some(other) => Ok(is_kind(kind, *other)),
-        None => Ok(false),
     }
 }
 
@@ -123,26 +83,22 @@ fn index_member(alloc: Global, value: &Value) -> Result<u64, Failure>
 
 fn met_payload(
     alloc: Global,
-    world: &RecordWorld,
-    met: &Met,
+    met: &mut MetWorld<'_>,
     kind: PayloadKind,
-    imported: bool,
-    owner_index: Option<usize>,
-    function: Text,
+    function: FunctionName,
     index: u32,
 ) -> Result<Payload, Failure>
-    ensures { Gives (λ p. p) result (met_payload world.now met.now kind imported owner_index function index) }
+    ensures exact { Gives (λ p. p) result (met_payload met.old.world met.old.types kind function.imported function.owner_index function.name index) }
+    ensures same { met.new ≡ met.old }
 {
-    let side = side_of(imported);
-    let at = index as usize;
-    if !is_met(alloc, world, met, kind, side, owner_index, &function, at)? {
+    if !met.is_met(alloc, kind, &function, index as usize)? {
         return Err(fault_at(alloc, "index"));
     }
-    let owner = owner_at(alloc, world, owner_index)?;
+    let owner = owner_at(alloc, met.world(), function.owner_index)?;
     Ok(Payload::Met {
-        imported,
+        imported: function.imported,
         owner,
-        function,
+        function: function.name,
         index,
     })
 }
@@ -151,65 +107,62 @@ fn met_payload(
 #[tactic(auto, unfolding(crate::specs::ImportRoles::met_of))]
 fn read_met(
     alloc: Global,
-    world: &RecordWorld,
-    met: &Met,
+    met: &mut MetWorld<'_>,
     kind: PayloadKind,
     value: &Value,
 ) -> Result<Payload, Failure>
-    ensures { Gives (λ p. p) result (met_of world.now met.now kind (view value.now)) }
+    ensures exact { Gives (λ p. p) result (met_of met.old.world met.old.types kind (view value.now)) }
+    ensures same { met.new ≡ met.old }
 {
     check_members(
         alloc,
         value,
         &["imported", "interface", "function", "index"],
     )?;
+    let world = met.world();
     let imported = imported_member(alloc, value)?;
     let side = side_of(imported);
     let owner_index = owner_member(alloc, world, side, value)?;
-    let function = function_member(alloc, world, side, owner_index, value)?;
+    let name = function_member(alloc, world, side, owner_index, value)?;
     let index = index_member(alloc, value)? as u32;
-    met_payload(
-        alloc,
-        world,
-        met,
-        kind,
+    let function = FunctionName {
         imported,
         owner_index,
-        function,
-        index,
-    )
+        name,
+    };
+    met_payload(alloc, met, kind, function, index)
 }
 
 #[tactic(auto, unfolding(crate::specs::ImportRoles::payload_of))]
 fn read_payload(
     alloc: Global,
-    world: &RecordWorld,
-    met: &Met,
+    met: &mut MetWorld<'_>,
     kind: PayloadKind,
     value: &Value,
 ) -> Result<Payload, Failure>
-    ensures { Gives (λ p. p) result (payload_of world.now met.now kind (view value.now)) }
+    ensures exact { Gives (λ p. p) result (payload_of met.old.world met.old.types kind (view value.now)) }
+    ensures same { met.new ≡ met.old }
 {
     if value.get("unit").is_some() {
         read_unit(alloc, kind, value)
     } else {
-        read_met(alloc, world, met, kind, value)
+        read_met(alloc, met, kind, value)
     }
 }
 
 #[tactic(auto, unfolding(crate::specs::ImportRoles::sync_payload_of))]
 fn read_sync(
     alloc: Global,
-    world: &RecordWorld,
-    met: &Met,
+    met: &mut MetWorld<'_>,
     kind: PayloadKind,
     operation: PayloadOperation,
     value: &Value,
 ) -> Result<ImportRole, Failure>
-    ensures { Gives (λ r. r) result (sync_payload_of world.now met.now kind operation (view value.now)) }
+    ensures exact { Gives (λ r. r) result (sync_payload_of met.old.world met.old.types kind operation (view value.now)) }
+    ensures same { met.new ≡ met.old }
 {
     let argument = one_argument(alloc, value)?;
-    let payload = read_payload(alloc, world, met, kind, argument);
+    let payload = read_payload(alloc, met, kind, argument);
     let payload = under(alloc, "1", payload)?;
     Ok(ImportRole::Payload {
         kind,
@@ -222,16 +175,16 @@ fn read_sync(
 #[tactic(auto, unfolding(crate::specs::ImportRoles::async_payload_of))]
 fn read_async(
     alloc: Global,
-    world: &RecordWorld,
-    met: &Met,
+    met: &mut MetWorld<'_>,
     kind: PayloadKind,
     operation: PayloadOperation,
     value: &Value,
 ) -> Result<ImportRole, Failure>
-    ensures { Gives (λ r. r) result (async_payload_of world.now met.now kind operation (view value.now)) }
+    ensures exact { Gives (λ r. r) result (async_payload_of met.old.world met.old.types kind operation (view value.now)) }
+    ensures same { met.new ≡ met.old }
 {
     let (payload, flag) = two_arguments(alloc, value)?;
-    let payload = read_payload(alloc, world, met, kind, payload);
+    let payload = read_payload(alloc, met, kind, payload);
     let payload = under(alloc, "1", payload)?;
     let is_async = under(alloc, "2", read_flag(alloc, flag))?;
     Ok(ImportRole::Payload {
@@ -258,17 +211,17 @@ fn can_be_async(operation: PayloadOperation) -> bool
 
 pub(crate) fn read_payload_role(
     alloc: Global,
-    world: &RecordWorld,
-    met: &Met,
+    met: &mut MetWorld<'_>,
     kind: PayloadKind,
     operation: PayloadOperation,
     value: &Value,
 ) -> Result<ImportRole, Failure>
-    ensures { Gives (λ r. r) result (payload_role_of world.now met.now kind operation (view value.now)) }
+    ensures exact { Gives (λ r. r) result (payload_role_of met.old.world met.old.types kind operation (view value.now)) }
+    ensures same { met.new ≡ met.old }
 {
     if can_be_async(operation) {
-        read_async(alloc, world, met, kind, operation, value)
+        read_async(alloc, met, kind, operation, value)
     } else {
-        read_sync(alloc, world, met, kind, operation, value)
+        read_sync(alloc, met, kind, operation, value)
     }
 }

@@ -23,6 +23,8 @@ use Rattle.comp_roles.specs.declared.offered.ExternType.{ExternType}
 use Rattle.comp_roles.specs.declared.payloads.PayloadInfo.{PayloadInfo}
 use Rattle.record_values.specs.declared.names.Owner.{Owner}
 use Rattle.record_values.specs.declared.names.Owner.TheVariants as owners
+use Rattle.record_values.specs.Names.{is_same_import}
+use Rattle.record_values.specs.declared.record.ImportName.{ImportName}
 use Rattle.record_values.specs.declared.roles.ImportRole.{ImportRole}
 use Rattle.record_values.specs.declared.roles.ImportRole.TheVariants as roles
 use Rattle.record_values.specs.declared.roles.Intrinsic.{Intrinsic}
@@ -39,6 +41,7 @@ use Rattle.record_role_targets.specs.Positions.{at_root, in_interface, position_
 use Rattle.record_role_targets.specs.Payloads.{resolved_payload, payload_import}
 use Rattle.record_role_targets.specs.Imports.{memory_type, function_type, called, imported_drop, exported_drop, exported_rep, exported_new, task_return, intrinsic, resolved_import}
 use Rattle.record_role_targets.specs.Named.{HasNamed}
+use Rattle.record_role_targets.specs.Targets.{WorldRoles, resolved_role}
 use Rattle.record_role_targets.proofs.Existence.{at_key}
 use Rattle.world_values.specs.Mentions.{HasReturned, interface_in}
 use Rattle.record_core_types.specs.Asked.{called as called_as, imported_function, imported_interface, function_of}
@@ -102,6 +105,16 @@ is_known others role (Some other) e = by (is_unknown others other) refl e
     by : (b : Bool) → is_unknown others other ≡ b → (if b then None else Some other) ≡ Some role → (Some other ≡ Some role) × (is_unknown others role ≡ false)
     by true is e = absurd cc
     by false is e = let same : other ≡ role = cc (e) in (e, ap (is_unknown others) (sym same) ∙ is)
+
+-- what a look-up found that is known
+pub was_known : (others : OtherModules) (role : ImportRole) (o : Option ImportRole) → Some role ≡ option_and_then (unless_unknown others) o → o ≡ Some role
+was_known others role o e = (is_known others role o (sym e)).0
+
+-- what an import of this name resolves to, by its role
+pub targeted : (t : WorldRoles) (name : ImportName) (i : CoreImport) (role : ImportRole) (ty : ExternType) (found : Option Import) → name.field ≡ i.field → lookup (is_same_import name) t.table ≡ Some role → found ≡ resolved_role t name (Some ty)
+    → target t.resolved i role ty ≡ found
+targeted t name i role ty found field has is =
+    sym (is ∙ (ap (λ o. option_and_then (λ r. resolved_import t.resolved name.field r (Some ty)) o) has ∙ ap (λ f. resolved_import t.resolved f role (Some ty)) field))
 
 abbrev pub after_role : Resolved → CoreModule → CoreImport → ExternType → ImportRole → Result Import Failure
 after_role r core i ty role = ok_or (target r i role ty) (meaningless i role) >>= λ import. fitting r core i import

@@ -19,6 +19,7 @@ use comp_roles::Import;
 use core_sections::{CoreImport, CoreModule};
 use record_faults::{Failure, Refusal};
 use record_resolve::Resolved;
+use record_role_targets::ImportTargets;
 use record_values::{ImportName, ImportRole};
 use std::alloc::{AllocError, Global};
 
@@ -152,52 +153,48 @@ fn imported_twice<T>(alloc: Global, import: &CoreImport) -> Result<T, Failure>
 #[tactic(auto, unfolding(crate::specs::Grouping::group_after), using(crate::proofs::Fields::remains_good))]
 fn add_import(
     alloc: Global,
-    resolved: &Resolved,
+    targets: &ImportTargets<'_>,
     others: &OtherModules,
     arguments: &Arguments<'_>,
-    roles: &Keyed<ImportName, ImportRole>,
     core: &CoreModule,
     grouping: Grouping,
     import: &CoreImport,
 ) -> Result<Grouping, Failure>
-    requires sound { IsSound resolved.now.resolve }
+    requires sound { IsSound targets.now.resolved.resolve }
     requires indexed { grouping.positions ≡ positions_of 0 grouping.groups.items }
-    requires good { AreGood resolved.now.resolve grouping.groups.items }
-    ensures exact { Gives (λ g. g.groups.items) result (group_after resolved.now others.now arguments.now roles.now core.now grouping.groups.items import.now) }
+    requires good { AreGood targets.now.resolved.resolve grouping.groups.items }
+    ensures exact { Gives (λ g. g.groups.items) result (group_after targets.now.resolved others.now arguments.now targets.now.table core.now grouping.groups.items import.now) }
     ensures indexed { IfOk result (λ g. g.positions ≡ positions_of 0 g.groups.items) }
-    ensures good { IfOk result (λ g. AreGood resolved.now.resolve g.groups.items) }
+    ensures good { IfOk result (λ g. AreGood targets.now.resolved.resolve g.groups.items) }
 {
     if has_field(&grouping, &import.module, &import.field) {
         return imported_twice(alloc, import);
     }
     let module = import.module.clone(alloc)?;
     let field = import.field.clone(alloc)?;
-    let role = import_of(alloc, resolved, others, arguments, roles, core, import)?;
+    let role = import_of(alloc, targets, others, arguments, core, import)?;
     Ok(put_field(alloc, grouping, module, field, role)?)
 }
 
 /// The core imports in groups, by module.
 fn group_imports(
     alloc: Global,
-    resolved: &Resolved,
+    targets: &ImportTargets<'_>,
     others: &OtherModules,
     arguments: &Arguments<'_>,
-    roles: &Keyed<ImportName, ImportRole>,
     core: &CoreModule,
 ) -> Result<Grouping, Failure>
-    requires { IsSound resolved.now.resolve }
-    ensures exact { Gives (λ g. g.groups.items) result (groups_after resolved.now others.now arguments.now roles.now core.now [] core.now.imports) }
+    requires { IsSound targets.now.resolved.resolve }
+    ensures exact { Gives (λ g. g.groups.items) result (groups_after targets.now.resolved others.now arguments.now targets.now.table core.now [] core.now.imports) }
     ensures indexed { IfOk result (λ g. g.positions ≡ positions_of 0 g.groups.items) }
-    ensures good { IfOk result (λ g. AreGood resolved.now.resolve g.groups.items) }
+    ensures good { IfOk result (λ g. AreGood targets.now.resolved.resolve g.groups.items) }
 {
     let mut grouping = Grouping {
         positions: Keyed::new(alloc),
         groups: Vec::new(alloc),
     };
     for import in core.imports.as_slice() {
-        grouping = add_import(
-            alloc, resolved, others, arguments, roles, core, grouping, import,
-        )?;
+        grouping = add_import(alloc, targets, others, arguments, core, grouping, import)?;
     }
     Ok(grouping)
 }
@@ -234,6 +231,7 @@ pub(crate) fn read_groups(
     ensures apart { IfOk result (λ g. IsDistinct bytes_eq (names_of g.items)) }
     ensures good { IfOk result (λ g. AreGood resolved.now.resolve g.items) }
 {
-    let grouping = group_imports(alloc, resolved, others, arguments, roles, core)?;
+    let targets = ImportTargets::of(alloc, resolved, roles)?;
+    let grouping = group_imports(alloc, &targets, others, arguments, core)?;
     Ok(into_groups(grouping))
 }

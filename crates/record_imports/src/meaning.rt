@@ -1,6 +1,6 @@
 //! The role of one core import.
 
-ghost use Rattle.std.specs.Prelude.{◌≡◌, Err, ok_or, IfOk};
+ghost use Rattle.std.specs.Prelude.{◌≡◌, Err, Some, ok_or, IfOk};
 ghost use Rattle.std.specs.Map.{lookup};
 ghost use Rattle.std.specs.Option.{option_copied, option_and_then};
 ghost use Rattle.record_values.specs.Names.{is_same_import};
@@ -14,13 +14,12 @@ ghost use Rattle.record_imports.specs.Guarantees.{IsChecked};
 
 use crate::arguments::{Argument, Arguments};
 use crate::others::{OtherModules, is_unknown};
-use comp_lists::Keyed;
 use comp_roles::{ExternType, Import};
 use core_sections::{CoreImport, CoreModule};
 use record_core_types::{extern_type, fits_import};
 use record_faults::{Failure, Refusal};
 use record_resolve::Resolved;
-use record_role_targets::resolved_import;
+use record_role_targets::ImportTargets;
 use record_values::{ImportName, ImportRole};
 use std::alloc::{AllocError, Global};
 use wit_data::WorldId;
@@ -77,31 +76,35 @@ fn name_of(alloc: Global, import: &CoreImport) -> Result<ImportName, AllocError>
 /// The role that a name has, unless it is an export of another module that isn't known.
 fn known_role<'a>(
     others: &OtherModules,
-    roles: &'a Keyed<ImportName, ImportRole>,
+    targets: &'a ImportTargets<'_>,
     name: &ImportName,
 ) -> Option<&'a ImportRole>
-    ensures { option_copied result ≡ option_and_then (unless_unknown others.now) (lookup (is_same_import name.now) roles.now) }
+    ensures { option_copied result ≡ option_and_then (unless_unknown others.now) (lookup (is_same_import name.now) targets.now.table) }
 {
-    let role = roles.get(name)?;
+    let role = targets.role(name)?;
     if is_unknown(others, role) {
         return None;
     }
     Some(role)
 }
 
-/// What the role of an import resolves to.
+/// What an import of this name resolves to, which has this role.
+#[tactic(auto, using(crate::proofs::Checking::targeted))]
 fn meaning_of(
     alloc: Global,
-    resolved: &Resolved,
+    targets: &ImportTargets<'_>,
     import: &CoreImport,
+    name: &ImportName,
     role: &ImportRole,
     ty: &ExternType,
 ) -> Result<Import, Failure>
-    requires { IsSound resolved.now.resolve }
-    ensures exact { Gives (λ i. i) result (ok_or (target resolved.now import.now role.now ty.now) (meaningless import.now role.now)) }
-    ensures present { IfOk result (HasNamed resolved.now.resolve) }
+    requires sound { IsSound targets.now.resolved.resolve }
+    requires field { name.now.field ≡ import.now.field }
+    requires known { lookup (is_same_import name.now) targets.now.table ≡ Some role.now }
+    ensures exact { Gives (λ i. i) result (ok_or (target targets.now.resolved import.now role.now ty.now) (meaningless import.now role.now)) }
+    ensures present { IfOk result (HasNamed targets.now.resolved.resolve) }
 {
-    match resolved_import(alloc, resolved, &import.field, role, Some(ty))? {
+    match targets.resolve(alloc, name, Some(ty))? {
         Some(meaning) => Ok(meaning),
         None => meaningless(alloc, import, role),
     }
@@ -137,26 +140,25 @@ fn unless_refused<T: Drop>(value: T, step: Result<(), Failure>) -> Result<T, Fai
 }
 
 /// The role of an import by the record, resolved; what it names exists in the resolve.
-#[tactic(auto, unfolding(crate::specs::Meaning::by_record), using(crate::proofs::Checking::concluded))]
+#[tactic(auto, unfolding(crate::specs::Meaning::by_record), using(crate::proofs::Checking::concluded, crate::proofs::Checking::was_known))]
 fn by_record(
     alloc: Global,
-    resolved: &Resolved,
+    targets: &ImportTargets<'_>,
     others: &OtherModules,
-    roles: &Keyed<ImportName, ImportRole>,
     core: &CoreModule,
     import: &CoreImport,
     ty: &ExternType,
 ) -> Result<Import, Failure>
-    requires { IsSound resolved.now.resolve }
-    ensures exact { Gives (λ i. i) result (by_record resolved.now others.now roles.now core.now import.now ty.now) }
-    ensures present { IfOk result (HasNamed resolved.now.resolve) }
+    requires { IsSound targets.now.resolved.resolve }
+    ensures exact { Gives (λ i. i) result (by_record targets.now.resolved others.now targets.now.table core.now import.now ty.now) }
+    ensures present { IfOk result (HasNamed targets.now.resolved.resolve) }
 {
     let name = name_of(alloc, import)?;
-    let Some(role) = known_role(others, roles, &name) else {
+    let Some(role) = known_role(others, targets, &name) else {
         return no_role(alloc, import);
     };
-    let meaning = meaning_of(alloc, resolved, import, role, ty)?;
-    let checked = check_type(alloc, resolved, core, import, &meaning);
+    let meaning = meaning_of(alloc, targets, import, &name, role, ty)?;
+    let checked = check_type(alloc, targets.resolved(), core, import, &meaning);
     unless_refused(meaning, checked)
 }
 
@@ -180,21 +182,20 @@ fn by_argument(
 #[tactic(auto, unfolding(crate::specs::Meaning::import_of))]
 fn read_import(
     alloc: Global,
-    resolved: &Resolved,
+    targets: &ImportTargets<'_>,
     others: &OtherModules,
     arguments: &Arguments<'_>,
-    roles: &Keyed<ImportName, ImportRole>,
     core: &CoreModule,
     import: &CoreImport,
 ) -> Result<Import, Failure>
-    requires { IsSound resolved.now.resolve }
-    ensures exact { Gives (λ i. i) result (import_of resolved.now others.now arguments.now roles.now core.now import.now) }
-    ensures present { IfOk result (HasNamed resolved.now.resolve) }
+    requires { IsSound targets.now.resolved.resolve }
+    ensures exact { Gives (λ i. i) result (import_of targets.now.resolved others.now arguments.now targets.now.table core.now import.now) }
+    ensures present { IfOk result (HasNamed targets.now.resolved.resolve) }
 {
     let ty = typed(alloc, core, import)?;
     match arguments.argument_for(&import.module) {
         Some(argument) => by_argument(alloc, import, &ty, argument),
-        None => by_record(alloc, resolved, others, roles, core, import, &ty),
+        None => by_record(alloc, targets, others, core, import, &ty),
     }
 }
 
@@ -206,17 +207,16 @@ fn read_import(
 #[tactic(auto, using(crate::proofs::Checking::is_checked))]
 pub(crate) fn import_of(
     alloc: Global,
-    resolved: &Resolved,
+    targets: &ImportTargets<'_>,
     others: &OtherModules,
     arguments: &Arguments<'_>,
-    roles: &Keyed<ImportName, ImportRole>,
     core: &CoreModule,
     import: &CoreImport,
 ) -> Result<Import, Failure>
-    requires { IsSound resolved.now.resolve }
-    ensures exact { Gives (λ i. i) result (import_of resolved.now others.now arguments.now roles.now core.now import.now) }
-    ensures checks { IfOk result (IsChecked resolved.now.resolve) }
+    requires { IsSound targets.now.resolved.resolve }
+    ensures exact { Gives (λ i. i) result (import_of targets.now.resolved others.now arguments.now targets.now.table core.now import.now) }
+    ensures checks { IfOk result (IsChecked targets.now.resolved.resolve) }
 {
-    let meaning = read_import(alloc, resolved, others, arguments, roles, core, import)?;
+    let meaning = read_import(alloc, targets, others, arguments, core, import)?;
     Ok(meaning)
 }

@@ -89,7 +89,7 @@ fn to_export_key(alloc: Global, key: &ItemKey) -> Result<ExportKey, AllocError>
 {
     match key {
         ItemKey::Name(text) => Ok(ExportKey::Name(text.clone(alloc)?)),
-        ItemKey::Interface(text) => Ok(ExportKey::Interface(text.clone(alloc)?)),
+        ItemKey::Interface(text) => Ok(ExportKey::Interface(text.as_text().clone(alloc)?)),
     }
 }
 

@@ -5,5 +5,8 @@ pub mod Imports
 pub mod Exports
 pub mod Metadata
 pub mod Payloads
+pub mod Wanted
 pub mod Walks
+pub mod Known
+pub mod Targets
 pub mod Named

@@ -7,11 +7,13 @@ ghost use Rattle.comp_roles.specs.declared.imports.Import.TheVariants as variant
 ghost use Rattle.record_role_targets.specs.declared.sides.Side.TheVariants as sides;
 ghost use Rattle.record_role_targets.specs.Positions.{function_position, resource_of};
 ghost use Rattle.wit_data.specs.Sound.{IsSound};
+ghost use Rattle.record_role_targets.specs.Known.{IsPayloadKnown, IsKnown};
 ghost use Rattle.record_role_targets.specs.Payloads as payloads;
 ghost use Rattle.record_role_targets.specs.Payloads.{payload_import};
 ghost use Rattle.record_role_targets.specs.Imports.{memory_type, function_type, called, imported_drop, exported_drop, exported_rep, exported_new, task_return, task_return_of, intrinsic, built_in, resolved_import};
 
 use crate::copies::copy_function;
+use crate::known::Tables;
 use crate::payloads::{payload_import, resolved_payload};
 use crate::positions::{
     Position, Resource, function_at, function_position, position_of, resource_of,
@@ -194,16 +196,17 @@ fn intrinsic(which: Intrinsic) -> Import
 fn payload_role(
     alloc: Global,
     resolved: &Resolved,
+    tables: &Tables<'_>,
     field: &Text,
     kind: PayloadKind,
     operation: PayloadOperation,
     payload: &Payload,
     is_async: bool,
 ) -> Result<Option<Import>, AllocError>
-    requires { IsSound resolved.now.resolve }
+    requires known { IsPayloadKnown resolved.now tables.now payload.now }
     ensures { IfOk result (λ i. i ≡ option_map (payload_import kind operation is_async) (payloads.resolved_payload resolved.now field.now kind payload.now)) }
 {
-    match resolved_payload(alloc, resolved, field, kind, payload)? {
+    match resolved_payload(alloc, resolved, tables, field, kind, payload)? {
         Some(info) => Ok(Some(payload_import(kind, operation, is_async, info))),
         None => Ok(None),
     }
@@ -272,15 +275,16 @@ fn resolve_adapter_export(
     }
 }
 
-/// What the role of a core import resolves to.
+/// What the role of a core import resolves to, where the tables have what it names of streams and futures.
 fn resolve_role(
     alloc: Global,
     resolved: &Resolved,
+    tables: &Tables<'_>,
     field: &Text,
     role: &ImportRole,
     ty: Option<&ExternType>,
 ) -> Result<Option<Import>, AllocError>
-    requires { IsSound resolved.now.resolve }
+    requires known { IsKnown resolved.now tables.now role.now }
     ensures { IfOk result (λ i. i ≡ resolved_import resolved.now field.now role.now (option_copied ty.entry)) }
 {
     match role {
@@ -300,7 +304,7 @@ fn resolve_role(
             payload,
             is_async,
         } => payload_role(
-            alloc, resolved, field, *kind, *operation, payload, *is_async,
+            alloc, resolved, tables, field, *kind, *operation, payload, *is_async,
         ),
         ImportRole::Memory => Ok(resolve_memory(ty)),
         ImportRole::MainExport { name, kind } => main_export(alloc, name, *kind),
@@ -318,29 +322,21 @@ fn resolve_role(
     }
 }
 
-/// The resolved role of a core import with this field, this role and this type, where functions, types
-/// and interfaces have numbers.
-///
-/// Functions and resources of imports are looked up on the world's imported side, those of exports on
-/// its exported side. A memory has the import's type, an adapter's export the import's function type.
-///
-/// It is none where the role names something that this side does not have (an interface, a function, a
-/// type, or a stream or future by its number), or where the import is not a memory or function as the
-/// role requires. The only refusal is out of memory.
-///
-/// What the result names exists in the resolve.
+/// The same, and what it names exists in the resolve.
 #[tactic(auto, using(crate::proofs::Naming::target_names))]
-pub fn resolved_import(
+pub(crate) fn resolved_import(
     alloc: Global,
     resolved: &Resolved,
+    tables: &Tables<'_>,
     field: &Text,
     role: &ImportRole,
     ty: Option<&ExternType>,
 ) -> Result<Option<Import>, AllocError>
-    requires { IsSound resolved.now.resolve }
+    requires sound { IsSound resolved.now.resolve }
+    requires known { IsKnown resolved.now tables.now role.now }
     ensures exact { IfOk result (λ i. i ≡ resolved_import resolved.now field.now role.now (option_copied ty.entry)) }
     ensures present { IfOk result (λ i. IfSome i (HasNamed resolved.now.resolve)) }
 {
-    let target = resolve_role(alloc, resolved, field, role, ty)?;
+    let target = resolve_role(alloc, resolved, tables, field, role, ty)?;
     Ok(target)
 }

@@ -7,7 +7,7 @@ ghost use Rattle.record_role_targets.specs.Keys.{existing, resolved_key, resolve
 ghost use Rattle.record_values.specs.declared.world.ItemKey.TheVariants as item_keys;
 
 use crate::sides::{Side, interface_keys, interface_of, item_at};
-use comp_lists::{Text, TryClone};
+use comp_lists::{SharedText, Text, TryClone};
 use record_resolve::Resolved;
 use record_values::{InterfaceName, ItemKey};
 use std::alloc::{AllocError, Global};
@@ -38,18 +38,13 @@ fn resolve_name(
 }
 
 /// The key of the interface with this id.
-fn resolve_id(
-    alloc: Global,
-    resolved: &Resolved,
-    side: Side,
-    id: &Text,
-) -> Result<Option<WorldKey>, AllocError>
-    ensures { IfOk result (λ k. k ≡ resolved_key side resolved.now (item_keys.Interface id.now)) }
+fn resolve_id(resolved: &Resolved, side: Side, id: SharedText) -> Option<WorldKey>
+    ensures { result ≡ resolved_key side resolved.now (item_keys.Interface id) }
 {
-    let name = InterfaceName::Id(id.clone(alloc)?);
+    let name = InterfaceName::Id(id);
     match interface_of(resolved, side, &name) {
-        Some(interface) => Ok(existing(resolved, side, WorldKey::Interface(interface))),
-        None => Ok(None),
+        Some(interface) => existing(resolved, side, WorldKey::Interface(interface)),
+        None => None,
     }
 }
 
@@ -66,7 +61,10 @@ pub fn resolved_key(
 {
     match key {
         ItemKey::Name(name) => resolve_name(alloc, resolved, side, name),
-        ItemKey::Interface(id) => resolve_id(alloc, resolved, side, id),
+        ItemKey::Interface(id) => {
+            let id = id.try_clone(alloc)?;
+            Ok(resolve_id(resolved, side, id))
+        }
     }
 }
 
@@ -81,7 +79,10 @@ pub fn resolved_export_key(
 {
     match key {
         ExportKey::Name(name) => resolve_name(alloc, resolved, Side::Exported, name),
-        ExportKey::Interface(id) => resolve_id(alloc, resolved, Side::Exported, id),
+        ExportKey::Interface(id) => {
+            let id = SharedText::from_str(alloc, id.as_str())?;
+            Ok(resolve_id(resolved, Side::Exported, id))
+        }
     }
 }
 

@@ -1,12 +1,14 @@
 //! The streams and futures of roles, and the built-in functions on them.
 
-ghost use Rattle.std.specs.Prelude.{◌≡◌, IfOk, Some};
-ghost use Rattle.wit_data.specs.Sound.{IsSound};
-ghost use Rattle.record_role_targets.specs.Payloads.{unit_info, typed_info, side_of, type_met, payload_met, resolved_payload, stream_import, future_import, payload_import};
+ghost use Rattle.std.specs.Prelude.{◌≡◌, IfOk, slice_get};
+ghost use Rattle.record_role_targets.specs.Known.{type_known, types_met, IsPayloadKnown};
+ghost use Rattle.record_role_targets.specs.Payloads.{unit_info, typed_info, side_of, payload_met, resolved_payload, stream_import, future_import, payload_import};
+ghost use Rattle.record_role_targets.specs.Wanted.{named_function};
 
-use crate::positions::{Position, function_at, position_of};
+use crate::known::{Tables, type_known};
+use crate::positions::{Position, position_of};
 use crate::sides::Side;
-use crate::walks::nth_met;
+use crate::wanted::FunctionName;
 use comp_lists::Text;
 use comp_roles::{Import, PayloadInfo, PayloadType};
 use record_resolve::Resolved;
@@ -54,7 +56,7 @@ fn typed_info(
     })
 }
 
-fn side_of(imported: bool) -> Side
+pub(crate) fn side_of(imported: bool) -> Side
     ensures { result ≡ side_of imported }
 {
     if imported {
@@ -64,53 +66,46 @@ fn side_of(imported: bool) -> Side
     }
 }
 
-/// The stream or future with a number in the function of a name at a position.
-#[tactic(auto, using(crate::proofs::Existence::function_exists))]
-fn type_met(
-    resolved: &Resolved,
-    side: Side,
-    position: &Position,
-    function: &Text,
-    number: u32,
-) -> Option<TypeId>
-    requires { IsSound resolved.now.resolve }
-    ensures { result ≡ type_met resolved.now side position.now function.now number }
-{
-    let found = function_at(resolved, side, position, function)?;
-    nth_met(&resolved.resolve, found, number)
-}
-
+/// The stream or future with a number in the function of a name, which the tables have.
+#[tactic(auto, using(crate::proofs::Knowing::met_known))]
 fn payload_met(
     alloc: Global,
     resolved: &Resolved,
+    tables: &Tables<'_>,
     field: &Text,
     imported: bool,
     owner: &Owner,
     function: &Text,
     number: u32,
 ) -> Result<Option<PayloadInfo>, AllocError>
-    requires { IsSound resolved.now.resolve }
+    requires known { type_known tables.now (named_function imported owner.now function.now) number ≡ slice_get (types_met resolved.now (named_function imported owner.now function.now)) number }
     ensures { IfOk result (λ p. p ≡ payload_met resolved.now field.now imported owner.now function.now number) }
 {
     let side = side_of(imported);
     let Some(position) = position_of(alloc, resolved, side, owner, function)? else {
         return Ok(None);
     };
-    match type_met(resolved, side, &position, function, number) {
+    let name = FunctionName {
+        imported,
+        owner,
+        name: function,
+    };
+    match type_known(tables, &name, number) {
         Some(id) => Ok(Some(typed_info(alloc, field, imported, position, function, id)?)),
         None => Ok(None),
     }
 }
 
-/// The payload of a role, for an import of this field.
+/// The payload of a role, for an import of this field; the tables have what it names.
 pub(crate) fn resolved_payload(
     alloc: Global,
     resolved: &Resolved,
+    tables: &Tables<'_>,
     field: &Text,
     kind: PayloadKind,
     payload: &Payload,
 ) -> Result<Option<PayloadInfo>, AllocError>
-    requires { IsSound resolved.now.resolve }
+    requires known { IsPayloadKnown resolved.now tables.now payload.now }
     ensures { IfOk result (λ p. p ≡ resolved_payload resolved.now field.now kind payload.now) }
 {
     match payload {
@@ -120,7 +115,9 @@ pub(crate) fn resolved_payload(
             owner,
             function,
             index,
-        } => payload_met(alloc, resolved, field, *imported, owner, function, *index),
+        } => payload_met(
+            alloc, resolved, tables, field, *imported, owner, function, *index,
+        ),
     }
 }
 

@@ -17,7 +17,7 @@ use std::alloc::{AllocError, Global};
 use wit_data::AbiVariant;
 
 /// The owners that a role may name.
-#[derive(Clone, Copy, Debug, PartialEq, Eq)]
+#[derive(Clone, Copy, PartialEq, Eq)]
 pub enum Owners {
     /// Interfaces, by their indices.
     Interfaces,
@@ -26,7 +26,7 @@ pub enum Owners {
 }
 
 /// What an owner has by a name.
-#[derive(Clone, Copy, Debug, PartialEq, Eq)]
+#[derive(Clone, Copy, PartialEq, Eq)]
 pub enum Named {
     Function,
     Resource,

@@ -10,7 +10,7 @@ use record_values::{Func, Item, ItemKey, Node, Owner};
 use std::alloc::{AllocError, Global};
 
 /// A side of the world: its imports, or its exports.
-#[derive(Clone, Copy, Debug, PartialEq, Eq)]
+#[derive(Clone, Copy, PartialEq, Eq)]
 pub enum Side {
     Import,
     Export,

@@ -1,8 +1,9 @@
 //! Interfaces.
 
-ghost use Rattle.std.specs.Prelude.{◌≡◌, OnOk};
+ghost use Rattle.std.specs.Prelude.{◌≡◌, OnOk, codes, ok_or, option_map};
 ghost use Rattle.serde_json.specs.View.{view};
 ghost use Rattle.json_paths.specs.Faults.{Gives};
+ghost use Rattle.json_paths.specs.Reading.{at_member, required};
 ghost use Rattle.record_types.specs.Scopes.{names_in};
 ghost use Rattle.record_types.specs.Named.{named_type_of};
 ghost use Rattle.record_types.specs.Interfaces.{inside, Becomes, with_known, with_name, next_type, next_function, types_of, new_function, functions_of, members_of, interface_of, interfaces_of};
@@ -12,7 +13,9 @@ use crate::ids::read_id;
 use crate::known::{ReadInterface, Scope, TypeFacts};
 use crate::named::read_named_type;
 use comp_lists::{Keyed, Seq, Text};
-use json_paths::{Failure, check_members, fault_at, fault_here, required, under, under_index};
+use json_paths::{
+    Failure, check_members, fault_at, found, take_items, take_member, under, under_index,
+};
 use record_values::{Func, Typed};
 use serde_json::Value;
 use std::alloc::{AllocError, Global};
@@ -81,17 +84,15 @@ fn push_type(
 fn read_types(
     alloc: Global,
     done: &[ReadInterface],
-    value: &Value,
+    value: Value,
 ) -> Result<(Seq<Typed>, Keyed<Text, TypeFacts>), Failure>
-    ensures { Gives (λ x. x) result (types_of done.now (view value.now)) }
+    ensures { Gives (λ x. x) result (types_of done.now (view value)) }
 {
-    let Some(values) = value.as_array() else {
-        return Err(fault_here(alloc));
-    };
+    let values = take_items(alloc, value)?;
     let mut types = Seq::new(alloc);
     let mut known = Keyed::new(alloc);
-    for (index, value) in values.iter().enumerate() {
-        push_type(alloc, done, index, value, &mut types, &mut known)?;
+    for (index, value) in values.into_iter().enumerate() {
+        push_type(alloc, done, index, &value, &mut types, &mut known)?;
     }
     Ok((types, known))
 }
@@ -133,16 +134,14 @@ fn push_function(
 }
 
 #[tactic(auto, unfolding(crate::specs::Interfaces::functions_of))]
-fn read_functions(alloc: Global, scope: &Scope<'_>, value: &Value) -> Result<Seq<Func>, Failure>
-    ensures { Gives (λ x. x) result (functions_of (names_in scope.now) (view value.now)) }
+fn read_functions(alloc: Global, scope: &Scope<'_>, value: Value) -> Result<Seq<Func>, Failure>
+    ensures { Gives (λ x. x) result (functions_of (names_in scope.now) (view value)) }
 {
-    let Some(values) = value.as_array() else {
-        return Err(fault_here(alloc));
-    };
+    let values = take_items(alloc, value)?;
     let mut functions = Seq::new(alloc);
     let mut seen = Keyed::new(alloc);
-    for (index, value) in values.iter().enumerate() {
-        push_function(alloc, scope, index, value, &mut functions, &mut seen)?;
+    for (index, value) in values.into_iter().enumerate() {
+        push_function(alloc, scope, index, &value, &mut functions, &mut seen)?;
     }
     Ok(functions)
 }
@@ -152,9 +151,9 @@ fn read_inside(
     alloc: Global,
     done: &[ReadInterface],
     known: &Keyed<Text, TypeFacts>,
-    value: &Value,
+    value: Value,
 ) -> Result<Seq<Func>, Failure>
-    ensures { Gives (λ x. x) result (functions_of (inside done.now known.now) (view value.now)) }
+    ensures { Gives (λ x. x) result (functions_of (inside done.now known.now) (view value)) }
 {
     let scope = Scope {
         done,
@@ -164,18 +163,45 @@ fn read_inside(
     read_functions(alloc, &scope, value)
 }
 
+/// The id, the types and the functions of an interface, as far as they are there.
+#[derive(Drop)]
+struct Members {
+    id: Option<Value>,
+    types: Option<Value>,
+    functions: Option<Value>,
+}
+
+/// Takes the members out of an interface.
+fn take_members(value: Value) -> Members
+    ensures id { ok_or (option_map view result.id) (at_member (codes "id")) ≡ required (codes "id") (view value) }
+    ensures types { ok_or (option_map view result.types) (at_member (codes "types")) ≡ required (codes "types") (view value) }
+    ensures functions { ok_or (option_map view result.functions) (at_member (codes "functions")) ≡ required (codes "functions") (view value) }
+{
+    let mut value = value;
+    let id = take_member(&mut value, "id");
+    let types = take_member(&mut value, "types");
+    let functions = take_member(&mut value, "functions");
+    Members {
+        id,
+        types,
+        functions,
+    }
+}
+
 /// The id, the types and the functions.
 #[tactic(auto, unfolding(crate::specs::Interfaces::members_of))]
-fn members_of<'v>(
-    alloc: Global,
-    value: &'v Value,
-) -> Result<(&'v Value, &'v Value, &'v Value), Failure>
-    ensures { Gives (λ m. (view m.0.now, view m.1.now, view m.2.now)) result (members_of (view value.now)) }
+fn members_of(alloc: Global, value: Value) -> Result<(Value, Value, Value), Failure>
+    ensures { Gives (λ m. (view m.0, view m.1, view m.2)) result (members_of (view value)) }
 {
-    check_members(alloc, value, &["id", "types", "functions"])?;
-    let id = required(alloc, value, "id")?;
-    let types = required(alloc, value, "types")?;
-    let functions = required(alloc, value, "functions")?;
+    check_members(alloc, &value, &["id", "types", "functions"])?;
+    let Members {
+        id,
+        types,
+        functions,
+    } = take_members(value);
+    let id = found(alloc, "id", id)?;
+    let types = found(alloc, "types", types)?;
+    let functions = found(alloc, "functions", functions)?;
     Ok((id, types, functions))
 }
 
@@ -184,12 +210,12 @@ fn members_of<'v>(
 fn read_interface(
     alloc: Global,
     done: &[ReadInterface],
-    value: &Value,
+    value: Value,
 ) -> Result<ReadInterface, Failure>
-    ensures { Gives (λ x. x) result (interface_of done.now (view value.now)) }
+    ensures { Gives (λ x. x) result (interface_of done.now (view value)) }
 {
     let (id, types, functions) = members_of(alloc, value)?;
-    let id = under(alloc, "id", read_id(alloc, id))?;
+    let id = under(alloc, "id", read_id(alloc, &id))?;
     let (types, known) = under(alloc, "types", read_types(alloc, done, types))?;
     let read = read_inside(alloc, done, &known, functions);
     let functions = under(alloc, "functions", read)?;
@@ -201,16 +227,14 @@ fn read_interface(
     })
 }
 
-/// Interfaces, each of which may name the types of those before it.
+/// Interfaces, each of which may name the types of those before it. The JSON of each is given back before the next is read.
 #[tactic(auto, unfolding(crate::specs::Interfaces::interfaces_of))]
-pub fn read_interfaces(alloc: Global, value: &Value) -> Result<Seq<ReadInterface>, Failure>
-    ensures { Gives (λ x. x) result (interfaces_of (view value.now)) }
+pub fn read_interfaces(alloc: Global, value: Value) -> Result<Seq<ReadInterface>, Failure>
+    ensures { Gives (λ x. x) result (interfaces_of (view value)) }
 {
-    let Some(values) = value.as_array() else {
-        return Err(fault_here(alloc));
-    };
+    let values = take_items(alloc, value)?;
     let mut done = Seq::new(alloc);
-    for (index, value) in values.iter().enumerate() {
+    for (index, value) in values.into_iter().enumerate() {
         let next = read_interface(alloc, done.as_slice(), value);
         let one = under_index(alloc, index, next)?;
         done.push(one)?;

@@ -10,9 +10,9 @@ use std::alloc::{AllocError, Global};
 impl TryClone for InterfaceName {
     fn try_clone(&self, alloc: Global) -> Result<InterfaceName, AllocError> {
         match self {
-            InterfaceName::Id(text) => Ok(InterfaceName::Id(text.clone(alloc)?)),
-            InterfaceName::Imported(text) => Ok(InterfaceName::Imported(text.clone(alloc)?)),
-            InterfaceName::Exported(text) => Ok(InterfaceName::Exported(text.clone(alloc)?)),
+            InterfaceName::Id(text) => Ok(InterfaceName::Id(text.try_clone(alloc)?)),
+            InterfaceName::Imported(text) => Ok(InterfaceName::Imported(text.try_clone(alloc)?)),
+            InterfaceName::Exported(text) => Ok(InterfaceName::Exported(text.try_clone(alloc)?)),
             InterfaceName::Unused(index) => Ok(InterfaceName::Unused(*index)),
         }
     }
@@ -107,7 +107,7 @@ impl TryClone for ItemKey {
     fn try_clone(&self, alloc: Global) -> Result<ItemKey, AllocError> {
         match self {
             ItemKey::Name(text) => Ok(ItemKey::Name(text.clone(alloc)?)),
-            ItemKey::Interface(text) => Ok(ItemKey::Interface(text.clone(alloc)?)),
+            ItemKey::Interface(text) => Ok(ItemKey::Interface(text.try_clone(alloc)?)),
         }
     }
 }

@@ -3,7 +3,7 @@
 ghost use Rattle.std.specs.Prelude.{◌≡◌};
 ghost use Rattle.record_values.specs.Names.{name_kind, name_text, owner_kind, owner_text};
 
-use comp_lists::Text;
+use comp_lists::{SharedText, Text};
 use std::hash::{Hash, Hasher};
 
 /// An interface: by its id, or by the name under which the world imports or exports it where it has
@@ -11,9 +11,9 @@ use std::hash::{Hash, Hasher};
 /// that the world has can name it.
 #[derive(Debug)]
 pub enum InterfaceName {
-    Id(Text),
-    Imported(Text),
-    Exported(Text),
+    Id(SharedText),
+    Imported(SharedText),
+    Exported(SharedText),
     Unused(u32),
 }
 

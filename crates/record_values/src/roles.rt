@@ -7,7 +7,7 @@ use standard_kinds::{ExportKind, StringEncoding};
 use wit_data::AbiVariant;
 
 /// A built-in function without arguments of its own (Canonical ABI: `canon` built-ins).
-#[derive(Clone, Copy, Debug, PartialEq, Eq)]
+#[derive(Clone, Copy, PartialEq, Eq)]
 pub enum Intrinsic {
     TaskCancel,
     BackpressureInc,
@@ -22,14 +22,14 @@ pub enum Intrinsic {
 }
 
 /// A carrier of values between components: a stream or a future.
-#[derive(Clone, Copy, Debug, PartialEq, Eq)]
+#[derive(Clone, Copy, PartialEq, Eq)]
 pub enum PayloadKind {
     Stream,
     Future,
 }
 
 /// An operation on a stream or a future (Canonical ABI: `stream.new`, `future.read` and the like).
-#[derive(Clone, Copy, Debug, PartialEq, Eq)]
+#[derive(Clone, Copy, PartialEq, Eq)]
 pub enum PayloadOperation {
     New,
     Read,
@@ -42,7 +42,7 @@ pub enum PayloadOperation {
 
 /// A stream or a future: one without values, or the one that occurs at an index in the parameters and
 /// then the result of a function that the world imports or exports.
-#[derive(Debug, Drop, PartialEq, Eq)]
+#[derive(Drop, PartialEq, Eq)]
 pub enum Payload {
     Unit,
     Met {
@@ -54,7 +54,7 @@ pub enum Payload {
 }
 
 /// The role of a core import.
-#[derive(Debug, PartialEq, Eq)]
+#[derive(PartialEq, Eq)]
 pub enum ImportRole {
     /// A function that the world or an imported interface has, and how it is called.
     Function {
@@ -154,7 +154,7 @@ impl Drop for ImportRole {
 }
 
 /// An export with a meaning of its own, whatever the world.
-#[derive(Clone, Copy, Debug, PartialEq, Eq, Hash)]
+#[derive(Clone, Copy, PartialEq, Eq, Hash)]
 pub enum PlainExport {
     Memory,
     /// The realloc of all calls that have none of their own.
@@ -168,7 +168,7 @@ pub enum PlainExport {
 }
 
 /// The role of a core export.
-#[derive(Debug, PartialEq, Eq, Hash)]
+#[derive(PartialEq, Eq, Hash)]
 pub enum ExportRole {
     /// A function that the world or an exported interface has, and how it is called.
     Function {

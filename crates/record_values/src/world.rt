@@ -5,14 +5,14 @@ ghost use Rattle.record_values.specs.Names.{key_kind, key_text};
 
 use crate::names::InterfaceName;
 use crate::types::{Func, Interface, Node};
-use comp_lists::{Keyed, Seq, Text};
+use comp_lists::{Keyed, Seq, SharedText, Text};
 use std::hash::{Hash, Hasher};
 
 /// The key of an import or an export: a plain name, or an interface's id.
 #[derive(Debug, Drop)]
 pub enum ItemKey {
     Name(Text),
-    Interface(Text),
+    Interface(SharedText),
 }
 
 /// What a world imports or exports. A type has its name in its key.
@@ -57,7 +57,7 @@ impl ItemKey {
     {
         match self {
             ItemKey::Name(text) => text,
-            ItemKey::Interface(text) => text,
+            ItemKey::Interface(text) => text.as_text(),
         }
     }
 }

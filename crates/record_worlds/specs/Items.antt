@@ -145,10 +145,15 @@ abbrev pub interfaces_if : Option Data → Result (List ReadInterface) Failure
 interfaces_if None = Ok []
 interfaces_if (Some v) = under (codes "interfaces") (interfaces_of v)
 
--- the interfaces of a record, and the items of its world: the types of the world may be named by all exports
+-- these interfaces, and the items of both sides: the types of the world may be named by all exports
+abbrev pub sides_read : List ReadInterface → Option Data → Option Data → Result WorldItems Failure
+sides_read is imports exports = do
+  ims ← items_if sides.Import is [] (codes "imports") imports
+  exs ← items_if sides.Export is ims.types (codes "exports") exports
+  Ok (record { interfaces = is; imports = ims.items; exports = exs.items })
+
+-- the interfaces of a record, and the items of its world
 unfoldable pub world_items_of : Data → Result WorldItems Failure
 world_items_of d = do
   is ← interfaces_if (get (codes "interfaces") d)
-  ims ← items_if sides.Import is [] (codes "imports") (get (codes "imports") d)
-  exs ← items_if sides.Export is ims.types (codes "exports") (get (codes "exports") d)
-  Ok (record { interfaces = is; imports = ims.items; exports = exs.items })
+  sides_read is (get (codes "imports") d) (get (codes "exports") d)

@@ -1,15 +1,16 @@
 //! The items of a world, as they are written in a record.
 
-ghost use Rattle.std.specs.Prelude.{◌≡◌, [], OnOk, codes};
+ghost use Rattle.std.specs.Prelude.{◌≡◌, [], OnOk, codes, option_map};
 ghost use Rattle.std.specs.List.{list_any};
 ghost use Rattle.serde_json.specs.Find.{get};
 ghost use Rattle.serde_json.specs.View.{view, items_view};
 ghost use Rattle.json_paths.specs.Faults.{Gives};
-ghost use Rattle.record_worlds.specs.Items.{holds_colon, index_of, plain_name_of, key_of, named_key, id_key, interface_at, other_item, function_item, type_item, interface_item, item_of, with_type, with_read, items_from, items_of, items_if, interfaces_if, world_items_of, world_function, world_type};
+ghost use Rattle.record_worlds.specs.Items.{holds_colon, index_of, plain_name_of, key_of, named_key, id_key, interface_at, other_item, function_item, type_item, interface_item, item_of, with_type, with_read, items_from, items_of, items_if, interfaces_if, sides_read, world_items_of, world_function, world_type};
 
-use comp_lists::{Keyed, Seq, Text};
+use comp_lists::{Keyed, Seq, SharedText, Text};
 use json_paths::{
-    Failure, check_members, fault_at, fault_here, read_text, required, under, under_index,
+    Failure, check_members, fault_at, fault_here, read_text, required, take_items, take_member,
+    under, under_index,
 };
 use record_sides::Side;
 use record_types::{
@@ -176,7 +177,10 @@ fn id_key(alloc: Global, id: &Option<Text>) -> Result<ItemKey, Failure>
     ensures { Gives (λ k. k) result (id_key id.now) }
 {
     match id {
-        Some(id) => Ok(ItemKey::Interface(id.clone(alloc)?)),
+        Some(id) => {
+            let id = SharedText::from_str(alloc, id.as_str())?;
+            Ok(ItemKey::Interface(id))
+        }
         None => Err(fault_at(alloc, "interface")),
     }
 }
@@ -295,22 +299,22 @@ fn add_value(
     Ok(read.items.push(item)?)
 }
 
-/// The items of a list; these types of the world are known before it.
+/// The items of a list; these types of the world are known before it. The JSON of each is given back before the next is read.
 fn read_values(
     alloc: Global,
     side: Side,
     interfaces: &[ReadInterface],
     types: Keyed<Text, TypeFacts>,
-    values: &[Value],
+    values: Vec<Value>,
 ) -> Result<ReadItems, Failure>
-    ensures { Gives (λ r. r) result (items_from side interfaces.now 0 (record { items = []; types = types }) (items_view values.now)) }
+    ensures { Gives (λ r. r) result (items_from side interfaces.now 0 (record { items = []; types = types }) (items_view values.items)) }
 {
     let mut read = ReadItems {
         items: Seq::new(alloc),
         types,
     };
-    for (index, value) in values.iter().enumerate() {
-        add_value(alloc, side, interfaces, &mut read, index, value)?;
+    for (index, value) in values.into_iter().enumerate() {
+        add_value(alloc, side, interfaces, &mut read, index, &value)?;
     }
     Ok(read)
 }
@@ -321,14 +325,17 @@ fn read_items(
     side: Side,
     interfaces: &[ReadInterface],
     types: Keyed<Text, TypeFacts>,
-    value: &Value,
+    value: Value,
 ) -> Result<ReadItems, Failure>
-    ensures { Gives (λ r. r) result (items_of side interfaces.now types (view value.now)) }
+    ensures { Gives (λ r. r) result (items_of side interfaces.now types (view value)) }
 {
-    let Some(values) = value.as_array() else {
-        return Err(fault_here(alloc));
-    };
-    read_values(alloc, side, interfaces, types, values.as_slice())
+    match take_items(alloc, value) {
+        Ok(values) => read_values(alloc, side, interfaces, types, values),
+        Err(failure) => {
+            drop(types);
+            Err(failure)
+        }
+    }
 }
 
 /// The items of a side, none where its member is left out.
@@ -338,11 +345,11 @@ fn items_member(
     interfaces: &[ReadInterface],
     types: Keyed<Text, TypeFacts>,
     key: &str,
-    value: &Value,
+    member: Option<Value>,
 ) -> Result<ReadItems, Failure>
-    ensures { Gives (λ r. r) result (items_if side interfaces.now types key.now (get key.now (view value.now))) }
+    ensures { Gives (λ r. r) result (items_if side interfaces.now types key.now (option_map view member)) }
 {
-    match value.get(key) {
+    match member {
         Some(member) => {
             let items = read_items(alloc, side, interfaces, types, member);
             under(alloc, key, items)
@@ -355,21 +362,49 @@ fn items_member(
 }
 
 /// The interfaces of a record, none where their member is left out.
-fn interfaces_member(alloc: Global, value: &Value) -> Result<Seq<ReadInterface>, Failure>
-    ensures { Gives (λ x. x) result (interfaces_if (get (codes "interfaces") (view value.now))) }
+fn interfaces_member(alloc: Global, member: Option<Value>) -> Result<Seq<ReadInterface>, Failure>
+    ensures { Gives (λ x. x) result (interfaces_if (option_map view member)) }
 {
-    match value.get("interfaces") {
+    match member {
         Some(member) => under(alloc, "interfaces", read_interfaces(alloc, member)),
         None => Ok(Seq::new(alloc)),
     }
 }
 
-/// The interfaces of a record, and the items of its world.
-#[tactic(auto, unfolding(crate::specs::Items::world_items_of))]
-pub(crate) fn read_world_items(alloc: Global, value: &Value) -> Result<WorldItems, Failure>
-    ensures { Gives (λ w. w) result (world_items_of (view value.now)) }
+/// The members of a record that describe its world.
+#[derive(Drop)]
+struct WorldMembers {
+    interfaces: Option<Value>,
+    imports: Option<Value>,
+    exports: Option<Value>,
+}
+
+/// Takes the members of the world out of a record.
+fn take_world_members(value: Value) -> WorldMembers
+    ensures interfaces { option_map view result.interfaces ≡ get (codes "interfaces") (view value) }
+    ensures imports { option_map view result.imports ≡ get (codes "imports") (view value) }
+    ensures exports { option_map view result.exports ≡ get (codes "exports") (view value) }
 {
-    let interfaces = interfaces_member(alloc, value)?;
+    let mut value = value;
+    let interfaces = take_member(&mut value, "interfaces");
+    let imports = take_member(&mut value, "imports");
+    let exports = take_member(&mut value, "exports");
+    WorldMembers {
+        interfaces,
+        imports,
+        exports,
+    }
+}
+
+/// The items of the world of these interfaces.
+fn read_sides(
+    alloc: Global,
+    interfaces: Seq<ReadInterface>,
+    imports: Option<Value>,
+    exports: Option<Value>,
+) -> Result<WorldItems, Failure>
+    ensures { Gives (λ w. w) result (sides_read interfaces (option_map view imports) (option_map view exports)) }
+{
     let read = interfaces.as_slice();
     let imports = items_member(
         alloc,
@@ -377,17 +412,31 @@ pub(crate) fn read_world_items(alloc: Global, value: &Value) -> Result<WorldItem
         read,
         Keyed::new(alloc),
         "imports",
-        value,
+        imports,
     )?;
     let ReadItems {
         items: imports,
         types,
     } = imports;
-    let exports = items_member(alloc, Side::Export, read, types, "exports", value)?;
+    let exports = items_member(alloc, Side::Export, read, types, "exports", exports)?;
     let ReadItems { items: exports, .. } = exports;
     Ok(WorldItems {
         interfaces,
         imports,
         exports,
     })
+}
+
+/// The interfaces of a record, and the items of its world. The JSON of each is given back as soon as it was read.
+#[tactic(auto, unfolding(crate::specs::Items::world_items_of))]
+pub(crate) fn read_world_items(alloc: Global, value: Value) -> Result<WorldItems, Failure>
+    ensures { Gives (λ w. w) result (world_items_of (view value)) }
+{
+    let WorldMembers {
+        interfaces,
+        imports,
+        exports,
+    } = take_world_members(value);
+    let interfaces = interfaces_member(alloc, interfaces)?;
+    read_sides(alloc, interfaces, imports, exports)
 }

@@ -4,7 +4,7 @@ ghost use Rattle.std.specs.Prelude.{◌≡◌, [], OnOk, IfOk, map};
 ghost use Rattle.record_worlds.specs.Naming.{index_name, given_name, with_id, ids_from, with_key, with_given, with_all_given, names_of, renamed_entry, renamed_entries};
 
 use crate::items::{ReadItem, WorldItems};
-use comp_lists::{Keyed, Seq, Text, TryClone};
+use comp_lists::{Keyed, Seq, SharedText, Text, TryClone};
 use record_sides::Side;
 use record_types::ReadInterface;
 use record_values::{InterfaceName, Item, ItemKey, rename_item};
@@ -31,9 +31,10 @@ pub(crate) fn index_name(index: usize) -> InterfaceName
 fn given_name(alloc: Global, side: Side, name: &Text) -> Result<InterfaceName, AllocError>
     ensures { IfOk result (λ n. n ≡ given_name side name.now) }
 {
+    let name = SharedText::from_str(alloc, name.as_str())?;
     match side {
-        Side::Import => Ok(InterfaceName::Imported(name.clone(alloc)?)),
-        Side::Export => Ok(InterfaceName::Exported(name.clone(alloc)?)),
+        Side::Import => Ok(InterfaceName::Imported(name)),
+        Side::Export => Ok(InterfaceName::Exported(name)),
     }
 }
 
@@ -47,7 +48,10 @@ fn add_id(
     ensures { OnOk result (names.new ≡ with_id names.old index id.now) }
 {
     match id {
-        Some(id) => names.insert_if_absent(index_name(index), InterfaceName::Id(id.clone(alloc)?)),
+        Some(id) => {
+            let id = SharedText::from_str(alloc, id.as_str())?;
+            names.insert_if_absent(index_name(index), InterfaceName::Id(id))
+        }
         None => Ok(()),
     }
 }

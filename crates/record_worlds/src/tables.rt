@@ -9,7 +9,7 @@ ghost use Rattle.record_worlds.specs.Naming.{index_name};
 ghost use Rattle.record_worlds.specs.Tables.{renamed_content, with_interface, with_same, interfaces_from, is_seen, with_seen, with_item, side_from, side_at};
 
 use crate::naming::{Entry, Names, index_name};
-use comp_lists::{Keyed, Text, TryClone};
+use comp_lists::{Keyed, SharedText, TryClone};
 use json_paths::{Failure, Refusal, fault_here, under, under_index};
 use record_sides::Side;
 use record_types::ReadInterface;
@@ -48,19 +48,19 @@ fn rename_content(
 fn add_same(
     alloc: Global,
     table: &mut Interfaces,
-    id: &Text,
+    id: &SharedText,
     interface: Interface,
 ) -> Result<(), Failure>
     ensures { Gives (λ _. table.new) result (with_same ⟦<Interface as PartialEq>⟧.eq table.old id.now interface) }
 {
-    let name = InterfaceName::Id(id.clone(alloc)?);
+    let name = InterfaceName::Id(id.try_clone(alloc)?);
     match table.get(&name) {
         Some(other) => {
             if *other == interface {
                 Ok(())
             } else {
                 Err(Failure::Refused(Refusal::MergeConflict {
-                    name: id.clone(alloc)?,
+                    name: id.as_text().clone(alloc)?,
                 }))
             }
         }

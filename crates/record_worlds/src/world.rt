@@ -129,8 +129,8 @@ fn named_world(alloc: Global, names: &Names, read: &WorldItems) -> Result<Record
 /// The world of a record, from the whole object: its members `interfaces`, `imports` and `exports`,
 /// each of which may be left out. The other members are ignored.
 #[tactic(auto, unfolding(crate::specs::Worlds::world_of))]
-pub fn read_world(alloc: Global, value: &Value) -> Result<RecordWorld, Failure>
-    ensures { Gives (λ w. w) result (world_of ⟦<Interface as PartialEq>⟧.eq (view value.now)) }
+pub fn read_world(alloc: Global, value: Value) -> Result<RecordWorld, Failure>
+    ensures { Gives (λ w. w) result (world_of ⟦<Interface as PartialEq>⟧.eq (view value)) }
 {
     let read = read_world_items(alloc, value)?;
     let names = names_of(alloc, &read)?;

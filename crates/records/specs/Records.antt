@@ -38,12 +38,18 @@ unfoldable pub only_known : Data → Result ⊤ Failure
 only_known d =
     only (codes "version" ∷ codes "encoding" ∷ codes "context-slot-1" ∷ codes "interfaces" ∷ codes "imports" ∷ codes "exports" ∷ codes "core-imports" ∷ codes "core-exports" ∷ []) d
 
--- what the record says besides its world
-unfoldable pub with_world : StringEncoding → Bool → Data → RecordWorld → Result Record Failure
-with_world e slot d w = do
-  is ← core_imports_if w (all_met w.wit) (get (codes "core-imports") d)
-  es ← core_exports_if w (get (codes "core-exports") d)
+-- what the record says besides its world, from its members `core-imports` and `core-exports`
+unfoldable pub with_world : StringEncoding → Bool → Option Data → Option Data → RecordWorld → Result Record Failure
+with_world e slot imports exports w = do
+  is ← core_imports_if w (all_met w.wit) imports
+  es ← core_exports_if w exports
   Ok (record { wit = w.wit; encoding = e; context_slot_1 = slot; import_roles = is; export_roles = es })
+
+-- the same, where the world could be read
+abbrev pub with_parts : StringEncoding → Bool → Option Data → Option Data → Result RecordWorld Failure → Result Record Failure
+with_parts e slot imports exports world = do
+  w ← world
+  with_world e slot imports exports w
 
 unfoldable pub record_of : Data → Result Record Failure
 record_of d = do
@@ -51,8 +57,7 @@ record_of d = do
   _ ← version_of d
   e ← encoding_if (get (codes "encoding") d)
   slot ← bool_if (codes "context-slot-1") (get (codes "context-slot-1") d)
-  w ← world_of same_interface d
-  with_world e slot d w
+  with_parts e slot (get (codes "core-imports") d) (get (codes "core-exports") d) (world_of same_interface d)
 
 -- the record that bytes encode
 unfoldable pub record_in : List ℕ → Result Record Failure

@@ -21,6 +21,7 @@ use Rattle.shim_targets.specs.ShimTargets.{which_of, kind_of_import, StandsFor, 
 abbrev of_export : ShimKind → Bool
 of_export (kinds.Adapter adapter name) = true
 of_export (kinds.ResourceDtor which name) = true
+of_export (kinds.Realloc which name) = true
 of_export kind = false
 
 -- that of an import's shim is not
@@ -33,6 +34,7 @@ import_kind of role encoding kind e = absurd (none-some kind e)
 export_kind : (kind : ShimKind) (e : ExportRef) → export_of_kind kind ≡ Some e → of_export kind ≡ true
 export_kind (kinds.Adapter adapter name) e is = refl
 export_kind (kinds.ResourceDtor which name) e is = refl
+export_kind (kinds.Realloc which name) e is = refl
 export_kind kind e is = absurd (none-some e is)
 
 module _ (w : ComponentWorld) (s : Shim) where

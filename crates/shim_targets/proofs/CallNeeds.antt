@@ -1,11 +1,12 @@
--- What a user module needs of a call: where its options need a memory and it has an encoding, a shim that stands for its import, and
--- nothing else.
-use Rattle.std.proofs.Common.{◌≡◌, ◌∙◌, ℕ, Bool, true, false, ◌&&◌, List, [], Contains, if◌then◌else◌, Option, Some, None, inl, refl, sym, ap, subst}
+-- What a user module needs of a call: where its options need a memory, which main doesn't import, and it has an encoding, a shim that
+-- stands for its import; where main imports its memory, a shim for the realloc of the call; and nothing else.
+use Rattle.std.proofs.Common.{◌≡◌, ◌∙◌, ℕ, Bool, true, false, ◌&&◌, List, [], Contains, if◌then◌else◌, Option, Some, None, is_some, inl, inr, refl, sym, ap, subst}
 use Rattle.std.proofs.Math.Bool.{and-false}
 use Rattle.std.proofs.lemmas.Option.{same_Some}
 use Rattle.std.specs.List.{AllByRecursion}
 use Rattle.std.specs.Option.{option_and_then}
 use Rattle.std.specs.Prelude.{IsTrue}
+use Rattle.core_types.specs.declared.types.MemoryType.{MemoryType}
 use Rattle.standard_kinds.specs.declared.kinds.StringEncoding.{StringEncoding}
 use Rattle.wit_data.specs.Signatures.{signature}
 use Rattle.wit_data.specs.declared.functions.AbiVariant.{AbiVariant}
@@ -20,12 +21,12 @@ use Rattle.comp_worlds.specs.declared.lowerings.Lowering.{Lowering}
 use Rattle.comp_worlds.specs.declared.lowerings.Lowering.TheVariants as lowerings
 use Rattle.comp_worlds.specs.declared.world.ComponentWorld.{ComponentWorld}
 use Rattle.comp_worlds.specs.declared.world.ValidatedModule.{ValidatedModule}
-use Rattle.shim_plan.specs.Needed.{realloc_shims, import_realloc, realloc_needs, indirect_shim, indirect_needs, lowering_needs, lowering_of_call}
+use Rattle.shim_plan.specs.Needed.{realloc_shim, realloc_shims, import_realloc, realloc_needs, indirect_shim, indirect_needs, lowering_needs, lowering_of_call}
 use Rattle.shim_plan.specs.Plans.{shim_at}
 use Rattle.shim_plan.specs.declared.kinds.ShimKind.{ShimKind}
 use Rattle.shim_plan.specs.declared.needs.NeededShim.{NeededShim}
 use Rattle.shim_plan.specs.declared.reallocs.ReallocSite.TheVariants as sites
-use Rattle.comp_links.specs.Links.{lower_needs}
+use Rattle.comp_links.specs.Links.{lower_needs, export_at}
 use Rattle.comp_links.specs.Modules.{module_found, user_imports}
 use Rattle.comp_links.specs.Roles.{encoding_in}
 use Rattle.comp_links.specs.Targets.{UserModule}
@@ -33,7 +34,9 @@ use Rattle.shim_targets.specs.ShimTargets.{which_of, kind_of_import, StandsForOn
 use Rattle.shim_targets.proofs.Calls.{IsLowered, role_back}
 use Rattle.shim_targets.proofs.Lists.{contains_first}
 use Rattle.shim_targets.proofs.OptionSets.{none_needed}
+use Rattle.shim_targets.proofs.ReallocShims.{Pair, realloc_exported, realloc_stands}
 use Rattle.shim_targets.proofs.Roles.{import_role, no_hook}
+use Rattle.comp_worlds.specs.Offered.{shared_memory}
 
 -- a shim that is needed stands for an import or an export, at whatever place
 abbrev pub Stands : ComponentWorld → NeededShim → Type 0
@@ -58,9 +61,9 @@ module _ (w : ComponentWorld) (of : UserModule) (m : ValidatedModule) (i : CoreI
   abbrev options : RequiredOptions
   options = record { 0 = import_set abi w.resolve.types h.function }
 
-  -- how it is lowered, by whether it needs a memory
-  abbrev lowered_by : Bool → Lowering
-  lowered_by b = if b then lowerings.Indirect (signature abi w.resolve.types h.function) options else lowerings.Direct options
+  -- how it is lowered, by whether main imports its memory, and whether the call needs one
+  abbrev lowered_by : Bool → Bool → Lowering
+  lowered_by shared b = if shared then lowerings.Direct options else (if b then lowerings.Indirect (signature abi w.resolve.types h.function) options else lowerings.Direct options)
 
   -- what is needed where it is lowered so
   abbrev needs_as : Option Lowering → List NeededShim
@@ -78,21 +81,33 @@ module _ (w : ComponentWorld) (of : UserModule) (m : ValidatedModule) (i : CoreI
   abbrev pub needs_of : List NeededShim
   needs_of = needs_as (lowering_of_call w (record { interface = interface; key = key; function = record { name = name; abi = abi } }))
 
-  -- a call that needs a memory and has an encoding has its shim
-  pub call_needed : IsTrue (needs (lower_needs w i.role) 1) → (encoding : StringEncoding) → encoding_in i.role m ≡ Some encoding → Contains needs_of (shim_with encoding)
-  call_needed memory encoding encoded =
+  -- a call that needs a memory, which main doesn't import, and has an encoding has its shim
+  pub call_needed : shared_memory w ≡ None → IsTrue (needs (lower_needs w i.role) 1) → (encoding : StringEncoding) → encoding_in i.role m ≡ Some encoding → Contains needs_of (shim_with encoding)
+  call_needed unshared memory encoding encoded =
       let with_encoding : Contains (needs_with (of_function key name m.metadata.import_encodings)) (shim_with encoding) =
       subst (λ o. Contains (needs_with o) (shim_with encoding)) (sym (sym (h.encoding m) ∙ encoded)) (contains_first (shim_with encoding) (realloc_needs w (which_of of) m sites.AfterInstantiation options)) in
-      let through_table : Contains (needs_as (Some (lowered_by (needs options.0 1)))) (shim_with encoding) =
-      subst (λ b. Contains (needs_as (Some (lowered_by b))) (shim_with encoding)) (sym (ap (λ (n : ℕ). needs n 1) (sym h.needs) ∙ memory)) with_encoding in
-      subst (λ o. Contains (needs_as o) (shim_with encoding)) (sym h.lowered) through_table
+      let through_table : Contains (needs_as (Some (lowered_by false (needs options.0 1)))) (shim_with encoding) =
+      subst (λ b. Contains (needs_as (Some (lowered_by false b))) (shim_with encoding)) (sym (ap (λ (n : ℕ). needs n 1) (sym h.needs) ∙ memory)) with_encoding in
+      let lowered : Contains (needs_as (Some (lowered_by (is_some (shared_memory w)) (needs options.0 1)))) (shim_with encoding) =
+      subst (λ o. Contains (needs_as (Some (lowered_by (is_some o) (needs options.0 1)))) (shim_with encoding)) (sym unshared) through_table in
+      subst (λ o. Contains (needs_as o) (shim_with encoding)) (sym h.lowered) lowered
+
+  -- one that needs a realloc has the shim of that, where main imports its memory
+  pub realloc_needed : is_some (shared_memory w) ≡ true → IsTrue (needs (lower_needs w i.role) 2) → (r : Pair) → import_realloc w (which_of of) m ≡ Some r → Contains needs_of (realloc_shim r)
+  realloc_needed shared realloc r found =
+      let shim : Contains (realloc_shims (import_realloc w (which_of of) m)) (realloc_shim r) = subst (λ o. Contains (realloc_shims o) (realloc_shim r)) (sym found) (contains_first (realloc_shim r) []) in
+      let asked : Contains (realloc_needs w (which_of of) m sites.BeforeInstantiation options) (realloc_shim r) =
+      subst (λ b. Contains (if b && true then realloc_shims (import_realloc w (which_of of) m) else []) (realloc_shim r)) (sym (ap (λ (n : ℕ). needs n 2) (sym h.needs) ∙ realloc)) shim in
+      let lowered : Contains (needs_as (Some (lowered_by (is_some (shared_memory w)) (needs options.0 1)))) (realloc_shim r) =
+      subst (λ b. Contains (needs_as (Some (lowered_by b (needs options.0 1)))) (realloc_shim r)) (sym shared) asked in
+      subst (λ o. Contains (needs_as o) (realloc_shim r)) (sym h.lowered) lowered
 
   pub kind_of_shim : (encoding : StringEncoding) (kind : ShimKind) → kind_of_import of i.role encoding ≡ Some kind → (shim_with encoding).kind ≡ kind
   kind_of_shim encoding kind is = same_Some (shim_with encoding).kind kind (sym (h.kind of encoding) ∙ is)
 
   module _ (ok : IsEncodable w) (found : module_found w of ≡ Some m) (there : Contains (user_imports w) (record { of = of; core = i })) where
-    shim_stands : needs options.0 1 ≡ true → (encoding : StringEncoding) → of_function key name m.metadata.import_encodings ≡ Some encoding → Stands w (shim_with encoding)
-    shim_stands memory encoding encoded place = inl (
+    shim_stands : shared_memory w ≡ None → needs options.0 1 ≡ true → (encoding : StringEncoding) → of_function key name m.metadata.import_encodings ≡ Some encoding → Stands w (shim_with encoding)
+    shim_stands unshared memory encoding encoded place = inl (
       record { of = of; core = i },
       record {
         present = there;
@@ -103,6 +118,7 @@ module _ (w : ComponentWorld) (of : UserModule) (m : ValidatedModule) (i : CoreI
         };
         options = sym h.needs;
         memory = ap (λ (n : ℕ). needs n 1) h.needs ∙ memory;
+        unshared = unshared;
         encoding = encoding;
         encoded = ap (option_and_then (encoding_in i.role)) found ∙ h.encoding m ∙ encoded;
         kind = h.kind of encoding;
@@ -110,19 +126,32 @@ module _ (w : ComponentWorld) (of : UserModule) (m : ValidatedModule) (i : CoreI
       },
     )
 
-    with_memory : needs options.0 1 ≡ true → (o : Option StringEncoding) → of_function key name m.metadata.import_encodings ≡ o → AllByRecursion (Stands w) (needs_with o)
-    with_memory memory None encoded = tt
-    with_memory memory (Some encoding) encoded = (shim_stands memory encoding encoded, subst (AllByRecursion (Stands w)) (sym (no_realloc_after w ok (which_of of) m options)) tt)
+    with_memory : shared_memory w ≡ None → needs options.0 1 ≡ true → (o : Option StringEncoding) → of_function key name m.metadata.import_encodings ≡ o → AllByRecursion (Stands w) (needs_with o)
+    with_memory unshared memory None encoded = tt
+    with_memory unshared memory (Some encoding) encoded = (shim_stands unshared memory encoding encoded, subst (AllByRecursion (Stands w)) (sym (no_realloc_after w ok (which_of of) m options)) tt)
 
     without_memory : needs options.0 1 ≡ false → options.0 ≡ 0
     without_memory e =
         let set : AbiVariant → ℕ = λ a. import_set a w.resolve.types h.function in
         ap set h.synchronous ∙ none_needed w.resolve.types h.function (ap (λ a. needs (set a) 1) (sym h.synchronous) ∙ e)
 
-    -- all that is needed of a call stands for its import
-    pub call_needs_stand : AllByRecursion (Stands w) needs_of
-    call_needs_stand = subst (λ o. AllByRecursion (Stands w) (needs_as o)) (sym h.lowered) (by (needs options.0 1) refl)
+    -- the shim of a realloc stands for that
+    reallocs_stand : AllByRecursion (Stands w) (realloc_needs w (which_of of) m sites.BeforeInstantiation options)
+    reallocs_stand = by (needs options.0 2) (import_realloc w (which_of of) m) refl
       where
-        by : (b : Bool) → needs options.0 1 ≡ b → AllByRecursion (Stands w) (needs_as (Some (lowered_by b)))
-        by true e = with_memory e (of_function key name m.metadata.import_encodings) refl
-        by false e = subst (AllByRecursion (Stands w)) (sym (no_realloc_before w (which_of of) m options (without_memory e))) tt
+        by : (b : Bool) (o : Option Pair) → import_realloc w (which_of of) m ≡ o → AllByRecursion (Stands w) (if b && true then realloc_shims o else [])
+        by false o e = tt
+        by true None e = tt
+        by true (Some r) e = (λ place. inr (export_at r, realloc_stands w r (realloc_exported w ok of m found r e) place), tt)
+
+    -- all that is needed of a call stands for its import, or for its realloc
+    pub call_needs_stand : AllByRecursion (Stands w) needs_of
+    call_needs_stand = subst (λ o. AllByRecursion (Stands w) (needs_as o)) (sym h.lowered) (shared_by (shared_memory w) refl)
+      where
+        by : shared_memory w ≡ None → (b : Bool) → needs options.0 1 ≡ b → AllByRecursion (Stands w) (needs_as (Some (lowered_by false b)))
+        by unshared true e = with_memory unshared e (of_function key name m.metadata.import_encodings) refl
+        by unshared false e = subst (AllByRecursion (Stands w)) (sym (no_realloc_before w (which_of of) m options (without_memory e))) tt
+
+        shared_by : (o : Option MemoryType) → shared_memory w ≡ o → AllByRecursion (Stands w) (needs_as (Some (lowered_by (is_some o) (needs options.0 1))))
+        shared_by None e = by e (needs options.0 1) refl
+        shared_by (Some type) e = reallocs_stand

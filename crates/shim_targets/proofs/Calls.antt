@@ -25,7 +25,6 @@ use Rattle.wit_data.specs.declared.worlds.WorldKey.TheVariants as keys
 use Rattle.comp_roles.specs.CoreImports.{CoreImport}
 use Rattle.comp_roles.specs.CoreTypes.{called_type}
 use Rattle.comp_roles.specs.Functions.{of_function}
-use Rattle.comp_roles.specs.Lookups.{imported_memory}
 use Rattle.comp_roles.specs.declared.imports.Import.{Import}
 use Rattle.comp_roles.specs.declared.imports.Import.TheVariants as imports
 use Rattle.comp_options.specs.Options.{import_set}
@@ -49,11 +48,11 @@ use Rattle.comp_links.specs.Modules.{UserImport, user_imports}
 use Rattle.comp_links.specs.Roles.{encoding_in}
 use Rattle.comp_links.specs.Targets.{UserModule}
 use Rattle.comp_terms.specs.Generated.{interface_in, role_of_kind}
+use Rattle.comp_worlds.specs.Offered.{shared_memory}
 use Rattle.shim_targets.specs.ShimTargets.{which_of, kind_of_import}
 use Rattle.shim_targets.proofs.Keys.{key_laws, call_laws, one_import_key, one_lowering}
 use Rattle.shim_targets.proofs.Lists.{contains_none, contains_cons, contains_first, contains_flat, IsInOne, flat_contains}
 use Rattle.shim_targets.proofs.Lowered.{is_call_of, root_found, interface_found, entry_found}
-use Rattle.shim_targets.proofs.Roles.{no_memory}
 use Rattle.shim_targets.proofs.Tables.{made_finds}
 use Rattle.shim_targets.proofs.Users.{back, among_all}
 
@@ -62,7 +61,7 @@ use Rattle.shim_targets.proofs.Users.{back, among_all}
 pub record IsLowered (w : ComponentWorld) (role : Import) (interface : Option WorldKey) (key : WorldKey) (name : List ℕ) (abi : AbiVariant) : Type 0 where
   pub function : Function
   pub synchronous : abi ≡ GuestImport
-  pub lowered : lowering_of_call w (record { interface = interface; key = key; function = record { name = name; abi = abi } }) ≡ Some (lowering_of false abi w.resolve.types function)
+  pub lowered : lowering_of_call w (record { interface = interface; key = key; function = record { name = name; abi = abi } }) ≡ Some (lowering_of (is_some (shared_memory w)) abi w.resolve.types function)
   pub needs : lower_needs w role ≡ import_set abi w.resolve.types function
   pub typed : type_of_import w.resolve (items_of w) role ≡ Some (called_type w.resolve abi function)
   pub encoding : (m : ValidatedModule) → encoding_in role m ≡ of_function key name m.metadata.import_encodings
@@ -70,7 +69,7 @@ pub record IsLowered (w : ComponentWorld) (role : Import) (interface : Option Wo
 
 -- what core imports use
 abbrev used_of : ComponentWorld → Used
-used_of w = used_by (all_imports w.main w.adapters) (is_some (imported_memory w.main.imports.modules))
+used_of w = used_by (all_imports w.main w.adapters) (is_some (shared_memory w))
 
 -- a call that is the role of a core import is used
 is_used : (w : ComponentWorld) (i : UserImport) (c : Call) → Contains (user_imports w) i → calls_in i.core.role ≡ (c, tt) ∷ [] → is_called (all_imports w.main w.adapters) c ≡ true
@@ -79,10 +78,6 @@ is_used w i c there is =
     let calls : List (Call × Unit {0}) = flat_map (λ i. calls_in i.role) all in
     let called : Contains calls (c, tt) = contains_flat (λ (i : CoreImport). calls_in i.role) all i.core (c, tt) (among_all w i there) (subst (λ cs. Contains cs (c, tt)) (sym is) (contains_first (c, tt) [])) in
     IsSome-lookup_from_Contains call_laws c calls (Contains-map (λ (e : Call × Unit {0}). e.0) calls (c, tt) called)
-
--- main shares no memory
-not_shared : (w : ComponentWorld) → IsEncodable w → (abi : AbiVariant) (f : Function) → Some (lowering_of (used_of w).shares abi w.resolve.types f) ≡ Some (lowering_of false abi w.resolve.types f)
-not_shared w ok abi f = ap (λ shares. Some (lowering_of shares abi w.resolve.types f)) (no_memory w ok)
 
 -- ---- at the root
 
@@ -126,8 +121,7 @@ root_lowered w ok i text there is c =
           ap (λ table. option_and_then (λ (x : ImportedInterface). lookup (is_call_of text) x.lowerings) (lookup (is_same_import_key None) table)) ok.tables.import_map
           ∙ ap (option_and_then (λ (x : ImportedInterface). lookup (is_call_of text) x.lowerings)) (made_finds is_same_import_key one_import_key None (root_entry used w.resolve es ∷ flat_map (interface_entry used w.resolve) es))
           ∙ made_finds is_same_lowering one_lowering (record { name = text; abi = GuestImport }) entries
-          ∙ found_there
-          ∙ not_shared w ok GuestImport f;
+          ∙ found_there;
       needs = ap (λ o. option_map_or (import_set GuestImport w.resolve.types) o 0) at;
       typed = ap (option_map (called_type w.resolve GuestImport)) at;
       encoding = λ m. refl;
@@ -166,8 +160,7 @@ interface_lowered w ok i key id text there is c d =
           ap (λ table. option_and_then (λ (x : ImportedInterface). lookup (is_call_of text) x.lowerings) (lookup (is_same_import_key (Some key)) table)) ok.tables.import_map
           ∙ ap (option_and_then (λ (x : ImportedInterface). lookup (is_call_of text) x.lowerings)) (made_finds is_same_import_key one_import_key (Some key) (root_entry used w.resolve es ∷ flat_map (interface_entry used w.resolve) es) ∙ entry)
           ∙ made_finds is_same_lowering one_lowering (record { name = text; abi = GuestImport }) (interface_lowerings used w.resolve key id)
-          ∙ found_there
-          ∙ not_shared w ok GuestImport f;
+          ∙ found_there;
       needs = ap (λ o. option_map_or (import_set GuestImport w.resolve.types) o 0) function.1;
       typed = ap (option_map (called_type w.resolve GuestImport)) function.1;
       encoding = λ m. refl;

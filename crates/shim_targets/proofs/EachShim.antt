@@ -1,5 +1,5 @@
 -- Every shim of a world stands for a core import of a user module, for a function that an adapter exports and another module imports, or
--- for a destructor that a user module exports.
+-- for a realloc or a destructor that a user module exports.
 use Rattle.std.proofs.Common.{◌∙◌, ℕ, suc, Bool, true, false, List, [], ◌∷◌, ◌++◌, Contains, if◌then◌else◌, inr, Option, Some, None, ◌≡◌, refl, sym, ap, subst}
 use Rattle.std.specs.List.{AllByRecursion, flat_map, list_any}
 use Rattle.std.specs.Option.{option_map}

@@ -1,9 +1,10 @@
 -- The shim that is found by the kind of an import stands for the role of that import.
-use Rattle.std.proofs.Common.{◌≡◌, ◌∙◌, Contains, Some, sym, ap, subst}
+use Rattle.std.proofs.Common.{◌≡◌, ◌∙◌, Contains, Some, None, sym, ap, subst}
 use Rattle.std.proofs.lemmas.Option.{same_Some}
 use Rattle.standard_kinds.specs.declared.kinds.StringEncoding.{StringEncoding}
 use Rattle.comp_roles.specs.declared.imports.Import.{Import}
 use Rattle.comp_worlds.specs.Encodable.{IsEncodable}
+use Rattle.comp_worlds.specs.Offered.{shared_memory}
 use Rattle.comp_worlds.specs.declared.world.ComponentWorld.{ComponentWorld}
 use Rattle.shim_plan.specs.Plans.{shim_of}
 use Rattle.shim_plan.specs.declared.kinds.ShimKind.{ShimKind}
@@ -20,6 +21,13 @@ use Rattle.shim_targets.proofs.EachShim.{each_stands}
 use Rattle.shim_targets.proofs.FoundShims.{found_shim}
 use Rattle.shim_targets.proofs.Lists.{all_at}
 use Rattle.shim_targets.proofs.Roles.{import_role}
+
+-- where a shim of an import's kind is found, main imports no memory
+pub given_unshared : (w : ComponentWorld) → IsEncodable w → (of : UserModule) (role : Import) (encoding : StringEncoding) (kind : ShimKind) → kind_of_import of role encoding ≡ Some kind → (s : Shim) → shim_of kind (shims_of w) ≡ Some s → shared_memory w ≡ None
+given_unshared w ok of role encoding kind is s e =
+    let at = found_shim w ok kind s e in
+    let own : kind_of_import of role encoding ≡ Some s.kind = is ∙ ap Some (sym at.2) in
+    (for_role w s of role encoding own (all_at (StandsForOne w) (shims_of w) at.0 s (each_stands w ok) at.1)).1.unshared
 
 pub given_shim : (w : ComponentWorld) → IsEncodable w → (i : UserImport) → Contains (user_imports w) i → (encoding : StringEncoding) → import_encoding w i.of i.core.role ≡ Some encoding → (kind : ShimKind) → kind_of_import i.of i.core.role encoding ≡ Some kind → (s : Shim) →
     shim_of kind (shims_of w) ≡ Some s → IsShimOf w s i.of i.core.role

@@ -6,6 +6,7 @@ pub mod Users
 pub mod Roles
 mod Lowered
 mod Calls
+mod ReallocShims
 mod CallNeeds
 pub mod NoOptions
 pub mod Unencoded
@@ -16,6 +17,8 @@ pub mod EachShim
 pub mod ByKind
 pub mod GivenShims
 pub mod NeededShims
+pub mod GivenReallocs
+pub mod CallOptions
 pub mod DestructorShims
 pub mod AdapterShims
 pub mod Worked

@@ -19,20 +19,22 @@ use Rattle.comp_worlds.specs.declared.world.ComponentWorld.{ComponentWorld}
 use Rattle.comp_worlds.specs.declared.world.ValidatedModule.{ValidatedModule}
 use Rattle.shim_plan.proofs.Appending.{known as known_by_kinds}
 use Rattle.shim_plan.proofs.EqualKinds.{are_one}
-use Rattle.shim_plan.specs.Needed.{import_needs, export_needs, needs_of, needed}
+use Rattle.shim_plan.specs.Needed.{realloc_shim, import_realloc, import_needs, export_needs, needs_of, needed}
+use Rattle.comp_worlds.specs.Offered.{shared_memory}
 use Rattle.shim_plan.specs.Plans.{same_kind, kinds_of, shim_of, numbered, lacking}
 use Rattle.shim_plan.specs.declared.kinds.ShimKind.{ShimKind}
 use Rattle.shim_plan.specs.declared.needs.NeededShim.{NeededShim}
 use Rattle.world_shims.specs.WorldShims.{modules_in, shims_of}
-use Rattle.comp_links.specs.Links.{lower_needs, lower_options}
+use Rattle.comp_links.specs.Links.{lower_needs}
 use Rattle.comp_links.specs.Modules.{UserImport, module_found, user_imports}
 use Rattle.comp_links.specs.Roles.{encoding_in, import_encoding}
 use Rattle.comp_links.specs.Targets.{UserModule}
 use Rattle.shim_targets.specs.ShimTargets.{which_of, kind_of_import}
-use Rattle.shim_targets.proofs.CallNeeds.{shim_with, call_needed, kind_of_shim}
+use Rattle.shim_targets.proofs.CallNeeds.{realloc_needed, shim_with, call_needed, kind_of_shim}
 use Rattle.shim_targets.proofs.Calls.{world_call, interface_call}
 use Rattle.shim_targets.proofs.Lists.{contains_none, contains_cons, contains_first, contains_later, contains_flat, passes_any, any_push}
-use Rattle.shim_targets.proofs.NoOptions.{no_options}
+use Rattle.shim_targets.proofs.NoOptions.{role_without}
+use Rattle.shim_targets.proofs.ReallocShims.{Pair}
 use Rattle.shim_targets.proofs.Roles.{import_role}
 use Rattle.comp_links.proofs.Named.{listed_found}
 use Rattle.shim_targets.proofs.Users.{IsImportOf, import_of, of_module, needed_in}
@@ -84,7 +86,7 @@ has_shim w n c =
     let listed : Contains (kinds_of (shims_of w)) n.kind = subst (λ ks. Contains ks n.kind) (sym (kinds_numbered 0 lacks)) among in
     known_by_kinds n.kind (shims_of w) ∙ passes_any (same_kind n.kind) (kinds_of (shims_of w)) n.kind listed ((are_one n.kind n.kind).1 refl)
 
--- ---- imports that need a memory
+-- ---- imports that need a memory, where main imports none
 
 -- what is needed of an import has one of this kind
 record IsKindNeeded (w : ComponentWorld) (of : UserModule) (m : ValidatedModule) (i : CoreImport) (kind : ShimKind) : Type 0 where
@@ -92,51 +94,83 @@ record IsKindNeeded (w : ComponentWorld) (of : UserModule) (m : ValidatedModule)
   there : Contains (import_needs w (which_of of) m i) shim
   same : shim.kind ≡ kind
 
-import_needed : (w : ComponentWorld) → IsEncodable w → (of : UserModule) (m : ValidatedModule) (name field : List ℕ) (role : Import) → Contains (user_imports w) (record { of = of; core = record { module_name = name; field = field; role = role } }) → IsImportRole w role →
+import_needed : (w : ComponentWorld) → IsEncodable w → shared_memory w ≡ None → (of : UserModule) (m : ValidatedModule) (name field : List ℕ) (role : Import) → Contains (user_imports w) (record { of = of; core = record { module_name = name; field = field; role = role } }) → IsImportRole w role →
     (encoding : StringEncoding) → encoding_in role m ≡ Some encoding → IsTrue (needs (lower_needs w role) 1) → (kind : ShimKind) → kind_of_import of role encoding ≡ Some kind → IsKindNeeded w of m (record { module_name = name; field = field; role = role }) kind
-import_needed w ok of m name field (imports.WorldFunc (keys.Name text) function abi) there h encoding encoded memory kind is =
+import_needed w ok unshared of m name field (imports.WorldFunc (keys.Name text) function abi) there h encoding encoded memory kind is =
     let i : CoreImport = record { module_name = name; field = field; role = imports.WorldFunc (keys.Name text) function abi } in
     let lowered = world_call w ok (record { of = of; core = i }) there text function abi refl h in
-    record { shim = shim_with w of m i None (keys.Name text) function abi lowered encoding; there = call_needed w of m i None (keys.Name text) function abi lowered memory encoding encoded; same = kind_of_shim w of m i None (keys.Name text) function abi lowered encoding kind is }
-import_needed w ok of m name field (imports.InterfaceFunc key id function abi) there h encoding encoded memory kind is =
+    record { shim = shim_with w of m i None (keys.Name text) function abi lowered encoding; there = call_needed w of m i None (keys.Name text) function abi lowered unshared memory encoding encoded; same = kind_of_shim w of m i None (keys.Name text) function abi lowered encoding kind is }
+import_needed w ok unshared of m name field (imports.InterfaceFunc key id function abi) there h encoding encoded memory kind is =
     let i : CoreImport = record { module_name = name; field = field; role = imports.InterfaceFunc key id function abi } in
     let lowered = interface_call w ok (record { of = of; core = i }) there key id function abi refl h in
-    record { shim = shim_with w of m i (Some key) key function abi lowered encoding; there = call_needed w of m i (Some key) key function abi lowered memory encoding encoded; same = kind_of_shim w of m i (Some key) key function abi lowered encoding kind is }
-import_needed w ok of m name field (imports.ImportedResourceDrop key interface id) there h encoding encoded memory kind is = absurd (none-some kind is)
-import_needed w ok of m name field (imports.ExportedResourceDrop key id) there h encoding encoded memory kind is = absurd (none-some kind is)
-import_needed w ok of m name field (imports.ExportedResourceRep key id) there h encoding encoded memory kind is = absurd (none-some kind is)
-import_needed w ok of m name field (imports.ExportedResourceNew key id) there h encoding encoded memory kind is = absurd (none-some kind is)
-import_needed w ok of m name field (imports.MainModuleMemory type) there h encoding encoded memory kind is = absurd (none-some kind is)
-import_needed w ok of m name field (imports.MainModuleExport export sort) there h encoding encoded memory kind is = absurd (none-some kind is)
-import_needed w ok of m name field (imports.AdapterExport adapter function type) there h encoding encoded memory kind is = absurd (none-some kind is)
-import_needed w ok of m name field (imports.Item item) there h encoding encoded memory kind is = absurd (none-some kind is)
-import_needed w ok of m name field role there h encoding encoded memory kind is = absurd h
+    record { shim = shim_with w of m i (Some key) key function abi lowered encoding; there = call_needed w of m i (Some key) key function abi lowered unshared memory encoding encoded; same = kind_of_shim w of m i (Some key) key function abi lowered encoding kind is }
+import_needed w ok unshared of m name field (imports.ImportedResourceDrop key interface id) there h encoding encoded memory kind is = absurd (none-some kind is)
+import_needed w ok unshared of m name field (imports.ExportedResourceDrop key id) there h encoding encoded memory kind is = absurd (none-some kind is)
+import_needed w ok unshared of m name field (imports.ExportedResourceRep key id) there h encoding encoded memory kind is = absurd (none-some kind is)
+import_needed w ok unshared of m name field (imports.ExportedResourceNew key id) there h encoding encoded memory kind is = absurd (none-some kind is)
+import_needed w ok unshared of m name field (imports.MainModuleMemory type) there h encoding encoded memory kind is = absurd (none-some kind is)
+import_needed w ok unshared of m name field (imports.MainModuleExport export sort) there h encoding encoded memory kind is = absurd (none-some kind is)
+import_needed w ok unshared of m name field (imports.AdapterExport adapter function type) there h encoding encoded memory kind is = absurd (none-some kind is)
+import_needed w ok unshared of m name field (imports.Item item) there h encoding encoded memory kind is = absurd (none-some kind is)
+import_needed w ok unshared of m name field role there h encoding encoded memory kind is = absurd h
 
--- an import of a module that is found
-found_there : (w : ComponentWorld) → IsEncodable w → (of : UserModule) (m : ValidatedModule) → module_found w of ≡ Some m → (i : CoreImport) → Contains (imports_of m) i → (encoding : StringEncoding) → encoding_in i.role m ≡ Some encoding →
-    IsTrue (needs (lower_needs w i.role) 1) → (kind : ShimKind) → kind_of_import of i.role encoding ≡ Some kind → IsSome (shim_of kind (shims_of w))
-found_there w ok of m found i c encoding encoded memory kind is =
+-- so has one that needs a realloc, where main imports its memory
+realloc_needed_by : (w : ComponentWorld) → IsEncodable w → is_some (shared_memory w) ≡ true → (of : UserModule) (m : ValidatedModule) (name field : List ℕ) (role : Import) → Contains (user_imports w) (record { of = of; core = record { module_name = name; field = field; role = role } }) →
+    IsImportRole w role → IsTrue (needs (lower_needs w role) 2) → (r : Pair) → import_realloc w (which_of of) m ≡ Some r → IsKindNeeded w of m (record { module_name = name; field = field; role = role }) (realloc_shim r).kind
+realloc_needed_by w ok shared of m name field (imports.WorldFunc (keys.Name text) function abi) there h realloc r found =
+    let i : CoreImport = record { module_name = name; field = field; role = imports.WorldFunc (keys.Name text) function abi } in
+    let lowered = world_call w ok (record { of = of; core = i }) there text function abi refl h in
+    record { shim = realloc_shim r; there = realloc_needed w of m i None (keys.Name text) function abi lowered shared realloc r found; same = refl }
+realloc_needed_by w ok shared of m name field (imports.InterfaceFunc key id function abi) there h realloc r found =
+    let i : CoreImport = record { module_name = name; field = field; role = imports.InterfaceFunc key id function abi } in
+    let lowered = interface_call w ok (record { of = of; core = i }) there key id function abi refl h in
+    record { shim = realloc_shim r; there = realloc_needed w of m i (Some key) key function abi lowered shared realloc r found; same = refl }
+realloc_needed_by w ok shared of m name field (imports.ImportedResourceDrop key interface id) there h realloc r found = absurd (true≢false (sym realloc))
+realloc_needed_by w ok shared of m name field (imports.ExportedResourceDrop key id) there h realloc r found = absurd (true≢false (sym realloc))
+realloc_needed_by w ok shared of m name field (imports.ExportedResourceRep key id) there h realloc r found = absurd (true≢false (sym realloc))
+realloc_needed_by w ok shared of m name field (imports.ExportedResourceNew key id) there h realloc r found = absurd (true≢false (sym realloc))
+realloc_needed_by w ok shared of m name field (imports.MainModuleMemory type) there h realloc r found = absurd (true≢false (sym realloc))
+realloc_needed_by w ok shared of m name field (imports.MainModuleExport export sort) there h realloc r found = absurd (true≢false (sym realloc))
+realloc_needed_by w ok shared of m name field (imports.AdapterExport adapter function type) there h realloc r found = absurd (true≢false (sym realloc))
+realloc_needed_by w ok shared of m name field (imports.Item item) there h realloc r found = absurd (true≢false (sym realloc))
+realloc_needed_by w ok shared of m name field role there h realloc r found = absurd h
+
+-- a kind that is needed of an import of a module has a shim
+needed_there : (w : ComponentWorld) (of : UserModule) (m : ValidatedModule) → module_found w of ≡ Some m → (i : CoreImport) → Contains (imports_of m) i → (kind : ShimKind) → IsKindNeeded w of m i kind → IsSome (shim_of kind (shims_of w))
+needed_there w of m found i c kind n =
     let which : MainOrAdapter = which_of of in
-    let there : Contains (user_imports w) (record { of = of; core = i }) = of_module w of m i found c in
-    let n : IsKindNeeded w of m i kind = import_needed w ok of m i.module_name i.field i.role there (import_role w ok (record { of = of; core = i }) there) encoding encoded memory kind is in
     let of_import : Contains (flat_map (import_needs w which m) (imports_of m)) n.shim = contains_flat (import_needs w which m) (imports_of m) i n.shim c n.there in
     let among : Contains (needs_of w which (Some m)) n.shim = Contains-append_left (flat_map (import_needs w which m) (imports_of m)) (flat_map (export_needs w which) m.exports.exports) n.shim of_import in
     subst (λ k. IsSome (shim_of k (shims_of w))) n.same (has_shim w n.shim (needed_in w of m found n.shim among))
 
-pub shim_there : (w : ComponentWorld) → IsEncodable w → (i : UserImport) → Contains (user_imports w) i → (encoding : StringEncoding) → import_encoding w i.of i.core.role ≡ Some encoding → IsTrue (needs (lower_needs w i.core.role) 1) → (kind : ShimKind) →
+-- an import of a module that is found
+found_there : (w : ComponentWorld) → IsEncodable w → shared_memory w ≡ None → (of : UserModule) (m : ValidatedModule) → module_found w of ≡ Some m → (i : CoreImport) → Contains (imports_of m) i → (encoding : StringEncoding) → encoding_in i.role m ≡ Some encoding →
+    IsTrue (needs (lower_needs w i.role) 1) → (kind : ShimKind) → kind_of_import of i.role encoding ≡ Some kind → IsSome (shim_of kind (shims_of w))
+found_there w ok unshared of m found i c encoding encoded memory kind is =
+    let there : Contains (user_imports w) (record { of = of; core = i }) = of_module w of m i found c in
+    needed_there w of m found i c kind (import_needed w ok unshared of m i.module_name i.field i.role there (import_role w ok (record { of = of; core = i }) there) encoding encoded memory kind is)
+
+pub shim_there : (w : ComponentWorld) → IsEncodable w → shared_memory w ≡ None → (i : UserImport) → Contains (user_imports w) i → (encoding : StringEncoding) → import_encoding w i.of i.core.role ≡ Some encoding → IsTrue (needs (lower_needs w i.core.role) 1) → (kind : ShimKind) →
     kind_of_import i.of i.core.role encoding ≡ Some kind → IsSome (shim_of kind (shims_of w))
-shim_there w ok i there encoding encoded memory kind is =
+shim_there w ok unshared i there encoding encoded memory kind is =
     let o : IsImportOf w i = import_of w i there in
     let m : ValidatedModule = o.world_module.found in
     let found : module_found w i.of ≡ Some m = ap (module_found w) (sym o.same) ∙ listed_found w ok.valid o.world_module o.listed in
-    found_there w ok i.of m found i.core o.there encoding (sym (ap (option_and_then (encoding_in i.core.role)) found) ∙ encoded) memory kind is
+    found_there w ok unshared i.of m found i.core o.there encoding (sym (ap (option_and_then (encoding_in i.core.role)) found) ∙ encoded) memory kind is
+
+-- the realloc of calls of an import has a shim, where main imports its memory
+pub realloc_there : (w : ComponentWorld) → IsEncodable w → is_some (shared_memory w) ≡ true → (of : UserModule) (m : ValidatedModule) → module_found w of ≡ Some m → (i : CoreImport) → Contains (imports_of m) i → IsTrue (needs (lower_needs w i.role) 2) →
+    (r : Pair) → import_realloc w (which_of of) m ≡ Some r → IsSome (shim_of (realloc_shim r).kind (shims_of w))
+realloc_there w ok shared of m found i c realloc r is =
+    let there : Contains (user_imports w) (record { of = of; core = i }) = of_module w of m i found c in
+    needed_there w of m found i c (realloc_shim r).kind (realloc_needed_by w ok shared of m i.module_name i.field i.role there (import_role w ok (record { of = of; core = i }) there) realloc r is)
 
 -- ---- imports that have no shim
 
-pub direct : (w : ComponentWorld) → IsEncodable w → (i : UserImport) → Contains (user_imports w) i → (encoding : StringEncoding) → import_encoding w i.of i.core.role ≡ Some encoding → (kind : ShimKind) → kind_of_import i.of i.core.role encoding ≡ Some kind →
-    shim_of kind (shims_of w) ≡ None → lower_options w i.of i.core.role ≡ []
-direct w ok i there encoding encoded kind is none = by (needs (lower_needs w i.core.role) 1) refl
+pub direct : (w : ComponentWorld) → IsEncodable w → shared_memory w ≡ None → (i : UserImport) → Contains (user_imports w) i → (encoding : StringEncoding) → import_encoding w i.of i.core.role ≡ Some encoding → (kind : ShimKind) → kind_of_import i.of i.core.role encoding ≡ Some kind →
+    shim_of kind (shims_of w) ≡ None → lower_needs w i.core.role ≡ 0
+direct w ok unshared i there encoding encoded kind is none = by (needs (lower_needs w i.core.role) 1) refl
   where
-    by : (b : Bool) → needs (lower_needs w i.core.role) 1 ≡ b → lower_options w i.of i.core.role ≡ []
-    by true e = absurd (true≢false (sym (shim_there w ok i there encoding encoded e kind is) ∙ ap is_some none))
-    by false e = no_options w ok i there e
+    by : (b : Bool) → needs (lower_needs w i.core.role) 1 ≡ b → lower_needs w i.core.role ≡ 0
+    by true e = absurd (true≢false (sym (shim_there w ok unshared i there encoding encoded e kind is) ∙ ap is_some none))
+    by false e = role_without w i.core.role (import_role w ok i there) e

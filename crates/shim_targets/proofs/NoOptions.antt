@@ -43,6 +43,3 @@ role_without w (imports.MainModuleExport name kind) h e = refl
 role_without w (imports.AdapterExport adapter name type) h e = refl
 role_without w (imports.Item item) h e = refl
 role_without w role h e = absurd h
-
-pub no_options : (w : ComponentWorld) → IsEncodable w → (i : UserImport) → Contains (user_imports w) i → needs (lower_needs w i.core.role) 1 ≡ false → lower_options w i.of i.core.role ≡ []
-no_options w ok i c e = ap (λ (set : ℕ). options_in set (lower_realloc w i.of) (import_encoding w i.of i.core.role)) (role_without w i.core.role (import_role w ok i c) e)

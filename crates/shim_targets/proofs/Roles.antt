@@ -1,15 +1,14 @@
--- What the roles of a world exclude: main imports no memory, and exports no task hook. What they say of the imports of all modules.
+-- What the roles of a world exclude: main exports no task hook. What they say of the imports of all modules.
 use Rattle.std.proofs.Common.{◌≡◌, ℕ, false, List, [], ◌∷◌, map, Contains, None, is_some, refl, ap}
 use Rattle.std.specs.List.{AllByRecursion, flat_map}
 use Rattle.comp_lists.proofs.Lists.{AllByRecursion-contains}
 use Rattle.comp_roles.specs.CoreImports.{CoreImport, imports_from}
-use Rattle.comp_roles.specs.Lookups.{first_export, is_task_hook, imported_memory}
+use Rattle.comp_roles.specs.Lookups.{first_export, is_task_hook}
 use Rattle.comp_roles.specs.declared.exports.Export.{Export}
 use Rattle.comp_roles.specs.declared.exports.Export.TheVariants as exports
 use Rattle.comp_roles.specs.declared.imports.Import.{Import}
 use Rattle.comp_roles.specs.declared.imports.ImportInstance.{ImportInstance}
 use Rattle.comp_roles.specs.declared.imports.ImportInstance.TheVariants as instances
-use Rattle.comp_worlds.proofs.NotOfMain.{no_memory_imported}
 use Rattle.comp_worlds.specs.Encodable.{IsEncodable}
 use Rattle.comp_worlds.specs.Uses.{imports_of}
 use Rattle.comp_worlds.specs.Worlds.{IsImportRole, IsImportGroup, IsExportRole}
@@ -39,9 +38,6 @@ import_role w ok i c =
     groups : (gs : List (List ℕ × ImportInstance)) → AllByRecursion (IsImportGroup w) gs → AllByRecursion (λ (i : CoreImport). IsImportRole w i.role) (flat_map imports_from gs)
     groups [] h = tt
     groups (g ∷ gs) h = all_both (λ (i : CoreImport). IsImportRole w i.role) (imports_from g) (flat_map imports_from gs) (group g h.0) (groups gs h.1)
-
-pub no_memory : (w : ComponentWorld) → IsEncodable w → is_some (imported_memory w.main.imports.modules) ≡ false
-no_memory w ok = ap is_some (no_memory_imported w ok.valid)
 
 -- ---- exports
 

@@ -1,1 +1,2 @@
 pub mod ShimTargets
+pub mod CallOptions

@@ -16,6 +16,7 @@ use Rattle.comp_links.specs.Roles.{import_encoding}
 use Rattle.comp_links.specs.Modules.{UserImport, user_imports}
 use Rattle.comp_links.specs.Targets.{UserModule, Main, Adapter, ExportRef}
 use Rattle.comp_terms.specs.Generated.{IsShimOf, IsShimOfExport}
+use Rattle.comp_worlds.specs.Offered.{shared_memory}
 
 -- a user module as shims name it
 abbrev pub which_of : UserModule → MainOrAdapter
@@ -30,18 +31,19 @@ kind_of_import of (imports.InterfaceFunc key id name abi) encoding = Some (kinds
 kind_of_import of role encoding = None
 
 -- The shim is the lowering of this core import of a user module: it has the options, the kind and the name that follow from the role,
--- and its call needs a memory.
+-- and its call needs a memory, which main doesn't import.
 pub record StandsFor (w : ComponentWorld) (s : Shim) (i : UserImport) : Type 0 where
   pub present : Contains (user_imports w) i
   pub is : IsShimOf w s i.of i.core.role
   pub options : s.options.0 ≡ lower_needs w i.core.role
   pub memory : IsTrue (needs (lower_needs w i.core.role) 1)
+  pub unshared : shared_memory w ≡ None
   pub encoding : StringEncoding
   pub encoded : import_encoding w i.of i.core.role ≡ Some encoding
   pub kind : kind_of_import i.of i.core.role encoding ≡ Some s.kind
   pub named : s.debug_name ≡ codes "indirect-" ++ i.core.module_name ++ codes "-" ++ i.core.field
 
--- the options of a shim for an export: none for a destructor, and the memory for what an adapter exports
+-- the options of a shim for an export: none for a destructor or a realloc, and the memory for what an adapter exports
 abbrev pub export_options : ShimKind → ℕ
 export_options (kinds.Adapter adapter name) = 1
 export_options kind = 0

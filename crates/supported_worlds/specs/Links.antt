@@ -1,6 +1,6 @@
 -- What the modules of a world give to each other: what the role of a core import names is offered by main, by an adapter or by the module
 -- that an argument of a library names, of the kind and the type that the import asks for; so is what is imported from a module for which
--- a whole instance is given; and main imports nothing of its own, and is no library (core standard: imports and exports; validation:
+-- a whole instance is given; and main imports no export of its own, and is no library (core standard: imports and exports; validation:
 -- import matching).
 use Rattle.std.specs.Prelude.{◌≡◌, Some}
 use Rattle.std.specs.List.{AllByRecursion}
@@ -48,7 +48,7 @@ pub record IsModuleLinked (w : ComponentWorld) (m : ValidatedModule) : Type 0 wh
   pub roles : AllByRecursion (λ i. IsRoleLinked w i.role) (imports_of m)
   pub types : AllByRecursion (IsImportLinked w m) m.imported
 
--- main imports nothing of its own, and neither an item nor a whole instance
+-- main imports no export of its own, and neither an item nor a whole instance
 pub record IsMainFirst (m : ValidatedModule) : Type 0 where
   pub roles : AllByRecursion (λ i. IsNotOfMain i.role) (imports_of m)
   pub by_roles : AllByRecursion (λ i. (which : MainOrAdapter) → IsFromInstance m i which → ⊥) m.imported

@@ -7,7 +7,7 @@ use comp_bytes::{
     Alias, CoreModule, Def, Defs, ExternName, InstanceType, Intrinsic, Item, TypeDef,
 };
 use comp_check::CheckFault;
-use comp_lists::{Seq, Text};
+use comp_lists::{Seq, SharedBytes, Text};
 use comp_read::read_component;
 use std::alloc::{AllocError, Global};
 use std::mem;
@@ -105,9 +105,9 @@ fn add_module(
     debug: Option<&str>,
     bytes: &[u8],
 ) -> Result<Option<u32>, BuildFault> {
-    let bytes = Seq::from_vec(Vec::from_slice(alloc, bytes)?);
+    let bytes = SharedBytes::from_vec(Vec::from_slice(alloc, bytes)?)?;
     match CoreModule::from_bytes(bytes) {
-        Some(module) => indexed(builder.core_module_raw(debug, module.as_slice())),
+        Some(module) => indexed(builder.core_module_raw(debug, module.bytes())),
         None => Ok(None),
     }
 }
@@ -215,6 +215,31 @@ fn build(
     match add_all(alloc, &mut builder, indices, names, definitions) {
         Ok(()) => builder.finish(),
         Err(fault) => Err(fault),
+    }
+}
+
+/// How many bytes these definitions with these debug names have.
+fn measure(alloc: Global, names: &str, definitions: Defs) -> Result<u32, BuildFault> {
+    let mut builder = ComponentBuilder::new(alloc);
+    let mut indices = String::new(alloc);
+    match add_all(alloc, &mut builder, &mut indices, names, definitions) {
+        Ok(()) => builder.measure(),
+        Err(fault) => Err(fault),
+    }
+}
+
+fn measure_again(alloc: Global, names: &str, definitions: Defs) -> Result<String, AllocError> {
+    match measure(alloc, names, definitions) {
+        Ok(size) => format!(in alloc; "{size}"),
+        Err(fault) => not_built(alloc, fault),
+    }
+}
+
+/// How many bytes the component of these bytes has when it is built again of its definitions, with these debug names.
+pub(crate) fn measured(alloc: Global, names: &str, bytes: &[u8]) -> Result<String, AllocError> {
+    match read_component(alloc, bytes) {
+        Ok(definitions) => measure_again(alloc, names, definitions),
+        Err(fault) => refused(alloc, CheckFault::from(fault)),
     }
 }
 

@@ -1,6 +1,6 @@
 //! The calls of the inputs of cases.
 
-use crate::building::built;
+use crate::building::{built, measured};
 use crate::components::{checked, equal, read};
 use crate::values::called;
 use comp_names::is_formed;
@@ -23,6 +23,7 @@ fn answer_of_bytes(alloc: Global, call: &str, given: &str) -> Result<String, All
     match call {
         "check" => checked(alloc, &bytes),
         "build" => built(alloc, first, &bytes),
+        "measure" => measured(alloc, first, &bytes),
         "equal" => equal(alloc, &bytes_of(alloc, first)?, &bytes),
         _ => read(alloc, call, &bytes),
     }
@@ -32,7 +33,7 @@ fn answer_of_bytes(alloc: Global, call: &str, given: &str) -> Result<String, All
 pub(crate) fn answer(alloc: Global, input: &str) -> Result<String, AllocError> {
     let (call, given) = word_and_rest(input);
     match call {
-        "check" | "build" | "equal" | "read" | "check_names" | "describe" => {
+        "check" | "build" | "measure" | "equal" | "read" | "check_names" | "describe" => {
             answer_of_bytes(alloc, call, given)
         }
         "is_formed" => formed(alloc, given),

@@ -5,7 +5,7 @@
 //! answers were worked out by hand from the binary format of components.
 //!
 //! In reading order: `cases` (the calls of inputs), `components` (components by their bytes: how
-//! they are read, checked and shown), `building` (components that are built again), `values` (counts, spaces
+//! they are read, checked and shown), `building` (components that are built again, and measured), `values` (counts, spaces
 //! and the texts of faults).
 #![tactic(auto)]
 

@@ -74,7 +74,7 @@ fn print_world(alloc: Global, world: &RecordWorld) -> Result<String, AllocError>
     print_resolved(alloc, resolve(alloc, &world.wit))
 }
 
-fn print_value(alloc: Global, value: &Value) -> Result<String, AllocError> {
+fn print_value(alloc: Global, value: Value) -> Result<String, AllocError> {
     match read_world(alloc, value) {
         Ok(world) => print_world(alloc, &world),
         Err(failure) => print_fault(alloc, &failure),
@@ -83,7 +83,7 @@ fn print_value(alloc: Global, value: &Value) -> Result<String, AllocError> {
 
 pub(crate) fn answer(alloc: Global, asked: &str) -> Result<String, AllocError> {
     match read_value(alloc, asked.as_bytes()) {
-        Ok(value) => print_value(alloc, &value),
+        Ok(value) => print_value(alloc, value),
         Err(failure) => print_fault(alloc, &failure),
     }
 }

@@ -104,7 +104,7 @@ fn print_text(
 fn print_with(
     alloc: Global,
     requested: Requested,
-    before: &Value,
+    before: Value,
     text: &str,
 ) -> Result<String, AllocError> {
     match read_interfaces(alloc, before) {
@@ -120,7 +120,7 @@ fn print_asked(
     text: &str,
 ) -> Result<String, AllocError> {
     match read_value(alloc, given.as_bytes()) {
-        Ok(before) => print_with(alloc, requested, &before, text),
+        Ok(before) => print_with(alloc, requested, before, text),
         Err(failure) => print_fault(alloc, &failure),
     }
 }

@@ -1,6 +1,6 @@
 //! Pieces of worlds by names.
 
-use comp_lists::{Keyed, Text};
+use comp_lists::{Keyed, SharedText};
 use record_values::{InterfaceName, Item, ItemKey, Wit};
 use std::alloc::{AllocError, Global};
 
@@ -15,14 +15,14 @@ pub(crate) fn empty(alloc: Global) -> Wit {
 
 /// The name of an interface with an id.
 pub(crate) fn name(alloc: Global, id: &str) -> Result<InterfaceName, AllocError> {
-    match Text::from_str(alloc, id) {
+    match SharedText::from_str(alloc, id) {
         Ok(id) => Ok(InterfaceName::Id(id)),
         Err(refused) => Err(refused),
     }
 }
 
 fn key(alloc: Global, id: &str) -> Result<ItemKey, AllocError> {
-    match Text::from_str(alloc, id) {
+    match SharedText::from_str(alloc, id) {
         Ok(id) => Ok(ItemKey::Interface(id)),
         Err(refused) => Err(refused),
     }

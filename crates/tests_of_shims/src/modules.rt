@@ -10,7 +10,7 @@
 //!   that of imports, or the task hook.
 
 use bitflags::Flags;
-use comp_lists::{Keyed, Seq, Text};
+use comp_lists::{Keyed, Seq, SharedBytes, Text};
 use comp_options::RequiredOptions;
 use comp_roles::{
     Export, ExportMap, FunctionKey, Import, ImportInstance, ImportMap, ModuleMetadata,
@@ -274,12 +274,13 @@ fn imports(alloc: Global, fields: Fields, others: Fields) -> Result<ImportMap, A
 
 fn module_of(
     alloc: Global,
+    bytes: SharedBytes,
     imports: ImportMap,
     encodings: Encodings,
     exports: Exports,
 ) -> ValidatedModule {
     ValidatedModule {
-        bytes: Seq::new(alloc),
+        bytes,
         imports,
         exports: ExportMap { exports },
         imported: Seq::new(alloc),
@@ -299,6 +300,7 @@ pub(crate) fn validated(alloc: Global, draft: ModuleDraft) -> Result<ValidatedMo
         encodings,
         exports,
     } = draft;
+    let bytes = SharedBytes::from_vec(Vec::new(alloc))?;
     let imports = imports(alloc, fields, others)?;
-    Ok(module_of(alloc, imports, encodings, exports))
+    Ok(module_of(alloc, bytes, imports, encodings, exports))
 }

@@ -12,7 +12,7 @@ ghost use Rattle.std.specs.Prelude.{◌≡◌, [], IfOk, OnOk};
 ghost use Rattle.tests_of_worlds.specs.CoreImports.{role_of, fields_of, with_module, core_imports};
 
 use bitflags::Flags;
-use comp_lists::{Keyed, Seq, Text};
+use comp_lists::{Keyed, Seq, SharedBytes, Text};
 use comp_worlds::{
     ComponentWorld, ExportMap, Import, ImportInstance, ImportMap, Lowering, LoweringKey,
     ModuleMetadata, ValidatedModule, WorldParts,
@@ -209,11 +209,11 @@ fn imports(alloc: Global) -> Result<ImportMap, AllocError>
     Ok(ImportMap { modules })
 }
 
-fn main_module(alloc: Global, imports: ImportMap) -> ValidatedModule
+fn main_module(alloc: Global, bytes: SharedBytes, imports: ImportMap) -> ValidatedModule
     ensures { result.imports ≡ imports }
 {
     ValidatedModule {
-        bytes: Seq::new(alloc),
+        bytes,
         imports,
         exports: ExportMap {
             exports: Keyed::new(alloc),
@@ -227,14 +227,14 @@ fn main_module(alloc: Global, imports: ImportMap) -> ValidatedModule
     }
 }
 
-fn parts_with(alloc: Global, resolve: Resolve, imports: ImportMap) -> WorldParts
+fn parts_with(alloc: Global, resolve: Resolve, bytes: SharedBytes, imports: ImportMap) -> WorldParts
     ensures imports { result.main.imports ≡ imports }
     ensures alone { result.adapters ≡ [] }
 {
     WorldParts {
         resolve,
         world: WorldId { index: 0 },
-        main: main_module(alloc, imports),
+        main: main_module(alloc, bytes, imports),
         main_exports: Seq::new(alloc),
         adapters: Keyed::new(alloc),
         can_use_context_slot_1: false,
@@ -245,9 +245,10 @@ fn parts(alloc: Global) -> Result<WorldParts, AllocError>
     ensures imports { IfOk result (λ p. p.main.imports ≡ core_imports) }
     ensures alone { IfOk result (λ p. p.adapters ≡ []) }
 {
+    let bytes = SharedBytes::from_vec(Vec::new(alloc))?;
     let imports = imports(alloc)?;
     let resolve = resolve(alloc)?;
-    Ok(parts_with(alloc, resolve, imports))
+    Ok(parts_with(alloc, resolve, bytes, imports))
 }
 
 /// The world of these parts, where they are sound.

@@ -7,7 +7,7 @@
 //! - `lowerings`, and two names, each followed by a form of call: whether their lowerings are one;
 //! - `copy`: whether a copy of a library's arguments equals them.
 
-use comp_lists::{Keyed, Seq, Text};
+use comp_lists::{Keyed, Seq, SharedBytes, Text};
 use comp_worlds::{
     ComponentWorld, CustomModule, Export, ExportMap, FunctionKey, ImportMap, Instance, Item,
     LibraryArgument, LibraryInfo, LoweringKey, MainOrAdapter, ModuleMetadata, ValidatedModule,
@@ -19,12 +19,12 @@ use test_cases::word_and_rest;
 use wit_data::{Resolve, WorldId};
 use wit_texts::abi_of;
 
-/// A module with these exports.
-fn module(alloc: Global, exports: ExportMap) -> ValidatedModule {
+/// A module of these bytes, with these exports.
+fn module(alloc: Global, bytes: SharedBytes, exports: ExportMap) -> ValidatedModule {
     let import_encodings: Keyed<FunctionKey, StringEncoding> = Keyed::new(alloc);
     let export_encodings: Keyed<FunctionKey, StringEncoding> = Keyed::new(alloc);
     ValidatedModule {
-        bytes: Seq::new(alloc),
+        bytes,
         imports: ImportMap {
             modules: Keyed::new(alloc),
         },
@@ -46,10 +46,10 @@ fn realloc(alloc: Global, name: &str) -> Result<ExportMap, AllocError> {
     Ok(ExportMap { exports })
 }
 
-/// A library with these exports.
-fn library(alloc: Global, exports: ExportMap) -> WorldAdapter {
+/// A library of these bytes, with these exports.
+fn library(alloc: Global, bytes: SharedBytes, exports: ExportMap) -> WorldAdapter {
     WorldAdapter {
-        info: module(alloc, exports),
+        info: module(alloc, bytes, exports),
         required_exports: Seq::new(alloc),
         library_info: Some(LibraryInfo {
             arguments: Seq::new(alloc),
@@ -60,15 +60,17 @@ fn library(alloc: Global, exports: ExportMap) -> WorldAdapter {
 /// The library `library`, with a realloc of its own.
 fn libraries(alloc: Global) -> Result<Keyed<Text, WorldAdapter>, AllocError> {
     let name = Text::from_str(alloc, "library")?;
+    let bytes = SharedBytes::from_vec(Vec::new(alloc))?;
     let exports = realloc(alloc, "its")?;
     let mut adapters = Keyed::new(alloc);
-    adapters.insert_if_absent(name, library(alloc, exports))?;
+    adapters.insert_if_absent(name, library(alloc, bytes, exports))?;
     Ok(adapters)
 }
 
-/// A world of main with these exports, and of these adapters.
+/// A world of main with these bytes and exports, and of these adapters.
 fn world_of(
     alloc: Global,
+    bytes: SharedBytes,
     exports: ExportMap,
     adapters: Keyed<Text, WorldAdapter>,
 ) -> ComponentWorld {
@@ -79,7 +81,7 @@ fn world_of(
             worlds: Seq::new(alloc),
         },
         world: WorldId { index: 0 },
-        main: module(alloc, exports),
+        main: module(alloc, bytes, exports),
         main_exports: Seq::new(alloc),
         adapters,
         import_map: Keyed::new(alloc),
@@ -91,10 +93,12 @@ fn world_of(
 
 /// A world with a realloc in main, and a library.
 fn world(alloc: Global) -> Result<ComponentWorld, AllocError> {
+    let bytes = SharedBytes::from_vec(Vec::new(alloc))?;
     let adapters = libraries(alloc)?;
     match realloc(alloc, "main's") {
-        Ok(exports) => Ok(world_of(alloc, exports, adapters)),
+        Ok(exports) => Ok(world_of(alloc, bytes, exports, adapters)),
         Err(refused) => {
+            drop(bytes);
             drop(adapters);
             Err(refused)
         }

@@ -18,6 +18,3 @@ mod shim_module;
 pub use fixup::fixup_of_shims;
 pub use plan::plan_shims;
 pub use shim_module::module_of_shims;
-
-#[cfg(test)]
-mod tests;

@@ -1,7 +1,7 @@
 //! What was gathered before the world is prepared.
 
 use crate::options::EncoderOptions;
-use comp_lists::{Bytes, Keyed, Seq, Text};
+use comp_lists::{Keyed, Seq, SharedBytes, Text};
 use comp_roles::LibraryInfo;
 
 /// A required export: by its name, or an interface by its id, so that it is unchanged by later merges.
@@ -15,7 +15,7 @@ pub enum ExportKey {
 /// those, and the keys that it has to export.
 #[derive(Drop)]
 pub struct Part<B> {
-    pub bytes: Bytes,
+    pub bytes: SharedBytes,
     pub own: B,
     pub required: Seq<ExportKey>,
 }

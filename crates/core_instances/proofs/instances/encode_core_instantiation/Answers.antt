@@ -1,17 +1,16 @@
 use Rattle.std.proofs.Common.{◌≡◌, ◌∙◌, [], ◌++◌, Option, ℕ, ap, sym, subst}
-use Rattle.std.specs.Option.{option_copied}
-use Rattle.core_options.specs.MainOptions.{user_of_name, memory_name, AreUserInstances}
+use Rattle.core_options.specs.MainOptions.{user_of_name, IsMemoryIf, AreUserInstances}
 use Rattle.std.specs.List.{AllByRecursion}
 use Rattle.comp_items.specs.Items.{Extends}
 use Rattle.comp_items.proofs.Extending.{extends_none}
 use Rattle.comp_items.proofs.Remembering.{longer}
-use Rattle.comp_links.specs.Roles.{IsSuppliedImport}
+use Rattle.comp_links.specs.Supplied.{IsSuppliedImport}
 use Rattle.comp_terms.specs.Rules.{Grows, resources_marked, users_marked}
 use Rattle.comp_links.specs.Modules.{UserImport, user_imports}
 use Rattle.comp_worlds.specs.Encodable.{IsEncodable}
 use Rattle.main_fixup.specs.Filling.{AreFillSources, HasShimOptions}
 use Rattle.main_fixup.specs.declared.sources.FillSources.{FillSources}
-use Rattle.main_instance.specs.Sources.{AreSources, IsShimInstance}
+use Rattle.main_instance.specs.Sources.{AreSources, IsShimInstance, shared_export}
 use Rattle.main_instance.specs.declared.instances.ImportSources.{ImportSources}
 use Rattle.root_imports.specs.Growing.{Grows-then, longer_by}
 use Rattle.root_imports.specs.Keeping.{Root, RootMoved}
@@ -20,16 +19,17 @@ use Rattle.comp_worlds.specs.ExportOrder.{AreExportsInOrder}
 use Rattle.comp_worlds.specs.Made.{AreMadeInOrder}
 use Rattle.comp_links.specs.Lists.{required_functions}
 use Rattle.core_options.specs.Causes.{IsCause, IsCauseAmong}
-use Rattle.core_options.proofs.OptionTerms.{instances_kept, refused_with}
+use Rattle.core_options.proofs.OptionTerms.{instances_kept, memory_kept, refused_with}
 use Rattle.core_options.proofs.Refusals.{among_more}
 use Rattle.interface_needs.proofs.Lists.{contains_none}
-use Rattle.core_instances.specs.ExportedTypes.{AreShimSources}
+use Rattle.exported_types.specs.ExportedTypes.{AreShimSources}
+use Rattle.exported_types.proofs.SourcesKept.{shim_instance-kept}
 use Rattle.root_imports.specs.Met.{AreExportsMet}
 use Rattle.root_imports.specs.RootScopes.{AreTablesRight}
 use Rattle.root_imports.proofs.Keeping.{kept_none, kept_items, moved_items, moved_kept, moved_then}
 use Rattle.world_shims.specs.WorldShims.{shims_of}
 use Rattle.core_instances.specs.Instances.{HasUserModules, IsMainUser, AreImportsMade, IsFixupNextIf, MayAddFixup}
-use Rattle.core_instances.proofs.Made.{sources_after, fills_after, made_after, shim_instance-kept}
+use Rattle.core_instances.proofs.Made.{sources_after, fills_after, made_after}
 use Rattle.core_instances.proofs.Needs.{all_lowered}
 use Rattle.core_instances.proofs.Ordering.{modules_kept, modules_after, none_after, shims_after, fixup_next, all_added}
 use Rattle.core_instances.proofs.UserInstances.{main_is_user, main_same, same_is_user}
@@ -55,17 +55,17 @@ users_grow : (old a b d : Root) → a ≡ record old { items = a.items } → Roo
     Grows old.world.now a.items.defs d.items.defs (resources_marked old.world.now ++ users_marked old.world.now)
 users_grow old a b d same k types instance = Grows-then (typed_grows old a b same types) (subst (λ x. Grows x.now b.items.defs d.items.defs (users_marked x.now)) k.world instance)
 
-pub returns-in_err-shim_instance-clause-moved : goal.returns-in_err-shim_instance-clause-moved
-returns-in_err-shim_instance-clause-moved c =
-    moved_shims c.args.root.now c.encode_shim_instantiation.new.root c.requires.made.tables c.in_err-shim_instance.ensures.same c.in_err-shim_instance.ensures.extends
+pub returns-in_err-generated-clause-moved : goal.returns-in_err-generated-clause-moved
+returns-in_err-generated-clause-moved c =
+    moved_shims c.args.root.now c.encode_shim_instantiation.new.root c.requires.made.tables c.in_err-generated.ensures.same c.in_err-generated.ensures.extends
 
 pub define_exported_types-requires : goal.define_exported_types-requires
 define_exported_types-requires c =
     let w = c.args.root.now.world.now in
     let old = c.args.root.now.items.defs in
     let a : Root = c.encode_shim_instantiation.new.root in
-    let e = c.in_ok-shim_instance.ensures in
-    let o : Option ℕ = c.in_ok-shim_instance.shim_instance in
+    let e = c.in_ok-generated.ensures in
+    let o : Option ℕ = c.in_ok-generated.generated.instance in
     let k : RootMoved w c.args.root.now a = moved_shims c.args.root.now a c.requires.made.tables e.same e.extends in
     record {
       valid = subst (λ x. IsEncodable x.now) (sym k.world) c.requires.made.valid;
@@ -78,13 +78,13 @@ define_exported_types-requires c =
 pub returns-in_err-define_exported_types-clause-moved : goal.returns-in_err-define_exported_types-clause-moved
 returns-in_err-define_exported_types-clause-moved c =
     let a : Root = c.encode_shim_instantiation.new.root in
-    moved_types c.args.root.now a c.define_exported_types.new.root (moved_shims c.args.root.now a c.requires.made.tables c.in_ok-shim_instance.ensures.same c.in_ok-shim_instance.ensures.extends) c.in_err-define_exported_types.ensures.moved
+    moved_types c.args.root.now a c.define_exported_types.new.root (moved_shims c.args.root.now a c.requires.made.tables c.in_ok-generated.ensures.same c.in_ok-generated.ensures.extends) c.in_err-define_exported_types.ensures.moved
 
 pub returns-in_err-define_exported_types-clause-cause : goal.returns-in_err-define_exported_types-clause-cause
 returns-in_err-define_exported_types-clause-cause c =
     let w = c.args.root.now.world.now in
     let a : Root = c.encode_shim_instantiation.new.root in
-    let k : RootMoved w c.args.root.now a = moved_shims c.args.root.now a c.requires.made.tables c.in_ok-shim_instance.ensures.same c.in_ok-shim_instance.ensures.extends in
+    let k : RootMoved w c.args.root.now a = moved_shims c.args.root.now a c.requires.made.tables c.in_ok-generated.ensures.same c.in_ok-generated.ensures.extends in
     let e = c.in_err-define_exported_types.field-0.0 in
     refused_with c.from_residual-in_err-define_exported_types.result e (IsCause w) c.from_residual-in_err-define_exported_types.ensures.1
     (among_more w [] (user_imports w) [] (required_functions w) (λ i k. contains_none i k) (λ r k. contains_none r k) e (subst (λ x. IsCauseAmong x.now [] [] e) k.world c.in_err-define_exported_types.ensures.cause))
@@ -95,17 +95,19 @@ instantiate_users-requires-clause-sources c =
     let old = c.args.root.now.items in
     let mid = c.encode_shim_instantiation.new.root.items in
     let b : Root = c.define_exported_types.new.root in
-    let e = c.in_ok-shim_instance.ensures in
-    let k : RootMoved w c.args.root.now b = typed c.args.root.now c.encode_shim_instantiation.new.root c.define_exported_types.new.root c.requires.made.tables c.in_ok-shim_instance.ensures.same c.in_ok-shim_instance.ensures.extends c.in_ok-define_exported_types.ensures.moved in
-    let o : Option ℕ = c.in_ok-shim_instance.shim_instance in
+    let e = c.in_ok-generated.ensures in
+    let k : RootMoved w c.args.root.now b = typed c.args.root.now c.encode_shim_instantiation.new.root c.define_exported_types.new.root c.requires.made.tables c.in_ok-generated.ensures.same c.in_ok-generated.ensures.extends c.in_ok-define_exported_types.ensures.moved in
+    let o : Option ℕ = c.in_ok-generated.generated.instance in
     let a_world : c.encode_shim_instantiation.new.root.world ≡ c.args.root.now.world = ap (λ (r : Root). r.world) e.same in
-    let there : IsShimInstance w b.items.defs o = shim_instance-kept w (longer_by (typed_grows c.args.root.now c.encode_shim_instantiation.new.root c.define_exported_types.new.root c.in_ok-shim_instance.ensures.same c.in_ok-define_exported_types.ensures.grows)) o (shims_after w c.args.debug_names old.defs mid.defs o e.added) in
+    let memory : IsMemoryIf b.items.defs (shared_export w) c.in_ok-generated.generated.memory =
+    memory_kept mid.defs b.items.defs (longer_by (typed_grows c.args.root.now c.encode_shim_instantiation.new.root c.define_exported_types.new.root c.in_ok-generated.ensures.same c.in_ok-define_exported_types.ensures.grows)) (shared_export w) c.in_ok-generated.generated.memory e.memory in
+    let there : IsShimInstance w b.items.defs o = shim_instance-kept w (longer_by (typed_grows c.args.root.now c.encode_shim_instantiation.new.root c.define_exported_types.new.root c.in_ok-generated.ensures.same c.in_ok-define_exported_types.ensures.grows)) o (shims_after w c.args.debug_names old.defs mid.defs o e.added) in
     let s : ImportSources = c.sources_of-sources.result in
     let f = c.sources_of-sources.ensures in
     let main : IsMainUser w c.main_user.result = subst (λ x. IsMainUser x.now c.main_user.result) k.world c.main_user.ensures in
     let made : AreImportsMade w s.functions.now b.met b.items.defs b.maps b.instances = subst (λ l. AreImportsMade w l b.met b.items.defs b.maps b.instances) (sym f.functions) (made_after c.args.root.now b k c.requires.made) in
     subst (λ x. AreSources x.now s b.met b.items.defs b.maps b.instances) (sym k.world)
-    (sources_after (extends_none b.items) s (same_is_user w c.main_user.result s.user f.user (main_is_user w c.main_user.result main)) made (subst (λ x. AreExportsMet x.now b.met) a_world c.in_ok-define_exported_types.ensures.met) (f.shims ∙ c.in_ok-shims.ensures.ok) (subst (IsShimInstance w b.items.defs) (sym f.instance) there) (ap user_of_name (f.user.named ∙ main.named)) (f.user.found ∙ main.found))
+    (sources_after (extends_none b.items) s (same_is_user w c.main_user.result s.user f.user (main_is_user w c.main_user.result main)) made (subst (λ x. AreExportsMet x.now b.met) a_world c.in_ok-define_exported_types.ensures.met) (f.shims ∙ c.in_ok-shims.ensures.ok) (subst (IsShimInstance w b.items.defs) (sym f.instance) there) (subst (IsMemoryIf b.items.defs (shared_export w)) (sym f.memory) memory) (ap user_of_name (f.user.named ∙ main.named)) (f.user.found ∙ main.found))
 
 pub instantiate_users-requires-clause-main : goal.instantiate_users-requires-clause-main
 instantiate_users-requires-clause-main c = main_same c.define_exported_types.new.root.world.now c.main_user.result c.sources_of-sources.result.user c.sources_of-sources.ensures.user c.main_user.ensures
@@ -116,13 +118,13 @@ instantiate_users-requires-clause-there c =
     let old = c.args.root.now.items.defs in
     let mid = c.encode_shim_instantiation.new.root.items.defs in
     let b : Root = c.define_exported_types.new.root in
-    let k : RootMoved w c.args.root.now b = typed c.args.root.now c.encode_shim_instantiation.new.root c.define_exported_types.new.root c.requires.made.tables c.in_ok-shim_instance.ensures.same c.in_ok-shim_instance.ensures.extends c.in_ok-define_exported_types.ensures.moved in
+    let k : RootMoved w c.args.root.now b = typed c.args.root.now c.encode_shim_instantiation.new.root c.define_exported_types.new.root c.requires.made.tables c.in_ok-generated.ensures.same c.in_ok-generated.ensures.extends c.in_ok-define_exported_types.ensures.moved in
     subst (λ x. HasUserModules x.now b.items.defs) (sym k.world)
-    (modules_kept (typed_grows c.args.root.now c.encode_shim_instantiation.new.root c.define_exported_types.new.root c.in_ok-shim_instance.ensures.same c.in_ok-define_exported_types.ensures.grows) (modules_after w c.args.debug_names old mid c.in_ok-shim_instance.shim_instance c.in_ok-shim_instance.ensures.added c.requires.users))
+    (modules_kept (typed_grows c.args.root.now c.encode_shim_instantiation.new.root c.define_exported_types.new.root c.in_ok-generated.ensures.same c.in_ok-define_exported_types.ensures.grows) (modules_after w c.args.debug_names old mid c.in_ok-generated.generated.instance c.in_ok-generated.ensures.added c.requires.users))
 
 pub returns-in_err-instances-clause-moved : goal.returns-in_err-instances-clause-moved
 returns-in_err-instances-clause-moved c =
-    moved_items c.args.root.now.world.now c.args.root.now c.define_exported_types.new.root c.instantiate_users.new.root (typed c.args.root.now c.encode_shim_instantiation.new.root c.define_exported_types.new.root c.requires.made.tables c.in_ok-shim_instance.ensures.same c.in_ok-shim_instance.ensures.extends c.in_ok-define_exported_types.ensures.moved) c.in_err-instances.ensures.same c.in_err-instances.ensures.extends
+    moved_items c.args.root.now.world.now c.args.root.now c.define_exported_types.new.root c.instantiate_users.new.root (typed c.args.root.now c.encode_shim_instantiation.new.root c.define_exported_types.new.root c.requires.made.tables c.in_ok-generated.ensures.same c.in_ok-generated.ensures.extends c.in_ok-define_exported_types.ensures.moved) c.in_err-instances.ensures.same c.in_err-instances.ensures.extends
 
 pub encode_indirect_lowerings-requires-clause-sources : goal.encode_indirect_lowerings-requires-clause-sources
 encode_indirect_lowerings-requires-clause-sources c =
@@ -130,14 +132,13 @@ encode_indirect_lowerings-requires-clause-sources c =
     let b : Root = c.define_exported_types.new.root in
     let new = c.instantiate_users.new.root.items in
     let f = c.in_ok-instances.ensures in
-    let k : RootMoved w c.args.root.now b = typed c.args.root.now c.encode_shim_instantiation.new.root c.define_exported_types.new.root c.requires.made.tables c.in_ok-shim_instance.ensures.same c.in_ok-shim_instance.ensures.extends c.in_ok-define_exported_types.ensures.moved in
+    let k : RootMoved w c.args.root.now b = typed c.args.root.now c.encode_shim_instantiation.new.root c.define_exported_types.new.root c.requires.made.tables c.in_ok-generated.ensures.same c.in_ok-generated.ensures.extends c.in_ok-define_exported_types.ensures.moved in
     let s : FillSources = c.fill_sources-sources.result in
     let g = c.fill_sources-sources.ensures in
-    let memory : option_copied s.memory ≡ memory_name w = g.memory ∙ subst (λ x. option_copied c.memory_name.result ≡ memory_name x.now) k.world c.memory_name.ensures in
     let made : AreImportsMade w s.functions.now b.met b.items.defs b.maps b.instances = subst (λ l. AreImportsMade w l b.met b.items.defs b.maps b.instances) (sym g.functions) (made_after c.args.root.now b k c.requires.made) in
     let users : AreUserInstances w new.defs s.instances.now = subst (AreUserInstances w new.defs) (sym g.instances) (subst (λ x. AreUserInstances x.now new.defs c.in_ok-instances.instances) k.world f.made) in
     subst (λ (r : Root). AreFillSources r.world.now s r.met new.defs r.maps r.instances) (sym f.same)
-    (subst (λ x. AreFillSources x.now s b.met new.defs b.maps b.instances) (sym k.world) (fills_after f.extends s made users memory))
+    (subst (λ x. AreFillSources x.now s b.met new.defs b.maps b.instances) (sym k.world) (fills_after f.extends s made users))
 
 pub encode_indirect_lowerings-requires-clause-next : goal.encode_indirect_lowerings-requires-clause-next
 encode_indirect_lowerings-requires-clause-next c =
@@ -145,17 +146,17 @@ encode_indirect_lowerings-requires-clause-next c =
     let old = c.args.root.now.items.defs in
     let mid = c.encode_shim_instantiation.new.root.items.defs in
     let new = c.instantiate_users.new.root.items.defs in
-    let o : Option ℕ = c.in_ok-shim_instance.shim_instance in
-    let k : RootMoved w c.args.root.now c.define_exported_types.new.root = typed c.args.root.now c.encode_shim_instantiation.new.root c.define_exported_types.new.root c.requires.made.tables c.in_ok-shim_instance.ensures.same c.in_ok-shim_instance.ensures.extends c.in_ok-define_exported_types.ensures.moved in
+    let o : Option ℕ = c.in_ok-generated.generated.instance in
+    let k : RootMoved w c.args.root.now c.define_exported_types.new.root = typed c.args.root.now c.encode_shim_instantiation.new.root c.define_exported_types.new.root c.requires.made.tables c.in_ok-generated.ensures.same c.in_ok-generated.ensures.extends c.in_ok-define_exported_types.ensures.moved in
     let world : c.instantiate_users.new.root.world ≡ c.args.root.now.world = ap (λ (r : Root). r.world) c.in_ok-instances.ensures.same ∙ k.world in
-    subst (λ x. IsFixupNextIf x.now new o) (sym world) (fixup_next w c.args.debug_names old mid new o c.requires.users c.in_ok-shim_instance.ensures.added (users_grow c.args.root.now c.encode_shim_instantiation.new.root c.define_exported_types.new.root c.instantiate_users.new.root c.in_ok-shim_instance.ensures.same k c.in_ok-define_exported_types.ensures.grows c.in_ok-instances.ensures.grows))
+    subst (λ x. IsFixupNextIf x.now new o) (sym world) (fixup_next w c.args.debug_names old mid new o c.requires.users c.in_ok-generated.ensures.added (users_grow c.args.root.now c.encode_shim_instantiation.new.root c.define_exported_types.new.root c.instantiate_users.new.root c.in_ok-generated.ensures.same k c.in_ok-define_exported_types.ensures.grows c.in_ok-instances.ensures.grows))
 
 pub returns-in_err-encode_indirect_lowerings-clause-moved : goal.returns-in_err-encode_indirect_lowerings-clause-moved
 returns-in_err-encode_indirect_lowerings-clause-moved c =
     let w = c.args.root.now.world.now in
     let b : Root = c.define_exported_types.new.root in
     let d : Root = c.instantiate_users.new.root in
-    moved_items w c.args.root.now d c.encode_indirect_lowerings.new.root (moved_items w c.args.root.now b d (typed c.args.root.now c.encode_shim_instantiation.new.root c.define_exported_types.new.root c.requires.made.tables c.in_ok-shim_instance.ensures.same c.in_ok-shim_instance.ensures.extends c.in_ok-define_exported_types.ensures.moved) c.in_ok-instances.ensures.same c.in_ok-instances.ensures.extends) c.in_err-encode_indirect_lowerings.ensures.same
+    moved_items w c.args.root.now d c.encode_indirect_lowerings.new.root (moved_items w c.args.root.now b d (typed c.args.root.now c.encode_shim_instantiation.new.root c.define_exported_types.new.root c.requires.made.tables c.in_ok-generated.ensures.same c.in_ok-generated.ensures.extends c.in_ok-define_exported_types.ensures.moved) c.in_ok-instances.ensures.same c.in_ok-instances.ensures.extends) c.in_err-encode_indirect_lowerings.ensures.same
     c.in_err-encode_indirect_lowerings.ensures.extends
 
 pub returns-clause-moved : goal.returns-clause-moved
@@ -163,7 +164,7 @@ returns-clause-moved c =
     let w = c.args.root.now.world.now in
     let b : Root = c.define_exported_types.new.root in
     let d : Root = c.instantiate_users.new.root in
-    moved_items w c.args.root.now d c.encode_indirect_lowerings.new.root (moved_items w c.args.root.now b d (typed c.args.root.now c.encode_shim_instantiation.new.root c.define_exported_types.new.root c.requires.made.tables c.in_ok-shim_instance.ensures.same c.in_ok-shim_instance.ensures.extends c.in_ok-define_exported_types.ensures.moved) c.in_ok-instances.ensures.same c.in_ok-instances.ensures.extends) c.in_ok-encode_indirect_lowerings.ensures.same
+    moved_items w c.args.root.now d c.encode_indirect_lowerings.new.root (moved_items w c.args.root.now b d (typed c.args.root.now c.encode_shim_instantiation.new.root c.define_exported_types.new.root c.requires.made.tables c.in_ok-generated.ensures.same c.in_ok-generated.ensures.extends c.in_ok-define_exported_types.ensures.moved) c.in_ok-instances.ensures.same c.in_ok-instances.ensures.extends) c.in_ok-encode_indirect_lowerings.ensures.same
     c.in_ok-encode_indirect_lowerings.ensures.extends
 
 pub returns-clause-added : goal.returns-clause-added
@@ -173,27 +174,27 @@ returns-clause-added c =
     let mid = c.encode_shim_instantiation.new.root.items.defs in
     let late = c.instantiate_users.new.root.items.defs in
     let new = c.encode_indirect_lowerings.new.root.items.defs in
-    let o : Option ℕ = c.in_ok-shim_instance.shim_instance in
+    let o : Option ℕ = c.in_ok-generated.generated.instance in
     let d = c.args.debug_names in
-    let k : RootMoved w c.args.root.now c.define_exported_types.new.root = typed c.args.root.now c.encode_shim_instantiation.new.root c.define_exported_types.new.root c.requires.made.tables c.in_ok-shim_instance.ensures.same c.in_ok-shim_instance.ensures.extends c.in_ok-define_exported_types.ensures.moved in
+    let k : RootMoved w c.args.root.now c.define_exported_types.new.root = typed c.args.root.now c.encode_shim_instantiation.new.root c.define_exported_types.new.root c.requires.made.tables c.in_ok-generated.ensures.same c.in_ok-generated.ensures.extends c.in_ok-define_exported_types.ensures.moved in
     let world : c.instantiate_users.new.root.world ≡ c.args.root.now.world = ap (λ (r : Root). r.world) c.in_ok-instances.ensures.same ∙ k.world in
-    let filled : MayAddFixup w d late new o = subst (λ x. MayAddFixup x.now d late new o) world c.in_ok-encode_indirect_lowerings.ensures.added in
-    all_added w d old mid late new o c.in_ok-shim_instance.ensures.added (users_grow c.args.root.now c.encode_shim_instantiation.new.root c.define_exported_types.new.root c.instantiate_users.new.root c.in_ok-shim_instance.ensures.same k c.in_ok-define_exported_types.ensures.grows c.in_ok-instances.ensures.grows) filled
+    let filled : MayAddFixup w d late new = subst (λ x. MayAddFixup x.now d late new) world c.in_ok-encode_indirect_lowerings.ensures.added in
+    all_added w d old mid late new o c.in_ok-generated.ensures.added (users_grow c.args.root.now c.encode_shim_instantiation.new.root c.define_exported_types.new.root c.instantiate_users.new.root c.in_ok-generated.ensures.same k c.in_ok-define_exported_types.ensures.grows c.in_ok-instances.ensures.grows) filled
 
 pub returns-clause-made : goal.returns-clause-made
 returns-clause-made c =
-    let k : RootMoved c.args.root.now.world.now c.args.root.now c.define_exported_types.new.root = typed c.args.root.now c.encode_shim_instantiation.new.root c.define_exported_types.new.root c.requires.made.tables c.in_ok-shim_instance.ensures.same c.in_ok-shim_instance.ensures.extends c.in_ok-define_exported_types.ensures.moved in
+    let k : RootMoved c.args.root.now.world.now c.args.root.now c.define_exported_types.new.root = typed c.args.root.now c.encode_shim_instantiation.new.root c.define_exported_types.new.root c.requires.made.tables c.in_ok-generated.ensures.same c.in_ok-generated.ensures.extends c.in_ok-define_exported_types.ensures.moved in
     instances_kept (longer c.in_ok-encode_indirect_lowerings.ensures.extends) (subst (λ x. AreUserInstances x.now c.instantiate_users.new.root.items.defs c.in_ok-instances.instances) k.world c.in_ok-instances.ensures.made)
 
 pub returns-clause-supplied : goal.returns-clause-supplied
 returns-clause-supplied c =
-    let k : RootMoved c.args.root.now.world.now c.args.root.now c.define_exported_types.new.root = typed c.args.root.now c.encode_shim_instantiation.new.root c.define_exported_types.new.root c.requires.made.tables c.in_ok-shim_instance.ensures.same c.in_ok-shim_instance.ensures.extends c.in_ok-define_exported_types.ensures.moved in
+    let k : RootMoved c.args.root.now.world.now c.args.root.now c.define_exported_types.new.root = typed c.args.root.now c.encode_shim_instantiation.new.root c.define_exported_types.new.root c.requires.made.tables c.in_ok-generated.ensures.same c.in_ok-generated.ensures.extends c.in_ok-define_exported_types.ensures.moved in
     subst (λ x. AllByRecursion (λ (i : UserImport). IsSuppliedImport x.now i.of i.core.role) (user_imports x.now)) k.world c.in_ok-instances.ensures.supplied
 
 pub returns-clause-lowered : goal.returns-clause-lowered
 returns-clause-lowered c =
     let w = c.args.root.now.world.now in
-    let k : RootMoved w c.args.root.now c.define_exported_types.new.root = typed c.args.root.now c.encode_shim_instantiation.new.root c.define_exported_types.new.root c.requires.made.tables c.in_ok-shim_instance.ensures.same c.in_ok-shim_instance.ensures.extends c.in_ok-define_exported_types.ensures.moved in
+    let k : RootMoved w c.args.root.now c.define_exported_types.new.root = typed c.args.root.now c.encode_shim_instantiation.new.root c.define_exported_types.new.root c.requires.made.tables c.in_ok-generated.ensures.same c.in_ok-generated.ensures.extends c.in_ok-define_exported_types.ensures.moved in
     let world : c.instantiate_users.new.root.world ≡ c.args.root.now.world = ap (λ (r : Root). r.world) c.in_ok-instances.ensures.same ∙ k.world in
     let offered : AllByRecursion (HasShimOptions w) (shims_of w) = subst (λ x. AllByRecursion (HasShimOptions x.now) (shims_of x.now)) world c.in_ok-encode_indirect_lowerings.ensures.offered in
     all_lowered w c.requires.made.valid offered (subst (λ x. AllByRecursion (λ (i : UserImport). IsSuppliedImport x.now i.of i.core.role) (user_imports x.now)) k.world c.in_ok-instances.ensures.supplied)
@@ -201,13 +202,13 @@ returns-clause-lowered c =
 pub returns-clause-in_order : goal.returns-clause-in_order
 returns-clause-in_order c =
     let w = c.args.root.now.world.now in
-    let k : RootMoved w c.args.root.now c.define_exported_types.new.root = typed c.args.root.now c.encode_shim_instantiation.new.root c.define_exported_types.new.root c.requires.made.tables c.in_ok-shim_instance.ensures.same c.in_ok-shim_instance.ensures.extends c.in_ok-define_exported_types.ensures.moved in
+    let k : RootMoved w c.args.root.now c.define_exported_types.new.root = typed c.args.root.now c.encode_shim_instantiation.new.root c.define_exported_types.new.root c.requires.made.tables c.in_ok-generated.ensures.same c.in_ok-generated.ensures.extends c.in_ok-define_exported_types.ensures.moved in
     subst (λ x. AreMadeInOrder x.now) k.world c.in_ok-instances.ensures.in_order
 
 pub returns-clause-ordered : goal.returns-clause-ordered
-returns-clause-ordered c = subst (λ x. AreExportsInOrder x.now) (ap (λ (r : Root). r.world) c.in_ok-shim_instance.ensures.same) c.in_ok-define_exported_types.ensures.ordered
+returns-clause-ordered c = subst (λ x. AreExportsInOrder x.now) (ap (λ (r : Root). r.world) c.in_ok-generated.ensures.same) c.in_ok-define_exported_types.ensures.ordered
 
 pub returns-clause-met : goal.returns-clause-met
 returns-clause-met c =
     let same : c.encode_indirect_lowerings.new.root.met ≡ c.define_exported_types.new.root.met = ap (λ (r : Root). r.met) c.in_ok-encode_indirect_lowerings.ensures.same ∙ ap (λ (r : Root). r.met) c.in_ok-instances.ensures.same in
-    subst (λ (m : MetTypes). AreExportsMet c.args.root.now.world.now m) (sym same) (subst (λ x. AreExportsMet x.now c.define_exported_types.new.root.met) (ap (λ (r : Root). r.world) c.in_ok-shim_instance.ensures.same) c.in_ok-define_exported_types.ensures.met)
+    subst (λ (m : MetTypes). AreExportsMet c.args.root.now.world.now m) (sym same) (subst (λ x. AreExportsMet x.now c.define_exported_types.new.root.met) (ap (λ (r : Root). r.world) c.in_ok-generated.ensures.same) c.in_ok-define_exported_types.ensures.met)

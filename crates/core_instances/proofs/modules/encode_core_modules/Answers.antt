@@ -22,7 +22,7 @@ loop-name-init c =
     let new = c.add_module.new.root.items in
     let of = c.in_ok-add_module.ensures in
     let items : c.into_iter-name-iterator.result ≡ w.adapters = c.into_iter-name-iterator.ensures.into_iter_gives ∙ c.iter-name-items.ensures.rest in
-    let grows : Grows w old.defs new.defs (ModuleIs w.main.bytes ∷ []) = subst (λ b. Grows w old.defs new.defs (ModuleIs b ∷ [])) c.as_slice.ensures of.grows in (
+    let grows : Grows w old.defs new.defs (ModuleIs w.main.bytes ∷ []) = of.grows in (
       tt,
       tt,
       of.same,

@@ -13,9 +13,11 @@ use Rattle.root_imports.specs.Keeping.{Root}
 use Rattle.core_options.specs.MainOptions.{user_of, IsUser}
 use Rattle.core_options.specs.Causes.{IsCause}
 use Rattle.main_instance.proofs.Serving.{handed_on}
-use Rattle.main_instance.specs.Sources.{AreSources, IsMade}
+use Rattle.main_instance.specs.Sources.{AreSources, IsMemoryBefore, IsMade}
+use Rattle.comp_terms.specs.Planned.{main_memory}
+use Rattle.core_options.proofs.OptionTerms.{memory_kept}
 use Rattle.core_instances.specs.Instances.{IsSuppliedUser}
-use Rattle.core_instances.proofs.UserInstances.{AdaptersSoFar, IsNextAdapter, adapters_start, adapters_step, adapters_all, next_adapter, next_supplied, next_made, not_yet_made, next_is_user, next_there, own_sources, behind_main, same_is_user}
+use Rattle.core_instances.proofs.UserInstances.{AdaptersSoFar, IsNextAdapter, adapters_start, adapters_step, adapters_all, next_adapter, next_supplied, next_made, not_yet_made, next_is_user, next_there, own_sources, behind_main, memory_behind_main, same_is_user}
 use Rattle.comp_items.proofs.Kept.{instance-kept}
 use Rattle.comp_items.proofs.Remembering.{longer}
 use Rattle.core_instances.proofs.users.instantiate_adapters.Goals as goal
@@ -57,13 +59,15 @@ instantiate_user-requires-clause-sources c =
     let user = c.next_user-user.ensures in
     let own = c.sources_of-own.ensures in
     let is : IsUser w c.next_user-user.result = next_is_user w table last a next c.next_user-user.result user.number user.named user.found in
-    let main_made : IsInstanceOf mid.defs c.args.main 0 = instance-kept (longer before.extends) c.requires.made in
+    let main_made : IsInstanceOf mid.defs c.args.main.index 0 = instance-kept (longer before.extends) c.requires.made in
+    let memory : IsMemoryBefore w mid.defs (user_of c.sources_of-own.result.user.which) c.sources_of-own.result.memory =
+    memory_behind_main w mid.defs c.sources_of-own.result c.in-Some.name.now c.args.main.memory (own.user.named ∙ user.named) own.memory (memory_kept old.defs mid.defs (longer before.extends) (main_memory w) c.args.main.memory c.requires.memory) in
     subst (λ (r : Root). AreSources r.world.now c.sources_of-own.result r.met mid.defs r.maps r.instances) (sym c.loop-name.invariant.2)
-    (own_sources before.extends c.requires.sources c.sources_of-own.result (same_is_user w c.next_user-user.result c.sources_of-own.result.user own.user is) own.functions own.shims own.instance (behind_main mid.defs c.sources_of-own.result c.args.main own.main main_made)
+    (own_sources before.extends c.requires.sources c.sources_of-own.result (same_is_user w c.next_user-user.result c.sources_of-own.result.user own.user is) own.functions own.shims own.instance memory (behind_main mid.defs c.sources_of-own.result c.args.main.index own.main main_made)
     (subst (λ o. AllByRecursion (IsMade w mid.defs o c.sources_of-own.result.adapters.now) (modules_of_imports c.sources_of-own.result.user.found.now)) (sym own.main)
-    (subst (λ t. AllByRecursion (IsMade w mid.defs (Some c.args.main) t) (modules_of_imports c.sources_of-own.result.user.found.now)) (sym own.adapters)
-    (subst (λ (m : ValidatedModule). AllByRecursion (IsMade w mid.defs (Some c.args.main) table) (modules_of_imports m)) (sym (own.user.found ∙ user.found))
-    (next_made w old mid c.args.main table last c.next.new.self a before main_made c.in_ok-check_made.ensures.made)))))
+    (subst (λ t. AllByRecursion (IsMade w mid.defs (Some c.args.main.index) t) (modules_of_imports c.sources_of-own.result.user.found.now)) (sym own.adapters)
+    (subst (λ (m : ValidatedModule). AllByRecursion (IsMade w mid.defs (Some c.args.main.index) table) (modules_of_imports m)) (sym (own.user.found ∙ user.found))
+    (next_made w old mid c.args.main.index table last c.next.new.self a before main_made c.in_ok-check_made.ensures.made)))))
 
 pub instantiate_user-requires-clause-there : goal.instantiate_user-requires-clause-there
 instantiate_user-requires-clause-there c =

@@ -1,6 +1,9 @@
 use Rattle.std.proofs.Common.{subst, sym}
 use Rattle.comp_items.proofs.Kept.{instance-kept}
 use Rattle.comp_items.proofs.Remembering.{longer}
+use Rattle.comp_terms.specs.Planned.{main_memory}
+use Rattle.core_options.proofs.OptionTerms.{memory_kept}
+use Rattle.core_options.specs.MainOptions.{IsMemoryIf}
 use Rattle.root_imports.specs.Keeping.{Root}
 use Rattle.main_instance.specs.Sources.{AreSources}
 use Rattle.main_instance.proofs.Growth.{sources-kept}
@@ -33,7 +36,8 @@ returns-clause-made c =
     let mid = c.instantiate_main.new.root.items.defs in
     let new = c.instantiate_adapters.new.root.items.defs in
     let all : AllAdapters w mid new c.in_ok-adapters.adapters = subst (λ (r : Root). AllAdapters r.world.now mid new c.in_ok-adapters.adapters) c.in_ok-main.ensures.same c.in_ok-adapters.ensures.all in
-    instances_found w new (record { main = c.in_ok-main.main; adapters = c.in_ok-adapters.adapters }) (instance-kept (longer c.in_ok-adapters.ensures.extends) c.in_ok-main.ensures.made) all.apart all.made
+    instances_found w new (record { main = c.in_ok-main.main.index; memory = c.in_ok-main.main.memory; adapters = c.in_ok-adapters.adapters }) (instance-kept (longer c.in_ok-adapters.ensures.extends) c.in_ok-main.ensures.made)
+    (memory_kept mid new (longer c.in_ok-adapters.ensures.extends) (main_memory w) c.in_ok-main.main.memory c.in_ok-main.ensures.memory) all.apart all.made
 
 pub returns-clause-supplied : goal.returns-clause-supplied
 returns-clause-supplied c =
@@ -50,3 +54,8 @@ returns-clause-in_order c =
     let new = c.instantiate_adapters.new.root.items.defs in
     let all : AllAdapters w mid new c.in_ok-adapters.adapters = subst (λ (r : Root). AllAdapters r.world.now mid new c.in_ok-adapters.adapters) c.in_ok-main.ensures.same c.in_ok-adapters.ensures.all in
     all.in_order
+
+pub instantiate_adapters-requires-clause-memory : goal.instantiate_adapters-requires-clause-memory
+instantiate_adapters-requires-clause-memory c =
+    let mid : Root = c.instantiate_main.new.root in
+    subst (λ (r : Root). IsMemoryIf mid.items.defs (main_memory r.world.now) c.in_ok-main.main.memory) (sym c.in_ok-main.ensures.same) c.in_ok-main.ensures.memory

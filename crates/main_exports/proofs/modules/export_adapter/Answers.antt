@@ -15,9 +15,6 @@ adapter_instance-user-requires c = record {
   listed = next_listed c.args.root.now.world.now (exports_in c.args.root.now.items.defs) c.args.name.now c.args.adapter.now c.requires.next;
 }
 
-pub export_module-requires-clause-main : goal.export_module-requires-clause-main
-export_module-requires-clause-main c = c.requires.made.main
-
 pub export_module-requires-clause-next : goal.export_module-requires-clause-next
 export_module-requires-clause-next c =
     let w = c.args.root.now.world.now in

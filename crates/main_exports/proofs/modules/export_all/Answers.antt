@@ -15,9 +15,6 @@ use Rattle.main_exports.proofs.modules.export_all.Goals as goal
 pub export_main-requires-clause-ready : goal.export_main-requires-clause-ready
 export_main-requires-clause-ready c = record { valid = c.requires.valid; tables = c.requires.tables; passed = c.requires.passed; ordered = c.requires.ordered; at_hand = c.requires.at_hand }
 
-pub export_main-requires-clause-main : goal.export_main-requires-clause-main
-export_main-requires-clause-main c = c.requires.made.main
-
 pub export_adapters-requires-clause-ready : goal.export_adapters-requires-clause-ready
 export_adapters-requires-clause-ready c =
     let mid = c.export_main.new.root in

@@ -7,7 +7,7 @@ use Rattle.main_exports.proofs.Adapters.{main_instance, main_next}
 use Rattle.main_exports.proofs.modules.export_main.Goals as goal
 
 pub export_module-requires-clause-user : goal.export_module-requires-clause-user
-export_module-requires-clause-user c = main_instance c.args.root.now.world.now c.args.root.now.items.defs _ refl refl c.requires.main
+export_module-requires-clause-user c = main_instance c.args.root.now.world.now c.args.root.now.items.defs _ refl refl c.requires.made.main
 
 pub export_module-requires-clause-next : goal.export_module-requires-clause-next
 export_module-requires-clause-next c =

@@ -7,7 +7,7 @@ export_keys-requires-clause-exports c =
       valid = c.requires.ready.valid;
       user = user;
       tabled = c.in_ok-tables.ensures;
-      sources = record { made = c.requires.main; memory = c.memory_name.ensures; realloc = c.export_realloc_of.ensures.made c.args.root.now.items.defs user.number c.requires.main user.made user.listed };
+      sources = record { memory = c.requires.made.memory; realloc = c.export_realloc_of.ensures.made c.args.root.now.items.defs user.number c.requires.made.main user.made user.listed };
       realloc = c.export_realloc_of.ensures.same;
       tables = c.requires.ready.tables;
       passed = c.requires.ready.passed;

@@ -10,6 +10,8 @@ use Rattle.comp_terms.specs.Generated.{shims_number, fixup_number}
 use Rattle.comp_terms.specs.Rules.{Grows, ModuleIs, InstanceOf, instances_in}
 use Rattle.comp_terms.specs.Terms.{IsInstanceOf}
 use Rattle.comp_worlds.specs.declared.world.ComponentWorld.{ComponentWorld}
+use Rattle.std.specs.Prelude.{◌≢◌}
+use Rattle.world_shims.specs.WorldShims.{shims_of}
 use Rattle.root_imports.specs.Growing.{Grows-then}
 use Rattle.root_imports.specs.declared.root_scope.RootScope.{RootScope}
 use Rattle.main_fixup.proofs.Filled.{sources-kept}
@@ -41,6 +43,9 @@ instantiate_fixup-requires-clause-shims c =
     let g : Extends c.args.root.now.items c.core_module.new.self = search (extends_adds, rules) in
     let made : IsInstanceOf ds c.args.shim_instance (shims_number w) = instance-kept (longer c.in_ok-actual.ensures.extends) (instance-kept (longer g) c.requires.made) in
     subst (λ (r : Root). IsInstanceOf ds c.args.shim_instance (shims_number r.world.now)) (sym c.in_ok-actual.ensures.same) made
+
+pub instantiate_fixup-requires-clause-any : goal.instantiate_fixup-requires-clause-any
+instantiate_fixup-requires-clause-any c = subst (λ (r : Root). shims_of r.world.now ≢ []) (sym c.in_ok-actual.ensures.same) c.requires.any
 
 pub returns-clause-grows : goal.returns-clause-grows
 returns-clause-grows c =

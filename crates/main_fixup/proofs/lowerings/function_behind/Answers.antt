@@ -50,20 +50,6 @@ returns-in_ok-lowered-in-IndirectLowering-clause-grows c =
     let second : Grows c.args.root.now.world.now mid new [] = subst (λ (r : Root). Grows r.world.now mid new []) of.ensures.same c.in_ok-lowered-in-IndirectLowering.ensures.grows in
     Grows-then of.ensures.grows second
 
-pub export_of_module-requires-clause-offered : goal.export_of_module-requires-clause-offered
-export_of_module-requires-clause-offered c =
-    let k = c.in-ResourceDtor in export_offered c.args.root.now.world.now c.args.shim.now c.requires.stands (export_of (module_of k.«module») k.export) (ap export_of_kind k.is)
-
-pub returns-in_ok-aliased-in-ResourceDtor-clause-serves : goal.returns-in_ok-aliased-in-ResourceDtor-clause-serves
-returns-in_ok-aliased-in-ResourceDtor-clause-serves c =
-    let k = c.in-ResourceDtor in
-    let of = c.in_ok-aliased-in-ResourceDtor in
-    export_serves c.args.root.now.world.now c.args.shim.now c.requires.stands (export_of (module_of k.«module») k.export) (ap export_of_kind k.is) c.before.before.export_of_module.new.root.items.defs of.aliased of.ensures.alias
-
-pub returns-in_ok-aliased-in-ResourceDtor-clause-offered : goal.returns-in_ok-aliased-in-ResourceDtor-clause-offered
-returns-in_ok-aliased-in-ResourceDtor-clause-offered c =
-    let k = c.in-ResourceDtor in export_options c.args.root.now.world.now c.args.shim.now c.requires.stands (export_of (module_of k.«module») k.export) (ap export_of_kind k.is)
-
 pub export_of_adapter-requires-clause-offered : goal.export_of_adapter-requires-clause-offered
 export_of_adapter-requires-clause-offered c =
     let k = c.in-Adapter in export_offered c.args.root.now.world.now c.args.shim.now c.requires.stands (export_of (Adapter k.adapter) k.func) (ap export_of_kind k.is)

@@ -15,4 +15,4 @@ abbrev pub decreases-walk_parts : goal.decreases-walk_parts
 decreases-walk_parts l = 3 * l.id + 1
 
 abbrev pub invariant-walk_parts-loop-part_index : goal.invariant-walk_parts-loop-part_index
-invariant-walk_parts-loop-part_index l = WalkedSoFar l.left l.walk l.part_index (part_values meeting l.types l.id)
+invariant-walk_parts-loop-part_index l = WalkedSoFar l.wanted l.fn.walk l.walk l.part_index (part_values meeting l.types l.id)

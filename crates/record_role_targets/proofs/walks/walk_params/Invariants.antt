@@ -1,5 +1,5 @@
 use Rattle.record_role_targets.proofs.Walking.{ParamsSoFar}
 use Rattle.record_role_targets.proofs.walks.walk_params.Given as goal
 
-abbrev pub invariant-loop-part_index : goal.invariant-loop-part_index
-invariant-loop-part_index l = ParamsSoFar l.types l.left l.walk l.part_index l.params
+abbrev pub invariant-loop-param : goal.invariant-loop-param
+invariant-loop-param l = ParamsSoFar l.types l.wanted l.fn.walk l.walk l.param-index l.params

@@ -1,6 +1,6 @@
 use Rattle.std.proofs.Common.{◌≡◌, ◌∙◌, Some, ap, subst, sym}
 use Rattle.std.specs.List.{AllByRecursion}
-use Rattle.comp_links.specs.Roles.{IsSuppliedImport}
+use Rattle.comp_links.specs.Supplied.{IsSuppliedImport}
 use Rattle.comp_links.specs.Modules.{UserImport, user_imports}
 use Rattle.comp_worlds.specs.declared.world.ComponentWorld.{ComponentWorld}
 use Rattle.core_instances.specs.Instances.{AreUserModules, AddsInstances}

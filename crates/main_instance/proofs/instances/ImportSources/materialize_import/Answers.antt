@@ -14,7 +14,7 @@ use Rattle.comp_roles.specs.CoreImports.{CoreImport}
 use Rattle.core_options.specs.MainOptions.{user_of}
 use Rattle.shim_targets.proofs.Users.{among_all}
 use Rattle.main_instance.specs.Sources.{IsMade}
-use Rattle.main_instance.proofs.OfMain.{behind, item_named}
+use Rattle.main_instance.proofs.OfMain.{behind, item_named, memory_for_import}
 use Rattle.main_instance.proofs.Serving.{handed_on, import_role, user_import}
 use Rattle.main_instance.proofs.instances.ImportSources.materialize_import.Goals as goal
 
@@ -45,11 +45,12 @@ new_of_own-requires-clause-own c =
     let it = c.in-ExportedResourceNew in
     record { key = it.field-0; own = subst (λ (role : Import). IsImportRole w role) it.is (import_role w (user_of c.args.self.now.user.which) c.args.self.now.user.found.now c.requires.sources.user.named c.requires.sources.valid (record { module_name = c.args.module.now; field = c.args.field.now; role = c.args.import.now }) c.requires.present) }
 
-pub main_memory-requires-clause-behind : goal.main_memory-requires-clause-behind
-main_memory-requires-clause-behind c =
+pub main_memory-requires : goal.main_memory-requires
+main_memory-requires c =
     let u = c.args.self.now.user in
+    let it = c.in-MainModuleMemory in
     let i : CoreImport = record { module_name = c.args.module.now; field = c.args.field.now; role = c.args.import.now } in
-    behind c.args.root.now.world.now c.requires.sources.valid.valid (user_of u.which) u.found.now c.requires.sources.user.named i c.requires.present (λ h. subst IsNotOfMain c.in-MainModuleMemory.is h) c.args.root.now.items.defs c.args.self.now.main c.requires.sources.main
+    record { memory = memory_for_import i it.field-0 it.is c.args.root.now.world.now (user_of u.which) u.found.now c.requires.sources.user.named c.requires.present c.args.root.now.items.defs c.args.self.now.memory c.requires.sources.memory }
 
 pub main_export-requires-clause-behind : goal.main_export-requires-clause-behind
 main_export-requires-clause-behind c =
