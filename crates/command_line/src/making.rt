@@ -44,7 +44,7 @@ fn give_module<L: Lower, S: Store>(
         Ok(bytes) => bytes,
         Err(fault) => return Err(read_fault(false, fault, file)),
     };
-    match encoder.add_module(&bytes) {
+    match encoder.add_module(bytes) {
         Ok(()) => Ok(()),
         Err(fault) => Err(RunFault::Encode(fault)),
     }
@@ -65,7 +65,7 @@ fn give_adapter<L: Lower, S: Store>(
         Ok(bytes) => bytes,
         Err(fault) => return Err(read_fault(false, fault, file)),
     };
-    match encoder.add_adapter(name.as_str(), &bytes) {
+    match encoder.add_adapter(name.as_str(), bytes) {
         Ok(()) => Ok(()),
         Err(fault) => Err(RunFault::Encode(fault)),
     }

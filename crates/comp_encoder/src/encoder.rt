@@ -162,15 +162,15 @@ impl<L: Lower> ComponentEncoder<L> {
     }
 
     /// Takes the main module: a core module with the metadata that the lower layer reads from it. It replaces one
-    /// that was given before, but the exports that one required are still required.
+    /// that was given before, but the exports that one required are still required. The buffer of its bytes becomes the encoder's.
     ///
     /// It refuses when out of memory, and where the lower layer refuses the bytes, or their metadata
     /// together with the earlier modules'. A refusal leaves the encoder unchanged.
-    pub fn add_module(&mut self, bytes: &[u8]) -> Result<(), EncodeFault<L::Fault>>
-        ensures ok { OnOk result (self.new ≡ after_module L.Lower self.old bytes.now) }
+    pub fn add_module(&mut self, bytes: Vec<u8>) -> Result<(), EncodeFault<L::Fault>>
+        ensures ok { OnOk result (self.new ≡ after_module L.Lower self.old bytes.items) }
         ensures err { OnErr result (self.new ≡ self.old) }
-        ensures refused { IsOk result → (f : L.Fault) → ¬ ModuleCause L.Lower self.old bytes.now f }
-        ensures cause { IfErr result (IsModuleRefusal L.Lower self.old bytes.now) }
+        ensures refused { IsOk result → (f : L.Fault) → ¬ ModuleCause L.Lower self.old bytes.items f }
+        ensures cause { IfErr result (IsModuleRefusal L.Lower self.old bytes.items) }
     {
         let (bytes, own) = self
             .lower
@@ -198,7 +198,7 @@ impl<L: Lower> ComponentEncoder<L> {
         Ok(())
     }
 
-    /// [`add_module`](ComponentEncoder::add_module), returning the encoder, so that calls can be
+    /// [`add_module`](ComponentEncoder::add_module) with a copy of the bytes, returning the encoder, so that calls can be
     /// chained. The state after a refusal is in that call's contract.
     pub fn module(&mut self, bytes: &[u8]) -> Result<&mut Self, EncodeFault<L::Fault>>
         ensures same_reference { IfOk result (λ r. r.ghost_name ≡ self.entry.ghost_name) }
@@ -206,15 +206,16 @@ impl<L: Lower> ComponentEncoder<L> {
         ensures refused { IsOk result → (f : L.Fault) → ¬ ModuleCause L.Lower self.old bytes.now f }
         ensures cause { IfErr result (IsModuleRefusal L.Lower self.old bytes.now) }
     {
+        let bytes = Vec::from_slice(self.alloc, bytes)?;
         self.add_module(bytes)?;
         Ok(self)
     }
 
     /// A further module as the lower layer reads it, with the keys that it has to export, and the metadata of all modules with its own.
-    fn read(&self, bytes: &[u8]) -> Result<(Part<L::Bindgen>, L::Bindgen), EncodeFault<L::Fault>>
-        ensures ok { IfOk result (λ r. r ≡ read_part L.Lower self.now bytes.now) }
-        ensures refused { IsOk result → (f : L.Fault) → ¬ ModuleCause L.Lower self.now bytes.now f }
-        ensures cause { IfErr result (IsModuleRefusal L.Lower self.now bytes.now) }
+    fn read(&self, bytes: Vec<u8>) -> Result<(Part<L::Bindgen>, L::Bindgen), EncodeFault<L::Fault>>
+        ensures ok { IfOk result (λ r. r ≡ read_part L.Lower self.now bytes.items) }
+        ensures refused { IsOk result → (f : L.Fault) → ¬ ModuleCause L.Lower self.now bytes.items f }
+        ensures cause { IfErr result (IsModuleRefusal L.Lower self.now bytes.items) }
     {
         let (bytes, own) = self
             .lower
@@ -236,13 +237,13 @@ impl<L: Lower> ComponentEncoder<L> {
     fn add(
         &mut self,
         name: &str,
-        bytes: &[u8],
+        bytes: Vec<u8>,
         library_info: Option<LibraryInfo>,
     ) -> Result<(), EncodeFault<L::Fault>>
-        ensures ok { OnOk result (self.new ≡ after_adapter L.Lower self.old name.now bytes.now library_info) }
+        ensures ok { OnOk result (self.new ≡ after_adapter L.Lower self.old name.now bytes.items library_info) }
         ensures err { OnErr result (self.new ≡ self.old) }
-        ensures refused { IsOk result → NoAdapterCause L.Lower self.old name.now bytes.now library_info }
-        ensures cause { IfErr result (IsAdapterRefusal L.Lower self.old name.now bytes.now library_info) }
+        ensures refused { IsOk result → NoAdapterCause L.Lower self.old name.now bytes.items library_info }
+        ensures cause { IfErr result (IsAdapterRefusal L.Lower self.old name.now bytes.items library_info) }
     {
         let (part, combined) = self.read(bytes)?;
         check_arguments(self.alloc, &self.gathered.adapters, name, &library_info)?;
@@ -257,23 +258,24 @@ impl<L: Lower> ComponentEncoder<L> {
     ///
     /// It refuses when out of memory, and where the lower layer refuses the bytes, or their metadata together with the earlier
     /// modules'. A refusal leaves the encoder unchanged.
-    pub fn add_adapter(&mut self, name: &str, bytes: &[u8]) -> Result<(), EncodeFault<L::Fault>>
-        ensures ok { OnOk result (self.new ≡ after_adapter L.Lower self.old name.now bytes.now None) }
+    pub fn add_adapter(&mut self, name: &str, bytes: Vec<u8>) -> Result<(), EncodeFault<L::Fault>>
+        ensures ok { OnOk result (self.new ≡ after_adapter L.Lower self.old name.now bytes.items None) }
         ensures err { OnErr result (self.new ≡ self.old) }
-        ensures refused { IsOk result → NoAdapterCause L.Lower self.old name.now bytes.now None }
-        ensures cause { IfErr result (IsAdapterRefusal L.Lower self.old name.now bytes.now None) }
+        ensures refused { IsOk result → NoAdapterCause L.Lower self.old name.now bytes.items None }
+        ensures cause { IfErr result (IsAdapterRefusal L.Lower self.old name.now bytes.items None) }
     {
         self.add(name, bytes, None)
     }
 
-    /// [`add_adapter`](ComponentEncoder::add_adapter), returning the encoder, so that calls can be chained. The state after a refusal
-    /// is in that call's contract.
+    /// [`add_adapter`](ComponentEncoder::add_adapter) with a copy of the bytes, returning the encoder, so that calls can be chained.
+    /// The state after a refusal is in that call's contract.
     pub fn adapter(&mut self, name: &str, bytes: &[u8]) -> Result<&mut Self, EncodeFault<L::Fault>>
         ensures same_reference { IfOk result (λ r. r.ghost_name ≡ self.entry.ghost_name) }
         ensures ok { IfOk result (λ r. r.now ≡ after_adapter L.Lower self.old name.now bytes.now None) }
         ensures refused { IsOk result → NoAdapterCause L.Lower self.old name.now bytes.now None }
         ensures cause { IfErr result (IsAdapterRefusal L.Lower self.old name.now bytes.now None) }
     {
+        let bytes = Vec::from_slice(self.alloc, bytes)?;
         self.add_adapter(name, bytes)?;
         Ok(self)
     }
@@ -286,19 +288,19 @@ impl<L: Lower> ComponentEncoder<L> {
     pub fn add_library(
         &mut self,
         name: &str,
-        bytes: &[u8],
+        bytes: Vec<u8>,
         info: LibraryInfo,
     ) -> Result<(), EncodeFault<L::Fault>>
-        ensures ok { OnOk result (self.new ≡ after_adapter L.Lower self.old name.now bytes.now (Some info)) }
+        ensures ok { OnOk result (self.new ≡ after_adapter L.Lower self.old name.now bytes.items (Some info)) }
         ensures err { OnErr result (self.new ≡ self.old) }
-        ensures refused { IsOk result → NoAdapterCause L.Lower self.old name.now bytes.now (Some info) }
-        ensures cause { IfErr result (IsAdapterRefusal L.Lower self.old name.now bytes.now (Some info)) }
+        ensures refused { IsOk result → NoAdapterCause L.Lower self.old name.now bytes.items (Some info) }
+        ensures cause { IfErr result (IsAdapterRefusal L.Lower self.old name.now bytes.items (Some info)) }
     {
         self.add(name, bytes, Some(info))
     }
 
-    /// [`add_library`](ComponentEncoder::add_library), returning the encoder, so that calls can be chained. The state after a refusal
-    /// is in that call's contract.
+    /// [`add_library`](ComponentEncoder::add_library) with a copy of the bytes, returning the encoder, so that calls can be chained.
+    /// The state after a refusal is in that call's contract.
     pub fn library(
         &mut self,
         name: &str,
@@ -310,6 +312,7 @@ impl<L: Lower> ComponentEncoder<L> {
         ensures refused { IsOk result → NoAdapterCause L.Lower self.old name.now bytes.now (Some info) }
         ensures cause { IfErr result (IsAdapterRefusal L.Lower self.old name.now bytes.now (Some info)) }
     {
+        let bytes = Vec::from_slice(self.alloc, bytes)?;
         self.add_library(name, bytes, info)?;
         Ok(self)
     }

@@ -48,15 +48,15 @@ pub trait Lower {
     fn empty(&self, alloc: Global) -> Self::Bindgen
         ensures { result ≡ empty_is self.now };
 
-    /// Reads a module's metadata from its bytes.
+    /// Reads a module's metadata from its bytes, which it takes over: the bytes that it returns can stay in their buffer.
     fn decode(
         &self,
         alloc: Global,
-        bytes: &[u8],
+        bytes: Vec<u8>,
     ) -> Result<(SharedBytes, Self::Bindgen), Self::Fault>
-        ensures ok { IfOk result (λ p. p ≡ decoded self.now bytes.now) }
-        ensures refused { IsOk result → (f : Self.Fault) → ¬ decode_cause self.now bytes.now f }
-        ensures cause { IfErr result (λ f. memory_fault self.now f ≡ false → decode_cause self.now bytes.now f) };
+        ensures ok { IfOk result (λ p. p ≡ decoded self.now bytes.items) }
+        ensures refused { IsOk result → (f : Self.Fault) → ¬ decode_cause self.now bytes.items f }
+        ensures cause { IfErr result (λ f. memory_fault self.now f ≡ false → decode_cause self.now bytes.items f) };
 
     /// Merges the metadata so far with that of a further module.
     fn merge(

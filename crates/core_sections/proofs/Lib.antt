@@ -1,4 +1,5 @@
 pub mod Texts
+pub mod Prefixes
 pub mod Loop
 pub mod Laws
 pub mod Modules

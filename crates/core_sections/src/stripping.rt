@@ -1,7 +1,7 @@
 //! A module without its component types.
 
-ghost use Rattle.std.specs.Prelude.{◌≡◌, ◌++◌, ℕ, List, Ok, true, false, map, option_map, IfErr, IfOk, OnOk};
-ghost use Rattle.std.specs.List.{list_any};
+ghost use Rattle.std.specs.Prelude.{◌≡◌, ◌++◌, ◌≤◌, ℕ, List, Ok, true, false, length, map, take, option_map, IfErr, IfOk, OnOk};
+ghost use Rattle.std.specs.List.{flat_map, list_any};
 ghost use Rattle.core_sections.specs.Sections.{Gives, Piece, preamble, view};
 ghost use Rattle.core_sections.specs.Stripping.{record_of, kept, removed, is_package, stripped};
 ghost use Rattle.core_sections.specs.Grammar.{IsModule, IsCutAt};
@@ -12,10 +12,13 @@ use std::alloc::{AllocError, Global};
 
 const COMPONENT_PREAMBLE: [u8; 8] = [0, 0x61, 0x73, 0x6d, 0x0d, 0, 1, 0];
 
-/// A module without its sections of component types, and what they hold.
+/// A module without its sections of component types, in two parts, and what these sections hold.
 #[derive(Drop)]
 pub struct Stripped<'a> {
-    pub bytes: Vec<u8>,
+    /// The length of the first part, in bytes: the module up to its first section of component types.
+    pub prefix: usize,
+    /// The second part: the other sections after that one.
+    pub rest: Vec<u8>,
     pub records: Vec<&'a [u8]>,
 }
 
@@ -35,6 +38,22 @@ impl<'a> Section<'a> {
             Content::Coded { .. } => None,
         }
     }
+}
+
+/// The length of a module up to its first section of component types, and the sections from there on.
+fn split_at_record<'s, 'a>(bytes: &[u8], sections: &'s [Section<'a>]) -> (usize, &'s [Section<'a>])
+    requires { bytes.now ≡ preamble ++ flat_map (λ p. p.whole) (map view sections.now) }
+    ensures within { result.0 ≤ length bytes.now }
+    ensures kept { take result.0 bytes.now ++ kept (map view result.1.now) ≡ preamble ++ kept (map view sections.now) }
+{
+    let mut prefix = PREAMBLE.len();
+    for (index, section) in sections.iter().enumerate() {
+        if section.record().is_some() {
+            return (prefix, &sections[index..]);
+        }
+        prefix += section.whole.len();
+    }
+    (prefix, &[])
 }
 
 fn append_kept(out: &mut Vec<u8>, sections: &[Section<'_>]) -> Result<(), AllocError>
@@ -79,30 +98,31 @@ fn has_package(records: &[&[u8]]) -> bool
 
 #[tactic(auto, unfolding(crate::specs::Stripping::stripped))]
 fn strip_sections(alloc: Global, bytes: &[u8]) -> Result<Stripped<'_>, SectionFault>
-    ensures { Gives (λ s. (s.bytes.items, map (λ x. x.now) s.records.items)) result (stripped bytes.now) }
+    ensures { Gives (λ s. (take s.prefix bytes.now ++ s.rest.items, map (λ x. x.now) s.records.items)) result (stripped bytes.now) }
 {
     let sections = sections_of(alloc, bytes)?;
     let records = records(alloc, &sections)?;
     if has_package(&records) {
         return Err(SectionFault::PackageBinary);
     }
-    let mut kept = Vec::with_capacity(alloc, bytes.len())?;
-    kept.extend_from_slice(&PREAMBLE)?;
-    append_kept(&mut kept, &sections)?;
+    let (prefix, sections) = split_at_record(bytes, &sections);
+    let mut rest = Vec::with_capacity(alloc, bytes.len() - prefix)?;
+    append_kept(&mut rest, sections)?;
     Ok(Stripped {
-        bytes: kept,
+        prefix,
+        rest,
         records,
     })
 }
 
-/// A module without its sections of component types, which are returned apart.
+/// A module without its sections of component types, which are returned apart. What precedes the first of these is not copied.
 pub fn strip(alloc: Global, bytes: &[u8]) -> Result<Stripped<'_>, SectionFault>
     // What is kept are the sections of the module except those of component types, and what is returned apart are those.
     ensures found { IfOk result (λ s. (ps : List Piece) × IsModule bytes.now ps
-        × (s.bytes.items ≡ preamble ++ kept ps) × (map (λ x. x.now) s.records.items ≡ removed ps)) }
+        × (take s.prefix bytes.now ++ s.rest.items ≡ preamble ++ kept ps) × (map (λ x. x.now) s.records.items ≡ removed ps)) }
     // A module with no package among its component types is accepted, unless memory runs out.
     ensures only { (ps : List Piece) → IsModule bytes.now ps → list_any is_package (removed ps) ≡ false
-        → Gives {Y = List ℕ × List (List ℕ)} (λ s. (s.bytes.items, map (λ x. x.now) s.records.items)) result
+        → Gives {Y = List ℕ × List (List ℕ)} (λ s. (take s.prefix bytes.now ++ s.rest.items, map (λ x. x.now) s.records.items)) result
         (Ok (preamble ++ kept ps, removed ps)) }
     // A reported offset is the first at which no section begins.
     ensures cut { IfErr result (λ e. (offset : ℕ) → e ≡ SectionFault.Section offset → IsCutAt bytes.now offset) }
@@ -111,7 +131,7 @@ pub fn strip(alloc: Global, bytes: &[u8]) -> Result<Stripped<'_>, SectionFault>
     // A reported package is in a section of component types.
     ensures package { IfErr result (λ e. e ≡ SectionFault.PackageBinary → (ps : List Piece) × IsModule bytes.now ps × (list_any is_package (removed ps) ≡ true)) }
     // Which fault it is.
-    ensures exact { Gives (λ s. (s.bytes.items, map (λ x. x.now) s.records.items)) result (stripped bytes.now) }
+    ensures exact { Gives (λ s. (take s.prefix bytes.now ++ s.rest.items, map (λ x. x.now) s.records.items)) result (stripped bytes.now) }
 {
     strip_sections(alloc, bytes)
 }

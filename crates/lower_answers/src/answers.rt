@@ -66,7 +66,7 @@ fn given_after<L: Lower>(
     lower: &L,
     alloc: Global,
     combined: &L::Bindgen,
-    bytes: &[u8],
+    bytes: Vec<u8>,
 ) -> Result<Given<L::Bindgen>, Answer<L::Fault>> {
     match lower.decode(alloc, bytes) {
         Ok((bytes, own)) => match lower.merge(alloc, combined, &own) {
@@ -81,7 +81,7 @@ fn given_after<L: Lower>(
 fn given_first<L: Lower>(
     lower: &L,
     alloc: Global,
-    bytes: &[u8],
+    bytes: Vec<u8>,
 ) -> Result<Given<L::Bindgen>, Answer<L::Fault>> {
     let empty = lower.empty(alloc);
     let given = given_after(lower, alloc, &empty, bytes);
@@ -121,7 +121,7 @@ fn prepare_given<L: Lower>(lower: &L, alloc: Global, given: Given<L::Bindgen>) -
 }
 
 /// The result of a layer for a module as main.
-fn answer_for<L: Lower>(lower: &L, alloc: Global, bytes: &[u8]) -> Answer<L::Fault> {
+fn answer_for<L: Lower>(lower: &L, alloc: Global, bytes: Vec<u8>) -> Answer<L::Fault> {
     match given_first(lower, alloc, bytes) {
         Ok(given) => prepare_given(lower, alloc, given),
         Err(answer) => answer,
@@ -150,8 +150,8 @@ fn with_keys<B: Drop>(keys: Seq<ExportKey>, given: Given<B>) -> Result<Given<B>,
 fn answer_for_both<L: Lower>(
     lower: &L,
     alloc: Global,
-    first: &[u8],
-    second: &[u8],
+    first: Vec<u8>,
+    second: Vec<u8>,
 ) -> Result<Answer<L::Fault>, AllocError> {
     match given_first(lower, alloc, first) {
         Ok((_, _, merged)) => {
@@ -221,7 +221,7 @@ fn one_more<L: Lower>(
     beside: Beside<L::Bindgen>,
     name: Text,
     library_info: Option<LibraryInfo>,
-    bytes: &[u8],
+    bytes: Vec<u8>,
 ) -> Result<Result<Beside<L::Bindgen>, Answer<L::Fault>>, AllocError> {
     match given_after(lower, alloc, &beside.combined, bytes) {
         Ok(given) => {
@@ -282,7 +282,7 @@ fn all_beside<L: Lower>(
             library_info,
             bytes,
         } = further;
-        match one_more(lower, alloc, beside, name, library_info, &bytes)? {
+        match one_more(lower, alloc, beside, name, library_info, bytes)? {
             Ok(more) => beside = more,
             Err(answer) => return Ok(Err(answer)),
         }
@@ -294,7 +294,7 @@ fn all_beside<L: Lower>(
 fn answer_for_all<L: Lower>(
     lower: &L,
     alloc: Global,
-    main: &[u8],
+    main: Vec<u8>,
     modules: Vec<Further>,
 ) -> Result<Answer<L::Fault>, AllocError> {
     match given_first(lower, alloc, main) {
@@ -319,7 +319,7 @@ fn answer_for_all<L: Lower>(
 }
 
 /// The result for the records of a module: that they are read, or the fault.
-fn read_by<L: Lower>(lower: &L, alloc: Global, bytes: &[u8]) -> Result<String, AllocError> {
+fn read_by<L: Lower>(lower: &L, alloc: Global, bytes: Vec<u8>) -> Result<String, AllocError> {
     match lower.decode(alloc, bytes) {
         Ok(_) => String::from_str(alloc, "read"),
         Err(fault) => format!(in alloc; "{fault}"),
@@ -357,7 +357,7 @@ pub fn records_answer<L: Lower>(
     records: &str,
 ) -> Result<String, AllocError> {
     let bytes = with_records(alloc, records)?;
-    read_by(lower, alloc, &bytes)
+    read_by(lower, alloc, bytes)
 }
 
 /// The result of a layer for a module as main: that its world is prepared, or the call that refuses it, with the fault.
@@ -366,7 +366,7 @@ pub fn module_answer<L: Lower>(
     alloc: Global,
     bytes: &[u8],
 ) -> Result<String, AllocError> {
-    let answer = answer_for(lower, alloc, bytes);
+    let answer = answer_for(lower, alloc, Vec::from_slice(alloc, bytes)?);
     format!(in alloc; "{answer}")
 }
 
@@ -377,6 +377,10 @@ pub fn modules_answer<L: Lower>(
     first: &[u8],
     second: &[u8],
 ) -> Result<String, AllocError> {
+    let (first, second) = (
+        Vec::from_slice(alloc, first)?,
+        Vec::from_slice(alloc, second)?,
+    );
     let answer = answer_for_both(lower, alloc, first, second)?;
     format!(in alloc; "{answer}")
 }
@@ -388,6 +392,7 @@ pub(crate) fn group_answer<L: Lower>(
     main: &[u8],
     modules: Vec<Further>,
 ) -> Result<String, AllocError> {
+    let main = Vec::from_slice(alloc, main)?;
     let answer = answer_for_all(lower, alloc, main, modules)?;
     format!(in alloc; "{answer}")
 }

@@ -10,7 +10,7 @@ ghost use Rattle.json_paths.specs.Faults.{Gives as GivesRecord};
 ghost use Rattle.plain_lower.specs.ModuleRecords.{records_in, said_in, decoding, merging};
 
 use comp_lists::{Seq, SharedBytes};
-use core_sections::strip;
+use core_sections::{Stripped, strip};
 use json_paths::Failure as RecordFailure;
 use record_faults::Failure;
 use record_merge::{Bindgen, bindgen_of};
@@ -42,16 +42,23 @@ fn read_said(alloc: Global, texts: &[&[u8]]) -> Result<Bindgen, RecordFailure>
     bindgen_of(alloc, records)
 }
 
-/// A module without its records, and what these say.
+/// A module without its records, and what these say. What is kept before the first record stays where it is.
 #[tactic(auto, unfolding(crate::specs::ModuleRecords::decoding))]
-pub(crate) fn decode(alloc: Global, bytes: &[u8]) -> Result<(SharedBytes, Bindgen), Failure>
-    ensures exact { Gives (λ d. d) result (decoding bytes.now) }
-    ensures cause { IfErr result (λ e. e ≢ failures.Memory → DecodeCause bytes.now (flat e)) }
-    ensures refused { IsOk result → (f : PlainFault) → ¬ DecodeCause bytes.now f }
+pub(crate) fn decode(alloc: Global, mut bytes: Vec<u8>) -> Result<(SharedBytes, Bindgen), Failure>
+    ensures exact { Gives (λ d. d) result (decoding bytes.items) }
+    ensures cause { IfErr result (λ e. e ≢ failures.Memory → DecodeCause bytes.items (flat e)) }
+    ensures refused { IsOk result → (f : PlainFault) → ¬ DecodeCause bytes.items f }
 {
-    let stripped = strip(alloc, bytes)?;
-    let said = read_said(alloc, stripped.records.as_slice())?;
-    Ok((SharedBytes::from_vec(stripped.bytes)?, said))
+    let Stripped {
+        prefix,
+        rest,
+        records,
+    } = strip(alloc, &bytes)?;
+    let said = read_said(alloc, records.as_slice())?;
+    drop(records);
+    bytes.truncate(prefix);
+    bytes.extend_from_slice(&rest)?;
+    Ok((SharedBytes::from_vec(bytes)?, said))
 }
 
 /// What two modules say of their world together.

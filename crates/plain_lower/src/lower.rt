@@ -51,7 +51,7 @@ impl Lower for PlainLower {
         no_bindgen(alloc)
     }
 
-    fn decode(&self, alloc: Global, bytes: &[u8]) -> Result<(SharedBytes, Bindgen), PlainFault> {
+    fn decode(&self, alloc: Global, bytes: Vec<u8>) -> Result<(SharedBytes, Bindgen), PlainFault> {
         Ok(decode(alloc, bytes)?)
     }
 

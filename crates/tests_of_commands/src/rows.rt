@@ -36,8 +36,8 @@ fn given_twice<L: Lower + Drop>(
     bytes: &[u8],
 ) -> Result<(String, Vec<u8>), Fail> {
     let mut encoder = ComponentEncoder::new(alloc, lower);
-    encoder.add_module(bytes)?;
-    let again = fault_text(alloc, &encoder.add_module(bytes))?;
+    encoder.module(bytes)?;
+    let again = fault_text(alloc, &encoder.add_module(Vec::from_slice(alloc, bytes)?))?;
     Ok((again, encoder.encode()?))
 }
 

@@ -88,7 +88,7 @@ fn add_library<L: Lower>(
     alloc: Global,
     encoder: &mut ComponentEncoder<L>,
     text: &str,
-    module: &[u8],
+    module: Vec<u8>,
 ) -> Result<(), EncodeFault<L::Fault>> {
     let (name, arguments) = name_and_arguments(text);
     let info = library_info(alloc, arguments)?;
@@ -104,8 +104,8 @@ fn add_part<L: Lower>(
     let (name, rest) = part.split_once(": ").unwrap_or((part, ""));
     let module = module_of(alloc, rest)?;
     match name.strip_prefix("library ") {
-        Some(library) => add_library(alloc, encoder, library, &module),
-        None => encoder.add_adapter(name, &module),
+        Some(library) => add_library(alloc, encoder, library, module),
+        None => encoder.add_adapter(name, module),
     }
 }
 
@@ -114,7 +114,7 @@ fn component_of(alloc: Global, input: &str) -> Result<Vec<u8>, EncodeFault<Plain
     let (options, rest) = options_and_rest(input);
     let mut encoder = encoder_with(alloc, options)?;
     let (main, _) = rest.split_once(" + ").unwrap_or((rest, ""));
-    encoder.add_module(&module_of(alloc, main)?)?;
+    encoder.add_module(module_of(alloc, main)?)?;
     for part in rest.split(" + ").skip(1) {
         add_part(alloc, &mut encoder, part)?;
     }

@@ -140,7 +140,7 @@ fn make(
 /// The result of each call, and then that of `encode`, which names the adapters that were gathered.
 fn after_calls(alloc: Global, calls: &[Call]) -> Result<String, AllocError> {
     let mut encoder = ComponentEncoder::new(alloc, StubLower::Listing);
-    let mut text = fault_text(alloc, &encoder.add_module(CORE))?;
+    let mut text = fault_text(alloc, &encoder.add_module(Vec::from_slice(alloc, CORE)?))?;
     for call in calls {
         text.push_str("; ")?;
         text.push_str(&fault_text(alloc, &make(alloc, &mut encoder, *call))?)?;

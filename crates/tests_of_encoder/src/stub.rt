@@ -71,21 +71,20 @@ fn world_alone(
 }
 
 /// A module's bytes as they are, with no metadata.
-fn decoded(alloc: Global, bytes: &[u8]) -> Result<(SharedBytes, ()), AllocError>
-    ensures { IfOk result (λ p. p ≡ decoded_of bytes.now) }
+fn decoded(bytes: Vec<u8>) -> Result<(SharedBytes, ()), AllocError>
+    ensures { IfOk result (λ p. p ≡ decoded_of bytes.items) }
 {
-    let bytes = SharedBytes::from_vec(Vec::from_slice(alloc, bytes)?)?;
-    Ok((bytes, ()))
+    Ok((SharedBytes::from_vec(bytes)?, ()))
 }
 
 /// The same of a core module.
-fn decoded_core(alloc: Global, bytes: &[u8]) -> Result<(SharedBytes, ()), StubFault>
-    ensures ok { IfOk result (λ p. p ≡ decoded_of bytes.now) }
-    ensures refused { IsOk result → take 8 bytes.now ≡ core_preamble }
-    ensures cause { IfErr result (λ f. (f ≡ Memory) ⊎ (f ≡ Refused) × (take 8 bytes.now ≢ core_preamble)) }
+fn decoded_core(bytes: Vec<u8>) -> Result<(SharedBytes, ()), StubFault>
+    ensures ok { IfOk result (λ p. p ≡ decoded_of bytes.items) }
+    ensures refused { IsOk result → take 8 bytes.items ≡ core_preamble }
+    ensures cause { IfErr result (λ f. (f ≡ Memory) ⊎ (f ≡ Refused) × (take 8 bytes.items ≢ core_preamble)) }
 {
-    if is_core_module(bytes) {
-        Ok(decoded(alloc, bytes)?)
+    if is_core_module(&bytes) {
+        Ok(decoded(bytes)?)
     } else {
         Err(StubFault::Refused)
     }
@@ -147,10 +146,10 @@ impl Lower for StubLower {
 
     fn empty(&self, _alloc: Global) {}
 
-    fn decode(&self, alloc: Global, bytes: &[u8]) -> Result<(SharedBytes, ()), StubFault> {
+    fn decode(&self, _alloc: Global, bytes: Vec<u8>) -> Result<(SharedBytes, ()), StubFault> {
         match self {
-            StubLower::Listing => decoded_core(alloc, bytes),
-            _ => Ok(decoded(alloc, bytes)?),
+            StubLower::Listing => decoded_core(bytes),
+            _ => Ok(decoded(bytes)?),
         }
     }
 

@@ -29,8 +29,9 @@ pub(crate) fn read(alloc: Global, asked: &str, bytes: &[u8]) -> Result<String, A
     }
 }
 
-fn parts(alloc: Global, stripped: &Stripped<'_>) -> Result<String, AllocError> {
-    let mut text = hex::encode(alloc, &stripped.bytes)?;
+fn parts(alloc: Global, bytes: &[u8], stripped: &Stripped<'_>) -> Result<String, AllocError> {
+    let mut text = hex::encode(alloc, bytes.get(..stripped.prefix).unwrap_or(bytes))?;
+    text.push_str(hex::encode(alloc, &stripped.rest)?.as_str())?;
     for record in &stripped.records {
         text.push_str(" & ")?;
         text.push_str(hex::encode(alloc, *record)?.as_str())?;
@@ -41,7 +42,7 @@ fn parts(alloc: Global, stripped: &Stripped<'_>) -> Result<String, AllocError> {
 /// What is kept of a module, and each record that is taken out, or the fault.
 pub(crate) fn stripped(alloc: Global, bytes: &[u8]) -> Result<String, AllocError> {
     match strip(alloc, bytes) {
-        Ok(stripped) => parts(alloc, &stripped),
+        Ok(stripped) => parts(alloc, bytes, &stripped),
         Err(fault) => section_fault(alloc, fault),
     }
 }

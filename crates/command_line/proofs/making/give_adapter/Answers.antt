@@ -10,9 +10,9 @@ returns-in-Ok-add_adapter-clause-given g c = (
   _,
   c.in-Ok.ensures.event,
   λ out rest. adapter_given g.L.Lower out rest c.args.encoder.now c.add_adapter.new.self c.args.adapter _ _ c.as_str.ensures
-      (rw (c.deref.ensures.value, c.as_str-2.ensures) at c.in-Ok-add_adapter.ensures.ok) (rw (c.deref.ensures.value, c.as_str-2.ensures) at c.in-Ok-add_adapter.ensures.refused refl),
+      (rw c.as_str-2.ensures at c.in-Ok-add_adapter.ensures.ok) (rw c.as_str-2.ensures at c.in-Ok-add_adapter.ensures.refused refl),
 )
 
 pub returns-clause-given : goal.returns-clause-given
 returns-clause-given g c =
-    (_, c.in-Ok.ensures.event, λ out rest. (c.as_str.ensures, inl (rw (c.deref.ensures.value, c.as_str-2.ensures) at c.in-Err-add_adapter.ensures.cause)))
+    (_, c.in-Ok.ensures.event, λ out rest. (c.as_str.ensures, inl (rw c.as_str-2.ensures at c.in-Err-add_adapter.ensures.cause)))

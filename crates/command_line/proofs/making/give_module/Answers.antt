@@ -10,9 +10,9 @@ returns-in-Ok-add_module-clause-given g c = (
   _,
   c.in-Ok.ensures.event,
   λ out rest. module_given g.L.Lower out rest c.args.encoder.now c.add_module.new.self c.args.file _ _ c.as_str.ensures
-      (rw c.deref.ensures.value at c.in-Ok-add_module.ensures.ok) (rw c.deref.ensures.value at c.in-Ok-add_module.ensures.refused refl),
+      c.in-Ok-add_module.ensures.ok (c.in-Ok-add_module.ensures.refused refl),
 )
 
 pub returns-clause-given : goal.returns-clause-given
 returns-clause-given g c =
-    (_, c.in-Ok.ensures.event, λ out rest. (c.as_str.ensures, inl (rw c.deref.ensures.value at c.in-Err-add_module.ensures.cause)))
+    (_, c.in-Ok.ensures.event, λ out rest. (c.as_str.ensures, inl c.in-Err-add_module.ensures.cause))
