@@ -4,10 +4,10 @@ use Rattle.std.specs.List.{flat_map, range_with_len}
 use Rattle.comp_bytes.specs.declared.def.Def.{Def}
 use Rattle.comp_worlds.specs.declared.world.ComponentWorld.{ComponentWorld}
 use Rattle.comp_links.specs.Lists.{ImportEntry, ImportedInterface, WorldType, RootFunction, import_entries, provided_resources}
-use Rattle.comp_links.specs.Modules.{WorldModule, user_modules}
+use Rattle.comp_links.specs.Modules.{user_modules}
 use Rattle.comp_links.specs.Naming.{Naming}
 use Rattle.comp_terms.specs.Exports.{exports_in}
-use Rattle.comp_terms.specs.Generated.{fixup_number, GeneratedBytes}
+use Rattle.comp_terms.specs.Generated.{GeneratedBytes}
 use Rattle.comp_terms.specs.UserBytes.{user_bytes}
 use Rattle.comp_terms.specs.Rules.{fixup_marked, Grows, Landmark, ModuleIs, InstanceOf, ResourceDefined, bytes_marked, users_marked, import_marked, imports_marked}
 use Rattle.core_instances.specs.Instances.{instances_marked, AddsInstances}

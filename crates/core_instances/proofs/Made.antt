@@ -1,5 +1,5 @@
 -- What was imported stays what it is while definitions are added, and it is what main and the fixup are given.
-use Rattle.std.proofs.Common.{◌≡◌, ◌∙◌, ◌<◌, ℕ, List, [], Option, Some, None, ap, subst, sym}
+use Rattle.std.proofs.Common.{◌≡◌, ◌∙◌, ◌<◌, ℕ, List, [], Option, ap, subst, sym}
 use Rattle.comp_builder.specs.Built.{Built}
 use Rattle.comp_items.specs.Items.{Extends}
 use Rattle.comp_bytes.specs.declared.def.Def.{Def}

@@ -1,20 +1,22 @@
 //! Parts of JSON values, taken out of them: what was read of a part can be kept while the part itself is given back.
 
-ghost use Rattle.std.specs.Prelude.{◌≡◌, option_map, ok_or};
+ghost use Rattle.std.specs.Prelude.{◌≡◌, None, option_map, ok_or};
 ghost use Rattle.serde_json.specs.Find.{get, as_array};
 ghost use Rattle.serde_json.specs.View.{view, items_view};
 ghost use Rattle.json_paths.specs.Faults.{Gives};
 ghost use Rattle.json_paths.specs.Reading.{here, at_member};
-ghost use Rattle.json_paths.specs.Taking.{KeepsOthers};
+ghost use Rattle.json_paths.specs.Taking.{without, KeepsOthers};
 
 use crate::fault::Failure;
 use crate::members::{fault_at, fault_here};
 use serde_json::Value;
 use std::alloc::Global;
 
-/// Takes a member out of an object. The others stay.
+/// Takes a member out of an object. The others stay, and so does a value that is no object.
 pub fn take_member(value: &mut Value, key: &str) -> Option<Value>
     ensures taken { option_map view result ≡ get key.now (view value.old) }
+    ensures left { view value.new ≡ without key.now (view value.old) }
+    ensures gone { get key.now (view value.new) ≡ None }
     ensures others { KeepsOthers key.now (view value.old) (view value.new) }
 {
     match value.take() {

@@ -1,7 +1,6 @@
 -- Functions that are lowered directly: their options are those of the link table, and what is missing is a cause.
-use Rattle.std.proofs.Common.{◌≡◌, ◌∙◌, ℕ, Bool, true, false, true≢false, ◌&&◌, not, List, [], ◌∷◌, Contains, Option, Some, None, is_some, if◌then◌else◌, IsTrue, IsSome, refl, sym, ap, subst, inl, inr}
+use Rattle.std.proofs.Common.{◌≡◌, ◌∙◌, ℕ, false, true≢false, List, [], ◌∷◌, Contains, Option, Some, None, is_some, if◌then◌else◌, IsTrue, IsSome, refl, sym, ap, subst, inr}
 use Rattle.std.proofs.lemmas.Option.{none-some, same_Some}
-use Rattle.std.specs.Fmt.{decimal}
 use Rattle.std.specs.List.{AllByRecursion}
 use Rattle.std.specs.Option.{option_copied, option_map}
 use denote.Ref.{Bor}
@@ -25,14 +24,14 @@ use Rattle.comp_worlds.specs.declared.modules.CustomModule.TheVariants as named
 use Rattle.comp_worlds.specs.declared.world.ComponentWorld.{ComponentWorld}
 use Rattle.comp_worlds.specs.declared.world.ValidatedModule.{ValidatedModule}
 use Rattle.comp_links.specs.Links.{options_in, export_at, lower_needs, lower_options, lower_realloc}
-use Rattle.comp_links.specs.Modules.{UserImport, module_found, user_imports}
+use Rattle.comp_links.specs.Modules.{module_found, user_imports}
 use Rattle.comp_links.specs.Roles.{import_encoding, field_path}
-use Rattle.comp_links.specs.Targets.{UserModule as User, Main, Adapter, ExportRef, ExportOf, WorldFunction, Lowered}
+use Rattle.comp_links.specs.Targets.{UserModule as User, Main, Adapter, WorldFunction, Lowered}
 use Rattle.comp_links.specs.Targets as targets
 use Rattle.comp_terms.specs.Generated.{shims_number}
 use Rattle.comp_terms.specs.Planned.{memory_from, main_memory, shim_export, IsItemFor}
 use Rattle.comp_terms.specs.Rules.{IsLowerOptionRight}
-use Rattle.comp_terms.specs.Terms.{CoreExport, IsExported, IsLowering}
+use Rattle.comp_terms.specs.Terms.{IsExported, IsLowering}
 use Rattle.comp_terms.specs.Terms as terms
 use Rattle.shim_plan.specs.Needed.{module_of_name, name_of_module, realloc_shim, import_realloc}
 use Rattle.shim_plan.specs.Plans.{shim_of}
@@ -55,7 +54,7 @@ use Rattle.core_options.specs.MainOptions.{user_of, IsFunctionOf, IsMemoryIf, Is
 use Rattle.core_options.specs.declared.fault.StateFault.{StateFault}
 use Rattle.core_options.specs.declared.fault.StateFault.TheVariants as faults
 use Rattle.main_instance.specs.Direct.{HasReallocShim}
-use Rattle.main_instance.specs.Sources.{IsMemoryBefore, IsShimAlias, shared_export}
+use Rattle.main_instance.specs.Sources.{IsMemoryBefore, IsShimAlias}
 
 -- ---- names
 

@@ -1,5 +1,5 @@
 -- Calls of functions of the world by imports of a module: each is given its shim, or a lowering, and has what it needs.
-use Rattle.std.proofs.Common.{◌≡◌, ◌∙◌, ℕ, List, Some, None, is_some, refl, sym, ap, subst, inl, true≢false, IsSome, IsTrue, Contains}
+use Rattle.std.proofs.Common.{◌≡◌, ◌∙◌, ℕ, List, Some, None, is_some, sym, ap, subst, inl, true≢false, IsSome, IsTrue, Contains}
 use Rattle.standard_kinds.specs.declared.kinds.StringEncoding.{StringEncoding}
 use Rattle.comp_bytes.specs.declared.def.Def.{Def}
 use Rattle.comp_bytes.specs.declared.space.Space.TheVariants as spaces
@@ -11,7 +11,7 @@ use Rattle.comp_worlds.specs.Offered.{shared_memory}
 use Rattle.comp_worlds.specs.Uses.{imports_of}
 use Rattle.comp_worlds.specs.declared.world.ComponentWorld.{ComponentWorld}
 use Rattle.comp_links.specs.Links.{link_of, lower_needs, lower_options, lower_realloc}
-use Rattle.comp_links.specs.Modules.{UserImport, user_imports}
+use Rattle.comp_links.specs.Modules.{user_imports}
 use Rattle.comp_links.specs.Roles.{encoding_in, import_encoding, is_main_memory}
 use Rattle.comp_links.specs.Supplied.{IsSuppliedImport}
 use Rattle.comp_links.specs.Targets.{WorldFunction, Lowered}

@@ -1,18 +1,13 @@
 -- What a core import is given: its shim, or what the link table names.
 use Rattle.std.proofs.Common.{◌≡◌, ◌∙◌, ℕ, List, [], Some, None, is_some, refl, sym, ap, subst, inl, inr, true≢false}
 use Rattle.std.proofs.lemmas.Option.{slice_get_within}
-use Rattle.std.specs.List.{AllByRecursion}
 use Rattle.standard_kinds.specs.declared.kinds.StringEncoding.{StringEncoding}
 use Rattle.standard_kinds.specs.declared.kinds.ExportKind.TheVariants as kinds
-use Rattle.comp_bytes.specs.declared.canon.CanonicalOption.{CanonicalOption}
 use Rattle.comp_bytes.specs.declared.types.Alias.TheVariants as aliases
 use Rattle.comp_bytes.specs.declared.def.Item.TheVariants as items
 use Rattle.comp_bytes.specs.declared.def.Def.{Def}
 use Rattle.comp_bytes.specs.declared.def.Def.TheVariants as defs
 use Rattle.comp_bytes.specs.declared.space.Space.TheVariants as spaces
-use Rattle.wit_data.specs.declared.functions.AbiVariant.{AbiVariant}
-use Rattle.wit_data.specs.declared.ids.InterfaceId.{InterfaceId}
-use Rattle.wit_data.specs.declared.worlds.WorldKey.{WorldKey}
 use Rattle.wit_data.specs.declared.worlds.WorldKey.TheVariants as keys
 use Rattle.comp_roles.specs.declared.imports.Import.TheVariants as imports
 use Rattle.comp_worlds.specs.Encodable.{IsEncodable}
@@ -21,11 +16,11 @@ use Rattle.comp_worlds.specs.declared.world.ComponentWorld.{ComponentWorld}
 use Rattle.comp_links.specs.Links.{link_of, lower_needs}
 use Rattle.comp_links.specs.Modules.{UserImport, user_imports}
 use Rattle.comp_links.specs.Roles.{import_encoding}
-use Rattle.comp_links.specs.Targets.{UserModule as User, Adapter, OfRoot, OfInterface, Lowered, ExportOf}
+use Rattle.comp_links.specs.Targets.{Adapter, ExportOf}
 use Rattle.comp_terms.specs.Generated.{shims_number, OfImport, OfExport}
-use Rattle.comp_terms.specs.Planned.{IsItemFor, IsShimFor, IsGivenFor}
+use Rattle.comp_terms.specs.Planned.{IsShimFor, IsGivenFor}
 use Rattle.comp_items.specs.Items.{MayAdd}
-use Rattle.comp_terms.specs.Rules.{Grows, IsLowerOptionRight}
+use Rattle.comp_terms.specs.Rules.{Grows}
 use Rattle.comp_terms.specs.Terms.{IsInstanceOf, IsExported}
 use Rattle.root_imports.specs.Growing.{Grows-may}
 use Rattle.shim_plan.specs.Plans.{shim_of}

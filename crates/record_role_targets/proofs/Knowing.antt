@@ -3,12 +3,11 @@ use Rattle.std.proofs.Common.{◌≡◌, ℕ, Bool, true, false, cond, List, [],
 use Rattle.std.specs.Prelude.{nat_eq, slice_get, option_map}
 use Rattle.std.specs.Cmp.{IsEquivalence}
 use Rattle.std.specs.Cmp.Rules.{comparing}
-use Rattle.std.specs.List.{AllByRecursion, IsDistinct}
+use Rattle.std.specs.List.{IsDistinct}
 use Rattle.std.specs.Map.{lookup, keys_of}
 use Rattle.std.specs.Option.{option_and_then, option_map_or}
 use Rattle.std.proofs.lemmas.Option.{same_Some}
 use Rattle.comp_lists.proofs.TableLemmas.{absent}
-use Rattle.comp_roles.specs.declared.payloads.PayloadInfo.{PayloadInfo}
 use Rattle.wit_data.specs.declared.functions.Function.{Function}
 use Rattle.wit_data.specs.declared.ids.TypeId.{TypeId}
 use Rattle.record_values.specs.Names.{is_same_import}
@@ -21,7 +20,7 @@ use Rattle.record_values.specs.declared.roles.Payload.TheVariants as payloads
 use Rattle.record_resolve.specs.declared.resolving.Resolved.{Resolved}
 use Rattle.record_role_targets.specs.declared.positions.Position.{Position}
 use Rattle.record_role_targets.specs.declared.wanted.Wanted.{Wanted}
-use Rattle.record_role_targets.specs.Known.{function_named, types_met, Tables, AreTables, type_known, IsPayloadKnown, IsKnown, AreKnown}
+use Rattle.record_role_targets.specs.Known.{types_met, Tables, AreTables, type_known, IsPayloadKnown, IsKnown, AreKnown}
 use Rattle.record_role_targets.specs.Payloads.{met_in_function, side_of, type_met, typed_info, payload_met}
 use Rattle.record_role_targets.specs.Positions.{position_of, function_at}
 use Rattle.record_role_targets.specs.Walks.{FindsNumbers}

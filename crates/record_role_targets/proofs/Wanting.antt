@@ -1,7 +1,6 @@
 -- What roles name is wanted, and stays so.
-use Rattle.std.proofs.Common.{◌≡◌, ℕ, ◌≤◌, Bool, true, false, cond, List, [], ◌∷◌, ◌++◌, Option, Some, None, is_some, max, refl, sym, ap, ◌∙◌, arith, subst, true≢false, ◌&&◌}
+use Rattle.std.proofs.Common.{◌≡◌, ℕ, Bool, true, false, cond, List, [], ◌∷◌, ◌++◌, Some, None, is_some, max, refl, sym, ap, ◌∙◌, arith, subst, true≢false, ◌&&◌}
 use Rattle.std.specs.Prelude.{nat_eq, if◌then◌else◌}
-use Rattle.std.specs.List.{AllByRecursion}
 use Rattle.std.specs.Map.{lookup}
 use Rattle.std.specs.Bool.{beq}
 use Rattle.std.specs.Str.{bytes_eq}
@@ -11,14 +10,13 @@ use Rattle.std.specs.Cmp.{booleans_Decides}
 use Rattle.comp_lists.specs.Tables.{with_first}
 use Rattle.record_merge.proofs.Equal.{both, one_truth, one_text, one_owner}
 use Rattle.record_values.specs.Names.{is_same_owner, owner_kind, owner_text}
-use Rattle.record_values.specs.declared.names.Owner.{Owner}
 use Rattle.record_values.specs.declared.record.ImportName.{ImportName}
 use Rattle.record_values.specs.declared.roles.ImportRole.{ImportRole}
 use Rattle.record_values.specs.declared.roles.ImportRole.TheVariants as roles
 use Rattle.record_values.specs.declared.roles.Payload.{Payload}
 use Rattle.record_values.specs.declared.roles.Payload.TheVariants as payloads
 use Rattle.record_role_targets.specs.declared.wanted.Wanted.{Wanted}
-use Rattle.record_role_targets.specs.Wanted.{NamedFunction, named_function, is_same_function, Functions, has_number, IsNumber, AddsNumber, wanted_if, HasNumber, Keeps, IsPayloadWanted, IsWanted, AreWanted}
+use Rattle.record_role_targets.specs.Wanted.{NamedFunction, named_function, is_same_function, Functions, IsNumber, AddsNumber, wanted_if, HasNumber, Keeps, IsPayloadWanted, IsWanted, AreWanted}
 
 -- ---- functions
 

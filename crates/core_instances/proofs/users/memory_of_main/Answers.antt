@@ -1,4 +1,4 @@
-use Rattle.std.proofs.Common.{Some, None, subst}
+use Rattle.std.proofs.Common.{subst}
 use Rattle.core_options.proofs.Memories.{memory_exported}
 use Rattle.core_options.specs.MainOptions.{IsMemoryIf}
 use Rattle.main_instance.specs.Sources.{shared_export}

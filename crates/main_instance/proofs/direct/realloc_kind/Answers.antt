@@ -1,8 +1,6 @@
 use Rattle.std.proofs.Common.{◌≡◌, ◌∙◌, ℕ, List, Option, Some, None, ap, ap₂, sym}
 use Rattle.std.specs.Option.{option_map}
-use Rattle.comp_roles.specs.Reallocs.{realloc_for, is_import_realloc}
-use Rattle.comp_roles.specs.declared.libraries.MainOrAdapter.{MainOrAdapter}
-use Rattle.comp_worlds.specs.Lookups.{module_name, resolved_realloc, lent_export}
+use Rattle.comp_worlds.specs.Lookups.{module_name, lent_export}
 use Rattle.core_options.specs.MainOptions.{user_of}
 use Rattle.shim_plan.specs.Needed.{realloc_shim, import_realloc}
 use Rattle.shim_plan.specs.declared.kinds.ShimKind.{ShimKind}

@@ -1,4 +1,4 @@
-use Rattle.std.proofs.Common.{◌≡◌, ◌∙◌, Option, Some, None, is_some, IsSome, ap, refl, subst, sym}
+use Rattle.std.proofs.Common.{◌∙◌, Option, Some, None, is_some, IsSome, ap, refl, subst, sym}
 use Rattle.core_types.specs.declared.types.MemoryType.{MemoryType}
 use Rattle.comp_terms.specs.Generated.{shims_number}
 use Rattle.comp_terms.specs.Planned.{memory_from}

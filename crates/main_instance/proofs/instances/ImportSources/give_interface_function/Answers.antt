@@ -1,4 +1,4 @@
-use Rattle.std.proofs.Common.{◌≡◌, ◌∙◌, ℕ, List, [], ◌∷◌, Some, None, IsTrue, IsSome, refl, ap, subst, sym, rules}
+use Rattle.std.proofs.Common.{◌≡◌, [], ◌∷◌, Some, None, IsTrue, IsSome, refl, subst, sym}
 use Rattle.comp_bytes.specs.declared.space.Space.TheVariants.{CoreFunc}
 use Rattle.comp_links.specs.Links.{lower_needs, lower_options, lower_realloc}
 use Rattle.comp_links.specs.Roles.{encoding_in, field_path, needs_encoding}
@@ -13,7 +13,6 @@ use Rattle.core_options.specs.Causes.{IsCauseAmong}
 use Rattle.core_options.specs.MainOptions.{user_of}
 use Rattle.root_imports.specs.Growing.{Grows-then}
 use Rattle.root_imports.specs.declared.root_scope.RootScope.{RootScope}
-use Rattle.standard_kinds.specs.declared.kinds.StringEncoding.{StringEncoding}
 use Rattle.main_instance.specs.Calls.{IsUnencoded, import_at, lowering_kind}
 use Rattle.main_instance.specs.Direct.{IsDirectCall}
 use Rattle.main_instance.specs.Sources.{AreSources, IsShimAlias, IsUsedOfInterface}

@@ -1,4 +1,4 @@
-use Rattle.std.proofs.Common.{◌≡◌, [], ap, subst, sym, rules, Some, IsSome}
+use Rattle.std.proofs.Common.{◌≡◌, [], ap, rules, Some, IsSome}
 use Rattle.std.specs.Map.{lookup}
 use Rattle.comp_builder.specs.Built.{Built}
 use Rattle.comp_bytes.specs.declared.def.Def.TheVariants as defs

@@ -1,9 +1,7 @@
 use Rattle.std.proofs.Common.{◌≡◌, ◌∙◌, Some, None, refl, sym}
 use Rattle.std.specs.Option.{option_map}
-use Rattle.comp_links.specs.Links.{lower_realloc}
-use Rattle.core_options.specs.MainOptions.{user_of, IsReallocIf}
+use Rattle.core_options.specs.MainOptions.{user_of}
 use Rattle.shim_plan.specs.Needed.{realloc_shim, import_realloc}
-use Rattle.shim_plan.specs.declared.kinds.ShimKind.{ShimKind}
 use Rattle.shim_targets.specs.ShimTargets.{which_of}
 use Rattle.main_instance.proofs.DirectCalls.{realloc_aliased, realloc_none}
 use Rattle.main_instance.proofs.instances.ImportSources.realloc_alias.Goals as goal
