@@ -443,7 +443,7 @@ def edits_of(crate, after_ci=False):
 
 
 def tried(crate, after_ci):
-    """What is to be printed of a crate's wrong bodies, how many were refused, and how many were not."""
+    """What is to be printed of a crate's wrong bodies, how many were refused, and what is to be printed of the others."""
     start, paths = time.time(), edits_of(crate, after_ci)
     with tempfile.TemporaryDirectory(prefix="wrong-bodies-") as room:
         trial = Trial(crate, room if after_ci else f"{crate.folder}/out/incremental", after_ci)
@@ -451,14 +451,14 @@ def tried(crate, after_ci):
             verdicts = trial.run(paths)
         else:
             verdicts = [(f"{crate.name}/{os.path.basename(it)}", False, "NOT TRIED: the crate is not proved as it is") for it in paths]
-    refused = sum(it for _, it, _ in verdicts)
     lines = [f"{name}: {text}" for name, _, text in verdicts]
+    others = [line for line, (_, is_refused, _) in zip(lines, verdicts) if not is_refused]
     lines.append(
         f"cost of wrong bodies: {crate.name} {trial.seconds:.0f} processor seconds, {len(paths)} wrong bodies, "
         f"{trial.checks} checks, {time.time() - start:.0f} seconds"
         + "".join(f", {it} {seconds:.0f}" for it, seconds in trial.took.most_common(4) if seconds > 4)
     )
-    return lines, refused, len(verdicts) - refused
+    return lines, len(verdicts) - len(others), others
 
 
 def main():
@@ -476,13 +476,16 @@ def main():
         is_left_by_ci = os.path.isdir(library.rlib) and not os.path.isfile(f"{library.folder}/out/rlib/stamp")
         if not (given.after_ci and is_left_by_ci) and library.build_rlib(ONE_JOB, anew=False):
             sys.exit(f"wrong_bodies: the library {library.name} is not proved")
-    passed = failed = 0
+    passed, failed = 0, []
     chosen.sort(key=lambda it: -it.count(rb"\n"))
     with ThreadPoolExecutor(given.jobs) as pool:
         for lines, refused, others in pool.map(lambda it: tried(it, given.after_ci), chosen):
             passed, failed = passed + refused, failed + others
             print("\n".join(lines), flush=True)
-    print(f"{passed} passed, {failed} failed")
+    if failed:
+        # (again, as the end of a long output shows them)
+        print("\n".join(["not refused:", *failed]))
+    print(f"{passed} passed, {len(failed)} failed")
     return 1 if failed else 0
 
 
