@@ -2,10 +2,10 @@
 """The tests of this repository: all.py, at its top.
 
 First the table of crates in docs/ARCHITECTURE.md is compared with crates.txt, and what the documents say of files and
-codes with the code. Then come the tests of the programs that test; `rt ci`, which proves each crate from nothing, tries
-the wrong bodies of must-fail/ and runs the programs and the tests; and all other wrong bodies, those of wrong/. It stops
-at the first of these that fails. Before its last line, 'N passed, M failed', it prints the processor seconds of each
-crate: bench/gate_costs.py makes a table of them.
+codes with the code. Then come the tests of the programs that test; the reading of all wrong bodies, which finds edits that
+fit the code no longer; `rt ci`, which proves each crate from nothing, tries the wrong bodies of must-fail/ and runs the
+programs and the tests; and all other wrong bodies, those of wrong/. It stops at the first of these that fails. Before its
+last line, 'N passed, M failed', it prints the processor seconds of each crate: bench/gate_costs.py makes a table of them.
 """
 import os
 import re
@@ -45,6 +45,7 @@ def main():
         ("graph of the crates", [*python, "tests/crate_graph.py", "--check"]),
         ("documents", [*python, "tests/docs.py", "--check"]),
         ("tests of the test programs", [*python, "tests/test_wrong_bodies.py"]),
+        ("edits of wrong bodies", [*python, "tests/wrong_bodies.py", "--edits"]),
         ("rt ci", ["rt", "ci"]),
         ("wrong bodies", [*python, "tests/wrong_bodies.py", "--after-ci"]),
     ):

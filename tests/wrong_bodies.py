@@ -1,7 +1,7 @@
 #!/usr/bin/env python3
 """Tries wrong bodies, many in one check, and reports which of them the prover refuses.
 
-    wrong_bodies.py [--jobs N] [--after-ci] [NAME..]     at the top of the repository; with no NAME, every crate
+    wrong_bodies.py [--jobs N] [--after-ci | --edits] [NAME..]     at the top of the repository; with no NAME, every crate
 
 A wrong body is a file crates/NAME/wrong/*.edit or crates/NAME/must-fail/*.edit, in the form that `rt must-fail` reads.
 It has to change the bodies of functions, and nothing else. Each function is proved from its own body and the contracts
@@ -14,6 +14,7 @@ Without --after-ci each crate is checked first over the work that earlier checks
 With --after-ci, which the test command gives, the libraries that `rt ci` left are used as they are, the functions of a
 batch are proved from nothing, and only those of wrong/ are tried: `rt ci` has tried the others. It has proved the functions that a
 wrong body calls too, so their proofs are left out, but for methods: each gets a proof with a hole, and counts as proved.
+With --edits nothing is checked, and the edits of wrong/ are only read, in seconds: each has to change the bodies of functions.
 The last line is 'N passed, M failed', and the exit status is 1 where M is not 0.
 
 Written for the kit rattle-kit-13f: how a crate is checked is taken from its rtlib.py, and the form of the lines that a
@@ -461,17 +462,43 @@ def tried(crate, after_ci):
     return lines, len(verdicts) - len(others), others
 
 
+def report(passed, failed):
+    """Prints what failed, where the end of a long output shows it, and the sum, and returns the exit status."""
+    if failed:
+        print("\n".join(["failed:", *failed]))
+    print(f"{passed} passed, {len(failed)} failed")
+    return 1 if failed else 0
+
+
+def read(crates):
+    """Of how many crates each edit of wrong/ can be tried, and what is to be printed of the edits that can't."""
+    passed, failed = 0, []
+    for crate in crates:
+        sources, before = Sources(crate.folder), len(failed)
+        for path in edits_of(crate, after_ci=True):
+            name = f"{crate.name}/{os.path.basename(path)}"
+            try:
+                sources.wrong_body(name, path)
+            except (BadEdit, OSError) as why:
+                failed.append(f"{name}: BAD EDIT: {why}")
+        passed += len(failed) == before
+    return passed, failed
+
+
 def main():
     parser = argparse.ArgumentParser(description=__doc__, formatter_class=argparse.RawDescriptionHelpFormatter)
     parser.add_argument("names", nargs="*", metavar="NAME")
     parser.add_argument("--jobs", type=int, default=len(os.sched_getaffinity(0)), help="how many crates are tried side by side")
     parser.add_argument("--after-ci", action="store_true", help="rt ci has just proved the crates, and left its libraries")
+    parser.add_argument("--edits", action="store_true", help="only read the edits")
     given = parser.parse_args()
     rtlib.guarded()  # (its first call sets a signal's handler, which only the main thread may)
     crates = rtlib.crates_below(os.getcwd())
     if unknown := {*given.names} - {it.name for it in crates}:
         sys.exit(f"wrong_bodies: no crate is named {' '.join(sorted(unknown))}")
     chosen = [it for it in crates if edits_of(it, given.after_ci) and (not given.names or it.name in given.names)]
+    if given.edits:
+        return report(*read(chosen))
     for library in dict.fromkeys(below for it in chosen for below in it.below()):
         is_left_by_ci = os.path.isdir(library.rlib) and not os.path.isfile(f"{library.folder}/out/rlib/stamp")
         if not (given.after_ci and is_left_by_ci) and library.build_rlib(ONE_JOB, anew=False):
@@ -482,11 +509,7 @@ def main():
         for lines, refused, others in pool.map(lambda it: tried(it, given.after_ci), chosen):
             passed, failed = passed + refused, failed + others
             print("\n".join(lines), flush=True)
-    if failed:
-        # (again, as the end of a long output shows them)
-        print("\n".join(["not refused:", *failed]))
-    print(f"{passed} passed, {len(failed)} failed")
-    return 1 if failed else 0
+    return report(passed, failed)
 
 
 if __name__ == "__main__":
