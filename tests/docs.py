@@ -3,17 +3,28 @@
 
     docs.py --check    each file of a crate that a document names exists; docs/LINKING.md lists the files of definitions that the
                        linking theorem uses, directly or not, and no others but those of refusals; the numbers of lines there are
-                       right, and in all no more than MOST_LINES; docs/ERRORS.md has each code of an error. The last line is
-                       'N passed, M failed', and the exit status is 1 where M is not 0.
-    docs.py --write    fills the numbers of lines in docs/LINKING.md. They count definitions: no imports, comments or blank lines.
+                       right, and in all no more than MOST_LINES; docs/ERRORS.md has each code of an error; docs/LEFT_OUT.md has
+                       the numbers of cases that wait for what is left out; the names of the cases of a file differ. The last line
+                       is 'N passed, M failed', and the exit status is 1 where M is not 0.
+    docs.py --write    fills the numbers of lines in docs/LINKING.md, which count definitions (no imports, comments or blank lines), and
+                       the table of docs/LEFT_OUT.md.
 """
+import collections
 import glob
 import os
 import re
 import sys
 
+sys.dont_write_bytecode = True
 TOP = os.path.dirname(os.path.dirname(os.path.realpath(__file__)))
+sys.path.insert(0, f"{TOP}/tests")
+from cases import files_of as files_of_cases  # noqa: E402
+from cases import programs  # noqa: E402
+
 LINKING = f"{TOP}/docs/LINKING.md"
+LEFT_OUT = f"{TOP}/docs/LEFT_OUT.md"
+LEFT_OUT_CASE = re.compile(r': (?:prepare: |E3 Lower: )?P8 LeftOut what="([^"]*)" <- ')
+LEFT_OUT_HEAD = "| What | Cases |\n|---|---|\n"
 THEOREM = "comp_encoder/specs/Component"
 REFUSALS = {"comp_encoder/specs/Refusals", "comp_encoder/specs/Outputs", "comp_encoder/specs/CanonicalNames", "core_options/specs/Causes", "comp_worlds/specs/Made", "comp_worlds/specs/Absent"}
 MOST_LINES = 3250
@@ -118,10 +129,37 @@ def faults_of_errors():
     return faults
 
 
+def case_files():
+    """The files of cases, each with its crate."""
+    return [(crate, file) for crate in programs(TOP) for file in files_of_cases(TOP, crate)]
+
+
+def with_left_out(text):
+    """The text of docs/LEFT_OUT.md with the table of what is left out, and how many cases wait for it."""
+    counts = collections.Counter()
+    for crate, file in case_files():
+        counts.update(LEFT_OUT_CASE.findall(text_of(f"{TOP}/crates/{crate}/data/{file}")))
+    rows = [f"| `{what}` | {count} |\n" for what, count in sorted(counts.items(), key=lambda it: (-it[1], it[0]))]
+    return text.partition(LEFT_OUT_HEAD)[0] + LEFT_OUT_HEAD + "".join(rows) + f"| in all | {sum(counts.values())} |\n"
+
+
+def faults_of_left_out():
+    return [] if with_left_out(text_of(LEFT_OUT)) == text_of(LEFT_OUT) else ["docs/LEFT_OUT.md: the numbers of cases are not right; docs.py --write fills them"]
+
+
+def faults_of_case_names():
+    faults = []
+    for crate, file in case_files():
+        lines = [it for it in text_of(f"{TOP}/crates/{crate}/data/{file}").splitlines() if not it.startswith(("#", "given: "))]
+        counts = collections.Counter(it.partition(": ")[0] for it in lines)
+        faults += [f"crates/{crate}/data/{file}: {count} cases have the name {name!r}" for name, count in counts.items() if count > 1]
+    return faults
+
+
 def check():
     crates = set(os.listdir(f"{TOP}/crates"))
     documents = [f"{TOP}/README.md", f"{TOP}/CONTRIBUTING.md", *sorted(glob.glob(f"{TOP}/docs/*.md"))]
-    parts = [faults_of_linking(), faults_of_errors(), *(faults_of_document(it, crates) for it in documents)]
+    parts = [faults_of_linking(), faults_of_errors(), faults_of_left_out(), faults_of_case_names(), *(faults_of_document(it, crates) for it in documents)]
     for faults in parts:
         for fault in faults:
             print(fault)
@@ -133,6 +171,9 @@ def check():
 def write():
     text = with_lines(text_of(LINKING))
     with open(LINKING, "w", encoding="utf-8") as file:
+        file.write(text)
+    text = with_left_out(text_of(LEFT_OUT))
+    with open(LEFT_OUT, "w", encoding="utf-8") as file:
         file.write(text)
 
 

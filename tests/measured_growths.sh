@@ -3,15 +3,18 @@
 # unit_tests in turn, which build a component, build and measure it, and build and finish it. The second has to make as many
 # allocations as the first, and the third one more. Each run with one refused ends in a report that memory ran out.
 #
-# measured_growths.sh: needs `rt` and `cc` in PATH. The tests are proved and built first.
+# measured_growths.sh: needs `cc` in PATH. The tests are those that TESTS names where it is set, as by the test command; otherwise they
+# are proved and built first, which needs `rt`.
 set -eu
 
 top=$(cd "$(dirname "$0")/.." && pwd)
 folder=$(mktemp -d)
 trap 'rm -rf "$folder"' EXIT
 cc -shared -fPIC -O -o "$folder/refuse.so" "$top/tests/refuse.c" -ldl
-cd "$top/crates/unit_tests"
-rt test >"$folder/build" 2>&1 || { cat "$folder/build"; exit 1; }
+tests=${TESTS:-$top/crates/unit_tests/out/unit_tests_tests}
+if [ -z "${TESTS:-}" ]; then
+    (cd "$top/crates/unit_tests" && rt test >"$folder/build" 2>&1) || { cat "$folder/build"; exit 1; }
+fi
 
 # growths TEST: how many allocations the test makes.
 growths() {
@@ -19,7 +22,7 @@ growths() {
     while :; do
         rm -f "$folder/met"
         status=0
-        MET=$folder/met REFUSED=$at LD_PRELOAD=$folder/refuse.so out/unit_tests_tests "building::$1" >"$folder/said" 2>&1 || status=$?
+        MET=$folder/met REFUSED=$at LD_PRELOAD=$folder/refuse.so "$tests" "building::$1" >"$folder/said" 2>&1 || status=$?
         [ -e "$folder/met" ] || break
         if [ "$status" -eq 0 ] || ! grep -q '^memory: AllocError' "$folder/said"; then
             echo "FAILED: $1, allocation $at: status $status, said:" >&2
@@ -35,5 +38,5 @@ growths() {
 built=$(growths is_built)
 measured=$(growths is_measured)
 finished=$(growths is_finished)
-echo "to build: $built allocations; to measure: $((measured - built)); to finish: $((finished - built))"
-[ "$measured" -eq "$built" ] && [ "$finished" -eq $((built + 1)) ]
+said="to build: $built allocations; to measure: $((measured - built)); to finish: $((finished - built))"
+if [ "$measured" -eq "$built" ] && [ "$finished" -eq $((built + 1)) ]; then echo "ok: $said"; else echo "FAILED: $said"; exit 1; fi

@@ -4,32 +4,30 @@
 # `error: C1 Memory`, or `E1` before its words are read), answers 1, prints nothing and puts nothing; or
 # does its work, where it could do without. Prints how many runs there were of each.
 #
-# refuse_memory.sh: on the built program, whose calls of `malloc` and `realloc` are counted by a library
-# that is loaded before the C library's. It takes seconds. Needs `rt`, `cc` and `xxd` in PATH.
+# refuse_memory.sh: on the built program (program.sh says which), whose calls of `malloc` and `realloc` are counted by a library
+# that is loaded before the C library's. It takes seconds. Needs `cc` and `xxd` in PATH.
 #
 # refuse_memory.sh try [FIRST [STEP]]: by `rt try --fail-alloc`, from the allocation FIRST on by STEP
 # (both 1 if left out, so that several can share the work). A run takes half a minute. Needs `rt`.
 set -eu
 
-top=$(cd "$(dirname "$0")/.." && pwd)
-folder=$(mktemp -d)
-trap 'rm -rf "$folder"' EXIT
-made=$folder/made.wasm
-main=$top/examples/main.wasm
-cd "$top/crates/component_new"
-
 if [ "${1:-}" = try ]; then
+    top=$(cd "$(dirname "$0")/.." && pwd)
+    folder=$(mktemp -d)
+    trap 'rm -rf "$folder"' EXIT
+    cd "$top/crates/component_new"
     first=${2:-1}
     step=${3:-1}
     run() { n=$1; shift; rt try --fail-alloc "$n" -- "$@"; }
 else
+    . "$(dirname "$0")/program.sh"
     first=1
     step=1
-    rt run >"$folder/build" 2>&1 || true
-    [ -x out/component_new ] || { cat "$folder/build"; exit 1; }
     cc -shared -fPIC -O -o "$folder/refuse.so" "$top/tests/refuse.c" -ldl
-    run() { n=$1; shift; MET=$folder/met REFUSED=$n LD_PRELOAD=$folder/refuse.so out/component_new "$@"; }
+    run() { n=$1; shift; MET=$folder/met REFUSED=$n LD_PRELOAD=$folder/refuse.so "$program" "$@"; }
 fi
+made=$folder/made.wasm
+main=$top/examples/main.wasm
 
 # is_right WORD..: whether what a run of these words left is what it should leave
 is_right() {
@@ -77,13 +75,13 @@ refuse_each() {
         fi
         at=$((at + step))
     done
-    echo "$1: of the allocations, refused one at a time, $reported were reported as out of memory, with nothing written or printed, and $spared had no effect"
+    echo "ok: $1: of the allocations, refused one at a time, $reported were reported as out of memory, with nothing written or printed, and $spared had no effect"
 }
 
 refuse_each 'error: E1 Memory' new "$made" "$main"
 refuse_each 'error: E1 Memory' new "$made" "$main" --validate
 # A module with all roles of core imports and exports, whose world isn't encoded yet.
-sed -n '1s/.* <- //p' "$top/crates/record_cases/data/roles.txt" | xxd -r -p >"$folder/roles.wasm"
+sed -n 's/^roles, imports world-func, .* more and exports .* <- //p' "$top/crates/record_cases/data/left_out.txt" | head -n 1 | xxd -r -p >"$folder/roles.wasm"
 ends='error: E3 Lower: P8 LeftOut what="async"'
 refuse_each 'error: E1 Memory' new "$made" "$folder/roles.wasm"
 # A module and two adapters, with the component that an independent encoder makes of them.

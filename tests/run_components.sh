@@ -2,21 +2,17 @@
 # Runs the components of examples/ in Node: those that are kept there, which the program must make of the modules that are
 # kept beside them, and those that it makes of modules compiled anew.
 #
-#     run_components.sh [PROGRAM]    PROGRAM is the program component_new; where none is given, it is built
+# Needs Node, clang, wasm-ld and llvm-objcopy, Debian's packages nodejs, clang, lld and llvm: where one is missing it says which, and
+# ends with status 77. program.sh says which program it runs.
 set -eu
 
+missing=
 for tool in node clang wasm-ld llvm-objcopy; do
-    command -v "$tool" >/dev/null 2>&1 || { echo "failed: there is no \`$tool\` in PATH"; exit 1; }
+    command -v "$tool" >/dev/null 2>&1 || missing="$missing $tool"
 done
+[ -z "$missing" ] || { echo "skipped: not in PATH:$missing"; exit 77; }
 here=$(cd "$(dirname "$0")" && pwd)
-if [ $# -gt 0 ]; then
-    top=$(dirname "$here")
-    folder=$(mktemp -d)
-    trap 'rm -rf "$folder"' EXIT
-    program=$1
-else
-    . "$here/program.sh"
-fi
+. "$here/program.sh"
 failed=0
 
 # check NAME COMMAND..: the command succeeds

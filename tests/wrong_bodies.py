@@ -1,7 +1,7 @@
 #!/usr/bin/env python3
 """Tries wrong bodies, many in one check, and reports which of them the prover refuses.
 
-    wrong_bodies.py [--jobs N] [--after-ci | --edits] [NAME..]     at the top of the repository; with no NAME, every crate
+    wrong_bodies.py [--jobs N] [--after-ci [--due COMMIT] | --edits] [NAME..]     at the top of the repository; with no NAME, every crate
 
 A wrong body is a file crates/NAME/wrong/*.edit or crates/NAME/must-fail/*.edit, in the form that `rt must-fail` reads.
 It has to change the bodies of functions, and nothing else. Each function is proved from its own body and the contracts
@@ -14,6 +14,8 @@ Without --after-ci each crate is checked first over the work that earlier checks
 With --after-ci, which the test command gives, the libraries that `rt ci` left are used as they are, the functions of a
 batch are proved from nothing, and only those of wrong/ are tried: `rt ci` has tried the others. It has proved the functions that a
 wrong body calls too, so their proofs are left out, but for methods: each gets a proof with a hole, and counts as proved.
+With --due only those of the crates that are due at a commit are tried: verdicts.py says which. Whatever is tried, what was seen of
+a crate is written to tests/refused.txt: that all wrong bodies of wrong/ were refused, or, where one wasn't, nothing more of it.
 With --edits nothing is checked, and the edits of wrong/ are only read, in seconds: each has to change the bodies of functions.
 The last line is 'N passed, M failed', and the exit status is 1 where M is not 0.
 
@@ -34,11 +36,12 @@ import subprocess
 import sys
 import tempfile
 import time
-from concurrent.futures import ThreadPoolExecutor
+from concurrent.futures import ThreadPoolExecutor, as_completed
 
 sys.dont_write_bytecode = True
 sys.path.insert(0, os.path.dirname(os.path.realpath(__file__)))
 from rattle_text import functions_of, is_proof_of, names_of, path_of  # noqa: E402
+from verdicts import Verdicts  # noqa: E402
 
 ONE_JOB = ["--jobs", "1"]
 # What `--progress` prints as the check of a function's proof has ended.
@@ -443,8 +446,19 @@ def edits_of(crate, after_ci=False):
     return [it for part in folders for it in sorted(glob.glob(f"{glob.escape(crate.folder)}/{part}/*.edit"))]
 
 
+@dataclasses.dataclass
+class Tried:
+    """What came of a crate's wrong bodies: the lines to print, how many were refused, the lines of the others, and the seconds."""
+
+    crate: object
+    lines: list
+    refused: int
+    others: list
+    seconds: float
+
+
 def tried(crate, after_ci):
-    """What is to be printed of a crate's wrong bodies, how many were refused, and what is to be printed of the others."""
+    """Tries a crate's wrong bodies."""
     start, paths = time.time(), edits_of(crate, after_ci)
     with tempfile.TemporaryDirectory(prefix="wrong-bodies-") as room:
         trial = Trial(crate, room if after_ci else f"{crate.folder}/out/incremental", after_ci)
@@ -459,7 +473,31 @@ def tried(crate, after_ci):
         f"{trial.checks} checks, {time.time() - start:.0f} seconds"
         + "".join(f", {it} {seconds:.0f}" for it, seconds in trial.took.most_common(4) if seconds > 4)
     )
-    return lines, len(verdicts) - len(others), others
+    return Tried(crate, lines, len(verdicts) - len(others), others, trial.seconds)
+
+
+def verdicts_of(top, crates):
+    """What is known of the crates' wrong bodies."""
+    with open(f"{rtlib.KIT}/KIT-ID", encoding="utf-8") as file:
+        kit = file.read().strip()
+    return Verdicts(top, {it.name: (it.folder, {below.name for below in it.below()} | {*it.of_kit}) for it in crates}, kit)
+
+
+def take(verdicts, seen):
+    """Writes down what was seen of a crate, if its text and that below it are still those that were tried."""
+    name = seen.crate.name
+    anew = verdicts_of(os.getcwd(), rtlib.crates_below(os.getcwd()))
+    is_same = anew.own.get(name) == verdicts.own[name] and anew.below.get(name) == verdicts.below[name]
+    verdicts.take(name, is_same and not seen.others, len(edits_of(seen.crate, after_ci=True)), seen.seconds)
+
+
+def due(verdicts, crates, commit):
+    """The crates that are due at a commit, and a line that says how many."""
+    names = [it.name for it in crates]
+    changed, taken = verdicts.due(names, commit)
+    wanted = {*changed, *taken}
+    line = f"wrong bodies of {len(changed)} crates that changed, and of {len(taken)} of the {len(names) - len(changed)} others: {' '.join(sorted(wanted))}"
+    return [it for it in crates if it.name in wanted], line
 
 
 def report(passed, failed):
@@ -490,6 +528,7 @@ def main():
     parser.add_argument("names", nargs="*", metavar="NAME")
     parser.add_argument("--jobs", type=int, default=len(os.sched_getaffinity(0)), help="how many crates are tried side by side")
     parser.add_argument("--after-ci", action="store_true", help="rt ci has just proved the crates, and left its libraries")
+    parser.add_argument("--due", metavar="COMMIT", help="only the crates that are due at this commit")
     parser.add_argument("--edits", action="store_true", help="only read the edits")
     given = parser.parse_args()
     rtlib.guarded()  # (its first call sets a signal's handler, which only the main thread may)
@@ -499,6 +538,10 @@ def main():
     chosen = [it for it in crates if edits_of(it, given.after_ci) and (not given.names or it.name in given.names)]
     if given.edits:
         return report(*read(chosen))
+    verdicts = verdicts_of(os.getcwd(), crates)
+    if given.due is not None:
+        chosen, line = due(verdicts, chosen, given.due)
+        print(line, flush=True)
     for library in dict.fromkeys(below for it in chosen for below in it.below()):
         is_left_by_ci = os.path.isdir(library.rlib) and not os.path.isfile(f"{library.folder}/out/rlib/stamp")
         if not (given.after_ci and is_left_by_ci) and library.build_rlib(ONE_JOB, anew=False):
@@ -506,9 +549,11 @@ def main():
     passed, failed = 0, []
     chosen.sort(key=lambda it: -it.count(rb"\n"))
     with ThreadPoolExecutor(given.jobs) as pool:
-        for lines, refused, others in pool.map(lambda it: tried(it, given.after_ci), chosen):
-            passed, failed = passed + refused, failed + others
-            print("\n".join(lines), flush=True)
+        for it in as_completed([pool.submit(tried, it, given.after_ci) for it in chosen]):
+            seen = it.result()
+            passed, failed = passed + seen.refused, failed + seen.others
+            print("\n".join(seen.lines), flush=True)
+            take(verdicts, seen)
     return report(passed, failed)
 
 

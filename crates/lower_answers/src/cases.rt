@@ -1,13 +1,12 @@
-//! Cases, one line each, and how many have the expected result.
+//! The inputs of cases: records, or modules in hexadecimal digits.
 
 use crate::answers::{Further, group_answer, module_answer, modules_answer, records_answer};
 use argument_cases::{library_info, name_and_arguments};
 use comp_lists::Text;
 use comp_worlds::Lower;
 use std::alloc::{AllocError, Global};
-use std::fmt;
 
-/// What the lines of a file are about.
+/// What an input is.
 #[derive(Clone, Copy, Debug, PartialEq, Eq)]
 pub enum Kind {
     /// The records of a module, with ` & ` between two of them.
@@ -19,25 +18,6 @@ pub enum Kind {
     /// A module, and behind it adapters and libraries, each after ` & ` with its name: `NAME: MODULE` or `library NAME: MODULE`, where
     /// the name of a library may be followed by its arguments (`argument_cases`).
     Groups,
-}
-
-impl Kind {
-    pub fn of(word: &str) -> Kind {
-        match word {
-            "records" => Kind::Records,
-            "pairs" => Kind::Pairs,
-            "groups" => Kind::Groups,
-            _ => Kind::Modules,
-        }
-    }
-}
-
-/// How many cases have the expected result.
-#[derive(Clone, Copy, Debug, PartialEq, Eq)]
-pub struct Count {
-    as_expected: u32,
-    left_out: u32,
-    otherwise: u32,
 }
 
 /// The result for a module in hexadecimal digits.
@@ -118,8 +98,8 @@ fn group_answer_of<L: Lower>(lower: &L, alloc: Global, text: &str) -> Result<Str
     }
 }
 
-/// The result for a case.
-fn answer_of<L: Lower>(
+/// The result of a layer for an input.
+pub fn answer_of<L: Lower>(
     lower: &L,
     alloc: Global,
     kind: Kind,
@@ -130,47 +110,5 @@ fn answer_of<L: Lower>(
         Kind::Modules => module_answer_of(lower, alloc, text),
         Kind::Pairs => pair_answer_of(lower, alloc, text),
         Kind::Groups => group_answer_of(lower, alloc, text),
-    }
-}
-
-impl Count {
-    pub fn new() -> Count {
-        Count {
-            as_expected: 0,
-            left_out: 0,
-            otherwise: 0,
-        }
-    }
-
-    /// Counts a case. The result, where it is not the expected one.
-    pub fn add<L: Lower>(
-        &mut self,
-        lower: &L,
-        alloc: Global,
-        kind: Kind,
-        line: &str,
-    ) -> Result<Option<String>, AllocError> {
-        let (expected, text) = line.split_once(" <- ").unwrap_or(("", line));
-        let answer = answer_of(lower, alloc, kind, text)?;
-        if answer.as_str() == expected {
-            self.as_expected = self.as_expected.saturating_add(1);
-            return Ok(None);
-        }
-        if expected == "prepared" && answer.as_str().starts_with("prepare: P8 LeftOut") {
-            self.left_out = self.left_out.saturating_add(1);
-            return Ok(None);
-        }
-        self.otherwise = self.otherwise.saturating_add(1);
-        Ok(Some(answer))
-    }
-}
-
-impl fmt::Display for Count {
-    fn fmt<W: fmt::Write>(&self, f: &mut fmt::Formatter<W>) -> fmt::Result {
-        write!(
-            f,
-            "{} as expected, {} left out, {} otherwise",
-            self.as_expected, self.left_out, self.otherwise
-        )
     }
 }

@@ -17,15 +17,6 @@ pub trait Topic: Copy {
     fn answer(self, alloc: Global, given: &str, input: &str) -> Result<String, AllocError>;
 }
 
-/// What is printed beside the answers.
-#[derive(Clone, Copy)]
-pub enum Beside {
-    /// After those of a file, how many are as expected.
-    Counts,
-    /// The comments, where they are. No values are given in the files.
-    Comments,
-}
-
 /// How many answers are as expected, and how many aren't.
 #[derive(Clone, Copy)]
 struct Count {
@@ -38,131 +29,113 @@ const NONE: Count = Count {
     other: 0,
 };
 
-/// Prints the answer to a case after its name.
-fn print_answer<R: Print>(
+/// Counts the answer to a case of a file, and prints it where it is another than the expected one.
+fn take_answer<R: Print>(
     rt: &R,
     count: &mut Count,
+    file: &str,
     case: Case<'_>,
     answer: &str,
 ) -> io::Result<()> {
     if answer == case.expected {
         count.expected = count.expected.saturating_add(1);
-        println!(rt; "{}: {answer}", case.name)
+        Ok(())
     } else {
         count.other = count.other.saturating_add(1);
-        println!(rt; "{}: {answer} (expected: {})", case.name, case.expected)
+        println!(rt;
+            "{file}: {}: {answer} (expected: {})",
+            case.name, case.expected
+        )
     }
 }
 
-/// Prints the answer to the case of a line.
-fn print_line<T: Topic, R: Print + AllocGlobal>(
+/// Takes the answer to the case of a line.
+fn take_line<T: Topic, R: Print + AllocGlobal>(
     rt: &R,
     count: &mut Count,
     topic: T,
+    file: &str,
     given: &str,
     line: &str,
 ) -> io::Result<()> {
     let case = Case::of(line);
     let answer = topic.answer(rt.alloc(), given, case.input)?;
-    print_answer(rt, count, case, answer.as_str())
+    take_answer(rt, count, file, case, answer.as_str())
 }
 
-/// Prints the answers to the cases of lines on the given values.
-fn print_lines<T: Topic, R: Print + AllocGlobal>(
+/// Takes the answers to the cases of lines on the given values.
+fn take_lines<T: Topic, R: Print + AllocGlobal>(
     rt: &R,
     count: &mut Count,
     topic: T,
+    file: &str,
     given: &str,
     lines: &str,
 ) -> io::Result<()> {
     for line in lines.lines() {
         if !line.starts_with("#") {
-            print_line(rt, count, topic, given, line)?;
+            take_line(rt, count, topic, file, given, line)?;
         }
     }
     Ok(())
 }
 
-/// Prints the answers to the cases of a file: those before the first `given:`, and those after each.
-fn print_groups<T: Topic, R: Print + AllocGlobal>(
+/// Takes the answers to the cases of a file: those before the first `given:`, and those after each.
+fn take_groups<T: Topic, R: Print + AllocGlobal>(
     rt: &R,
     count: &mut Count,
     topic: T,
+    file: &str,
     text: &str,
 ) -> io::Result<()> {
     for group in text.split("given: ") {
         let (given, lines) = group.split_once("\n").unwrap_or((group, ""));
-        print_lines(rt, count, topic, given, lines)?;
+        take_lines(rt, count, topic, file, given, lines)?;
     }
     Ok(())
 }
 
-/// Prints the answers to the cases of a file, and how many are as expected.
-fn print_counted<T: Topic, R: Print + AllocGlobal>(
-    rt: &R,
-    topic: T,
-    name: &str,
-    text: &str,
-) -> io::Result<()> {
-    let mut count = NONE;
-    print_groups(rt, &mut count, topic, text)?;
-    println!(rt;
-        "{name}: {} as expected, {} otherwise",
-        count.expected, count.other
-    )
-}
-
-/// Prints the answers to the cases of lines, and the comments between them.
-fn print_commented<T: Topic, R: Print + AllocGlobal>(
-    rt: &R,
-    topic: T,
-    text: &str,
-) -> io::Result<()> {
-    let mut count = NONE;
-    for line in text.lines() {
-        if line.starts_with("#") {
-            println!(rt; "{line}")?;
-        } else {
-            print_line(rt, &mut count, topic, "", line)?;
-        }
+/// Prints what the answers of a file come to.
+fn print_sum<R: Print>(rt: &R, count: Count, file: &str) -> io::Result<()> {
+    if count.other > 0 {
+        println!(rt;
+            "{file}: {} as expected, {} otherwise",
+            count.expected, count.other
+        )
+    } else if count.expected > 0 {
+        println!(rt; "{file}: as expected")
+    } else {
+        println!(rt; "{file}: no case")
     }
-    Ok(())
 }
 
-/// Prints the answers to the cases of the file of this name.
-fn print_file<T: Topic, R: Files + Print + AllocGlobal>(
+/// Answers the cases of the file of this name.
+fn answer_file<T: Topic, R: Files + Print + AllocGlobal>(
     rt: &R,
     topic: T,
-    beside: Beside,
     name: &str,
 ) -> io::Result<()> {
     let text = fs::read_to_string(rt, name)?;
-    match beside {
-        Beside::Counts => print_counted(rt, topic, name, text.as_str()),
-        Beside::Comments => print_commented(rt, topic, text.as_str()),
-    }
+    let mut count = NONE;
+    take_groups(rt, &mut count, topic, name, text.as_str())?;
+    print_sum(rt, count, name)
 }
 
-/// Prints the answers to the cases of all files that the program's words name.
-fn print_files<T: Topic, R: Env + Files + Print + AllocGlobal>(
-    rt: &R,
-    beside: Beside,
-) -> io::Result<()> {
+/// Answers the cases of all files that the program's words name.
+fn answer_all<T: Topic, R: Env + Files + Print + AllocGlobal>(rt: &R) -> io::Result<()> {
     for name in env::args(rt)?.skip(1) {
         match T::of(name.as_str()) {
-            Some(topic) => print_file(rt, topic, beside, name.as_str())?,
+            Some(topic) => answer_file(rt, topic, name.as_str())?,
             None => println!(rt; "{name}: no topic has this name")?,
         }
     }
     Ok(())
 }
 
-/// Prints the answers of a program to the cases of its files, and reports a fault.
-pub fn answer_files<T: Topic, R: Env + Files + Print + Eprint + AllocGlobal>(
-    rt: &R,
-    beside: Beside,
-) -> ExitCode {
-    match print_files::<T, R>(rt, beside) {
+/// Answers the cases of the files that the program's words name, prints each answer that isn't the expected one, and
+/// what those of each file come to, and reports a fault.
+pub fn answer_files<T: Topic, R: Env + Files + Print + Eprint + AllocGlobal>(rt: &R) -> ExitCode {
+    match answer_all::<T, R>(rt) {
         Ok(()) => ExitCode::from(0),
         Err(fault) => {
             let _ = eprintln!(rt; "error: {fault}");

@@ -1,8 +1,7 @@
 //! The program `tests_of_bytes`: components as bytes, how they are built, read, checked and shown, by cases.
 //!
-//! The input of a case is a call with its arguments (`test_cases` says how the files are read). The program prints the
-//! comments too, so that the file `stdout`, which its output is compared with, is the data without the inputs. The expected
-//! answers were worked out by hand from the binary format of components.
+//! The input of a case is a call with its arguments (`test_cases` says how the files are read). The expected answers were worked
+//! out by hand from the binary format of components.
 //!
 //! In reading order: `cases` (the calls of inputs), `components` (components by their bytes: how
 //! they are read, checked and shown), `building` (components that are built again, and measured), `values` (counts, spaces
@@ -17,7 +16,7 @@ mod values;
 use cases::answer;
 use std::alloc::{AllocError, Global};
 use std::process::ExitCode;
-use test_cases::{Beside, Topic, answer_files};
+use test_cases::{Topic, answer_files};
 
 /// All files have calls.
 #[derive(Clone, Copy)]
@@ -34,5 +33,5 @@ impl Topic for Calls {
 }
 
 fn main(rt: HostRuntime) -> ExitCode {
-    answer_files::<Calls, HostRuntime>(&rt, Beside::Comments)
+    answer_files::<Calls, HostRuntime>(&rt)
 }

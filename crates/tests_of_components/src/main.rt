@@ -6,7 +6,6 @@
 //! `[canonical, rename a:b/c to d:e/f] 0061736d..`: `canonical`, `debug-names`, `no-merge`, `memory-grow`, `unchecked` (without
 //! `validate`, which is on otherwise) and `rename NAME to NAME`. The answer is the component in hexadecimal digits, by the encoder over
 //! the lower layer by records; or the fault. `test_cases` says how the files are read; each says where its expected answers are from.
-//! The program prints the comments too, so that the file `stdout`, which its output is compared with, is the data without the inputs.
 #![tactic(auto)]
 
 use argument_cases::{library_info, name_and_arguments};
@@ -16,7 +15,7 @@ use comp_worlds::Lower;
 use plain_lower::{PlainFault, PlainLower};
 use std::alloc::{AllocError, Global};
 use std::process::ExitCode;
-use test_cases::{Beside, Topic, answer_files, bytes_of, word_and_rest};
+use test_cases::{Topic, answer_files, bytes_of, word_and_rest};
 
 /// Adds a record of less than 2^14 - 15 bytes, in a custom section. Its size is in two bytes.
 fn add_record(module: &mut Vec<u8>, record: &str) -> Result<(), AllocError> {
@@ -140,5 +139,5 @@ impl Topic for Modules {
 }
 
 fn main(rt: HostRuntime) -> ExitCode {
-    answer_files::<Modules, HostRuntime>(&rt, Beside::Comments)
+    answer_files::<Modules, HostRuntime>(&rt)
 }

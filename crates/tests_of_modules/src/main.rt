@@ -1,8 +1,7 @@
 //! The program `tests_of_modules`: core modules, how they are read, written and generated, by cases.
 //!
-//! The input of a case is a call with its arguments (`test_cases` says how the files are read). The program prints the
-//! comments too, so that the file `stdout`, which its output is compared with, is the data without the inputs. The expected
-//! answers were worked out by hand from the binary format of core modules.
+//! The input of a case is a call with its arguments (`test_cases` says how the files are read). The expected answers were worked
+//! out by hand from the binary format of core modules.
 //!
 //! Modules that are read are in the data. What is written has no bytes before: it is made in the code, and the
 //! input is its name.
@@ -22,7 +21,7 @@ mod sections;
 use cases::answer;
 use std::alloc::{AllocError, Global};
 use std::process::ExitCode;
-use test_cases::{Beside, Topic, answer_files};
+use test_cases::{Topic, answer_files};
 
 /// All files have calls.
 #[derive(Clone, Copy)]
@@ -39,5 +38,5 @@ impl Topic for Calls {
 }
 
 fn main(rt: HostRuntime) -> ExitCode {
-    answer_files::<Calls, HostRuntime>(&rt, Beside::Comments)
+    answer_files::<Calls, HostRuntime>(&rt)
 }
