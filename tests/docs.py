@@ -4,10 +4,10 @@
     docs.py --check    each file of a crate that a document names exists; docs/LINKING.md lists the files of definitions that the
                        linking theorem uses, directly or not, and no others but those of refusals; the numbers of lines there are
                        right, and in all no more than MOST_LINES; docs/ERRORS.md has each code of an error; docs/LEFT_OUT.md has
-                       the numbers of cases that wait for what is left out; the names of the cases of a file differ. The last line
-                       is 'N passed, M failed', and the exit status is 1 where M is not 0.
+                       the numbers of cases that wait for what is left out, and docs/PROVED.md those of all files of cases; the names
+                       of the cases of a file differ. The last line is 'N passed, M failed', and the exit status is 1 where M is not 0.
     docs.py --write    fills the numbers of lines in docs/LINKING.md, which count definitions (no imports, comments or blank lines), and
-                       the table of docs/LEFT_OUT.md.
+                       the tables of cases of docs/LEFT_OUT.md and docs/PROVED.md.
 """
 import collections
 import glob
@@ -18,12 +18,16 @@ import sys
 sys.dont_write_bytecode = True
 TOP = os.path.dirname(os.path.dirname(os.path.realpath(__file__)))
 sys.path.insert(0, f"{TOP}/tests")
+from cases import count_of  # noqa: E402
 from cases import files_of as files_of_cases  # noqa: E402
 from cases import programs  # noqa: E402
 
 LINKING = f"{TOP}/docs/LINKING.md"
 LEFT_OUT = f"{TOP}/docs/LEFT_OUT.md"
 LEFT_OUT_CASE = re.compile(r': (?:prepare: |E3 Lower: )?P8 LeftOut what="([^"]*)" <- ')
+PROVED = f"{TOP}/docs/PROVED.md"
+CASES_HEAD = "| Program | File | Cases | What |\n|---|---|---|---|\n"
+CASES_TABLE = re.compile(re.escape(CASES_HEAD) + r"(\|.*\n)*")
 LEFT_OUT_HEAD = "| What | Cases |\n|---|---|\n"
 THEOREM = "comp_encoder/specs/Component"
 REFUSALS = {"comp_encoder/specs/Refusals", "comp_encoder/specs/Outputs", "comp_encoder/specs/CanonicalNames", "core_options/specs/Causes", "comp_worlds/specs/Made", "comp_worlds/specs/Absent"}
@@ -143,6 +147,32 @@ def with_left_out(text):
     return text.partition(LEFT_OUT_HEAD)[0] + LEFT_OUT_HEAD + "".join(rows) + f"| in all | {sum(counts.values())} |\n"
 
 
+def words_of(crate, file):
+    """What the comment at the head of a file of cases says."""
+    lines = text_of(f"{TOP}/crates/{crate}/data/{file}").splitlines()
+    head = []
+    for line in lines:
+        if not line.startswith("# "):
+            break
+        head.append(line[2:])
+    return " ".join(head).partition(". ")[0].rstrip(".").replace("|", "\\|")
+
+
+def with_cases(text):
+    """The text of docs/PROVED.md with the table of the files of cases."""
+    rows, before = [], None
+    for crate, file in case_files():
+        name = f"`{crate}`" if crate != before else ""
+        rows.append(f"| {name} | `{file}` | {count_of(TOP, crate, file)} | {words_of(crate, file)} |\n")
+        before = crate
+    return CASES_TABLE.sub(lambda _: CASES_HEAD + "".join(rows), text)
+
+
+def faults_of_case_table():
+    is_right = CASES_HEAD in text_of(PROVED) and with_cases(text_of(PROVED)) == text_of(PROVED)
+    return [] if is_right else ["docs/PROVED.md: the table of cases is not right; docs.py --write fills it"]
+
+
 def faults_of_left_out():
     return [] if with_left_out(text_of(LEFT_OUT)) == text_of(LEFT_OUT) else ["docs/LEFT_OUT.md: the numbers of cases are not right; docs.py --write fills them"]
 
@@ -159,7 +189,7 @@ def faults_of_case_names():
 def check():
     crates = set(os.listdir(f"{TOP}/crates"))
     documents = [f"{TOP}/README.md", f"{TOP}/CONTRIBUTING.md", *sorted(glob.glob(f"{TOP}/docs/*.md"))]
-    parts = [faults_of_linking(), faults_of_errors(), faults_of_left_out(), faults_of_case_names(), *(faults_of_document(it, crates) for it in documents)]
+    parts = [faults_of_linking(), faults_of_errors(), faults_of_left_out(), faults_of_case_table(), faults_of_case_names(), *(faults_of_document(it, crates) for it in documents)]
     for faults in parts:
         for fault in faults:
             print(fault)
@@ -169,12 +199,10 @@ def check():
 
 
 def write():
-    text = with_lines(text_of(LINKING))
-    with open(LINKING, "w", encoding="utf-8") as file:
-        file.write(text)
-    text = with_left_out(text_of(LEFT_OUT))
-    with open(LEFT_OUT, "w", encoding="utf-8") as file:
-        file.write(text)
+    for path, filled in (LINKING, with_lines), (LEFT_OUT, with_left_out), (PROVED, with_cases):
+        text = filled(text_of(path))
+        with open(path, "w", encoding="utf-8") as file:
+            file.write(text)
 
 
 def main():

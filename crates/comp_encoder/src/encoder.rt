@@ -359,12 +359,18 @@ impl<L: Lower> ComponentEncoder<L> {
 
     /// The component of what was gathered, in the component model's binary format.
     ///
-    /// It refuses when out of memory, where there is no main module or its bytes are empty, where
-    /// the lower layer can't prepare the world, with canonical names on where two imports or two exports have
-    /// one canonical name, where the world has no string encoding for a function, where a function is lowered or lifted with a
-    /// memory and main has none, or a realloc that there isn't for the module, where a required interface uses types of another
-    /// exported one that isn't exported before it, where a count or a size passes 2^32 - 1, and, with `validate` on, where a name of an import or an
-    /// export occurs twice or is not well formed.
+    /// It refuses with
+    /// - `E1` when out of memory,
+    /// - `E2` where there is no main module, or its bytes are empty,
+    /// - `E3` where the lower layer can't prepare the world,
+    /// - `E5` where canonical names are on, and two imports or two exports have one,
+    /// - `E7`, `E8`, `E9` where a call needs a memory, a realloc or a string encoding that its module lacks,
+    /// - `E10` where a library names a module that is instantiated after it,
+    /// - `E11` where an exported interface uses types of one that is exported after it,
+    /// - `E15` where `validate` is on, and a name of an import or an export occurs twice or is not well formed,
+    /// - `E16` where a count or a size passes 2^32 - 1.
+    ///
+    /// Each cause is stated in `specs/Refusals.antt`.
     pub fn encode(&self) -> Result<Vec<u8>, EncodeFault<L::Fault>>
         ensures ok { IfOk result (λ bytes. IsEncoding L.Lower self.now bytes.items) }
         ensures refused { IsOk result → NoEncodeCause L.Lower self.now }

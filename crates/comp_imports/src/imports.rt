@@ -18,7 +18,7 @@ use comp_worlds::ComponentWorld;
 use root_imports::RootScope;
 
 /// Imports the interfaces of which the component needs something, then the types of the world, and then the root functions
-/// that imports of main use, each in the order of the world and under its name; the names of interfaces are made by `names`.
+/// that imports of user modules use, each in the order of the world and under its name; the names of interfaces are made by `names`.
 /// Returns the indices of the functions by their names. What the scope knew before of types and instances is forgotten.
 ///
 /// Refused when out of memory, and where a space would have more than 2^32 - 1 items.

@@ -135,7 +135,7 @@ fn import_instance(
     Ok(instance)
 }
 
-/// Imports an interface, if the component needs one of its types, or imports of main use one of its functions.
+/// Imports an interface, if the component needs one of its types, or imports of user modules use one of its functions.
 fn import_interface(
     root: &mut RootScope<'_, ComponentWorld>,
     names: &ImportNames<'_>,

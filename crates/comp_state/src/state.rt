@@ -116,7 +116,7 @@ impl EncodingState<'_> {
     }
 
     /// Imports the interfaces of which the component needs something, then the types of the world, and then the root
-    /// functions that imports of main use, each in the order of the world.
+    /// functions that imports of user modules use, each in the order of the world.
     pub fn encode_imports(&mut self) -> Result<(), StateFault>
         requires started { self.old.step ≡ Started }
         requires empty { self.old.built.defs ≡ [] }

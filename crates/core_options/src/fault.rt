@@ -15,11 +15,12 @@ pub enum StateFault {
     /// An allocation failed.
     #[error("E1 Memory")]
     Memory,
-    /// A function is lowered or lifted with a memory, or a module imports main's memory, and main exports none. `place` is the name
-    /// of the import's shim, that of the function that is lifted, or `module::field` of the import of the memory.
+    /// A call needs a memory, or a module imports main's, and main neither imports nor exports one. `place` is the import's shim
+    /// (`indirect-MODULE-FIELD`), the function that is lifted, or `MODULE::FIELD` of the import of the memory.
     #[error("E7 NoMemory place={place}")]
     NoMemory { place: Text },
-    /// A function is lowered or lifted with a realloc, and there is none for calls of its module. `place` is as for the memory.
+    /// A call needs a realloc, and its module has none; a library may take main's. `place` is as for the memory, but
+    /// `MODULE::FIELD` of the import where main imports its memory, and so nothing has a shim.
     #[error("E8 NoRealloc place={place}")]
     NoRealloc { place: Text },
     /// The world has no string encoding for a function. `place` is `module::field` of a core import, or the

@@ -1,4 +1,4 @@
-//! The roles of the core exports of a main module, and whether the module has those that are required.
+//! The roles of the core exports of a user module, and whether the module has those that are required.
 //!
 //! [`read_exports`] resolves the role of each core export, by the role that a record gives it and in
 //! the resolve that was made of the record's world; an export without a role is left out. It refuses an

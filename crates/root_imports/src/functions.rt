@@ -118,7 +118,7 @@ impl RootScope<'_, ComponentWorld> {
         }
     }
 
-    /// Imports those of these items that are root functions which imports of main use, in their order.
+    /// Imports those of these items that are root functions which imports of user modules use, in their order.
     fn import_items(
         &mut self,
         used: &Keyed<Text, ()>,
@@ -147,7 +147,7 @@ impl RootScope<'_, ComponentWorld> {
         Ok(functions)
     }
 
-    /// Imports the root functions that imports of main use, in the order of the world, and returns their
+    /// Imports the root functions that imports of user modules use, in the order of the world, and returns their
     /// indices by their names. The interfaces and the types of the world are imported before.
     ///
     /// Refused when out of memory, and where a space would have more than 2^32 - 1 items. What was imported until then stays.
