@@ -18,6 +18,8 @@ The steps, in order:
     components   the components of examples/ in Node, and those that are compiled anew
     growths      a component is measured without memory, and finished in one buffer
     memory       each allocation of the built program is refused in turn, for some inputs
+    modules      generated core modules in Node
+    fuzz         the built program on inputs that are changed at random, the same ones each time
 
 It stops at the first step that fails. Where the checkout holds nothing of earlier commands, as a fresh clone, the steps run
 in it; otherwise in a copy of its files, so that they neither trip over what is there nor change it. Before the last line,
@@ -48,7 +50,7 @@ SUM = re.compile(r"(\d+) passed, (\d+) failed")
 SKIPPED = 77
 PYTHON = [sys.executable, "-u"]
 QUICK = ["graph", "documents", "tools", "edits", "cases"]
-STEPS = ["graph", "documents", "tools", "edits", "ci", "wrong", "program", "components", "growths", "memory"]
+STEPS = ["graph", "documents", "tools", "edits", "ci", "wrong", "program", "components", "growths", "memory", "modules", "fuzz"]
 
 
 class Sums:
@@ -176,6 +178,8 @@ def call_of(step, room, commit, tries_all):
         "components": (["sh", "tests/run_components.sh"], run_script),
         "growths": (["sh", "tests/measured_growths.sh"], run_script),
         "memory": (["sh", "tests/refuse_memory.sh"], run_script),
+        "modules": (["sh", "tests/run_modules.sh"], run_script),
+        "fuzz": ([*PYTHON, "tests/fuzz.py", "--seed", "gate", "--count", "20000"], run_program),
     }[step]
 
 
@@ -185,7 +189,7 @@ def run_step(step, room, commit, tries_all, sums):
     env = {**os.environ, "PROGRAM": f"{room}/crates/component_new/out/component_new", "TESTS": f"{room}/crates/unit_tests/out/unit_tests_tests"}
     start = time.time()
     with Sampler(room) as sampler:
-        ran = reader(words, room, env if reader is run_script else None)
+        ran = reader(words, room, env)
     sums.add(*ran)
     if step == "ci":
         print("\n".join(sampler.lines()))

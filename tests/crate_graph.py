@@ -2,12 +2,12 @@
 """The graph of the crates, from crates.txt.
 
     crate_graph.py            prints it as text: a layer a paragraph, lowest first, each crate with what it depends on
-    crate_graph.py --write    fills the column 'Depends on' of the table in docs/ARCHITECTURE.md
-    crate_graph.py --check    compares that table, and the folders of crates/, with crates.txt
+    crate_graph.py --write    fills the columns 'Depends on' of the tables in docs/ARCHITECTURE.md, one for each group of crates.txt
+    crate_graph.py --check    compares these tables, and the folders of crates/, with crates.txt
 
 A crate is in the layer above the highest of those that it depends on. Shown are the direct dependencies, without those
 that another one of them depends on too. The libraries of the toolchain, which crates.txt doesn't list as crates, follow.
-The column 'Its one idea' is kept in the table. With --check the last line is 'N passed, M failed', and the exit status is 1
+The column 'Its one idea' is kept in the tables. A group is a comment in crates.txt, and a heading in docs/ARCHITECTURE.md. With --check the last line is 'N passed, M failed', and the exit status is 1
 where M is not 0.
 """
 import os
@@ -16,7 +16,6 @@ import sys
 
 TOP = os.path.dirname(os.path.dirname(os.path.realpath(__file__)))
 TABLE = f"{TOP}/docs/ARCHITECTURE.md"
-HEADER = "| Crate | Its one idea | Depends on |"
 ROW = re.compile(r"^\| `(\w+)` \| (.*?) \| ?([^|]*?) ?\|$")
 
 
@@ -53,9 +52,27 @@ def shown(graph, name):
 def layers(graph):
     """The number of each crate's layer, from 0."""
     layer = {}
+
+    def layer_of(name):
+        if name not in layer:
+            layer[name] = max((layer_of(it) + 1 for it in graph[name] if it in graph), default=0)
+        return layer[name]
+
     for name in graph:
-        layer[name] = max((layer[it] + 1 for it in graph[name] if it in graph), default=0)
+        layer_of(name)
     return layer
+
+
+def groups_of(path):
+    """The headings of the groups of crates.txt, each with its crates."""
+    groups = {}
+    with open(path, encoding="utf-8") as lines:
+        for line in list(lines)[1:]:
+            if line.startswith("# "):
+                groups[line[2:].strip()] = heads = []
+            elif ":" in line:
+                heads.append(line.partition(":")[0].split()[0])
+    return groups
 
 
 def print_graph(graph):
@@ -83,28 +100,24 @@ def write(graph):
         file.write("\n".join(lines))
 
 
-def rows_of(path):
-    """The rows of the table of crates, in order: the crate, its idea and the column 'Depends on'."""
+def tables_of(path):
+    """The rows of each table of crates, by the heading above it: the crate, its idea and the column 'Depends on'."""
+    tables, rows = {}, None
     with open(path, encoding="utf-8") as file:
-        lines = file.read().split("\n")
-    if HEADER not in lines:
-        return []
-    rows = []
-    for line in lines[lines.index(HEADER) + 2 :]:
-        row = ROW.match(line)
-        if not row:
-            break
-        rows.append((row[1], row[2].strip(), row[3].strip()))
-    return rows
+        for line in file.read().split("\n"):
+            if line.startswith("### "):
+                tables[line[4:].lower()] = rows = []
+            elif rows is not None and (row := ROW.match(line)):
+                rows.append((row[1], row[2].strip(), row[3].strip()))
+    return {head: rows for head, rows in tables.items() if rows}
 
 
-def faults_of_order(graph):
-    """What crates.txt lists before something that it depends on."""
-    listed, faults = set(), []
-    for name, names in graph.items():
-        faults += [f"crates.txt: {name} is listed before {it}, on which it depends" for it in names if it in graph and it not in listed]
-        listed.add(name)
-    return faults
+def faults_of_groups(groups, tables):
+    """Where the tables have not the groups of crates.txt, each with its crates in order."""
+    named = {head: [it[0] for it in rows] for head, rows in tables.items()}
+    if [*named] != [*groups]:
+        return [f"docs/ARCHITECTURE.md: the groups are {', '.join(named)}, and those of crates.txt {', '.join(groups)}"]
+    return [f"docs/ARCHITECTURE.md: the rows of {it} are not the crates of that group, in order" for it in groups if named[it] != groups[it]]
 
 
 def faults_of_folders(graph):
@@ -125,13 +138,11 @@ def faults_of_row(graph, name, rows):
 
 
 def check(graph):
-    rows = rows_of(TABLE)
-    parts = [faults_of_order(graph), faults_of_folders(graph)]
+    tables = tables_of(TABLE)
+    rows = [row for of_group in tables.values() for row in of_group]
+    parts = [faults_of_groups(groups_of(f"{TOP}/crates.txt"), tables), faults_of_folders(graph)]
     parts += [faults_of_row(graph, name, rows) for name in graph]
-    named = [it[0] for it in rows]
-    parts.append([f"docs/ARCHITECTURE.md: {it} is not in crates.txt" for it in named if it not in graph])
-    known = [it for it in named if it in graph]
-    parts.append([] if known == sorted(known, key=list(graph).index) else ["docs/ARCHITECTURE.md: the rows are not in the order of crates.txt"])
+    parts.append([f"docs/ARCHITECTURE.md: {it[0]} is not in crates.txt" for it in rows if it[0] not in graph])
     for faults in parts:
         for fault in faults:
             print(fault)

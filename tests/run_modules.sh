@@ -13,4 +13,4 @@ here=$(cd "$(dirname "$0")" && pwd)
 flag=--experimental-wasm-typed-funcref
 node "$flag" -e '' 2>/dev/null || flag=
 echo "node $(node --version) $flag"
-exec node $flag "$here/run_modules.js"
+if node $flag "$here/run_modules.js"; then echo "ok: generated modules run as they should"; else echo "FAILED: generated modules"; exit 1; fi
