@@ -265,11 +265,11 @@ class Inputs:
         chance = random.Random(f"{self.seed} {number_of}")
         if chance.random() < 0.25:
             component = chance.choice(self.components)
-            for _ in range(chance.randrange(1, 5)):
+            for _ in range(chance.choice((1, 1, 1, 2, 4))):
                 component = changed_bytes(component, chance, self.others)
             return ["defs", "component.wasm"], {"component.wasm": component}
         parts = [(name, *it) for name, *it in chance.choice(self.groups)]
-        for _ in range(chance.randrange(1, 5)):
+        for _ in range(chance.choice((1, 1, 1, 2, 4))):
             at = chance.randrange(len(parts))
             name, module, records = parts[at]
             parts[at] = (name, *changed_module(module, records, chance, self.others))
