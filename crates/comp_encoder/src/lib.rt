@@ -1,5 +1,15 @@
 //! The encoder: calls that gather core modules, and the one that makes a component of them.
 //!
+//! ```rust
+//! use comp_encoder::ComponentEncoder;
+//! use plain_lower::PlainLower;
+//!
+//! let mut encoder = ComponentEncoder::new(alloc, PlainLower::new());
+//! encoder.validate(true).debug_names(true);
+//! encoder.module(main)?.adapter("wasi_snapshot_preview1", adapter)?;
+//! let component: Vec<u8> = encoder.encode()?;
+//! ```
+//!
 //! An encoder is generic in its lower layer, the trait [`Lower`] of `comp_worlds`: that reads a module's
 //! metadata, merges the metadata of several modules, and prepares the validated world.
 //!
