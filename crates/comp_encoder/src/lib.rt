@@ -6,7 +6,7 @@
 //!
 //! let mut encoder = ComponentEncoder::new(alloc, PlainLower::new());
 //! encoder.validate(true).debug_names(true);
-//! encoder.module(main)?.adapter("wasi_snapshot_preview1", adapter)?;
+//! encoder.module(&main)?.adapter("wasi_snapshot_preview1", &adapter)?;
 //! let component: Vec<u8> = encoder.encode()?;
 //! ```
 //!
