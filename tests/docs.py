@@ -5,7 +5,8 @@
                        linking theorem uses, directly or not, and no others but those of refusals; the numbers of lines there are
                        right, and in all no more than MOST_LINES; docs/ERRORS.md has each code of an error; docs/LEFT_OUT.md has
                        the numbers of cases that wait for what is left out, and docs/PROVED.md those of all files of cases; the names
-                       of the cases of a file differ. The last line is 'N passed, M failed', and the exit status is 1 where M is not 0.
+                       of the cases of a file differ; no more clauses are wider than 100 columns than MOST_WIDE, a number that only
+                       falls. The last line is 'N passed, M failed', and the exit status is 1 where M is not 0.
     docs.py --write    fills the numbers of lines in docs/LINKING.md, which count definitions (no imports, comments or blank lines), and
                        the tables of cases of docs/LEFT_OUT.md and docs/PROVED.md.
 """
@@ -32,6 +33,8 @@ LEFT_OUT_HEAD = "| What | Cases |\n|---|---|\n"
 THEOREM = "comp_encoder/specs/Component"
 REFUSALS = {"comp_encoder/specs/Refusals", "comp_encoder/specs/Outputs", "comp_encoder/specs/CanonicalNames", "core_options/specs/Causes", "comp_worlds/specs/Made", "comp_worlds/specs/Absent"}
 MOST_LINES = 3250
+CLAUSE = re.compile(r"\s*(ensures|requires)\b")
+WIDTH, MOST_WIDE = 100, 1701
 USE = re.compile(r"^use Rattle\.(\w+)\.specs\.([\w.]+?)(?:\.\{| as|$)", re.M)
 ROW = re.compile(r"^(\| .* \| )(`.*`)( \| )(\d+)( \|)$", re.M)
 TOTAL = re.compile(r"(lines of definitions, )([\d,]+)( in all)")
@@ -186,10 +189,25 @@ def faults_of_case_names():
     return faults
 
 
+def wide_clauses():
+    """How many lines of clauses are wider than they should be, by their files."""
+    counts = collections.Counter()
+    for path in glob.glob(f"{TOP}/crates/*/src/**/*.rt", recursive=True):
+        counts[os.path.relpath(path, TOP)] = sum(len(it) > WIDTH and bool(CLAUSE.match(it)) for it in text_of(path).splitlines())
+    return counts
+
+
+def faults_of_clauses():
+    counts = wide_clauses()
+    if (total := sum(counts.values())) <= MOST_WIDE:
+        return []
+    return [f"crates: {total} clauses are wider than {WIDTH} columns, and {MOST_WIDE} are the most: give what they say a name in specs/"]
+
+
 def check():
     crates = set(os.listdir(f"{TOP}/crates"))
     documents = [f"{TOP}/README.md", f"{TOP}/CONTRIBUTING.md", *sorted(glob.glob(f"{TOP}/docs/*.md"))]
-    parts = [faults_of_linking(), faults_of_errors(), faults_of_left_out(), faults_of_case_table(), faults_of_case_names(), *(faults_of_document(it, crates) for it in documents)]
+    parts = [faults_of_linking(), faults_of_errors(), faults_of_left_out(), faults_of_case_table(), faults_of_case_names(), faults_of_clauses(), *(faults_of_document(it, crates) for it in documents)]
     for faults in parts:
         for fault in faults:
             print(fault)
