@@ -69,18 +69,34 @@ def line_of(text):
 
 
 class Verdicts:
-    """The lines of a repository, by their crates, and the digests of its crates as they are."""
+    """The lines of a repository, by their crates, and the digests of its crates as they were when this was made."""
 
     def __init__(self, top, crates, kit):
         """The crates are by name: the folder of each, and the names of those below it, all of them."""
-        self.path, self.lines, self.crates = f"{top}/{NAME}", {}, crates
-        self.own = {name: digest_of(folder, OWN, kit, *sorted(below)) for name, (folder, below) in crates.items()}
-        texts = {name: digest_of(folder, BELOW, kit, *sorted(below)) for name, (folder, below) in crates.items()}
-        self.below = {name: sum_of(*(f"{it} {texts[it]}".encode() for it in sorted(below) if it in texts)) for name, (_, below) in crates.items()}
+        self.path, self.lines, self.crates, self.kit = f"{top}/{NAME}", {}, crates, kit
+        self.own = {name: self.own_now(name) for name in crates}
+        texts = {name: self.text_now(name) for name in crates}
+        self.below = {name: self.below_of(name, texts) for name in crates}
         if os.path.exists(self.path):
             with open(self.path, encoding="utf-8") as file:
                 found = [it for it in map(line_of, file) if it]
             self.lines = {it.name: it for it in found}
+
+    def own_now(self, name):
+        folder, below = self.crates[name]
+        return digest_of(folder, OWN, self.kit, *sorted(below))
+
+    def text_now(self, name):
+        folder, below = self.crates[name]
+        return digest_of(folder, BELOW, self.kit, *sorted(below))
+
+    def below_of(self, name, texts):
+        return sum_of(*(f"{it} {texts[it]}".encode() for it in sorted(self.crates[name][1]) if it in texts))
+
+    def is_as_it_was(self, name):
+        """Whether the text of a crate, and of those below it, is now what it was when this was made."""
+        texts = {it: self.text_now(it) for it in self.crates[name][1] if it in self.crates}
+        return self.own_now(name) == self.own[name] and self.below_of(name, texts) == self.below[name]
 
     def is_changed(self, name):
         """Whether a crate has no line, or its own text is another."""

@@ -485,10 +485,8 @@ def verdicts_of(top, crates):
 
 def take(verdicts, seen):
     """Writes down what was seen of a crate, if its text and that below it are still those that were tried."""
-    name = seen.crate.name
-    anew = verdicts_of(os.getcwd(), rtlib.crates_below(os.getcwd()))
-    is_same = anew.own.get(name) == verdicts.own[name] and anew.below.get(name) == verdicts.below[name]
-    verdicts.take(name, is_same and not seen.others, len(edits_of(seen.crate, after_ci=True)), seen.seconds)
+    is_refused = not seen.others and verdicts.is_as_it_was(seen.crate.name)
+    verdicts.take(seen.crate.name, is_refused, len(edits_of(seen.crate, after_ci=True)), seen.seconds)
 
 
 def due(verdicts, crates, commit):
