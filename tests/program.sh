@@ -9,3 +9,8 @@ if [ -z "${PROGRAM:-}" ]; then
     (cd "$top/crates/component_new" && rt run >"$folder/build" 2>&1) || true
 fi
 [ -x "$program" ] || { echo "FAILED: there is no program $program"; cat "$folder/build" 2>/dev/null; exit 1; }
+
+# of_digits: the bytes of the hexadecimal digits on standard input
+of_digits() {
+    python3 -c 'import sys; sys.stdout.buffer.write(bytes.fromhex(sys.stdin.read()))'
+}
