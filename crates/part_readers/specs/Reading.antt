@@ -2,8 +2,8 @@
 -- Core standard, binary format: values (LEB128, names, vectors). Component model, binary format: `<T>?`.
 use Rattle.std.specs.Prelude.{◌≡◌, ℕ, zero, suc, ◌+◌, ◌-◌, ◌*◌, ◌^◌, ◌==◌, ◌&&◌, ◌||◌, not, nat_lt, if◌then◌else◌, List, [], ◌∷◌, length, take, drop, Option, Some, None, Result, Ok, Err}
 use Rattle.std.specs.Str.{is_utf8}
-use Rattle.comp_read.specs.declared.fault.PartFault.{PartFault}
-use Rattle.comp_read.specs.declared.fault.PartFault.TheVariants as faults
+use Rattle.part_readers.specs.declared.fault.PartFault.{PartFault}
+use Rattle.part_readers.specs.declared.fault.PartFault.TheVariants as faults
 
 infixl 10 ◌>>=◌
 abbrev pub ◌>>=◌ : {A B : Type 0} → Option A → (A → Option B) → Option B

@@ -1,9 +1,9 @@
 -- Reading items one after the other, as a loop does.
 use Rattle.std.proofs.Common.{◌≡◌, ℕ, suc, ◌-◌, ◌+◌, ◌≤◌, ◌<◌, List, [], ◌∷◌, ◌++◌, Some, None, refl, sym, ap, ◌∙◌, append_assoc, arith}
 use Rattle.std.proofs.lemmas.List.{append-nil}
-use Rattle.comp_read.specs.declared.fault.PartFault.{PartFault}
-use Rattle.comp_read.specs.declared.fault.PartFault.TheVariants as faults
-use Rattle.comp_read.specs.Reading.{◌>>=◌, Read, Reader, Fails, items_at}
+use Rattle.part_readers.specs.declared.fault.PartFault.{PartFault}
+use Rattle.part_readers.specs.declared.fault.PartFault.TheVariants as faults
+use Rattle.part_readers.specs.Reading.{◌>>=◌, Read, Reader, Fails, items_at}
 
 -- the items that were read before, and the reading of the rest
 abbrev pub with_front : {A : Type 0} → List A → Read (List A) → Read (List A)

@@ -16,11 +16,11 @@ use Rattle.comp_bytes.specs.declared.types.TypeDef.TheVariants as types
 use Rattle.comp_bytes.specs.declared.types.Member.{Member}
 use Rattle.comp_bytes.specs.declared.types.Member.TheVariants as members
 use Rattle.comp_bytes.specs.declared.types.InstanceType.{InstanceType}
-use Rattle.comp_read.specs.Reading.{◌>>=◌, Read, Reader, made_at, then_at, after_byte, tagged, expect, number_at, option_at}
-use Rattle.comp_read.specs.PartReaders.{primitive_after, value_type_at, result_type_at, small_type_after, defined_after, func_type_at, type_def_after, member_at, instance_type_at}
-use Rattle.comp_read.specs.Writable.{Optionally, IsValueType, IsField, IsDefinedType, IsFuncType, IsTypeDef, IsMember, IsInstanceType}
-use Rattle.comp_read.proofs.Exact.{IsExact, Took, took_then, some_is, made_takes, made_again, bind_fine, made_fine, fine_case, made_exact, then_exact, expect_step, case, tag_case, took_byte, after_takes, first_of_tagged, other_byte, number_exact, name_exact, list_exact, option_exact}
-use Rattle.comp_read.proofs.ValueLaws.{primitive_exact, value_type_exact, field_exact, case_exact, result_exact, extern_name_exact, description_exact, alias_exact}
+use Rattle.part_readers.specs.Reading.{◌>>=◌, Read, Reader, made_at, then_at, after_byte, tagged, expect, number_at, option_at}
+use Rattle.part_readers.specs.PartReaders.{primitive_after, value_type_at, result_type_at, small_type_after, defined_after, func_type_at, type_def_after, member_at, instance_type_at}
+use Rattle.part_readers.specs.Writable.{Optionally, IsValueType, IsField, IsDefinedType, IsFuncType, IsTypeDef, IsMember, IsInstanceType}
+use Rattle.part_readers.proofs.Exact.{IsExact, Took, took_then, some_is, made_takes, made_again, bind_fine, made_fine, fine_case, made_exact, then_exact, expect_step, case, tag_case, took_byte, after_takes, first_of_tagged, other_byte, number_exact, name_exact, list_exact, option_exact}
+use Rattle.part_readers.proofs.ValueLaws.{primitive_exact, value_type_exact, field_exact, case_exact, result_exact, extern_name_exact, description_exact, alias_exact}
 
 -- ---- types of values
 

@@ -8,8 +8,8 @@ use Rattle.std.proofs.lemmas.List.{take_at, drop_at, take-append-drop, length-ap
 use Rattle.std.proofs.lemmas.Str.{IsUtf8-from_is_utf8, is_utf8-from_IsUtf8}
 use Rattle.byte_encoding.specs.Encoding.{Encoding, Fits, ◌⊕◌, raw, octet, groups_of_seven, leb128, leb, signed_leb, number, quantity, each, listed, named, optional}
 use Rattle.byte_encoding.proofs.Pieces.{fits_append}
-use Rattle.comp_read.specs.Reading.{◌>>=◌, Read, Reader, made_at, then_at, expect, after_byte, before_byte, tagged, digits_at, number_at, type_index_at, sized_at, name_at, items_at, list_at, option_at}
-use Rattle.comp_read.specs.Writable.{IsIndex, Optionally}
+use Rattle.part_readers.specs.Reading.{◌>>=◌, Read, Reader, made_at, then_at, expect, after_byte, before_byte, tagged, digits_at, number_at, type_index_at, sized_at, name_at, items_at, list_at, option_at}
+use Rattle.part_readers.specs.Writable.{IsIndex, Optionally}
 
 -- ---- steps that did not fail
 

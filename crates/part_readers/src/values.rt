@@ -3,11 +3,11 @@
 //! Component model, binary format: `core:sort`, `sort`, `valtype`, `externdesc`, `importname'`, `alias`.
 
 ghost use Rattle.std.specs.Prelude.{◌≡◌, List, ℕ, Option};
-ghost use Rattle.comp_read.specs.Reading.{Gives, Read, tagged};
-ghost use Rattle.comp_read.specs.PartReaders.{kind_at, sort_at, primitive_of, value_type_at, field_at, case_at, result_at, extern_name_at, type_bound_at, description_at, core_alias_at, export_alias_at, outer_alias_at, type_alias_at, alias_at};
+ghost use Rattle.part_readers.specs.Reading.{Gives, Read, tagged};
+ghost use Rattle.part_readers.specs.PartReaders.{kind_at, sort_at, primitive_of, value_type_at, field_at, case_at, result_at, extern_name_at, type_bound_at, description_at, core_alias_at, export_alias_at, outer_alias_at, type_alias_at, alias_at};
 
 use crate::fault::PartFault;
-use crate::number::{Decode, byte, expect_byte, name, number, option, type_index};
+use crate::numbers::{Decode, byte, expect_byte, name, number, option, type_index};
 use comp_bytes::{
     Alias, Case, ComponentExportKind, ComponentValType, Description, ExternName, Field, Sort,
 };
@@ -15,7 +15,7 @@ use standard_kinds::{ExportKind, Primitive};
 use std::alloc::Global;
 
 #[tactic(auto, unfolding(crate::specs::PartReaders::kind_at))]
-pub(crate) fn kind(bytes: &[u8]) -> Result<(ExportKind, &[u8]), PartFault>
+pub fn kind(bytes: &[u8]) -> Result<(ExportKind, &[u8]), PartFault>
     ensures { Gives (λ x. (x.0, x.1.now)) result (kind_at bytes.now) }
 {
     let (tag, rest) = byte(bytes)?;
@@ -30,7 +30,7 @@ pub(crate) fn kind(bytes: &[u8]) -> Result<(ExportKind, &[u8]), PartFault>
 }
 
 #[tactic(auto, unfolding(crate::specs::PartReaders::sort_at))]
-pub(crate) fn sort(bytes: &[u8]) -> Result<(Sort, &[u8]), PartFault>
+pub fn sort(bytes: &[u8]) -> Result<(Sort, &[u8]), PartFault>
     ensures { Gives (λ x. (x.0, x.1.now)) result (sort_at bytes.now) }
 {
     let (tag, rest) = byte(bytes)?;
@@ -47,7 +47,7 @@ pub(crate) fn sort(bytes: &[u8]) -> Result<(Sort, &[u8]), PartFault>
     }
 }
 
-pub(crate) fn primitive_of(tag: u8) -> Option<Primitive>
+pub fn primitive_of(tag: u8) -> Option<Primitive>
     ensures { result ≡ primitive_of tag }
 {
     match tag {
@@ -108,7 +108,7 @@ impl Decode for Case {
 
 /// The result of a function: `00` and a value type, or `01 00` for none.
 #[tactic(auto, unfolding(crate::specs::PartReaders::result_at))]
-pub(crate) fn result_of(
+pub fn result_of(
     alloc: Global,
     bytes: &[u8],
 ) -> Result<(Option<ComponentValType>, &[u8]), PartFault>
@@ -126,7 +126,7 @@ pub(crate) fn result_of(
 }
 
 #[tactic(auto, unfolding(crate::specs::PartReaders::extern_name_at))]
-pub(crate) fn extern_name(alloc: Global, bytes: &[u8]) -> Result<(ExternName, &[u8]), PartFault>
+pub fn extern_name(alloc: Global, bytes: &[u8]) -> Result<(ExternName, &[u8]), PartFault>
     ensures { Gives (λ x. (x.0, x.1.now)) result (extern_name_at bytes.now) }
 {
     let (tag, rest) = byte(bytes)?;
@@ -144,7 +144,7 @@ pub(crate) fn extern_name(alloc: Global, bytes: &[u8]) -> Result<(ExternName, &[
         }
         0x01 => {
             let (name, rest) = name(alloc, rest)?;
-            let (suffix, rest) = crate::number::name(alloc, rest)?;
+            let (suffix, rest) = crate::numbers::name(alloc, rest)?;
             let version_suffix = Some(suffix);
             Ok((
                 ExternName {
@@ -255,7 +255,7 @@ fn type_alias(alloc: Global, bytes: &[u8]) -> Result<(Alias, &[u8]), PartFault>
 }
 
 #[tactic(auto, unfolding(crate::specs::PartReaders::alias_at))]
-pub(crate) fn alias(alloc: Global, bytes: &[u8]) -> Result<(Alias, &[u8]), PartFault>
+pub fn alias(alloc: Global, bytes: &[u8]) -> Result<(Alias, &[u8]), PartFault>
     ensures { Gives (λ x. (x.0, x.1.now)) result (alias_at bytes.now) }
 {
     let (tag, rest) = byte(bytes)?;

@@ -3,11 +3,11 @@
 //! Component model, binary format: `deftype`, `defvaltype`, `functype`, `resourcetype`, `instancetype`.
 
 ghost use Rattle.std.specs.Prelude.{◌≡◌, List, ℕ, Option, Bool};
-ghost use Rattle.comp_read.specs.Reading.{Gives, Read};
-ghost use Rattle.comp_read.specs.PartReaders.{result_type_at, small_type_after, defined_after, func_type_at, type_def_after, member_at, instance_type_at};
+ghost use Rattle.part_readers.specs.Reading.{Gives, Read};
+ghost use Rattle.part_readers.specs.PartReaders.{result_type_at, small_type_after, defined_after, func_type_at, type_def_after, member_at, instance_type_at};
 
 use crate::fault::PartFault;
-use crate::number::{Decode, byte, expect_byte, list, number, option};
+use crate::numbers::{Decode, byte, expect_byte, list, number, option};
 use crate::values::{alias, extern_name, primitive_of, result_of};
 use comp_bytes::{
     ComponentValType, DefinedType, Description, FuncTypeDef, InstanceType, Member, TypeDef,
@@ -110,7 +110,7 @@ fn func_type(alloc: Global, async_: bool, bytes: &[u8]) -> Result<(FuncTypeDef, 
 
 /// A type other than an instance type, after its first byte.
 #[tactic(auto, unfolding(crate::specs::PartReaders::type_def_after))]
-pub(crate) fn type_def(alloc: Global, tag: u8, bytes: &[u8]) -> Result<(TypeDef, &[u8]), PartFault>
+pub fn type_def(alloc: Global, tag: u8, bytes: &[u8]) -> Result<(TypeDef, &[u8]), PartFault>
     ensures { Gives (λ x. (x.0, x.1.now)) result (type_def_after tag bytes.now) }
 {
     match tag {
@@ -162,7 +162,7 @@ impl Decode for Member {
 
 /// An instance type, after its first byte.
 #[tactic(auto, unfolding(crate::specs::PartReaders::instance_type_at))]
-pub(crate) fn instance_type(alloc: Global, bytes: &[u8]) -> Result<(InstanceType, &[u8]), PartFault>
+pub fn instance_type(alloc: Global, bytes: &[u8]) -> Result<(InstanceType, &[u8]), PartFault>
     ensures { Gives (λ x. (x.0, x.1.now)) result (instance_type_at bytes.now) }
 {
     let (members, rest) = list(alloc, bytes)?;

@@ -1,8 +1,8 @@
 use Rattle.std.proofs.Common.{rules}
 use Rattle.std.proofs.lemmas.Str.{is_utf8-from_IsUtf8}
-use Rattle.comp_read.specs.Reading.{name_at}
-use Rattle.comp_read.proofs.Utf8.{is_utf8_not}
-use Rattle.comp_read.proofs.number.name.Goals as goal
+use Rattle.part_readers.specs.Reading.{name_at}
+use Rattle.part_readers.proofs.Utf8.{is_utf8_not}
+use Rattle.part_readers.proofs.numbers.name.Goals as goal
 
 pub returns-in_default : goal.returns-in_default
 unfolding name_at

@@ -22,10 +22,10 @@ use Rattle.comp_bytes.specs.declared.types.Description.{Description}
 use Rattle.comp_bytes.specs.declared.types.Description.TheVariants as descriptions
 use Rattle.comp_bytes.specs.declared.types.Alias.{Alias}
 use Rattle.comp_bytes.specs.declared.types.Alias.TheVariants as aliases
-use Rattle.comp_read.specs.Reading.{Read, then_at, after_byte, before_byte, tagged, expect, number_at, type_index_at, name_at}
-use Rattle.comp_read.specs.PartReaders.{kind_at, sort_at, primitive_of, primitive_after, primitive_or, value_type_at, field_at, case_at, result_at, extern_name_at, type_bound_at, description_at, core_alias_at, export_alias_at, outer_alias_at, type_alias_at, alias_at}
-use Rattle.comp_read.specs.Writable.{IsIndex, Optionally, Always, IsValueType, IsField, IsCase, IsExternName, IsDescription, IsAlias}
-use Rattle.comp_read.proofs.Exact.{IsExact, Took, took_then, bind_some, some_is, chosen, made_takes, made_again, made_fine, fine_case, fine_lone, made_exact, then_exact, expect_step, expect_again, before_exact, case, lone, other, tag_case, took_byte, after_takes, just_took, number_exact, type_index_exact, name_exact, option_exact}
+use Rattle.part_readers.specs.Reading.{Read, then_at, after_byte, before_byte, tagged, expect, number_at, type_index_at, name_at}
+use Rattle.part_readers.specs.PartReaders.{kind_at, sort_at, primitive_of, primitive_after, primitive_or, value_type_at, field_at, case_at, result_at, extern_name_at, type_bound_at, description_at, core_alias_at, export_alias_at, outer_alias_at, type_alias_at, alias_at}
+use Rattle.part_readers.specs.Writable.{IsIndex, Optionally, Always, IsValueType, IsField, IsCase, IsExternName, IsDescription, IsAlias}
+use Rattle.part_readers.proofs.Exact.{IsExact, Took, took_then, bind_some, some_is, chosen, made_takes, made_again, made_fine, fine_case, fine_lone, made_exact, then_exact, expect_step, expect_again, before_exact, case, lone, other, tag_case, took_byte, after_takes, just_took, number_exact, type_index_exact, name_exact, option_exact}
 
 -- ---- sorts
 

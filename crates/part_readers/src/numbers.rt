@@ -3,13 +3,13 @@
 //! Core standard, binary format: values. Component model, binary format: `<T>?`.
 
 ghost use Rattle.std.specs.Prelude.{◌≡◌, List, ℕ, length};
-ghost use Rattle.comp_read.specs.Reading.{Gives, Read, byte_at, digits_at, number_at, type_index_at, expect, sized_at, name_at, list_at, items_at, option_at};
+ghost use Rattle.part_readers.specs.Reading.{Gives, Read, byte_at, digits_at, number_at, type_index_at, expect, sized_at, name_at, list_at, items_at, option_at};
 
 use crate::fault::PartFault;
 use comp_lists::{Seq, Text};
 use std::alloc::Global;
 
-pub(crate) fn byte(bytes: &[u8]) -> Result<(u8, &[u8]), PartFault>
+pub fn byte(bytes: &[u8]) -> Result<(u8, &[u8]), PartFault>
     ensures { Gives (λ x. (x.0, x.1.now)) result (byte_at bytes.now) }
 {
     match bytes {
@@ -19,7 +19,7 @@ pub(crate) fn byte(bytes: &[u8]) -> Result<(u8, &[u8]), PartFault>
 }
 
 #[tactic(auto, unfolding(crate::specs::Reading::expect))]
-pub(crate) fn expect_byte(expected: u8, bytes: &[u8]) -> Result<&[u8], PartFault>
+pub fn expect_byte(expected: u8, bytes: &[u8]) -> Result<&[u8], PartFault>
     ensures { Gives (λ x. x.now) result (expect expected bytes.now) }
 {
     let (first, rest) = byte(bytes)?;
@@ -56,7 +56,7 @@ fn digits(end: u8, groups: u8, bytes: &[u8]) -> Result<(u32, &[u8]), PartFault>
 }
 
 #[tactic(auto, unfolding(crate::specs::Reading::number_at))]
-pub(crate) fn number(bytes: &[u8]) -> Result<(u32, &[u8]), PartFault>
+pub fn number(bytes: &[u8]) -> Result<(u32, &[u8]), PartFault>
     ensures { Gives (λ x. (x.0, x.1.now)) result (number_at bytes.now) }
 {
     digits(128, 5, bytes)
@@ -64,7 +64,7 @@ pub(crate) fn number(bytes: &[u8]) -> Result<(u32, &[u8]), PartFault>
 
 /// A type index where a primitive type, which is a negative number, is possible too.
 #[tactic(auto, unfolding(crate::specs::Reading::type_index_at))]
-pub(crate) fn type_index(bytes: &[u8]) -> Result<(u32, &[u8]), PartFault>
+pub fn type_index(bytes: &[u8]) -> Result<(u32, &[u8]), PartFault>
     ensures { Gives (λ x. (x.0, x.1.now)) result (type_index_at bytes.now) }
 {
     digits(64, 5, bytes)
@@ -72,7 +72,7 @@ pub(crate) fn type_index(bytes: &[u8]) -> Result<(u32, &[u8]), PartFault>
 
 /// Bytes with their size in front.
 #[tactic(auto, unfolding(crate::specs::Reading::sized_at))]
-pub(crate) fn sized(bytes: &[u8]) -> Result<(&[u8], &[u8]), PartFault>
+pub fn sized(bytes: &[u8]) -> Result<(&[u8], &[u8]), PartFault>
     ensures { Gives (λ x. (x.0.now, x.1.now)) result (sized_at bytes.now) }
 {
     let (size, rest) = number(bytes)?;
@@ -84,7 +84,7 @@ pub(crate) fn sized(bytes: &[u8]) -> Result<(&[u8], &[u8]), PartFault>
 }
 
 #[tactic(auto, unfolding(crate::specs::Reading::name_at))]
-pub(crate) fn name(alloc: Global, bytes: &[u8]) -> Result<(Text, &[u8]), PartFault>
+pub fn name(alloc: Global, bytes: &[u8]) -> Result<(Text, &[u8]), PartFault>
     ensures { Gives (λ x. (x.0, x.1.now)) result (name_at bytes.now) }
 {
     let (name, rest) = sized(bytes)?;
@@ -95,7 +95,7 @@ pub(crate) fn name(alloc: Global, bytes: &[u8]) -> Result<(Text, &[u8]), PartFau
 }
 
 /// A value that can be read from the front of bytes.
-pub(crate) trait Decode: Sized {
+pub trait Decode: Sized {
     ghost at: { List ℕ → Read Self };
 
     fn decode(alloc: Global, bytes: &[u8]) -> Result<(Self, &[u8]), PartFault>
@@ -122,7 +122,7 @@ fn items<T: Decode + Drop>(
 }
 
 #[tactic(auto, unfolding(crate::specs::Reading::list_at))]
-pub(crate) fn list<T: Decode + Drop>(
+pub fn list<T: Decode + Drop>(
     alloc: Global,
     bytes: &[u8],
 ) -> Result<(Seq<T>, &[u8]), PartFault>
@@ -133,7 +133,7 @@ pub(crate) fn list<T: Decode + Drop>(
 }
 
 #[tactic(auto, unfolding(crate::specs::Reading::option_at))]
-pub(crate) fn option<T: Decode>(
+pub fn option<T: Decode>(
     alloc: Global,
     bytes: &[u8],
 ) -> Result<(Option<T>, &[u8]), PartFault>
