@@ -1,14 +1,13 @@
 -- Reading canonical functions from the front of bytes. Component model, binary format: `canonopt`, `canon`.
-use Rattle.std.specs.Prelude.{ℕ, ◌==◌, Bool, true, false, if◌then◌else◌, List, Option, Some, None}
+use Rattle.std.specs.Prelude.{ℕ, ◌==◌, Bool, true, false, if◌then◌else◌, List, Some, None}
 use Rattle.comp_bytes.specs.declared.canon.CanonicalOption.{CanonicalOption}
-use Rattle.comp_bytes.specs.declared.canon.CanonicalOption.TheVariants as canonical
 use Rattle.comp_bytes.specs.declared.canon.ContextType.{ContextType}
 use Rattle.comp_bytes.specs.declared.canon.ContextType.TheVariants as contexts
 use Rattle.comp_bytes.specs.declared.canon.Intrinsic.{Intrinsic}
 use Rattle.comp_bytes.specs.declared.canon.Intrinsic.TheVariants as intrinsics
 use Rattle.part_readers.specs.PartReaders.{result_at}
 use Rattle.part_readers.specs.ArgumentReaders.{canonical_at}
-use Rattle.part_readers.specs.Reading.{◌>>=◌, Read, Reader, made_at, then_at, after_byte, before_byte, tagged, byte_at, expect, number_at, type_index_at, name_at, list_at, option_at}
+use Rattle.part_readers.specs.Reading.{Reader, made_at, then_at, after_byte, tagged, number_at, list_at}
 
 unfoldable pub options_at : Reader (List CanonicalOption)
 options_at bytes = list_at canonical_at bytes

@@ -2,13 +2,10 @@
 -- `import`, `export`.
 use Rattle.std.specs.Prelude.{ℕ, ◌==◌, if◌then◌else◌, List, [], ◌∷◌, length, Option, Some, None}
 use Rattle.core_types.specs.Core.{is_core_module}
-use Rattle.comp_bytes.specs.declared.def.CoreArgument.{CoreArgument}
-use Rattle.comp_bytes.specs.declared.def.CoreInlineExport.{CoreInlineExport}
-use Rattle.comp_bytes.specs.declared.def.Argument.{Argument}
 use Rattle.comp_bytes.specs.declared.def.Item.{Item}
 use Rattle.comp_bytes.specs.declared.def.Item.TheVariants as items
-use Rattle.part_readers.specs.Reading.{◌>>=◌, Reader, made_at, then_at, after_byte, before_byte, tagged, number_at, name_at, items_at, list_at, option_at}
-use Rattle.part_readers.specs.PartReaders.{kind_at, sort_at, alias_at, type_def_after, instance_type_at, extern_name_at, description_at}
+use Rattle.part_readers.specs.Reading.{◌>>=◌, Reader, made_at, then_at, after_byte, tagged, number_at, name_at, items_at, list_at, option_at}
+use Rattle.part_readers.specs.PartReaders.{sort_at, alias_at, type_def_after, instance_type_at, extern_name_at, description_at}
 use Rattle.part_readers.specs.ArgumentReaders.{core_argument_at, core_inline_export_at, argument_at}
 use Rattle.comp_read.specs.CanonReaders.{index_and_options_at, intrinsic_after}
 

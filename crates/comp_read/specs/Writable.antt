@@ -1,18 +1,10 @@
 -- What every value of the program has, and a list of mere numbers may lack: its texts are UTF-8, its indices are
 -- below 2 ^ 32, and its core modules have their preamble. Core standard, binary format: values (integers, names), modules.
-use Rattle.std.specs.Prelude.{ℕ, ◌<◌, ◌^◌, List, Option, Some, None}
+use Rattle.std.specs.Prelude.{List}
 use Rattle.std.specs.List.{AllByRecursion}
 use Rattle.std.specs.Str.{IsUtf8}
 use Rattle.core_types.specs.Core.{IsCoreModule}
-use Rattle.comp_bytes.specs.declared.types.TypeDef.{TypeDef}
-use Rattle.comp_bytes.specs.declared.types.TypeDef.TheVariants as types
-use Rattle.comp_bytes.specs.declared.types.ExternName.{ExternName}
-use Rattle.comp_bytes.specs.declared.types.Description.{Description}
-use Rattle.comp_bytes.specs.declared.types.Description.TheVariants as descriptions
-use Rattle.comp_bytes.specs.declared.types.Alias.{Alias}
-use Rattle.comp_bytes.specs.declared.types.Alias.TheVariants as aliases
-use Rattle.comp_bytes.specs.declared.types.InstanceType.{InstanceType}
-use Rattle.part_readers.specs.Writable.{IsIndex, Optionally, Always, IsValueType, IsTypeDef, IsExternName, IsDescription, IsAlias, IsInstanceType}
+use Rattle.part_readers.specs.Writable.{IsIndex, Optionally, IsValueType, IsTypeDef, IsExternName, IsDescription, IsAlias, IsInstanceType}
 use Rattle.comp_bytes.specs.declared.canon.CanonicalOption.{CanonicalOption}
 use Rattle.comp_bytes.specs.declared.canon.CanonicalOption.TheVariants as canonical
 use Rattle.comp_bytes.specs.declared.canon.Intrinsic.{Intrinsic}

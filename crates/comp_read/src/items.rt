@@ -11,8 +11,8 @@ use crate::canon::{index_and_options, intrinsic};
 use comp_bytes::{CoreModule, Description, Item};
 use comp_lists::{Bytes, Seq, SharedBytes};
 use part_readers::{
-    Decode, PartFault, alias, byte, expect_byte, extern_name, instance_type, kind, list, name, number, option,
-    sort, type_def,
+    Decode, PartFault, alias, byte, expect_byte, extern_name, instance_type, kind, list, name,
+    number, option, sort, type_def,
 };
 use std::alloc::Global;
 
