@@ -47,21 +47,9 @@ pub struct WorldType {
 
 /// A section of a package: a custom section, the type of the package, which has the world in it, or the export of that type
 /// under the name of the world.
+#[derive(Drop)]
 pub enum Section {
     Custom { name: Text, contents: Bytes },
     World(WorldType),
     Export(ExternName),
-}
-
-impl Drop for Section {
-    fn drop(self) {
-        match self {
-            Section::Custom {
-                name: _,
-                contents: _,
-            } => {}
-            Section::World(_) => {}
-            Section::Export(_) => {}
-        }
-    }
 }
