@@ -1,5 +1,5 @@
 -- What a component encodes is read again.
-use Rattle.std.proofs.Common.{◌≡◌, ℕ, zero, suc, ◌+◌, ◌-◌, ◌<◌, ◌≤◌, ◌^◌, Bool, true, false, eqb, List, [], ◌∷◌, ◌++◌, length, take, map, Option, Some, refl, sym, ap, ap₂, subst, ◌∙◌, arith, ◌&&◌}
+use Rattle.std.proofs.Common.{◌≡◌, ℕ, zero, suc, ◌+◌, ◌-◌, ◌<◌, ◌≤◌, ◌^◌, Bool, true, false, eqb, List, [], ◌∷◌, ◌++◌, length, take, map, Some, refl, sym, ap, ap₂, subst, ◌∙◌, arith, ◌&&◌}
 use Rattle.std.specs.Prelude.{Ok, if◌then◌else◌}
 use Rattle.std.specs.List.{flat_map, AllByRecursion}
 use Rattle.std.proofs.lemmas.Bool.{eq-eqb, eqb-true, ne_eqb}
@@ -15,11 +15,11 @@ use Rattle.comp_bytes.specs.declared.def.Def.{Def}
 use Rattle.comp_bytes.specs.declared.def.Def.TheVariants as defs
 use Rattle.comp_bytes.proofs.Runs.{section_is}
 use Rattle.comp_bytes.proofs.Groups.{IsGroup, group_section, grouped}
-use Rattle.comp_read.specs.Reading.{number_at, items_at}
+use Rattle.part_readers.specs.Reading.{number_at, items_at}
 use Rattle.comp_read.specs.ItemReaders.{item_at, counted_at, custom_at, module_at, contents_at}
 use Rattle.comp_read.specs.SectionReaders.{ReadResult, ◌>>>◌, ok_or_at, Contents, repeats, header_at, section_at, sections_at, component_at, item_contents_at, definition_contents_at}
 use Rattle.comp_read.specs.Writable.{IsItem, IsDefinition, IsWritable}
-use Rattle.comp_read.proofs.Exact.{fits_left, fits_right, number_again, sized_exact, name_exact, items_again}
+use Rattle.part_readers.proofs.Exact.{fits_left, fits_right, number_again, sized_exact, name_exact, items_again}
 use Rattle.comp_read.proofs.ItemLaws.{item_exact, Inside}
 use Rattle.comp_read.proofs.SectionLoop.{one_step, at_end}
 use Rattle.comp_read.proofs.SectionLaws.{Apart, wrap, wrapped_contents, wrapped_length}

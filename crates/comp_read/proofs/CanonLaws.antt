@@ -10,11 +10,14 @@ use Rattle.comp_bytes.specs.declared.canon.ContextType.{ContextType}
 use Rattle.comp_bytes.specs.declared.canon.ContextType.TheVariants as contexts
 use Rattle.comp_bytes.specs.declared.canon.Intrinsic.{Intrinsic}
 use Rattle.comp_bytes.specs.declared.canon.Intrinsic.TheVariants as intrinsics
-use Rattle.comp_read.specs.Reading.{then_at, tagged}
-use Rattle.comp_read.specs.PartReaders.{result_at, canonical_at, options_at, flag_at, context_at, index_and_options_at, index_and_flag_at, slot_at, memory_at, waiting_after, future_after, stream_after, task_after, intrinsic_after}
-use Rattle.comp_read.specs.Writable.{IsIndex, Optionally, Always, IsValueType, IsCanonicalOption, AreOptions, IsIntrinsic}
-use Rattle.comp_read.proofs.Exact.{IsExact, Took, fewer, made_again, fine_case, fine_lone, then_exact, after_byte_exact, case, lone, number_exact, list_exact}
-use Rattle.comp_read.proofs.ValueLaws.{result_exact}
+use Rattle.part_readers.specs.Reading.{then_at, tagged}
+use Rattle.part_readers.specs.PartReaders.{result_at}
+use Rattle.part_readers.specs.ArgumentReaders.{canonical_at}
+use Rattle.comp_read.specs.CanonReaders.{options_at, flag_at, context_at, index_and_options_at, index_and_flag_at, slot_at, memory_at, waiting_after, future_after, stream_after, task_after, intrinsic_after}
+use Rattle.part_readers.specs.Writable.{IsIndex, Optionally, Always, IsValueType}
+use Rattle.comp_read.specs.Writable.{IsCanonicalOption, AreOptions, IsIntrinsic}
+use Rattle.part_readers.proofs.Exact.{IsExact, Took, fewer, made_again, fine_case, fine_lone, then_exact, after_byte_exact, case, lone, number_exact, list_exact}
+use Rattle.part_readers.proofs.ValueLaws.{result_exact}
 
 -- ---- options
 

@@ -18,13 +18,16 @@ use Rattle.comp_bytes.specs.declared.def.CoreInlineExport.{CoreInlineExport}
 use Rattle.comp_bytes.specs.declared.def.Argument.{Argument}
 use Rattle.comp_bytes.specs.declared.def.Item.{Item}
 use Rattle.comp_bytes.specs.declared.def.Item.TheVariants as items
-use Rattle.comp_read.specs.Reading.{Read, Reader, made_at, then_at, expect, number_at, name_at, items_at, list_at, option_at}
-use Rattle.comp_read.specs.PartReaders.{sort_at, primitive_after, small_type_after, defined_after, type_def_after, index_and_options_at, waiting_after, future_after, stream_after, task_after, intrinsic_after, extern_name_at, description_at}
-use Rattle.comp_read.specs.ItemReaders.{core_argument_at, core_inline_export_at, argument_at, core_instance_at, instance_at, type_item_at, lift_at, lower_at, canon_at, import_at, export_at, item_at, counted_at, custom_at, module_at, contents_at}
-use Rattle.comp_read.specs.Writable.{IsIndex, Optionally, AreOptions, IsExternName, IsDescription, IsCoreArgument, IsCoreInlineExport, IsArgument, IsItem}
-use Rattle.comp_read.proofs.Exact.{IsExact, Took, took_then, step, step_is, fewer, bind_some, some_is, none_some, chosen, guarded, made_again, made_exact, then_exact, expect_step, before_exact, tag_case, took_byte, first_of_tagged, other_byte, quantity_exact, number_exact, name_exact, items_takes, each_read, list_exact, option_exact}
-use Rattle.comp_read.proofs.ValueLaws.{kind_exact, sort_exact, extern_name_exact, description_exact, alias_exact}
-use Rattle.comp_read.proofs.TypeLaws.{type_exact, instance_type_exact}
+use Rattle.part_readers.specs.Reading.{Read, Reader, made_at, then_at, expect, number_at, name_at, items_at, list_at, option_at}
+use Rattle.part_readers.specs.PartReaders.{sort_at, primitive_after, small_type_after, defined_after, type_def_after, extern_name_at, description_at}
+use Rattle.comp_read.specs.CanonReaders.{index_and_options_at, waiting_after, future_after, stream_after, task_after, intrinsic_after}
+use Rattle.part_readers.specs.ArgumentReaders.{core_argument_at, core_inline_export_at, argument_at}
+use Rattle.comp_read.specs.ItemReaders.{core_instance_at, instance_at, type_item_at, lift_at, lower_at, canon_at, import_at, export_at, item_at, counted_at, custom_at, module_at, contents_at}
+use Rattle.part_readers.specs.Writable.{IsIndex, Optionally, IsExternName, IsDescription}
+use Rattle.comp_read.specs.Writable.{AreOptions, IsCoreArgument, IsCoreInlineExport, IsArgument, IsItem}
+use Rattle.part_readers.proofs.Exact.{IsExact, Took, took_then, step, step_is, fewer, bind_some, some_is, none_some, chosen, guarded, made_again, made_exact, then_exact, expect_step, before_exact, tag_case, took_byte, first_of_tagged, other_byte, quantity_exact, number_exact, name_exact, items_takes, each_read, list_exact, option_exact}
+use Rattle.part_readers.proofs.ValueLaws.{kind_exact, sort_exact, extern_name_exact, description_exact, alias_exact}
+use Rattle.part_readers.proofs.TypeLaws.{type_exact, instance_type_exact}
 use Rattle.comp_read.proofs.CanonLaws.{indexed_options, intrinsic_exact}
 
 -- ---- parts

@@ -1,8 +1,3 @@
-pub mod Loop
-pub mod Utf8
-pub mod Exact
-pub mod ValueLaws
-pub mod TypeLaws
 pub mod CanonLaws
 pub mod SectionLoop
 pub mod ItemLaws

@@ -16,7 +16,7 @@ use Rattle.comp_bytes.proofs.Runs.{section_is}
 use Rattle.comp_read.specs.ItemReaders.{contents_at}
 use Rattle.comp_read.specs.SectionReaders.{ReadResult, ◌>>>◌, ok_or_at, Contents, repeats, header_at, section_at, sections_at, component_at, item_contents_at, definition_contents_at}
 use Rattle.comp_read.specs.Writable.{IsItem, IsDefinition}
-use Rattle.comp_read.proofs.Exact.{Took, took_then, chosen}
+use Rattle.part_readers.proofs.Exact.{Took, took_then, chosen}
 use Rattle.comp_read.proofs.SectionLoop.{ok_is, err_ok, then_ok, ok_or_is_ok, Header, header_takes}
 use Rattle.comp_read.proofs.ItemLaws.{Inside, contents_takes, contents_fine}
 

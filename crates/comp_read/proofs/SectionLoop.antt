@@ -7,7 +7,7 @@ use Rattle.comp_read.specs.declared.fault.ReadFault.{ReadFault}
 use Rattle.comp_read.specs.declared.fault.ReadFault.TheVariants as reads
 use Rattle.byte_encoding.specs.Encoding.{◌⊕◌, octet, named, leb}
 use Rattle.comp_read.specs.SectionReaders.{ReadResult, ◌>>>◌, ok_or_at, FailsAt, Contents, repeats, header_at, section_at, sections_at}
-use Rattle.comp_read.proofs.Exact.{Took, step, some_is, guarded_not, sized_exact}
+use Rattle.part_readers.proofs.Exact.{Took, step, some_is, guarded_not, sized_exact}
 
 pub ok_is : {A : Type 0} (x y : A) → ◌≡◌ {A = ReadResult A} (Ok x) (Ok y) → x ≡ y
 ok_is x y e = cc

@@ -16,7 +16,7 @@ use Rattle.comp_read.specs.ItemReaders.{contents_at}
 use Rattle.comp_read.specs.SectionReaders.{ReadResult, ◌>>>◌, ok_or_at, Contents, header_at, section_at, sections_at, component_at, item_contents_at, definition_contents_at}
 use Rattle.comp_read.specs.Stops.{Longest, Nested, Innermost, IsFaultOffset}
 use Rattle.comp_read.specs.Writable.{IsItem, IsDefinition}
-use Rattle.comp_read.proofs.Exact.{chosen, some_is, none_some, fits_left, fits_right}
+use Rattle.part_readers.proofs.Exact.{chosen, some_is, none_some, fits_left, fits_right}
 use Rattle.comp_read.proofs.SectionLoop.{ok_is, err_ok, header_takes, section_shorter}
 use Rattle.comp_read.proofs.SectionLaws.{Apart, ReadsInside, EncodedAs, section_takes, preamble_parts, and_false, items_inside, definitions_inside}
 use Rattle.comp_read.proofs.Again.{Links, ReadsAgain, sections_link, first_apart, all_left, all_right, header_again, section_again, groups_text, joined, group_contents, group_text, inside_of, items_again_in, definitions_again}

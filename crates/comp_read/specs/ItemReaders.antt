@@ -2,22 +2,12 @@
 -- `import`, `export`.
 use Rattle.std.specs.Prelude.{ℕ, ◌==◌, if◌then◌else◌, List, [], ◌∷◌, length, Option, Some, None}
 use Rattle.core_types.specs.Core.{is_core_module}
-use Rattle.comp_bytes.specs.declared.def.CoreArgument.{CoreArgument}
-use Rattle.comp_bytes.specs.declared.def.CoreInlineExport.{CoreInlineExport}
-use Rattle.comp_bytes.specs.declared.def.Argument.{Argument}
 use Rattle.comp_bytes.specs.declared.def.Item.{Item}
 use Rattle.comp_bytes.specs.declared.def.Item.TheVariants as items
-use Rattle.comp_read.specs.Reading.{◌>>=◌, Reader, made_at, then_at, after_byte, before_byte, tagged, number_at, name_at, items_at, list_at, option_at}
-use Rattle.comp_read.specs.PartReaders.{kind_at, sort_at, alias_at, type_def_after, instance_type_at, index_and_options_at, intrinsic_after, extern_name_at, description_at}
-
-unfoldable pub core_argument_at : Reader CoreArgument
-core_argument_at bytes = made_at (λ p. record { name = p.0; instance = p.1 }) (then_at (before_byte name_at 0x12) number_at) bytes
-
-unfoldable pub core_inline_export_at : Reader CoreInlineExport
-core_inline_export_at bytes = made_at (λ p. record { name = p.0.0; kind = p.0.1; index = p.1 }) (then_at (then_at name_at kind_at) number_at) bytes
-
-unfoldable pub argument_at : Reader Argument
-argument_at bytes = made_at (λ p. record { name = p.0.0; sort = p.0.1; index = p.1 }) (then_at (then_at name_at sort_at) number_at) bytes
+use Rattle.part_readers.specs.Reading.{◌>>=◌, Reader, made_at, then_at, after_byte, tagged, number_at, name_at, items_at, list_at, option_at}
+use Rattle.part_readers.specs.PartReaders.{sort_at, alias_at, type_def_after, instance_type_at, extern_name_at, description_at}
+use Rattle.part_readers.specs.ArgumentReaders.{core_argument_at, core_inline_export_at, argument_at}
+use Rattle.comp_read.specs.CanonReaders.{index_and_options_at, intrinsic_after}
 
 abbrev pub core_instance_after : ℕ → Reader Item
 core_instance_after b bytes =

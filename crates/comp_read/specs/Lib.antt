@@ -1,5 +1,4 @@
-pub mod Reading
-pub mod PartReaders
+pub mod CanonReaders
 pub mod ItemReaders
 pub mod SectionReaders
 pub mod Writable

@@ -8,7 +8,7 @@ use Rattle.comp_bytes.specs.declared.def.Def.{Def}
 use Rattle.comp_bytes.specs.declared.def.Def.TheVariants as defs
 use Rattle.comp_read.specs.declared.fault.ReadFault.{ReadFault}
 use Rattle.comp_read.specs.declared.fault.ReadFault.TheVariants as reads
-use Rattle.comp_read.specs.Reading.{◌>>=◌, byte_at, sized_at}
+use Rattle.part_readers.specs.Reading.{◌>>=◌, byte_at, sized_at}
 use Rattle.comp_read.specs.ItemReaders.{contents_at}
 
 -- the result of reading, or the offset of the section that can't be read

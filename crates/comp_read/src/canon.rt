@@ -3,49 +3,16 @@
 //! Component model, binary format: `canonopt`, `canon`.
 
 ghost use Rattle.std.specs.Prelude.{◌≡◌, List, ℕ, Bool};
-ghost use Rattle.comp_read.specs.Reading.{Gives, Read};
-ghost use Rattle.comp_read.specs.PartReaders.{canonical_at, options_at, flag_at, context_at, index_and_options_at, index_and_flag_at, slot_at, memory_at, waiting_after, future_after, stream_after, task_after, intrinsic_after};
+ghost use Rattle.part_readers.specs.Reading.{Gives, Read};
+ghost use Rattle.part_readers.specs.ArgumentReaders.{canonical_at};
+ghost use Rattle.comp_read.specs.CanonReaders.{options_at, flag_at, context_at, index_and_options_at, index_and_flag_at, slot_at, memory_at, waiting_after, future_after, stream_after, task_after, intrinsic_after};
 
-use crate::fault::PartFault;
-use crate::number::{Decode, byte, expect_byte, list, number};
-use crate::values::result_of;
 use comp_bytes::{CanonicalOption, ContextType, Intrinsic};
 use comp_lists::Seq;
+use part_readers::{PartFault, byte, expect_byte, list, number, result_of};
 use std::alloc::Global;
 
-impl Decode for CanonicalOption {
-    ghost at = { canonical_at };
-
-    #[tactic(auto, unfolding(crate::specs::PartReaders::canonical_at))]
-    fn decode(_alloc: Global, bytes: &[u8]) -> Result<(CanonicalOption, &[u8]), PartFault> {
-        let (tag, rest) = byte(bytes)?;
-        match tag {
-            0x00 => Ok((CanonicalOption::Utf8, rest)),
-            0x01 => Ok((CanonicalOption::Utf16, rest)),
-            0x02 => Ok((CanonicalOption::CompactUtf16, rest)),
-            0x03 => {
-                let (memory, rest) = number(rest)?;
-                Ok((CanonicalOption::Memory(memory), rest))
-            }
-            0x04 => {
-                let (func, rest) = number(rest)?;
-                Ok((CanonicalOption::Realloc(func), rest))
-            }
-            0x05 => {
-                let (func, rest) = number(rest)?;
-                Ok((CanonicalOption::PostReturn(func), rest))
-            }
-            0x06 => Ok((CanonicalOption::Async, rest)),
-            0x07 => {
-                let (func, rest) = number(rest)?;
-                Ok((CanonicalOption::Callback(func), rest))
-            }
-            _ => Err(PartFault::Malformed),
-        }
-    }
-}
-
-#[tactic(auto, unfolding(crate::specs::PartReaders::options_at))]
+#[tactic(auto, unfolding(crate::specs::CanonReaders::options_at))]
 pub(crate) fn options(
     alloc: Global,
     bytes: &[u8],
@@ -55,7 +22,7 @@ pub(crate) fn options(
     list(alloc, bytes)
 }
 
-#[tactic(auto, unfolding(crate::specs::PartReaders::flag_at))]
+#[tactic(auto, unfolding(crate::specs::CanonReaders::flag_at))]
 fn flag(bytes: &[u8]) -> Result<(bool, &[u8]), PartFault>
     ensures { Gives (λ x. (x.0, x.1.now)) result (flag_at bytes.now) }
 {
@@ -67,7 +34,7 @@ fn flag(bytes: &[u8]) -> Result<(bool, &[u8]), PartFault>
     }
 }
 
-#[tactic(auto, unfolding(crate::specs::PartReaders::context_at))]
+#[tactic(auto, unfolding(crate::specs::CanonReaders::context_at))]
 fn context(bytes: &[u8]) -> Result<(ContextType, &[u8]), PartFault>
     ensures { Gives (λ x. (x.0, x.1.now)) result (context_at bytes.now) }
 {
@@ -79,7 +46,7 @@ fn context(bytes: &[u8]) -> Result<(ContextType, &[u8]), PartFault>
     }
 }
 
-#[tactic(auto, unfolding(crate::specs::PartReaders::index_and_options_at))]
+#[tactic(auto, unfolding(crate::specs::CanonReaders::index_and_options_at))]
 pub(crate) fn index_and_options(
     alloc: Global,
     bytes: &[u8],
@@ -91,7 +58,7 @@ pub(crate) fn index_and_options(
     Ok((index, options, rest))
 }
 
-#[tactic(auto, unfolding(crate::specs::PartReaders::index_and_flag_at))]
+#[tactic(auto, unfolding(crate::specs::CanonReaders::index_and_flag_at))]
 fn index_and_flag(bytes: &[u8]) -> Result<(u32, bool, &[u8]), PartFault>
     ensures { Gives (λ x. ((x.0, x.1), x.2.now)) result (index_and_flag_at bytes.now) }
 {
@@ -100,7 +67,7 @@ fn index_and_flag(bytes: &[u8]) -> Result<(u32, bool, &[u8]), PartFault>
     Ok((index, flag, rest))
 }
 
-#[tactic(auto, unfolding(crate::specs::PartReaders::slot_at))]
+#[tactic(auto, unfolding(crate::specs::CanonReaders::slot_at))]
 fn slot_of(bytes: &[u8]) -> Result<(ContextType, u32, &[u8]), PartFault>
     ensures { Gives (λ x. ((x.0, x.1), x.2.now)) result (slot_at bytes.now) }
 {
@@ -110,7 +77,7 @@ fn slot_of(bytes: &[u8]) -> Result<(ContextType, u32, &[u8]), PartFault>
 }
 
 /// The memory of a wait.
-#[tactic(auto, unfolding(crate::specs::PartReaders::memory_at))]
+#[tactic(auto, unfolding(crate::specs::CanonReaders::memory_at))]
 fn memory_of(bytes: &[u8]) -> Result<(u32, &[u8]), PartFault>
     ensures { Gives (λ x. (x.0, x.1.now)) result (memory_at bytes.now) }
 {
@@ -119,7 +86,7 @@ fn memory_of(bytes: &[u8]) -> Result<(u32, &[u8]), PartFault>
 }
 
 /// An intrinsic of errors, waiting or back pressure, after its first byte.
-#[tactic(auto, unfolding(crate::specs::PartReaders::waiting_after))]
+#[tactic(auto, unfolding(crate::specs::CanonReaders::waiting_after))]
 fn waiting(alloc: Global, tag: u8, bytes: &[u8]) -> Result<(Intrinsic, &[u8]), PartFault>
     ensures { Gives (λ x. (x.0, x.1.now)) result (waiting_after tag bytes.now) }
 {
@@ -151,7 +118,7 @@ fn waiting(alloc: Global, tag: u8, bytes: &[u8]) -> Result<(Intrinsic, &[u8]), P
 }
 
 /// An intrinsic of futures or of a later group, after its first byte.
-#[tactic(auto, unfolding(crate::specs::PartReaders::future_after))]
+#[tactic(auto, unfolding(crate::specs::CanonReaders::future_after))]
 fn future(alloc: Global, tag: u8, bytes: &[u8]) -> Result<(Intrinsic, &[u8]), PartFault>
     ensures { Gives (λ x. (x.0, x.1.now)) result (future_after tag bytes.now) }
 {
@@ -189,7 +156,7 @@ fn future(alloc: Global, tag: u8, bytes: &[u8]) -> Result<(Intrinsic, &[u8]), Pa
 }
 
 /// An intrinsic of streams or of a later group, after its first byte.
-#[tactic(auto, unfolding(crate::specs::PartReaders::stream_after))]
+#[tactic(auto, unfolding(crate::specs::CanonReaders::stream_after))]
 fn stream(alloc: Global, tag: u8, bytes: &[u8]) -> Result<(Intrinsic, &[u8]), PartFault>
     ensures { Gives (λ x. (x.0, x.1.now)) result (stream_after tag bytes.now) }
 {
@@ -227,7 +194,7 @@ fn stream(alloc: Global, tag: u8, bytes: &[u8]) -> Result<(Intrinsic, &[u8]), Pa
 }
 
 /// An intrinsic of tasks or of a later group, after its first byte.
-#[tactic(auto, unfolding(crate::specs::PartReaders::task_after))]
+#[tactic(auto, unfolding(crate::specs::CanonReaders::task_after))]
 fn task(alloc: Global, tag: u8, bytes: &[u8]) -> Result<(Intrinsic, &[u8]), PartFault>
     ensures { Gives (λ x. (x.0, x.1.now)) result (task_after tag bytes.now) }
 {
@@ -256,7 +223,7 @@ fn task(alloc: Global, tag: u8, bytes: &[u8]) -> Result<(Intrinsic, &[u8]), Part
 }
 
 /// An intrinsic, after its first byte.
-#[tactic(auto, unfolding(crate::specs::PartReaders::intrinsic_after))]
+#[tactic(auto, unfolding(crate::specs::CanonReaders::intrinsic_after))]
 pub(crate) fn intrinsic(
     alloc: Global,
     tag: u8,

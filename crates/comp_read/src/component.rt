@@ -9,11 +9,12 @@ ghost use Rattle.comp_read.specs.Causes.{IsRefusal};
 ghost use Rattle.comp_read.specs.ItemReaders.{contents_at};
 ghost use Rattle.comp_read.specs.SectionReaders.{GivesAt, ok_or_at};
 
-use crate::fault::{PartFault, ReadFault};
+use crate::fault::ReadFault;
 use crate::items;
 use crate::sections::{SectionItem, component};
 use comp_bytes::{Def, Defs, Item};
 use comp_lists::Seq;
+use part_readers::PartFault;
 use std::alloc::{AllocError, Global};
 
 fn item_contents(alloc: Global, offset: usize, id: u8, inner: &[u8]) -> Result<Seq<Item>, ReadFault>

@@ -1,34 +1,10 @@
 //! Why bytes are not read.
 
 ghost use Rattle.std.specs.Prelude.{◌≡◌};
-ghost use Rattle.comp_read.specs.declared.fault.PartFault.TheVariants as parts;
 ghost use Rattle.comp_read.specs.declared.fault.ReadFault.TheVariants as reads;
 
 use std::alloc::{AllocError, AllocFailed};
 use thiserror::Error;
-
-/// Why a part of a section is not read.
-#[derive(Clone, Copy, Debug, PartialEq, Eq)]
-pub(crate) enum PartFault {
-    Memory,
-    Malformed,
-}
-
-impl From<AllocError> for PartFault {
-    ghost from_gives = { λ _ e. e ≡ parts.Memory };
-
-    fn from(_fault: AllocError) -> PartFault {
-        PartFault::Memory
-    }
-}
-
-impl<T: Drop> From<AllocFailed<T>> for PartFault {
-    ghost from_gives = { λ _ e. e ≡ parts.Memory };
-
-    fn from(_fault: AllocFailed<T>) -> PartFault {
-        PartFault::Memory
-    }
-}
 
 /// Why bytes are not read as a component.
 #[derive(Debug, Drop, Error)]

@@ -3,53 +3,18 @@
 //! Component model, binary format: `section`, `core:instance`, `instance`, `canon`, `import`, `export`.
 
 ghost use Rattle.std.specs.Prelude.{◌≡◌, List, ℕ, Some, [], ◌∷◌};
-ghost use Rattle.comp_read.specs.Reading.{Gives, Read, items_at};
-ghost use Rattle.comp_read.specs.ItemReaders.{core_argument_at, core_inline_export_at, argument_at, core_instance_at, instance_at, type_item_at, lift_at, lower_at, canon_at, import_at, export_at, item_at, counted_at, custom_at, module_at, contents_at};
+ghost use Rattle.part_readers.specs.Reading.{Gives, Read, items_at};
+ghost use Rattle.part_readers.specs.ArgumentReaders.{core_argument_at, core_inline_export_at, argument_at};
+ghost use Rattle.comp_read.specs.ItemReaders.{core_instance_at, instance_at, type_item_at, lift_at, lower_at, canon_at, import_at, export_at, item_at, counted_at, custom_at, module_at, contents_at};
 
 use crate::canon::{index_and_options, intrinsic};
-use crate::fault::PartFault;
-use crate::number::{Decode, byte, expect_byte, list, name, number, option};
-use crate::types::{instance_type, type_def};
-use crate::values::{alias, extern_name, kind, sort};
-use comp_bytes::{Argument, CoreArgument, CoreInlineExport, CoreModule, Description, Item};
+use comp_bytes::{CoreModule, Description, Item};
 use comp_lists::{Bytes, Seq, SharedBytes};
+use part_readers::{
+    Decode, PartFault, alias, byte, expect_byte, extern_name, instance_type, kind, list, name,
+    number, option, sort, type_def,
+};
 use std::alloc::Global;
-
-impl Decode for CoreArgument {
-    ghost at = { core_argument_at };
-
-    #[tactic(auto, unfolding(crate::specs::ItemReaders::core_argument_at))]
-    fn decode(alloc: Global, bytes: &[u8]) -> Result<(CoreArgument, &[u8]), PartFault> {
-        let (name, rest) = name(alloc, bytes)?;
-        let rest = expect_byte(0x12, rest)?;
-        let (instance, rest) = number(rest)?;
-        Ok((CoreArgument { name, instance }, rest))
-    }
-}
-
-impl Decode for CoreInlineExport {
-    ghost at = { core_inline_export_at };
-
-    #[tactic(auto, unfolding(crate::specs::ItemReaders::core_inline_export_at))]
-    fn decode(alloc: Global, bytes: &[u8]) -> Result<(CoreInlineExport, &[u8]), PartFault> {
-        let (name, rest) = name(alloc, bytes)?;
-        let (kind, rest) = kind(rest)?;
-        let (index, rest) = number(rest)?;
-        Ok((CoreInlineExport { name, kind, index }, rest))
-    }
-}
-
-impl Decode for Argument {
-    ghost at = { argument_at };
-
-    #[tactic(auto, unfolding(crate::specs::ItemReaders::argument_at))]
-    fn decode(alloc: Global, bytes: &[u8]) -> Result<(Argument, &[u8]), PartFault> {
-        let (name, rest) = name(alloc, bytes)?;
-        let (sort, rest) = sort(rest)?;
-        let (index, rest) = number(rest)?;
-        Ok((Argument { name, sort, index }, rest))
-    }
-}
 
 #[tactic(auto, unfolding(crate::specs::ItemReaders::core_instance_at))]
 fn core_instance(alloc: Global, bytes: &[u8]) -> Result<(Item, &[u8]), PartFault>
@@ -178,7 +143,7 @@ fn item(alloc: Global, id: u8, bytes: &[u8]) -> Result<(Item, &[u8]), PartFault>
 }
 
 /// Definitions one after another. Nothing is allocated by their count.
-#[tactic(auto, unfolding(crate::specs::Reading::items_at))]
+#[tactic(auto, unfolding(part_readers::specs::Reading::items_at))]
 fn items(alloc: Global, id: u8, count: u32, bytes: &[u8]) -> Result<(Seq<Item>, &[u8]), PartFault>
     ensures { Gives (λ x. (x.0, x.1.now)) result (items_at (item_at id) count bytes.now) }
 {

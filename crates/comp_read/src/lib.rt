@@ -14,23 +14,18 @@
 //! innermost section that cannot be read (`specs/Stops.antt`): the longest prefix of the bytes that
 //! is a component ends there, or the same holds in the component nested in the section there.
 //!
-//! Each function here has a model, a function on lists that says what it reads (`specs/Reading.antt`,
-//! `PartReaders`, `ItemReaders`, `SectionReaders`); the laws of these are in `proofs/`.
+//! Each function here has a model, a function on lists that says what it reads (`specs/CanonReaders.antt`,
+//! `ItemReaders`, `SectionReaders`, over those of `part_readers`); the laws of these are in `proofs/`.
 //!
-//! In reading order: `fault` (refusals), `number` (numbers, names, lists, options), `values` (sorts,
-//! value types, names, descriptions, aliases), `types`, `canon` (canonical functions), `items` (the
-//! definitions of one section), `sections` (sections of any kind of definition), `component` (a whole
-//! component).
+//! In reading order: `fault` (refusals), `canon` (canonical functions), `items` (the definitions of one
+//! section), `sections` (sections of any kind of definition), `component` (a whole component).
 #![tactic(auto)]
 
 mod canon;
 mod component;
 mod fault;
 mod items;
-mod number;
 mod sections;
-mod types;
-mod values;
 
 pub use component::read_component;
 pub use fault::ReadFault;

@@ -4,12 +4,12 @@
 
 ghost use Rattle.std.specs.Prelude.{◌≡◌, List, ℕ, length, ◌+◌, ◌<◌, ◌^◌};
 ghost use Rattle.comp_bytes.specs.Sections.{shares};
-ghost use Rattle.comp_read.specs.Reading.{Gives};
+ghost use Rattle.part_readers.specs.Reading.{Gives};
 ghost use Rattle.comp_read.specs.SectionReaders.{Contents, GivesAt, header_at, section_at, sections_at, component_at};
 
-use crate::fault::{PartFault, ReadFault};
-use crate::number::{byte, sized};
+use crate::fault::ReadFault;
 use comp_lists::Seq;
+use part_readers::{PartFault, byte, sized};
 use std::alloc::Global;
 
 const PREAMBLE: [u8; 8] = [0x00, 0x61, 0x73, 0x6d, 0x0d, 0x00, 0x01, 0x00];

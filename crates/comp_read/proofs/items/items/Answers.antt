@@ -1,7 +1,7 @@
 use Rattle.std.proofs.lemmas.Result.{err_from_is_err_and}
-use Rattle.comp_read.specs.Reading.{items_at}
+use Rattle.part_readers.specs.Reading.{items_at}
 use Rattle.comp_read.specs.ItemReaders.{item_at}
-use Rattle.comp_read.proofs.Loop.{continues, ends, is_done}
+use Rattle.part_readers.proofs.Loop.{continues, ends, is_done}
 use Rattle.comp_read.proofs.items.items.Goals as goal
 
 pub returns-in_err-item : goal.returns-in_err-item

@@ -1,7 +1,7 @@
 use Rattle.std.proofs.Common.{◌≡◌, ◌-◌}
-use Rattle.comp_read.specs.Reading.{items_at}
+use Rattle.part_readers.specs.Reading.{items_at}
 use Rattle.comp_read.specs.ItemReaders.{item_at}
-use Rattle.comp_read.proofs.Loop.{with_front}
+use Rattle.part_readers.proofs.Loop.{with_front}
 use Rattle.comp_read.proofs.items.items.Given as goal
 
 abbrev pub invariant-loop : goal.invariant-loop

@@ -1,0 +1,5 @@
+pub mod Sizes
+pub mod Types
+pub mod Functions
+pub mod Named
+pub mod Instances

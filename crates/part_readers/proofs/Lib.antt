@@ -1,0 +1,5 @@
+pub mod Loop
+pub mod Utf8
+pub mod Exact
+pub mod ValueLaws
+pub mod TypeLaws

@@ -1,0 +1,4 @@
+pub mod Reading
+pub mod PartReaders
+pub mod ArgumentReaders
+pub mod Writable
