@@ -164,10 +164,7 @@ fn greatest_of(alloc: Global, candidates: &[Candidate]) -> Result<Greatest, Allo
 }
 
 /// The imported interface of greatest version by canonical id. The only refusal is out of memory.
-pub fn greatest_imports(
-    alloc: Global,
-    imports: &Keyed<ItemKey, Item>,
-) -> Result<Greatest, Failure>
+pub fn greatest_imports(alloc: Global, imports: &Keyed<ItemKey, Item>) -> Result<Greatest, Failure>
     ensures { Gives (λ t. t) result (Ok (greatest_after [] (candidates imports.now))) }
 {
     let candidates = candidates(alloc, imports)?;
