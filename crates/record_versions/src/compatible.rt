@@ -85,12 +85,9 @@ fn compatible_id(alloc: Global, text: &str) -> Result<Option<Compatible>, Failur
     }
 }
 
-/// The part of the id that compatible versions of an interface share, where it has such an id. The only
-/// refusal is out of memory.
-pub(crate) fn compatible_of(
-    alloc: Global,
-    name: &InterfaceName,
-) -> Result<Option<Compatible>, Failure>
+/// The part of the id that compatible versions of an interface share, where it has such an id (component
+/// model, explainer: `canonversion`). The only refusal is out of memory.
+pub fn compatible_of(alloc: Global, name: &InterfaceName) -> Result<Option<Compatible>, Failure>
     ensures { Gives (λ c. c) result (Ok (compatible name.now)) }
 {
     match name {

@@ -93,7 +93,7 @@ fn candidates(alloc: Global, imports: &Keyed<ItemKey, Item>) -> Result<Seq<Candi
 
 /// The interface of greatest version by canonical id.
 #[derive(Drop)]
-struct Greatest {
+pub struct Greatest {
     map: IndexMap<Text, Candidate>,
 }
 
@@ -114,7 +114,8 @@ impl Greatest {
         }
     }
 
-    fn get(&self, canonical: &Text) -> Option<&Candidate>
+    /// The interface of greatest version that has this canonical id.
+    pub fn get(&self, canonical: &Text) -> Option<&Candidate>
         ensures { option_copied result ≡ lookup (bytes_eq canonical.now) self.now }
     {
         self.map.get(canonical)
@@ -160,6 +161,14 @@ fn greatest_of(alloc: Global, candidates: &[Candidate]) -> Result<Greatest, Allo
         add_candidate(alloc, &mut greatest, candidate)?;
     }
     Ok(greatest)
+}
+
+/// The imported interface of greatest version by canonical id. The only refusal is out of memory.
+pub fn greatest_imports(alloc: Global, imports: &Keyed<ItemKey, Item>) -> Result<Greatest, Failure>
+    ensures { Gives (λ t. t) result (Ok (greatest_after [] (candidates imports.now))) }
+{
+    let candidates = candidates(alloc, imports)?;
+    Ok(greatest_of(alloc, candidates.as_slice())?)
 }
 
 fn add_rename(

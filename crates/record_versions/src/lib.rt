@@ -20,7 +20,7 @@ mod taking;
 mod uses;
 mod versions;
 
-pub use compatible::Compatible;
-pub use groups::{Candidate, renames};
+pub use compatible::{Compatible, compatible_of};
+pub use groups::{Candidate, Greatest, greatest_imports, renames};
 pub use reach::check_reach;
 pub use versions::{MergedVersions, merge_versions};

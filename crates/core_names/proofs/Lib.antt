@@ -1,0 +1,3 @@
+mod Affixes
+mod Numbers
+mod Readback

@@ -1,0 +1,10 @@
+pub mod Readings
+pub mod Texts
+pub mod WorldNames
+pub mod Labels
+pub mod Scopes
+pub mod Builtins
+pub mod PayloadNames
+pub mod ImportNames
+pub mod ExportNames
+pub mod Spelling
