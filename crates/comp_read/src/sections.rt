@@ -59,7 +59,8 @@ fn section<D: SectionItem>(
     bytes: &[u8],
 ) -> Result<(u8, Seq<D>, &[u8]), ReadFault>
     requires { offset + length bytes.now < 2 ^ 64 }
-    ensures { GivesAt (λ x. (x.0, x.1, x.2.now)) result (section_at D.contents_at offset last bytes.now) }
+    ensures { GivesAt (λ x. (x.0, x.1, x.2.now)) result
+        (section_at D.contents_at offset last bytes.now) }
 {
     let (id, inner, rest) = match header(last, bytes) {
         Ok(read) => read,
@@ -74,7 +75,8 @@ fn section<D: SectionItem>(
 /// Sections, which are all of the bytes, from the offset `start` on.
 fn sections<D: SectionItem>(alloc: Global, start: usize, bytes: &[u8]) -> Result<Seq<D>, ReadFault>
     requires { start + length bytes.now < 2 ^ 64 }
-    ensures { GivesAt (λ x. x) result (sections_at D.contents_at (length bytes.now) start 0 bytes.now) }
+    ensures { GivesAt (λ x. x) result (sections_at D.contents_at
+        (length bytes.now) start 0 bytes.now) }
 {
     let mut defs = Seq::new(alloc);
     let mut last = 0;

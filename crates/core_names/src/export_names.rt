@@ -111,7 +111,8 @@ fn used_before(
     suffix: &str,
     name: &str,
 ) -> Meaning
-    ensures { IfOk result (λ r. r ≡ used_if names.now scope.now use_ (texts.before suffix.now name.now)) }
+    ensures { IfOk result (λ r. r ≡ used_if names.now scope.now use_
+        (texts.before suffix.now name.now)) }
 {
     used_if(alloc, names, scope, use_, before(suffix, name))
 }
@@ -181,7 +182,8 @@ fn used_labelled(
     label: &str,
     name: &str,
 ) -> Meaning
-    ensures { IfOk result (λ r. r ≡ used_of names.now use_ (labelled names.now sides.Exported label.now) name.now) }
+    ensures { IfOk result (λ r. r ≡ used_of names.now use_
+        (labelled names.now sides.Exported label.now) name.now) }
 {
     let interface = labelled(alloc, names, Side::Exported, label)?;
     used_of(alloc, names, use_, interface, name)

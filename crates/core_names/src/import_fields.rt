@@ -49,7 +49,8 @@ pub(crate) fn called_after(
     prefix: &str,
     name: &str,
 ) -> Meaning
-    ensures { IfOk result (λ r. r ≡ called names.now scope.now abi (texts.after prefix.now name.now)) }
+    ensures { IfOk result (λ r. r ≡ called names.now scope.now abi
+        (texts.after prefix.now name.now)) }
 {
     called(alloc, names, scope, abi, after(prefix, name))
 }
@@ -95,7 +96,8 @@ pub(crate) fn dropped_before(
     suffix: &str,
     name: &str,
 ) -> Meaning
-    ensures { IfOk result (λ r. r ≡ dropped names.now scope.now (texts.before suffix.now name.now)) }
+    ensures { IfOk result (λ r. r ≡ dropped names.now scope.now
+        (texts.before suffix.now name.now)) }
 {
     dropped(alloc, names, scope, before(suffix, name))
 }
@@ -126,7 +128,8 @@ fn own_resource(
     operation: HandleOperation,
     name: Option<&str>,
 ) -> Meaning
-    ensures { IfOk result (λ r. r ≡ own_resource names.now scope.now operation (option_copied name.entry)) }
+    ensures { IfOk result (λ r. r ≡ own_resource names.now scope.now operation
+        (option_copied name.entry)) }
 {
     let Some(name) = name else {
         return Ok(Reading::Nothing);
@@ -147,7 +150,8 @@ pub(crate) fn own_resource_after(
     prefix: &str,
     name: &str,
 ) -> Meaning
-    ensures { IfOk result (λ r. r ≡ own_resource names.now scope.now operation (texts.after prefix.now name.now)) }
+    ensures { IfOk result (λ r. r ≡ own_resource names.now scope.now operation
+        (texts.after prefix.now name.now)) }
 {
     own_resource(alloc, names, scope, operation, after(prefix, name))
 }
@@ -161,7 +165,8 @@ pub(crate) fn own_resource_before(
     suffix: &str,
     name: &str,
 ) -> Meaning
-    ensures { IfOk result (λ r. r ≡ own_resource names.now scope.now operation (texts.before suffix.now name.now)) }
+    ensures { IfOk result (λ r. r ≡ own_resource names.now scope.now operation
+        (texts.before suffix.now name.now)) }
 {
     own_resource(alloc, names, scope, operation, before(suffix, name))
 }
@@ -191,7 +196,8 @@ pub(crate) fn returned_after(
     prefix: &str,
     name: &str,
 ) -> Meaning
-    ensures { IfOk result (λ r. r ≡ returned names.now scope.now (texts.after prefix.now name.now)) }
+    ensures { IfOk result (λ r. r ≡ returned names.now scope.now
+        (texts.after prefix.now name.now)) }
 {
     returned(alloc, names, scope, after(prefix, name))
 }
@@ -261,7 +267,8 @@ fn payload_of(
     is_async: bool,
     parts: PayloadName<'_>,
 ) -> Meaning
-    ensures { IfOk result (λ r. r ≡ payload_of names.now scope.now is_async (Some (parts.entry.0, parts.entry.1, parts.entry.2, parts.entry.3.now))) }
+    ensures { IfOk result (λ r. r ≡ payload_of names.now scope.now is_async (Some
+        (parts.entry.0, parts.entry.1, parts.entry.2, parts.entry.3.now))) }
 {
     let (_, operation, index, function) = parts;
     if is_async && !may_be_async(operation) {
@@ -281,7 +288,8 @@ pub(crate) fn payload(
     is_async: bool,
     name: Option<&str>,
 ) -> Meaning
-    ensures { IfOk result (λ r. r ≡ payload names.now scope.now is_async (option_copied name.entry)) }
+    ensures { IfOk result (λ r. r ≡ payload names.now scope.now is_async
+        (option_copied name.entry)) }
 {
     let Some(name) = name else {
         return Ok(Reading::Nothing);
@@ -301,7 +309,8 @@ pub(crate) fn payload_after(
     prefix: &str,
     name: &str,
 ) -> Meaning
-    ensures { IfOk result (λ r. r ≡ payload names.now scope.now is_async (texts.after prefix.now name.now)) }
+    ensures { IfOk result (λ r. r ≡ payload names.now scope.now is_async
+        (texts.after prefix.now name.now)) }
 {
     payload(alloc, names, scope, is_async, after(prefix, name))
 }

@@ -159,7 +159,8 @@ fn of_root(alloc: Global, names: &WorldNames<'_>, module: &str, name: &str) -> M
 }
 
 fn of_imported(alloc: Global, names: &WorldNames<'_>, label: &str, name: &str) -> Meaning
-    ensures { IfOk result (λ r. r ≡ field_of names.now sides.Imported (imported_label names.now label.now) name.now) }
+    ensures { IfOk result (λ r. r ≡ field_of names.now sides.Imported
+        (imported_label names.now label.now) name.now) }
 {
     let interface = imported_label(alloc, names, label)?;
     field_of(alloc, names, Side::Imported, interface, name)
@@ -286,7 +287,8 @@ fn standard_labelled(
     label: Option<&str>,
     name: &str,
 ) -> Meaning
-    ensures { IfOk result (λ r. r ≡ standard_labelled names.now side (option_copied label.entry) name.now) }
+    ensures { IfOk result (λ r. r ≡ standard_labelled names.now side
+        (option_copied label.entry) name.now) }
 {
     let Some(label) = label else {
         return Ok(Reading::Nothing);
@@ -303,7 +305,8 @@ fn standard_after(
     module: &str,
     name: &str,
 ) -> Meaning
-    ensures { IfOk result (λ r. r ≡ standard_labelled names.now side (texts.after prefix.now «module».now) name.now) }
+    ensures { IfOk result (λ r. r ≡ standard_labelled names.now side
+        (texts.after prefix.now «module».now) name.now) }
 {
     standard_labelled(alloc, names, side, after(prefix, module), name)
 }
@@ -415,7 +418,8 @@ fn function_import(
     module: &str,
     name: &str,
 ) -> Meaning
-    ensures { IfOk result (λ r. r ≡ function_import names.now rejects_older kind «module».now name.now) }
+    ensures { IfOk result (λ r. r
+        ≡ function_import names.now rejects_older kind «module».now name.now) }
 {
     match kind {
         ExportKind::Func => world_import(alloc, names, rejects_older, module, name),
@@ -441,7 +445,8 @@ fn narrow_import(
     module: &str,
     field: &str,
 ) -> Meaning
-    ensures { IfOk result (λ r. r ≡ narrow_import names.now module_kind rejects_older kind «module».now field.now) }
+    ensures { IfOk result (λ r. r
+        ≡ narrow_import names.now module_kind rejects_older kind «module».now field.now) }
 {
     either(
         adapter_import(alloc, module_kind, kind, module, field),
@@ -462,7 +467,8 @@ pub fn import_role(
     module: &str,
     field: &str,
 ) -> Result<Reading<ImportRole>, AllocError>
-    ensures { IfOk result (λ r. r ≡ import_role names.now module_kind rejects_older kind «module».now field.now) }
+    ensures { IfOk result (λ r. r
+        ≡ import_role names.now module_kind rejects_older kind «module».now field.now) }
 {
     if is_wide(module) {
         return Ok(Reading::Refused(Refusal::WideMemory));

@@ -99,7 +99,8 @@ fn compatible_label(alloc: Global, label: &str) -> Result<Option<Compatible>, Al
 }
 
 fn newest_compatible(alloc: Global, names: &WorldNames<'_>, label: &str) -> Found
-    ensures { IfOk result (λ r. r ≡ newest_compatible names.now (versions.compatible (InterfaceName.Id label.now))) }
+    ensures { IfOk result (λ r. r ≡ newest_compatible names.now (versions.compatible
+        (InterfaceName.Id label.now))) }
 {
     match compatible_label(alloc, label)? {
         Some(compatible) => newest(alloc, names, &compatible.canonical),
@@ -126,7 +127,8 @@ pub(crate) fn imported_label(alloc: Global, names: &WorldNames<'_>, label: &str)
 // ---- canonical ids
 
 fn whole_id(alloc: Global, names: &WorldNames<'_>, side: Side, label: &str) -> Found
-    ensures { IfOk result (λ r. r ≡ whole_id names.now side label.now (versions.compatible (InterfaceName.Id label.now))) }
+    ensures { IfOk result (λ r. r ≡ whole_id names.now side label.now (versions.compatible
+        (InterfaceName.Id label.now))) }
 {
     match compatible_label(alloc, label)? {
         Some(_) => Ok(Reading::Nothing),

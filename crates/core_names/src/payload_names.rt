@@ -17,7 +17,8 @@ type Operation<'a> = Option<(PayloadOperation, &'a str)>;
 pub(crate) type PayloadName<'a> = (PayloadKind, PayloadOperation, Option<u32>, &'a str);
 
 fn with_operation(operation: PayloadOperation, rest: Option<&str>) -> Operation<'_>
-    ensures { option_map (λ o. (o.0, o.1.now)) result ≡ with_operation operation (option_copied rest.entry) }
+    ensures { option_map (λ o. (o.0, o.1.now)) result ≡ with_operation operation
+        (option_copied rest.entry) }
 {
     match rest {
         Some(rest) => Some((operation, rest)),
@@ -103,7 +104,8 @@ fn with_index<'a>(
     function: &'a str,
     operation: Operation<'_>,
 ) -> Result<Option<PayloadName<'a>>, AllocError>
-    ensures { IfOk result (λ p. option_map (λ n. (n.0, n.1, n.2, n.3.now)) p ≡ with_index kind function.now (option_map (λ o. (o.0, o.1.now)) operation.entry)) }
+    ensures { IfOk result (λ p. option_map (λ n. (n.0, n.1, n.2, n.3.now)) p
+        ≡ with_index kind function.now (option_map (λ o. (o.0, o.1.now)) operation.entry)) }
 {
     let Some((operation, rest)) = operation else {
         return Ok(None);
@@ -119,7 +121,8 @@ fn parts(
     kind: PayloadKind,
     text: &str,
 ) -> Result<Option<PayloadName<'_>>, AllocError>
-    ensures { IfOk result (λ p. option_map (λ n. (n.0, n.1, n.2, n.3.now)) p ≡ parts kind text.now) }
+    ensures { IfOk result (λ p. option_map (λ n. (n.0, n.1, n.2, n.3.now)) p
+        ≡ parts kind text.now) }
 {
     match split_once(text, ']') {
         Some((inside, function)) => with_index(alloc, kind, function, operation(inside)),
@@ -130,7 +133,8 @@ fn parts(
 /// The parts of the name of an operation on a stream or future.
 #[tactic(auto, unfolding(crate::specs::PayloadNames::payload_name))]
 pub(crate) fn payload_name(alloc: Global, text: &str) -> Result<Option<PayloadName<'_>>, AllocError>
-    ensures { IfOk result (λ p. option_map (λ n. (n.0, n.1, n.2, n.3.now)) p ≡ payload_name text.now) }
+    ensures { IfOk result (λ p. option_map (λ n. (n.0, n.1, n.2, n.3.now)) p
+        ≡ payload_name text.now) }
 {
     if let Some(rest) = after("[stream-", text) {
         let found = parts(alloc, PayloadKind::Stream, rest)?;

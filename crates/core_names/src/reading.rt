@@ -79,7 +79,8 @@ pub(crate) fn either<R: Drop>(
     first: Result<Reading<R>, AllocError>,
     second: Result<Reading<R>, AllocError>,
 ) -> Result<Reading<R>, AllocError>
-    ensures { (a b : Reading R) → IfOk first (λ x. x ≡ a) → IfOk second (λ x. x ≡ b) → IfOk result (λ x. x ≡ a ⊕ b) }
+    ensures { (a b : Reading R) → IfOk first (λ x. x ≡ a) → IfOk second (λ x. x
+        ≡ b) → IfOk result (λ x. x ≡ a ⊕ b) }
 {
     match first {
         Ok(first) => after_first(first, second),
@@ -111,7 +112,8 @@ pub(crate) fn any_of_three<R: Drop>(
     second: Result<Reading<R>, AllocError>,
     third: Result<Reading<R>, AllocError>,
 ) -> Result<Reading<R>, AllocError>
-    ensures { (a b c : Reading R) → IfOk first (λ x. x ≡ a) → IfOk second (λ x. x ≡ b) → IfOk third (λ x. x ≡ c) → IfOk result (λ x. x ≡ a ⊕ b ⊕ c) }
+    ensures { (a b c : Reading R) → IfOk first (λ x. x ≡ a) → IfOk second (λ x. x
+        ≡ b) → IfOk third (λ x. x ≡ c) → IfOk result (λ x. x ≡ a ⊕ b ⊕ c) }
 {
     either(either(first, second), third)
 }

@@ -75,7 +75,8 @@ fn has_interface_function(
     interface: &InterfaceName,
     name: &str,
 ) -> Result<bool, AllocError>
-    ensures { IfOk result (λ b. b ≡ owner_has_function names.now side (Owner.Interface interface.now) name.now) }
+    ensures { IfOk result (λ b. b ≡ owner_has_function names.now side
+        (Owner.Interface interface.now) name.now) }
 {
     let owner = Owner::Interface(interface.try_clone(alloc)?);
     let name = Text::from_str(alloc, name)?;
@@ -130,7 +131,8 @@ fn has_interface_resource(
     interface: &InterfaceName,
     name: &str,
 ) -> Result<bool, AllocError>
-    ensures { IfOk result (λ b. b ≡ owner_has_resource names.now (Owner.Interface interface.now) name.now) }
+    ensures { IfOk result (λ b. b ≡ owner_has_resource names.now
+        (Owner.Interface interface.now) name.now) }
 {
     let owner = Owner::Interface(interface.try_clone(alloc)?);
     let name = Text::from_str(alloc, name)?;

@@ -191,7 +191,8 @@ fn add_items(
 }
 
 fn resources_of(alloc: Global, wit: &Wit) -> Result<Resources, AllocError>
-    ensures { IfOk result (λ t. t ≡ of_items (of_interfaces [] wit.now.interfaces) wit.now.imports) }
+    ensures { IfOk result (λ t. t ≡ of_items
+        (of_interfaces [] wit.now.interfaces) wit.now.imports) }
 {
     let mut table = Keyed::new(alloc);
     add_interfaces(alloc, &mut table, &wit.interfaces)?;
@@ -238,7 +239,8 @@ fn add_interface(
     table: &mut Exported,
     name: &InterfaceName,
 ) -> Result<(), AllocError>
-    ensures { OnOk result (table.new ≡ with_compatible table.old name.now (versions.compatible name.now)) }
+    ensures { OnOk result (table.new ≡ with_compatible table.old name.now
+        (versions.compatible name.now)) }
 {
     let Some(compatible) = compatible(alloc, name)? else {
         return Ok(());

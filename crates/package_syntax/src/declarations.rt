@@ -73,7 +73,8 @@ fn kind_reason(tag: u8) -> Reason
 
 /// The first byte of what begins before so many bytes.
 fn first(left: usize, bytes: &[u8]) -> Result<(u8, &[u8]), StopFault>
-    ensures { Gives (λ x. (x.0, x.1.now)) result (ok_or (stop left reasons.Declaration) (byte_at bytes.now)) }
+    ensures { Gives (λ x. (x.0, x.1.now)) result (ok_or (stop left reasons.Declaration)
+        (byte_at bytes.now)) }
 {
     match bytes {
         [] => Err(stopped(left, Reason::Declaration)),
@@ -106,7 +107,8 @@ fn placed_alias(alloc: Global, left: usize, bytes: &[u8]) -> Result<(Alias, &[u8
 
 /// The name of an import or an export.
 fn placed_name(alloc: Global, left: usize, bytes: &[u8]) -> Result<(ExternName, &[u8]), StopFault>
-    ensures { Gives (λ x. (x.0, x.1.now)) result (ok_or (stop left reasons.Declaration) (extern_name_at bytes.now)) }
+    ensures { Gives (λ x. (x.0, x.1.now)) result (ok_or (stop left reasons.Declaration)
+        (extern_name_at bytes.now)) }
 {
     match extern_name(alloc, bytes) {
         Ok(read) => Ok(read),
@@ -120,7 +122,8 @@ fn placed_description(
     left: usize,
     bytes: &[u8],
 ) -> Result<(Description, &[u8]), StopFault>
-    ensures { Gives (λ x. (x.0, x.1.now)) result (ok_or (stop left (sort_reason bytes.now)) (description_at bytes.now)) }
+    ensures { Gives (λ x. (x.0, x.1.now)) result (ok_or (stop left (sort_reason bytes.now))
+        (description_at bytes.now)) }
 {
     match Description::decode(alloc, bytes) {
         Ok(read) => Ok(read),

@@ -48,7 +48,8 @@ fn items<T: Place + Drop>(
 }
 
 fn count(bytes: &[u8]) -> Result<(u32, &[u8]), StopFault>
-    ensures { Gives (λ x. (x.0, x.1.now)) result (ok_or (stop (length bytes.now) reasons.Declaration) (number_at bytes.now)) }
+    ensures { Gives (λ x. (x.0, x.1.now)) result (ok_or (stop
+        (length bytes.now) reasons.Declaration) (number_at bytes.now)) }
 {
     match number(bytes) {
         Ok(read) => Ok(read),

@@ -45,7 +45,8 @@ fn world_end(alloc: Global, bytes: &[u8]) -> Result<ExternName, PartFault>
 }
 
 fn placed_end(alloc: Global, bytes: &[u8]) -> Result<ExternName, StopFault>
-    ensures { Gives (λ x. x) result (ok_or (stop (length bytes.now) reasons.World) (whole world_end_at bytes.now)) }
+    ensures { Gives (λ x. x) result (ok_or (stop (length bytes.now) reasons.World)
+        (whole world_end_at bytes.now)) }
 {
     match world_end(alloc, bytes) {
         Ok(id) => Ok(id),
@@ -90,7 +91,8 @@ fn export(alloc: Global, bytes: &[u8]) -> Result<ExternName, PartFault>
 }
 
 fn custom_name(alloc: Global, start: usize, inner: &[u8]) -> Result<(Text, &[u8]), SyntaxFault>
-    ensures { GivesAt (λ x. (x.0, x.1.now)) result (ok_or (refusal start reasons.CustomName) (name_at inner.now)) }
+    ensures { GivesAt (λ x. (x.0, x.1.now)) result (ok_or (refusal start reasons.CustomName)
+        (name_at inner.now)) }
 {
     match name(alloc, inner) {
         Ok(read) => Ok(read),

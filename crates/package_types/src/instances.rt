@@ -203,7 +203,8 @@ fn export_step(
     name: &ExternName,
     description: Description,
 ) -> Result<(), TypeFault>
-    ensures { Gives (λ _. inside.new) result (export_step owner.now inside.old name.now description) }
+    ensures { Gives (λ _. inside.new) result
+        (export_step owner.now inside.old name.now description) }
 {
     match description {
         Description::TypeEqual(index) => type_step(alloc, owner, inside, name, index),
@@ -240,7 +241,8 @@ fn member_step(
     inside: &mut Inside,
     member: &Member,
 ) -> Result<(), TypeFault>
-    ensures { Gives (λ _. inside.new) result (member_step outer.now owner.now inside.old member.now) }
+    ensures { Gives (λ _. inside.new) result
+        (member_step outer.now owner.now inside.old member.now) }
 {
     match member {
         Member::Type(ty) => definition_step(alloc, inside, ty),
@@ -260,7 +262,8 @@ fn placed_step(
     position: usize,
     member: &Member,
 ) -> Result<(), MemberFault>
-    ensures { GivesIn (λ _. inside.new) result (at_position position (member_step outer.now owner.now inside.old member.now)) }
+    ensures { GivesIn (λ _. inside.new) result (at_position position
+        (member_step outer.now owner.now inside.old member.now)) }
 {
     match member_step(alloc, outer, owner, inside, member) {
         Ok(()) => Ok(()),

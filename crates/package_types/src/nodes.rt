@@ -155,7 +155,8 @@ fn closed(nodes: Seq<Node>, node: Node) -> Result<Seq<Node>, AllocError>
 }
 
 fn record_nodes(alloc: Global, scope: &[Entry], fields: &[Field]) -> Result<Seq<Node>, AllocError>
-    ensures { IfOk result (λ ns. ns ≡ fields_after scope.now fields.now [] ++ variants.Record (map (λ f. f.name) fields.now) ∷ []) }
+    ensures { IfOk result (λ ns. ns ≡ fields_after scope.now fields.now [] ++ variants.Record
+        (map (λ f. f.name) fields.now) ∷ []) }
 {
     let names = field_names(alloc, fields)?;
     let parts = fields_nodes(alloc, scope, fields)?;
@@ -167,7 +168,8 @@ fn variant_nodes(
     scope: &[Entry],
     cases: &[TypedCase],
 ) -> Result<Seq<Node>, AllocError>
-    ensures { IfOk result (λ ns. ns ≡ cases_after scope.now cases.now [] ++ variants.Variant (map case_of cases.now) ∷ []) }
+    ensures { IfOk result (λ ns. ns ≡ cases_after scope.now cases.now [] ++ variants.Variant
+        (map case_of cases.now) ∷ []) }
 {
     let plain = plain_cases(alloc, cases)?;
     let parts = cases_nodes(alloc, scope, cases)?;
@@ -179,7 +181,8 @@ fn tuple_nodes(
     scope: &[Entry],
     types: &[ComponentValType],
 ) -> Result<Seq<Node>, AllocError>
-    ensures { IfOk result (λ ns. ns ≡ types_after scope.now types.now [] ++ variants.Tuple (length types.now) ∷ []) }
+    ensures { IfOk result (λ ns. ns ≡ types_after scope.now types.now [] ++ variants.Tuple
+        (length types.now) ∷ []) }
 {
     let parts = types_nodes(alloc, scope, types)?;
     closed(parts, Node::Tuple { arity: types.len() })
@@ -191,7 +194,9 @@ fn result_nodes(
     ok: Option<ComponentValType>,
     err: Option<ComponentValType>,
 ) -> Result<Seq<Node>, AllocError>
-    ensures { IfOk result (λ ns. ns ≡ (optional_nodes scope.now ok ++ optional_nodes scope.now err) ++ variants.Result (is_some ok) (is_some err) ∷ []) }
+    ensures { IfOk result (λ ns. ns ≡
+        (optional_nodes scope.now ok ++ optional_nodes scope.now err) ++ variants.Result
+        (is_some ok) (is_some err) ∷ []) }
 {
     let mut parts = optional_nodes(alloc, scope, ok)?;
     push_optional(alloc, scope, err, &mut parts)?;
@@ -237,7 +242,8 @@ fn alone(alloc: Global, node: Node) -> Result<Seq<Node>, AllocError>
 }
 
 fn own_nodes(alloc: Global, scope: &[Entry], index: u32) -> Result<Seq<Node>, AllocError>
-    ensures { IfOk result (λ ns. ns ≡ named_nodes (λ n. variants.Own n) (slice_get scope.now index)) }
+    ensures { IfOk result (λ ns. ns ≡ named_nodes (λ n. variants.Own n)
+        (slice_get scope.now index)) }
 {
     match scope.get(index as usize) {
         Some(Entry::Name { name, facts: _ }) => alone(alloc, Node::Own(name.try_clone(alloc)?)),
@@ -246,7 +252,8 @@ fn own_nodes(alloc: Global, scope: &[Entry], index: u32) -> Result<Seq<Node>, Al
 }
 
 fn borrow_nodes(alloc: Global, scope: &[Entry], index: u32) -> Result<Seq<Node>, AllocError>
-    ensures { IfOk result (λ ns. ns ≡ named_nodes (λ n. variants.Borrow n) (slice_get scope.now index)) }
+    ensures { IfOk result (λ ns. ns ≡ named_nodes (λ n. variants.Borrow n)
+        (slice_get scope.now index)) }
 {
     match scope.get(index as usize) {
         Some(Entry::Name { name, facts: _ }) => alone(alloc, Node::Borrow(name.try_clone(alloc)?)),

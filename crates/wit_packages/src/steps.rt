@@ -90,7 +90,8 @@ fn instance_type_entry(
     scope: &[Entry],
     members: &[Member],
 ) -> Result<Entry, StepFault>
-    ensures { Gives (λ e. e) result (within (content_of scope.now unnamed members.now) >=> λ c. Ok (entries.Instance c)) }
+    ensures { Gives (λ e. e) result (within
+        (content_of scope.now unnamed members.now) >=> λ c. Ok (entries.Instance c)) }
 {
     match content_of(alloc, scope, &InterfaceName::Unused(0), members) {
         Ok(content) => Ok(Entry::Instance(content)),
@@ -130,7 +131,8 @@ fn known_entry(
     known: &Keyed<Text, Facts>,
     name: &Text,
 ) -> Result<Entry, StepFault>
-    ensures { Gives (λ e. e) result (own (known_entry interface.now name.now (lookup (bytes_eq name.now) known.now))) }
+    ensures { Gives (λ e. e) result (own (known_entry interface.now name.now (lookup
+        (bytes_eq name.now) known.now))) }
 {
     match known.get(name) {
         Some(facts) => Ok(type_entry(alloc, interface, name, *facts)?),
@@ -146,7 +148,8 @@ fn exported_entry(
     ty: u32,
     name: &Text,
 ) -> Result<Entry, StepFault>
-    ensures { Gives (λ e. e) result (own (exported_entry interface.now name.now (slice_get scope.now ty))) }
+    ensures { Gives (λ e. e) result (own (exported_entry interface.now name.now
+        (slice_get scope.now ty))) }
 {
     match scope.get(ty as usize) {
         Some(Entry::Instance(content)) => known_entry(alloc, interface, &content.known, name),
@@ -162,7 +165,8 @@ fn instance_entry(
     index: u32,
     name: &Text,
 ) -> Result<Entry, StepFault>
-    ensures { Gives (λ e. e) result (own (instance_entry scope.now name.now (slice_get instances.now index))) }
+    ensures { Gives (λ e. e) result (own (instance_entry scope.now name.now
+        (slice_get instances.now index))) }
 {
     match instances.get(index as usize) {
         Some(instance) => exported_entry(alloc, scope, &instance.name, instance.ty, name),

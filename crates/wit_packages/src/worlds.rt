@@ -19,7 +19,8 @@ fn placed_step(
     position: usize,
     declaration: &Declaration,
 ) -> Result<(), PackageFault>
-    ensures { Gives (λ _. state.new) result (at_declaration position (declaration_step state.old declaration.now)) }
+    ensures { Gives (λ _. state.new) result (at_declaration position
+        (declaration_step state.old declaration.now)) }
 {
     match declaration_step(alloc, state, declaration) {
         Ok(()) => Ok(()),
