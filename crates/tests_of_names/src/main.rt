@@ -10,7 +10,7 @@ mod worlds;
 
 use std::alloc::{AllocError, Global};
 use std::process::ExitCode;
-use test_cases::{Beside, answer_files};
+use test_cases::answer_files;
 
 /// What the cases of a file are about.
 #[derive(Clone, Copy)]
@@ -36,5 +36,5 @@ impl test_cases::Topic for Topic {
 }
 
 fn main(rt: HostRuntime) -> ExitCode {
-    answer_files::<Topic, HostRuntime>(&rt, Beside::Counts)
+    answer_files::<Topic, HostRuntime>(&rt)
 }
