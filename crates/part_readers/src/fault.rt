@@ -27,4 +27,3 @@ impl<T: Drop> From<AllocFailed<T>> for PartFault {
         PartFault::Memory
     }
 }
-

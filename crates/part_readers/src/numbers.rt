@@ -122,10 +122,7 @@ fn items<T: Decode + Drop>(
 }
 
 #[tactic(auto, unfolding(crate::specs::Reading::list_at))]
-pub fn list<T: Decode + Drop>(
-    alloc: Global,
-    bytes: &[u8],
-) -> Result<(Seq<T>, &[u8]), PartFault>
+pub fn list<T: Decode + Drop>(alloc: Global, bytes: &[u8]) -> Result<(Seq<T>, &[u8]), PartFault>
     ensures { Gives (λ x. (x.0, x.1.now)) result (list_at T.at bytes.now) }
 {
     let (count, rest) = number(bytes)?;
@@ -133,10 +130,7 @@ pub fn list<T: Decode + Drop>(
 }
 
 #[tactic(auto, unfolding(crate::specs::Reading::option_at))]
-pub fn option<T: Decode>(
-    alloc: Global,
-    bytes: &[u8],
-) -> Result<(Option<T>, &[u8]), PartFault>
+pub fn option<T: Decode>(alloc: Global, bytes: &[u8]) -> Result<(Option<T>, &[u8]), PartFault>
     ensures { Gives (λ x. (x.0, x.1.now)) result (option_at T.at bytes.now) }
 {
     let (tag, rest) = byte(bytes)?;
