@@ -13,7 +13,6 @@ pub mod Steps
 pub mod InstanceSteps
 mod NestedSteps
 pub mod Marks
-mod Ordered
 mod ImportedTypes
 mod Served
 mod NamedItem
@@ -49,5 +48,3 @@ mod WorkedHandles
 mod WorkedUsers
 mod WorkedGiven
 mod CrossedMemories
-mod OtherLists
-mod OtherRuns
