@@ -207,8 +207,9 @@ def swapped_roles(record, chance):
     """A record in which two core imports, or two core exports, have each other's roles."""
     of = chance.choice(("core-imports", "core-exports"))
     entries = record.get(of) if isinstance(record, dict) else None
-    if isinstance(entries, list) and len(entries) > 1:
-        one, other = chance.sample([it for it in entries if isinstance(it, dict)] or [{}, {}], 2) if len(entries) > 1 else ({}, {})
+    entries = [it for it in entries if isinstance(it, dict)] if isinstance(entries, list) else []
+    if len(entries) > 1:
+        one, other = chance.sample(entries, 2)
         one["role"], other["role"] = other.get("role"), one.get("role")
     return record
 
