@@ -39,8 +39,8 @@ use Rattle.comp_lists.proofs.Lists.{AllByRecursion-contains, AllByRecursion-weak
 use Rattle.comp_names.proofs.Judging.{not_distinct}
 use Rattle.comp_names.specs.NameForm.{IsFormed}
 use Rattle.comp_names.specs.Names.{OccursTwice, NamesOk}
-use Rattle.link_laws.specs.Composition.{GeneratedModules, IsComposed, at_root, item_imports, item_exports}
-use Rattle.link_laws.proofs.Marks.{item_type_names, nested_lists_of, no_inner_names, root_type_names, root_nested_names}
+use Rattle.link_laws.specs.Composition.{GeneratedModules, IsComposed, at_root, item_imports, item_exports, item_type_names, names_of_nested}
+use Rattle.link_laws.proofs.Marks.{no_inner_names, root_type_names, root_nested_names}
 use Rattle.comp_encoder.specs.Outputs.{stated_names, name_lists, IsNameCause, ImportsTypeAs, IsCheckCause, IsOutputRefusal}
 use Rattle.comp_encoder.specs.declared.output.OutputFault.TheVariants as outputs
 
@@ -94,20 +94,20 @@ module _ (w : ComponentWorld) (valid : IsWorld w) where
     item_lists earlier (items.InstanceType t) h k = k
     item_lists earlier i h k = tt
 
-    def_lists : (earlier : List Def) (d : Def) → IsRight w earlier d → AllByRecursion P (at_root item_type_names d) → AllByRecursion P (nested_lists_of d) → AllByRecursion P (def_names d)
+    def_lists : (earlier : List Def) (d : Def) → IsRight w earlier d → AllByRecursion P (at_root item_type_names d) → AllByRecursion P (names_of_nested d) → AllByRecursion P (def_names d)
     def_lists earlier (defs.Item i) h k c = item_lists earlier i h k
     def_lists earlier (defs.Component inner) h k c =
         (apart (flat_map item_import inner) h.1.apart, (c.1.0, subst (AllByRecursion P) (sym (no_inner_names h.0.given empty_scope inner h.0.right)) tt))
 
-    pub each_list : (earlier ds : List Def) → RightAfter w earlier ds → AllByRecursion P (flat_map (at_root item_type_names) ds) → AllByRecursion P (flat_map nested_lists_of ds) →
+    pub each_list : (earlier ds : List Def) → RightAfter w earlier ds → AllByRecursion P (flat_map (at_root item_type_names) ds) → AllByRecursion P (flat_map names_of_nested ds) →
         AllByRecursion P (flat_map def_names ds)
     each_list earlier [] h k c = tt
     each_list earlier (d ∷ ds) h k c =
         all_both P (def_names d) (flat_map def_names ds)
         (def_lists earlier d h.0
-        (AllByRecursion-front P (at_root item_type_names d) (flat_map (at_root item_type_names) ds) k) (AllByRecursion-front P (nested_lists_of d) (flat_map nested_lists_of ds) c))
+        (AllByRecursion-front P (at_root item_type_names d) (flat_map (at_root item_type_names) ds) k) (AllByRecursion-front P (names_of_nested d) (flat_map names_of_nested ds) c))
         (each_list (earlier ++ d ∷ []) ds h.1
-        (AllByRecursion-back P (at_root item_type_names d) (flat_map (at_root item_type_names) ds) k) (AllByRecursion-back P (nested_lists_of d) (flat_map nested_lists_of ds) c))
+        (AllByRecursion-back P (at_root item_type_names d) (flat_map (at_root item_type_names) ds) k) (AllByRecursion-back P (names_of_nested d) (flat_map names_of_nested ds) c))
 
 -- what holds of the names of imports holds of those of the functions among them
 all_functions : (P : List ℕ → Type 0) (is : List Item) → AllByRecursion P (flat_map item_import is) → AllByRecursion P (flat_map function_import is)
@@ -131,22 +131,22 @@ functions_apart (i ∷ is) h = functions_apart is h
 abbrev AreApart : List Names → Type 0
 AreApart lists = AllByRecursion (IsDistinct bytes_eq) lists
 
-parts_apart : (d : Def) → AreApart (def_names d) → AreApart (at_root item_type_names d) × AreApart (nested_lists_of d)
+parts_apart : (d : Def) → AreApart (def_names d) → AreApart (at_root item_type_names d) × AreApart (names_of_nested d)
 parts_apart (defs.Item (items.InstanceType t)) h = (h, tt)
 parts_apart (defs.Item i) h = (tt, tt)
 parts_apart (defs.Component inner) h = (tt, (functions_apart inner h.0, (h.1.0, tt)))
 
-each_apart : (ds : List Def) → AreApart (flat_map def_names ds) → AreApart (flat_map (at_root item_type_names) ds) × AreApart (flat_map nested_lists_of ds)
+each_apart : (ds : List Def) → AreApart (flat_map def_names ds) → AreApart (flat_map (at_root item_type_names) ds) × AreApart (flat_map names_of_nested ds)
 each_apart [] h = (tt, tt)
 each_apart (d ∷ ds) h =
     let P : Names → Type 0 = IsDistinct bytes_eq in
     let first = parts_apart d (AllByRecursion-front P (def_names d) (flat_map def_names ds) h) in
-    let rest : AreApart (flat_map (at_root item_type_names) ds) × AreApart (flat_map nested_lists_of ds) = each_apart ds (AllByRecursion-back P (def_names d) (flat_map def_names ds) h) in
-    (all_both P (at_root item_type_names d) (flat_map (at_root item_type_names) ds) first.0 rest.0, all_both P (nested_lists_of d) (flat_map nested_lists_of ds) first.1 rest.1)
+    let rest : AreApart (flat_map (at_root item_type_names) ds) × AreApart (flat_map names_of_nested ds) = each_apart ds (AllByRecursion-back P (def_names d) (flat_map def_names ds) h) in
+    (all_both P (at_root item_type_names d) (flat_map (at_root item_type_names) ds) first.0 rest.0, all_both P (names_of_nested d) (flat_map names_of_nested ds) first.1 rest.1)
 
 -- the lists of names of imports and exports in a list of definitions, but for the types that nested components import
 abbrev extern_lists : List Def → List Names
-extern_lists ds = flat_map def_import ds ∷ flat_map def_export ds ∷ (flat_map (at_root item_type_names) ds ++ flat_map nested_lists_of ds)
+extern_lists ds = flat_map def_import ds ∷ flat_map def_export ds ∷ (flat_map (at_root item_type_names) ds ++ flat_map names_of_nested ds)
 
 -- what holds of the functions and of the types that a right nested component imports holds of all that it imports
 all_imported : (P : List ℕ → Type 0) (given : List ℕ → TypeTree) (s : NestedScope) (is : List Item) → AreItemsRight given s is → AllByRecursion P (flat_map function_import is) → AllByRecursion P (flat_map type_import is) →
@@ -177,7 +177,7 @@ module _ (P : List ℕ → Type 0) where
     imported_types inner h = AllByRecursion-weaker (λ name i. types name (record { key = h.key; id = h.id; item = h.item; imported = i })) (flat_map type_import inner) h.types
 
     def_externs : (earlier : List Def) (d : Def) → IsRight w earlier d → AllByRecursion P (def_import d) → AllByRecursion P (def_export d) → AllByRecursion (AllByRecursion P) (at_root item_type_names d) →
-        AllByRecursion (AllByRecursion P) (nested_lists_of d) → AllByRecursion P (def_extern_names d)
+        AllByRecursion (AllByRecursion P) (names_of_nested d) → AllByRecursion P (def_extern_names d)
     def_externs earlier (defs.Component inner) r i e t c =
         inner_externs inner (all_imported P r.0.given empty_scope inner r.0.right c.0 (imported_types inner r.1)) c.1.0
         (subst (AllByRecursion (AllByRecursion P)) (sym (no_inner_names r.0.given empty_scope inner r.0.right)) tt)
@@ -187,21 +187,21 @@ module _ (P : List ℕ → Type 0) where
     def_externs earlier d r i e t c = tt
 
     each_extern : (earlier ds : List Def) → RightAfter w earlier ds → AllByRecursion P (flat_map def_import ds) → AllByRecursion P (flat_map def_export ds) → AllByRecursion (AllByRecursion P) (flat_map (at_root item_type_names) ds) →
-        AllByRecursion (AllByRecursion P) (flat_map nested_lists_of ds) → AllByRecursion P (extern_names ds)
+        AllByRecursion (AllByRecursion P) (flat_map names_of_nested ds) → AllByRecursion P (extern_names ds)
     each_extern earlier [] r i e t c = tt
     each_extern earlier (d ∷ ds) r i e t c =
         let Q : List (List ℕ) → Type 0 = AllByRecursion P in
         all_both P (def_extern_names d) (extern_names ds)
         (def_externs earlier d r.0 (AllByRecursion-front P (def_import d) (flat_map def_import ds) i) (AllByRecursion-front P (def_export d) (flat_map def_export ds) e)
-        (AllByRecursion-front Q (at_root item_type_names d) (flat_map (at_root item_type_names) ds) t) (AllByRecursion-front Q (nested_lists_of d) (flat_map nested_lists_of ds) c))
+        (AllByRecursion-front Q (at_root item_type_names d) (flat_map (at_root item_type_names) ds) t) (AllByRecursion-front Q (names_of_nested d) (flat_map names_of_nested ds) c))
         (each_extern (earlier ++ d ∷ []) ds r.1 (AllByRecursion-back P (def_import d) (flat_map def_import ds) i) (AllByRecursion-back P (def_export d) (flat_map def_export ds) e)
-        (AllByRecursion-back Q (at_root item_type_names d) (flat_map (at_root item_type_names) ds) t) (AllByRecursion-back Q (nested_lists_of d) (flat_map nested_lists_of ds) c))
+        (AllByRecursion-back Q (at_root item_type_names d) (flat_map (at_root item_type_names) ds) t) (AllByRecursion-back Q (names_of_nested d) (flat_map names_of_nested ds) c))
 
     all_externs : (ds : List Def) → RightAfter w [] ds → AllByRecursion (AllByRecursion P) (extern_lists ds) → AllByRecursion P (extern_names ds)
     all_externs ds r k =
         each_extern [] ds r k.0 k.1.0
-        (AllByRecursion-front (AllByRecursion P) (flat_map (at_root item_type_names) ds) (flat_map nested_lists_of ds) k.1.1)
-        (AllByRecursion-back (AllByRecursion P) (flat_map (at_root item_type_names) ds) (flat_map nested_lists_of ds) k.1.1)
+        (AllByRecursion-front (AllByRecursion P) (flat_map (at_root item_type_names) ds) (flat_map names_of_nested ds) k.1.1)
+        (AllByRecursion-back (AllByRecursion P) (flat_map (at_root item_type_names) ds) (flat_map names_of_nested ds) k.1.1)
 
   -- the names of the imports and of the exports of a nested component
   inner_parts : (is : List Item) → AllByRecursion P (flat_map item_extern_names is) → AllByRecursion P (flat_map item_import is) × AllByRecursion P (flat_map item_export is)
@@ -218,30 +218,30 @@ module _ (P : List ℕ → Type 0) where
     types : AllByRecursion (AllByRecursion P) type_lists
     nested : AllByRecursion (AllByRecursion P) nested_lists
 
-  externs_of : (d : Def) → AllByRecursion P (def_extern_names d) → AreExterns (def_import d) (def_export d) (at_root item_type_names d) (nested_lists_of d)
+  externs_of : (d : Def) → AllByRecursion P (def_extern_names d) → AreExterns (def_import d) (def_export d) (at_root item_type_names d) (names_of_nested d)
   externs_of (defs.Component inner) h = let parts = inner_parts inner h in record { imported = tt; exported = tt; types = tt; nested = (all_functions P inner parts.0, (parts.1, tt)) }
   externs_of (defs.Item (items.Import name description)) h = record { imported = h; exported = tt; types = tt; nested = tt }
   externs_of (defs.Item (items.Export name sort index description)) h = record { imported = tt; exported = h; types = tt; nested = tt }
   externs_of (defs.Item (items.InstanceType type)) h = record { imported = tt; exported = tt; types = (h, tt); nested = tt }
   externs_of (defs.Item i) h = record { imported = tt; exported = tt; types = tt; nested = tt }
 
-  each_externs_of : (ds : List Def) → AllByRecursion P (extern_names ds) → AreExterns (flat_map def_import ds) (flat_map def_export ds) (flat_map (at_root item_type_names) ds) (flat_map nested_lists_of ds)
+  each_externs_of : (ds : List Def) → AllByRecursion P (extern_names ds) → AreExterns (flat_map def_import ds) (flat_map def_export ds) (flat_map (at_root item_type_names) ds) (flat_map names_of_nested ds)
   each_externs_of [] h = record { imported = tt; exported = tt; types = tt; nested = tt }
   each_externs_of (d ∷ ds) h =
       let first = externs_of d (AllByRecursion-front P (def_extern_names d) (extern_names ds) h) in
-      let rest : AreExterns (flat_map def_import ds) (flat_map def_export ds) (flat_map (at_root item_type_names) ds) (flat_map nested_lists_of ds) =
+      let rest : AreExterns (flat_map def_import ds) (flat_map def_export ds) (flat_map (at_root item_type_names) ds) (flat_map names_of_nested ds) =
       each_externs_of ds (AllByRecursion-back P (def_extern_names d) (extern_names ds) h) in
       record {
         imported = all_both P (def_import d) (flat_map def_import ds) first.imported rest.imported;
         exported = all_both P (def_export d) (flat_map def_export ds) first.exported rest.exported;
         types = all_both (AllByRecursion P) (at_root item_type_names d) (flat_map (at_root item_type_names) ds) first.types rest.types;
-        nested = all_both (AllByRecursion P) (nested_lists_of d) (flat_map nested_lists_of ds) first.nested rest.nested;
+        nested = all_both (AllByRecursion P) (names_of_nested d) (flat_map names_of_nested ds) first.nested rest.nested;
       }
 
   each_extern_list : (ds : List Def) → AllByRecursion P (extern_names ds) → AllByRecursion (AllByRecursion P) (extern_lists ds)
   each_extern_list ds h =
       let externs = each_externs_of ds h in
-      (externs.imported, (externs.exported, all_both (AllByRecursion P) (flat_map (at_root item_type_names) ds) (flat_map nested_lists_of ds) externs.types externs.nested))
+      (externs.imported, (externs.exported, all_both (AllByRecursion P) (flat_map (at_root item_type_names) ds) (flat_map names_of_nested ds) externs.types externs.nested))
 
 -- the names of what is stated
 import_name : (d : Def) → def_import d ≡ stated_names (at_root item_imports d)
@@ -285,8 +285,8 @@ module _ (n : Naming) (w : ComponentWorld) (ds : List Def) (valid : IsWorld w) (
       let stated : AllByRecursion P (extern_lists ds) =
       subst (AllByRecursion P) (sym all_lists) (AllByRecursion-weaker {Q = P} (λ l c t. (l, c, t)) (name_lists n w) (each_contained (name_lists n w))) in
       let others : AllByRecursion P (flat_map def_names ds) = each_list w valid P (λ l apart t. absurd (never_twice name l apart t)) [] ds built.right
-      (AllByRecursion-front P (flat_map (at_root item_type_names) ds) (flat_map nested_lists_of ds) stated.1.1)
-      (AllByRecursion-back P (flat_map (at_root item_type_names) ds) (flat_map nested_lists_of ds) stated.1.1) in
+      (AllByRecursion-front P (flat_map (at_root item_type_names) ds) (flat_map names_of_nested ds) stated.1.1)
+      (AllByRecursion-back P (flat_map (at_root item_type_names) ds) (flat_map names_of_nested ds) stated.1.1) in
       AllByRecursion-contains P (names ds) list (stated.0, (stated.1.0, others)) there twice
 
   -- each name of an import or export is in one of them, or is that of a type that a nested component imports
@@ -317,7 +317,7 @@ module _ (n : Naming) (w : ComponentWorld) (ds : List Def) (valid : IsWorld w) (
   no_name_cause ok (checks.NameTwice name) h =
       let P : Names → Type 0 = IsDistinct bytes_eq in
       let parts = each_apart ds ok.0.1.1 in
-      let apart : AllByRecursion P (name_lists n w) = subst (AllByRecursion P) all_lists (ok.0.0, (ok.0.1.0, all_both P (flat_map (at_root item_type_names) ds) (flat_map nested_lists_of ds) parts.0 parts.1)) in
+      let apart : AllByRecursion P (name_lists n w) = subst (AllByRecursion P) all_lists (ok.0.0, (ok.0.1.0, all_both P (flat_map (at_root item_type_names) ds) (flat_map names_of_nested ds) parts.0 parts.1)) in
       never_twice name h.0 (AllByRecursion-contains P (name_lists n w) h.0 apart h.1) h.2
   no_name_cause ok (checks.NameForm name) h =
       let formed : AllByRecursion (AllByRecursion IsFormed) (name_lists n w) =

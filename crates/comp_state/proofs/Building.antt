@@ -34,13 +34,13 @@ use Rattle.comp_terms.specs.Rules.{Grows, RightAfter, Landmark, bytes_marked, la
 use Rattle.root_imports.specs.Growing.{Grows-then}
 
 -- a list that grew from the empty one
-pub built_from : (n : Naming) (w : ComponentWorld) (o : Option GeneratedBytes) → MayBeGenerated w o → (old new : List Def) → old ≡ [] → Grows w old new (expected n w o) → IsUnnamed n w new
+pub built_from : (n : Naming) (w : ComponentWorld) (o : Option GeneratedBytes) → MayBeGenerated w n.debug_names o → (old new : List Def) → old ≡ [] → Grows w old new (expected n w o) → IsUnnamed n w new
 built_from n w o generated old new empty g =
     let same : new ≡ g.more = g.extended ∙ ap (λ l. l ++ g.more) empty in
     let right : RightAfter w [] g.more = subst (λ l. RightAfter w l g.more) empty g.right in
     record { generated = o; are_generated = generated; right = subst (λ l. RightAfter w [] l) (sym same) right; marked = ap landmarks same ∙ g.marked }
 
-pub built_by_steps : (n : Naming) (w : ComponentWorld) (a b c d e : List Def) → a ≡ [] → Grows w a b (imports_marked n w) → Grows w b c (bytes_marked n.debug_names w) → AddsInstances w c d → Grows w d e (exports_marked n w) → IsUnnamed n w e
+pub built_by_steps : (n : Naming) (w : ComponentWorld) (a b c d e : List Def) → a ≡ [] → Grows w a b (imports_marked n w) → Grows w b c (bytes_marked n.debug_names w) → AddsInstances w n.debug_names c d → Grows w d e (exports_marked n w) → IsUnnamed n w e
 built_by_steps n w a b c d e empty imports main added exports =
     built_from n w added.generated added.are_generated a e empty
     (subst (λ m. Grows w a e m) (modules_are added.generated) (Grows-then imports (Grows-then main (Grows-then added.grows exports))))

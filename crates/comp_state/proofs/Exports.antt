@@ -43,7 +43,7 @@ none_instantiated w (Some g) =
     none_defined (provided_resources w) (users_marked w ++ fixup_marked w g.fixup)
     ∙ (none_made (range_with_len 0 (length (user_modules w))) (fixup_marked w g.fixup) ∙ no_fixup w g.fixup)
 
-pub none_exported : (n : Naming) (w : ComponentWorld) (a b c d : List Def) → a ≡ [] → Grows w a b (imports_marked n w) → Grows w b c (bytes_marked n.debug_names w) → AddsInstances w c d → exports_in d ≡ 0
+pub none_exported : (n : Naming) (w : ComponentWorld) (a b c d : List Def) → a ≡ [] → Grows w a b (imports_marked n w) → Grows w b c (bytes_marked n.debug_names w) → AddsInstances w n.debug_names c d → exports_in d ≡ 0
 none_exported n w a b c d empty imports main added =
     let first : exports_in a ≡ 0 = ap exports_in empty in
     let imported : exports_in b ≡ exports_in a + exported_marks (imports_marked n w) = exports_grow imports in

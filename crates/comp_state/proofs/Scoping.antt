@@ -33,7 +33,7 @@ use Rattle.comp_roles.specs.declared.imports.ImportInstance.TheVariants as insta
 use Rattle.comp_worlds.specs.declared.world.ComponentWorld.{ComponentWorld}
 use Rattle.comp_links.specs.Targets.{UserModule, ExportRef}
 use Rattle.comp_links.specs.Links.{destructor_of}
-use Rattle.comp_terms.specs.Exports.{IsArgumentIn, IsArgumentRight}
+use Rattle.comp_terms.specs.Instances.{IsArgumentIn, IsArgumentRight}
 use Rattle.comp_terms.specs.Planned.{IsArgumentFor}
 use Rattle.comp_inventories.specs.Inventories as inventories
 use Rattle.comp_inventories.specs.Inventories.{surroundings_of}
@@ -43,7 +43,8 @@ use Rattle.comp_trees.proofs.KnownScopes.{known_defined, known_function_names}
 use Rattle.comp_trees.proofs.MemberScopes.{members_scoped}
 use Rattle.comp_items.proofs.Kept.{function_in_range}
 use Rattle.comp_state.proofs.Nesting.{nested_scoped}
-use Rattle.comp_terms.specs.Rules.{AliasesImported, AliasesType, ImportsInterface, InstantiatesModule, IsOptionRight, IsLowerOptionRight, IsTypeRight, IsDestructorRight, IsIntrinsicRight, IsRight, RightAfter, IsEntry, IsBuilt}
+use Rattle.comp_terms.specs.Instances.{ImportsInterface}
+use Rattle.comp_terms.specs.Rules.{AliasesImported, AliasesType, InstantiatesModule, IsOptionRight, IsLowerOptionRight, IsTypeRight, IsDestructorRight, IsIntrinsicRight, IsRight, RightAfter, IsEntry, IsBuilt}
 
 abbrev Within : List Def → Reference → Type 0
 Within earlier = InScope (scope_of space_of earlier ∷ [])

@@ -162,7 +162,7 @@ impl EncodingState<'_> {
         ensures extends { Extends self.old.built self.new.built }
         ensures ordered { OnOk result (AreExportsInOrder self.old.world) }
         ensures in_order { OnOk result (AreMadeInOrder self.old.world) }
-        ensures added { OnOk result (AddsInstances self.old.world self.old.built.defs self.new.built.defs) }
+        ensures added { OnOk result (AddsInstances self.old.world self.old.debug_names self.old.built.defs self.new.built.defs) }
         ensures encoded { OnOk result (AllByRecursion (λ (i : UserImport). IsSuppliedImport self.old.world i.of i.core.role) (user_imports self.old.world)) }
         ensures lowered { OnOk result (AllByRecursion (HasLowerOptions self.old.world) (user_imports self.old.world)) }
         ensures cause { IfErr result (IsCause self.old.world) }

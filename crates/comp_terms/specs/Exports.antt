@@ -1,12 +1,10 @@
 -- The instances of nested components, and what the component exports: functions, and such instances in the place of
 -- interfaces (component model, explainer: instance definitions, export definitions).
-use Rattle.std.specs.Prelude.{◌≡◌, ◌<◌, ℕ, List, length, map, get_or, slice_get, Some}
+use Rattle.std.specs.Prelude.{◌≡◌, ℕ, List, length, slice_get, Some}
 use Rattle.std.specs.List.{AllByRecursion, IsDistinct, flat_map}
 use Rattle.std.specs.Str.{bytes_eq}
 use Rattle.comp_bytes.specs.ItemIndices.{IsAt}
 use Rattle.comp_bytes.specs.ScopeNames.{def_export, item_import}
-use Rattle.comp_bytes.specs.Spaces.{items_in}
-use Rattle.comp_bytes.specs.declared.space.Sort.{Sort}
 use Rattle.comp_bytes.specs.declared.space.Sort.TheVariants as sorts
 use Rattle.comp_bytes.specs.declared.space.Space.TheVariants as spaces
 use Rattle.comp_bytes.specs.declared.def.Argument.{Argument}
@@ -19,21 +17,15 @@ use Rattle.wit_data.specs.declared.functions.Function.{Function as WitFunction}
 use Rattle.wit_data.specs.declared.ids.InterfaceId.{InterfaceId}
 use Rattle.wit_data.specs.declared.worlds.WorldItem.TheVariants as world_items
 use Rattle.wit_data.specs.declared.worlds.WorldKey.{WorldKey}
-use Rattle.comp_trees.specs.DefinedTrees.{TypeTree}
-use Rattle.comp_trees.specs.DefinedScopes.{Denotes}
-use Rattle.comp_inventories.specs.Inventories.{inventory, scope_of, no_function, argument_named}
-use Rattle.nested_terms.specs.Nested.{NestedFunction, NestedImport, ImportedFunction, ImportedType, NestedExport, type_import, empty_scope, function_named, type_named, imports_after, exports_after, AreItemsRight}
+use Rattle.comp_inventories.specs.Inventories.{argument_named}
+use Rattle.nested_terms.specs.Nested.{NestedFunction, NestedExport, type_import, empty_scope, function_named, type_named, exports_after}
 use Rattle.comp_worlds.specs.WorldContents.{exported_item, function_exported}
 use Rattle.comp_worlds.specs.declared.world.ComponentWorld.{ComponentWorld}
 use Rattle.comp_links.specs.Links.{lift_of}
 use Rattle.comp_links.specs.Lists.{RequiredKey, required_keys, RequiredFunction, functions_required, type_of_world, IsTypeImport}
 use Rattle.comp_links.specs.Targets.{Target}
+use Rattle.comp_terms.specs.Instances.{InstantiatesNested}
 use Rattle.comp_terms.specs.Planned.{type_of_function, IsLiftFor}
-
--- the items of a nested component are right, where some types are given for its imports
-pub record IsNestedRight (definitions : List Item) : Type 0 where
-  pub given : List ℕ → TypeTree
-  pub right : AreItemsRight given empty_scope definitions
 
 -- A nested component is one of an exported interface: the types that it imports are named after types of the interface or of others
 -- that it may use, and no two of its imports have one name.
@@ -43,43 +35,6 @@ pub record IsNestedFor (w : ComponentWorld) (definitions : List Item) : Type 0 w
   pub item : exported_item w key ≡ Some (world_items.Interface id)
   pub types : AllByRecursion (IsTypeImport w id) (flat_map type_import definitions)
   pub apart : IsDistinct bytes_eq (flat_map item_import definitions)
-
--- ---- arguments
-
--- the import of a function is given a function of its type
-pub record IsFunctionGiven (earlier : List Def) (arguments : List Argument) (name : List ℕ) (type : TypeTree) : Type 0 where
-  pub argument : Argument
-  pub named : argument_named sorts.Func name arguments ≡ Some argument
-  pub typed : (get_or (inventory earlier).functions argument.index no_function).type ≡ type
-
--- the import of a type is given a type that denotes this
-pub record IsTypeGiven (earlier : List Def) (arguments : List Argument) (name : List ℕ) (tree : TypeTree) : Type 0 where
-  pub argument : Argument
-  pub named : argument_named sorts.Type name arguments ≡ Some argument
-  pub denotes : Denotes (scope_of earlier) argument.index tree
-
-abbrev pub IsImportGiven : List Def → List Argument → NestedImport → Type 0
-IsImportGiven earlier arguments (ImportedFunction name type) = IsFunctionGiven earlier arguments name type
-IsImportGiven earlier arguments (ImportedType name tree) = IsTypeGiven earlier arguments name tree
-
--- an argument is an earlier function or an earlier type
-abbrev pub IsArgumentIn : List Def → Sort → ℕ → Type 0
-IsArgumentIn earlier sorts.Func index = index < items_in spaces.Func earlier
-IsArgumentIn earlier sorts.Type index = index < items_in spaces.Type earlier
-IsArgumentIn earlier sort index = ⊥
-
-abbrev pub IsArgumentRight : List Def → Argument → Type 0
-IsArgumentRight earlier a = IsArgumentIn earlier a.sort a.index
-
--- a nested component is instantiated: it is right, and each of its imports is given an argument
-pub record InstantiatesNested (earlier : List Def) (component : ℕ) (arguments : List Argument) : Type 0 where
-  pub definitions : List Item
-  pub given : List ℕ → TypeTree
-  pub made : IsAt earlier spaces.Component component (defs.Component definitions)
-  pub scoped : AllByRecursion (IsArgumentRight earlier) arguments
-  pub apart : IsDistinct bytes_eq (map (λ a. a.name) arguments)
-  pub right : AreItemsRight given empty_scope definitions
-  pub each : AllByRecursion (IsImportGiven earlier arguments) (imports_after given empty_scope definitions)
 
 -- ---- exports
 

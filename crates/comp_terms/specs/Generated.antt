@@ -46,18 +46,18 @@ abbrev pub IsFixup : ComponentWorld → Bool → Option (List ℕ) → Type 0
 IsFixup w debug_names None = shims_of w ≡ []
 IsFixup w debug_names (Some bytes) = Encodes bytes (sections_of_fixup (shims_of w) debug_names) × (shims_of w ≡ [] → ⊥)
 
--- they encode the modules that are generated for the shims of the world and the memory that main imports: it has shims or such a memory
-pub record AreGenerated (w : ComponentWorld) (g : GeneratedBytes) : Type 0 where
-  pub debug_names : Bool
+-- they encode the modules that are generated for the shims of the world and the memory that main imports, with debug names or without: it has
+-- shims or such a memory
+pub record AreGenerated (w : ComponentWorld) (debug_names : Bool) (g : GeneratedBytes) : Type 0 where
   pub shims : Encodes g.shims (sections_of_shims (shared_memory w) (shims_of w) debug_names)
   pub fixup : IsFixup w debug_names g.fixup
   pub any : shims_of w ≡ [] → IsSome (shared_memory w)
   pub room : length (shims_of w) < 2 ^ 32
 
 -- the same, where there are any
-abbrev pub MayBeGenerated : ComponentWorld → Option GeneratedBytes → Type 0
-MayBeGenerated w None = Unit {0}
-MayBeGenerated w (Some g) = AreGenerated w g
+abbrev pub MayBeGenerated : ComponentWorld → Bool → Option GeneratedBytes → Type 0
+MayBeGenerated w debug_names None = Unit {0}
+MayBeGenerated w debug_names (Some g) = AreGenerated w debug_names g
 
 -- ---- what shims stand for
 

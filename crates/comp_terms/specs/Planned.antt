@@ -1,6 +1,6 @@
 -- Which terms the link table of a world asks for (Canonical ABI: `canon lower`, `canon lift`; component model, explainer:
 -- core instances), and what the instances of its modules are given.
-use Rattle.std.specs.Prelude.{◌≡◌, ◌⊎◌, ℕ, List, Option, Some, None, codes, slice_get}
+use Rattle.std.specs.Prelude.{◌≡◌, ◌⊎◌, ℕ, List, Option, Some, None, codes, slice_get, IsTrue}
 use Rattle.std.specs.Fmt.{decimal}
 use Rattle.std.specs.List.{AllZip}
 use Rattle.comp_bytes.specs.ItemIndices.{IsAt}
@@ -16,6 +16,7 @@ use Rattle.standard_kinds.specs.declared.kinds.ExportKind.TheVariants as kinds
 use Rattle.core_types.specs.declared.types.MemoryType.{MemoryType}
 use Rattle.comp_roles.specs.Lookups.{first_memory}
 use Rattle.comp_roles.specs.declared.imports.Import.{Import}
+use Rattle.comp_roles.specs.declared.imports.Import.TheVariants as imports
 use Rattle.comp_roles.specs.declared.imports.ImportInstance.{ImportInstance}
 use Rattle.comp_roles.specs.declared.imports.ImportInstance.TheVariants as instances
 use Rattle.comp_roles.specs.declared.libraries.MainOrAdapter.{MainOrAdapter}
@@ -29,9 +30,12 @@ use Rattle.comp_links.specs.Modules.{IsModule, function_imported}
 use Rattle.comp_links.specs.Lists.{IsOriginOf, resource_of}
 use Rattle.comp_links.specs.Links.{link_of, module_of}
 use Rattle.comp_links.specs.Supplied.{IsSuppliedImport}
+use Rattle.shim_plan.specs.declared.kinds.ShimKind.{ShimKind}
+use Rattle.shim_plan.specs.declared.kinds.ShimKind.TheVariants as shim_kinds
 use Rattle.shim_plan.specs.declared.shims.Shim.{Shim}
 use Rattle.world_shims.specs.WorldShims.{shims_of}
-use Rattle.comp_terms.specs.Generated.{shims_number, Purpose, target_of, HasPurpose}
+use Rattle.comp_terms.specs.Generated.{shims_number, role_of_kind, Purpose, target_of, HasPurpose}
+use Rattle.comp_terms.specs.Shimmed.{has_shim}
 use Rattle.comp_worlds.specs.Offered.{shared_memory}
 use Rattle.comp_terms.specs.Terms.{CoreExport, TermOption, Term, IsInstanceOf, IsExported, IsLifting, Is}
 use Rattle.comp_terms.specs.Terms as terms
@@ -117,9 +121,26 @@ pub record IsShimFor (w : ComponentWorld) (ds : List Def) (space : Space) (index
   pub in_space : space ≡ spaces.CoreFunc
   pub is : IsExported ds index (shim_export w place)
 
--- the item of this index is given where the target is asked for: it is what the target names, or a shim that stands for that
-abbrev pub IsGivenFor : ComponentWorld → List Def → Space → ℕ → Target → Type 0
-IsGivenFor w ds space index target = IsItemFor w ds space index target ⊎ IsShimFor w ds space index target
+-- the same, for a shim of this kind
+pub record IsShimOfKind (w : ComponentWorld) (ds : List Def) (space : Space) (index : ℕ) (target : Target) (kind : ShimKind) : Type 0 where
+  pub shim : IsShimFor w ds space index target
+  pub of_kind : shim.stands.shim.kind ≡ kind
+
+-- a shim of the kind of an import's role, which has one
+pub record IsCallShim (w : ComponentWorld) (of : UserModule) (ds : List Def) (space : Space) (index : ℕ) (role : Import) : Type 0 where
+  pub shim : IsShimFor w ds space index (link_of w of role)
+  pub of_kind : role_of_kind w shim.stands.shim.kind ≡ Some (of, role)
+  pub shimmed : IsTrue (has_shim w role)
+
+-- the item of this index is the shim of an import: that of the function which an adapter exports, or of its own lowering
+abbrev pub IsOwnShim : ComponentWorld → UserModule → List Def → Space → ℕ → Import → Type 0
+IsOwnShim w of ds space index (imports.AdapterExport adapter name type) =
+    IsShimOfKind w ds space index (link_of w of (imports.AdapterExport adapter name type)) (shim_kinds.Adapter adapter name)
+IsOwnShim w of ds space index role = IsCallShim w of ds space index role
+
+-- the item of this index is given for an import of this role: it is what the link table names, or the import's own shim
+abbrev pub IsGivenFor : ComponentWorld → UserModule → List Def → Space → ℕ → Import → Type 0
+IsGivenFor w of ds space index role = IsItemFor w ds space index (link_of w of role) ⊎ IsOwnShim w of ds space index role
 
 -- the function of this index is a lift of this type that the target names
 pub record IsLiftFor (w : ComponentWorld) (ds : List Def) (index : ℕ) (target : Target) (type : FunctionTree) : Type 0 where
@@ -133,7 +154,7 @@ pub record IsLiftFor (w : ComponentWorld) (ds : List Def) (index : ℕ) (target 
 -- the entry of an inline instance is what the import of this field is given
 pub record IsEntryFor (w : ComponentWorld) (of : UserModule) (ds : List Def) (e : CoreInlineExport) (field : List ℕ × Import) : Type 0 where
   pub named : e.name ≡ field.0
-  pub serves : IsGivenFor w ds (kind_space e.kind) e.index (link_of w of field.1)
+  pub serves : IsGivenFor w of ds (kind_space e.kind) e.index field.1
   pub supplied : IsSuppliedImport w of field.1
 
 -- the core instance is an inline instance with an entry for each field, in order

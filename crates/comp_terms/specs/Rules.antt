@@ -32,17 +32,15 @@ use Rattle.comp_bytes.specs.declared.def.Item.TheVariants as items
 use Rattle.comp_bytes.specs.declared.def.Def.{Def}
 use Rattle.comp_bytes.specs.declared.def.Def.TheVariants as defs
 use Rattle.comp_lists.specs.Found.{found}
-use Rattle.wit_data.specs.declared.ids.InterfaceId.{InterfaceId}
 use Rattle.wit_data.specs.declared.ids.TypeId.{TypeId}
 use Rattle.comp_trees.specs.Trees.{Origin, Resource, ImportedAt, DefinedAt, ResourceAt, FunctionTree, is_known, is_known_function}
 use Rattle.comp_trees.specs.DefinedTrees.{TypeTree, OfValues, OfOthers, defined_tree, function_tree}
 use Rattle.comp_trees.specs.Members.{AreMembersRight, exports_name}
-use Rattle.comp_inventories.specs.Inventories.{OfInstances, ImportedInstance, NestedInstance, surroundings_of, inventory, scope_of}
+use Rattle.comp_inventories.specs.Inventories.{ImportedInstance, NestedInstance, surroundings_of, inventory, scope_of}
 use Rattle.comp_roles.specs.Matching.{kind_of}
 use Rattle.comp_roles.specs.declared.offered.ExternType.{ExternType}
 use Rattle.wit_data.specs.declared.worlds.WorldItem.{WorldItem}
 use Rattle.wit_data.specs.declared.worlds.WorldItem.TheVariants as world_items
-use Rattle.wit_data.specs.declared.worlds.WorldKey.{WorldKey}
 use Rattle.nested_terms.specs.Naming.{import_names}
 use Rattle.nested_terms.specs.Nested.{NestedExport, function_import, type_named}
 use Rattle.comp_worlds.specs.WorldContents.{exported_item}
@@ -59,7 +57,8 @@ use Rattle.comp_terms.specs.UserBytes.{user_bytes}
 use Rattle.comp_terms.specs.Generated.{shims_number, fixup_number, GeneratedBytes, MayBeGenerated}
 use Rattle.comp_worlds.specs.Offered.{shared_memory}
 use Rattle.comp_terms.specs.Planned.{IsArgumentFor, AreFillsFor, IsShimFor}
-use Rattle.comp_terms.specs.Exports.{IsNestedRight, IsNestedFor, InstantiatesNested, ExportsFunction, ExportsInterface}
+use Rattle.comp_terms.specs.Instances.{ImportsInterface, IsNestedRight, InstantiatesNested}
+use Rattle.comp_terms.specs.Exports.{IsNestedFor, ExportsFunction, ExportsInterface}
 
 -- ---- landmarks
 
@@ -223,17 +222,6 @@ pub record ImportsType (w : ComponentWorld) (earlier : List Def) (name : List �
 abbrev pub resource_here : List Def → TypeTree
 resource_here earlier = OfValues (ResourceAt (ImportedAt (record { number = imports_in earlier; inner = None })))
 
--- the next import is, in the world, an interface, and the index names a type of instances with members that are right in this
--- import
-pub record ImportsInterface (w : ComponentWorld) (earlier : List Def) (index : ℕ) : Type 0 where
-  pub key : WorldKey
-  pub id : InterfaceId
-  pub stated : slice_get (import_entries w) (imports_in earlier) ≡ Some (ImportedInterface key id)
-  pub outer : List TypeTree
-  pub members : List Member
-  pub is : slice_get (inventory earlier).types index ≡ Some (OfInstances outer members)
-  pub right : AreMembersRight (surroundings_of (imports_in earlier) outer) [] members
-
 abbrev pub IsDescriptionRight : ComponentWorld → List Def → List ℕ → Description → Type 0
 IsDescriptionRight w earlier name (descriptions.Func kind) = HasFunctionType earlier kind
 IsDescriptionRight w earlier name (descriptions.TypeEqual index) = (index < length (scope_of earlier)) × ImportsType w earlier name (get_or (scope_of earlier) index OfOthers)
@@ -378,14 +366,14 @@ expected n w g = imports_marked n w ++ (modules_marked n.debug_names w g ++ expo
 -- a component for the world, without the names of its items
 pub record IsUnnamed (n : Naming) (w : ComponentWorld) (ds : List Def) : Type 0 where
   pub generated : Option GeneratedBytes
-  pub are_generated : MayBeGenerated w generated
+  pub are_generated : MayBeGenerated w n.debug_names generated
   pub right : RightAfter w [] ds
   pub marked : landmarks ds ≡ expected n w generated
 
 -- a whole component for the world
 pub record IsBuilt (n : Naming) (w : ComponentWorld) (ds : List Def) : Type 0 where
   pub generated : Option GeneratedBytes
-  pub are_generated : MayBeGenerated w generated
+  pub are_generated : MayBeGenerated w n.debug_names generated
   pub front : List Def
   pub names : List Def
   pub whole : ds ≡ front ++ names

@@ -70,18 +70,18 @@ fixup_next w debug_names old mid new (Some instance) users h g = λ any.
 
 -- ---- all of them
 
-pub all_added : (w : ComponentWorld) (debug_names : Bool) (a b c d : List Def) (shims : Option ℕ) → MayAddShims w debug_names a b shims → Grows w b c (resources_marked w ++ users_marked w) → MayAddFixup w debug_names c d → AddsInstances w a d
+pub all_added : (w : ComponentWorld) (debug_names : Bool) (a b c d : List Def) (shims : Option ℕ) → MayAddShims w debug_names a b shims → Grows w b c (resources_marked w ++ users_marked w) → MayAddFixup w debug_names c d → AddsInstances w debug_names a d
 all_added w debug_names a b c d None h g (inl f) = record { generated = None; are_generated = tt; grows = subst (λ l. Grows w a l (resources_marked w ++ users_marked w)) (sym f.1) (subst (λ l. Grows w l c (resources_marked w ++ users_marked w)) h.2 g) }
 all_added w debug_names a b c d None h g (inr f) = absurd (f.0 h.0)
 all_added w debug_names a b c d (Some instance) h g (inl f) = record {
   generated = Some (record { shims = h.0.bytes; fixup = None });
-  are_generated = record { debug_names = debug_names; shims = h.0.encodes; fixup = f.0; any = h.1; room = h.0.room };
+  are_generated = record { shims = h.0.encodes; fixup = f.0; any = h.1; room = h.0.room };
   grows = subst (λ m. Grows w a d (ModuleIs h.0.bytes ∷ InstanceOf (shims_number w) ∷ m)) (ap (λ l. resources_marked w ++ l) (sym (append-nil (users_marked w)))) (Grows-then h.0.grows (subst (λ l. Grows w b l (resources_marked w ++ users_marked w)) (sym f.1) g));
 }
 all_added w debug_names a b c d (Some instance) h g (inr f) =
     let fixed : List Landmark = ModuleIs f.1.bytes ∷ InstanceOf (fixup_number w) ∷ [] in
     record {
       generated = Some (record { shims = h.0.bytes; fixup = Some f.1.bytes });
-      are_generated = record { debug_names = debug_names; shims = h.0.encodes; fixup = (f.1.encodes, f.0); any = h.1; room = h.0.room };
+      are_generated = record { shims = h.0.encodes; fixup = (f.1.encodes, f.0); any = h.1; room = h.0.room };
       grows = subst (λ m. Grows w a d (ModuleIs h.0.bytes ∷ InstanceOf (shims_number w) ∷ m)) (append_assoc (resources_marked w) (users_marked w) fixed) (Grows-then h.0.grows (Grows-then g f.1.grows));
     }

@@ -103,9 +103,9 @@ instances_marked w None = resources_marked w ++ users_marked w
 instances_marked w (Some g) = ModuleIs g.shims ∷ InstanceOf (shims_number w) ∷ (resources_marked w ++ (users_marked w ++ fixup_marked w g.fixup))
 
 -- the instances of the user modules, between those of the shims and of the fixup, where there are any
-pub record AddsInstances (w : ComponentWorld) (old new : List Def) : Type 0 where
+pub record AddsInstances (w : ComponentWorld) (debug_names : Bool) (old new : List Def) : Type 0 where
   pub generated : Option GeneratedBytes
-  pub are_generated : MayBeGenerated w generated
+  pub are_generated : MayBeGenerated w debug_names generated
   pub grows : Grows w old new (instances_marked w generated)
 
 -- the fixup's module is the next one, and its instance comes after those of the shims and of the user modules

@@ -57,7 +57,7 @@ pub fn encode_core_instantiation(
     requires made { AreImportsMade root.old.world.now functions.now root.old.met root.old.items.defs root.old.maps root.old.instances }
     requires users { AreUserModules root.old.world.now root.old.items.defs }
     ensures moved { RootMoved root.old.world.now root.old root.new }
-    ensures added { OnOk result (AddsInstances root.old.world.now root.old.items.defs root.new.items.defs) }
+    ensures added { OnOk result (AddsInstances root.old.world.now debug_names root.old.items.defs root.new.items.defs) }
     ensures ordered { OnOk result (AreExportsInOrder root.old.world.now) }
     ensures met { OnOk result (AreExportsMet root.old.world.now root.new.met) }
     ensures made { IfOk result (AreUserInstances root.old.world.now root.new.items.defs) }

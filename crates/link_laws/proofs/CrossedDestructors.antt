@@ -69,7 +69,8 @@ use Rattle.comp_terms.specs.Generated.{GeneratedBytes, AreGenerated, IsShimOfExp
 use Rattle.comp_terms.specs.Terms.{CoreExport, IsInstanceOf, IsExported}
 use Rattle.comp_terms.specs.Terms as terms
 use Rattle.comp_terms.specs.Planned.{IsFillFor, AreFillsFor, IsShimFor}
-use Rattle.comp_terms.specs.Exports.{IsNestedFor, InstantiatesNested, ExportsInterface}
+use Rattle.comp_terms.specs.Instances.{InstantiatesNested}
+use Rattle.comp_terms.specs.Exports.{IsNestedFor, ExportsInterface}
 use Rattle.comp_terms.specs.Rules.{AliasesUser, AliasesShim, DefinesResource, IsDestructorRight, InstantiatesFixup, IsBuilt}
 use Rattle.shim_plan.specs.declared.kinds.ShimKind.TheVariants as shim_kinds
 use Rattle.shim_plan.specs.declared.shims.Shim.{Shim}
@@ -260,9 +261,9 @@ fixup_encoded : Encodes fixup_bytes fixup_module
 unfolding leb128 signed_within
 fixup_encoded = (all_below (encoding_of fixup_module).counts refl, refl)
 
-unfoldable are_generated : AreGenerated world bytes
+unfoldable are_generated : AreGenerated world false bytes
 unfolding values_from digits
-are_generated = record { debug_names = false; shims = shims_encoded; fixup = (fixup_encoded, λ e. cc); any = λ e. cc; room = omega arith }
+are_generated = record { shims = shims_encoded; fixup = (fixup_encoded, λ e. cc); any = λ e. cc; room = omega arith }
 
 -- ---- a list for it, where r and s have these destructors, and the nested component is given these types for them
 
@@ -424,6 +425,7 @@ instantiated_14 = record {
   made = record { made = refl };
   scoped = (omega arith, (omega arith, tt));
   apart = imports_apart;
+  exact = refl;
   right = nested_right;
   each = (record { argument = _; named = refl; denotes = record { within = omega arith; tree = refl } }, (record { argument = _; named = refl; denotes = record { within = omega arith; tree = refl } }, tt));
 }
@@ -436,6 +438,7 @@ instantiated_15 = record {
   made = record { made = refl };
   scoped = (omega arith, (omega arith, tt));
   apart = imports_apart;
+  exact = refl;
   right = nested_right;
   each = (record { argument = _; named = refl; denotes = record { within = omega arith; tree = refl } }, (record { argument = _; named = refl; denotes = record { within = omega arith; tree = refl } }, tt));
 }

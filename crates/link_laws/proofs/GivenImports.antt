@@ -1,8 +1,8 @@
 -- What the arguments of a user module's instantiation are, and what its imports find among them.
-use Rattle.std.proofs.Common.{◌≡◌, ◌∙◌, inl, inr, ℕ, List, [], ◌∷◌, map, refl, sym, ap, subst, Option, Some, None, true, Contains}
+use Rattle.std.proofs.Common.{◌≡◌, ◌∙◌, inl, inr, ℕ, List, [], ◌∷◌, map, refl, sym, ap, subst, Option, Some, None, true, false, true≢false, IsTrue, Contains}
 use Rattle.std.proofs.lemmas.Option.{same_Some, none-some}
 use Rattle.std.specs.List.{AllZip, AllByRecursion}
-use Rattle.std.specs.Option.{option_map, option_and_then}
+use Rattle.std.specs.Option.{option_map, option_map_or, option_and_then}
 use Rattle.comp_lists.specs.Found.{found}
 use Rattle.comp_lists.proofs.Lists.{AllZip-weaker}
 use Rattle.comp_bytes.specs.Spaces.{kind_space}
@@ -50,7 +50,8 @@ use Rattle.shim_plan.specs.declared.shims.Shim.{Shim}
 use Rattle.world_shims.specs.WorldShims.{type_of_shim}
 use Rattle.comp_terms.specs.Generated.{interface_imported, role_of_kind, export_of_kind, IsShimOf, Purpose, OfImport, OfExport, target_of, HasPurpose}
 use Rattle.comp_terms.specs.Terms.{intrinsic_of}
-use Rattle.comp_terms.specs.Planned.{IsItemFor, IsShimFor, IsGivenFor, IsEntryFor, IsArgumentFor}
+use Rattle.comp_terms.specs.Shimmed.{has_shim, has_shim_in, has_shim_at}
+use Rattle.comp_terms.specs.Planned.{IsItemFor, IsShimFor, IsOwnShim, IsGivenFor, IsEntryFor, IsArgumentFor}
 use Rattle.comp_runs.specs.Machine.{Scope, Machine, address_at, all_some, export_named}
 use Rattle.comp_runs.specs.Instances.{given_to, type_space}
 use Rattle.comp_runs.specs.Signatures.{core_signature}
@@ -255,6 +256,7 @@ shim_fits w ok shim (OfExport e) stands of role right same type fits =
 -- fits the role.
 pub record IsRoleServed (w : ComponentWorld) (shims : Option ShimsAt) (s : Store) (globals : List ValType) (of : UserModule) (space : Space) (address : ℕ) (role : Import) : Type 0 where
   pub serves : Serves w shims s space address (link_of w of role)
+  pub direct : has_shim w role ≡ false → IsServedIn w s space address (link_of w of role)
   pub typed : (type : ExternType) → FitsRole w role type → HasType s globals space address type
 
 -- the item of the export is so for this field of a user module's imports
@@ -281,17 +283,22 @@ pub record IsOffered (w : ComponentWorld) (shims : Option ShimsAt) (s : Store) (
   pub named : a.0 ≡ group.0
   pub satisfy : SatisfyImports w shims s globals of a.1 group.1
 
+-- an import's own shim stands for what it is to be given, and the import is one that has a shim
+own_is_shim : (w : ComponentWorld) (of : UserModule) (ds : List Def) (space : Space) (index : ℕ) (role : Import) → IsOwnShim w of ds space index role → IsShimFor w ds space index (link_of w of role) × IsTrue (has_shim w role)
+own_is_shim w of ds space index (imports.AdapterExport adapter name type) h = (h.shim, refl)
+own_is_shim w of ds space index role h = (h.shim, h.shimmed)
+
 -- what a user module is given
 module _ {w : ComponentWorld} {earlier : List Def} {c : Scope} {s : Store} {globals : List ValType} (a : Agrees w earlier c s globals) (ok : IsWorld w) (of : UserModule) where
   item_served : (kind : ExportKind) (index : ℕ) (role : Import) → IsImportRole w role → IsItemFor w earlier (kind_space kind) index (link_of w of role) →
       (x : ℕ) × (address_at (kind_space kind) index c.items ≡ Some x) × IsRoleServed w a.shims s globals of (kind_space kind) x role
   item_served kind index role right h =
       let x = item_there a kind index (link_of w of role) h in
-      (x.0, x.1, record { serves = inl x.2; typed = λ type fits. role_typed w ok s globals a.with_globals of (kind_space kind) x.0 role type right fits x.2 })
+      (x.0, x.1, record { serves = inl x.2; direct = λ none. x.2; typed = λ type fits. role_typed w ok s globals a.with_globals of (kind_space kind) x.0 role type right fits x.2 })
 
-  shim_served : (index : ℕ) (role : Import) → IsImportRole w role → IsShimFor w earlier spaces.CoreFunc index (link_of w of role) →
+  shim_served : (index : ℕ) (role : Import) → IsImportRole w role → IsTrue (has_shim w role) → IsShimFor w earlier spaces.CoreFunc index (link_of w of role) →
       (x : ℕ) × (address_at spaces.CoreFunc index c.items ≡ Some x) × IsRoleServed w a.shims s globals of spaces.CoreFunc x role
-  shim_served index role right h =
+  shim_served index role right shimmed h =
       let x : (x : ℕ) × (address_at spaces.CoreFunc index c.items ≡ Some x) × IsShimGiven w a.shims x (link_of w of role) = shim_there a h in
       let y : (x : ℕ) × (address_at spaces.CoreFunc index c.items ≡ Some x) × IsFunctionTyped s x (type_of_shim h.stands.shim) = shim_typed a h.place h.stands.shim h.stands.listed h.is in
       let same : y.0 ≡ x.0 = same_Some y.0 x.0 (sym y.1 ∙ x.1) in
@@ -300,18 +307,20 @@ module _ {w : ComponentWorld} {earlier : List Def} {c : Scope} {s : Store} {glob
         x.1,
         record {
           serves = inr (refl, x.2);
+          direct = λ none. absurd (true≢false (sym shimmed ∙ none));
           typed = λ type fits. subst (HasType s globals spaces.CoreFunc x.0) (sym (shim_fits w ok h.stands.shim h.stands.purpose h.stands.stands_for of role right h.stands.same type fits)) typed;
         },
       )
 
   -- what is given for an import is the item that the link table names, or a shim
-  role_there : (kind : ExportKind) (index : ℕ) (role : Import) → IsImportRole w role → IsGivenFor w earlier (kind_space kind) index (link_of w of role) →
+  role_there : (kind : ExportKind) (index : ℕ) (role : Import) → IsImportRole w role → IsGivenFor w of earlier (kind_space kind) index role →
       (x : ℕ) × (address_at (kind_space kind) index c.items ≡ Some x) × IsRoleServed w a.shims s globals of (kind_space kind) x role
   role_there kind index role right (inl h) = item_served kind index role right h
   role_there kind index role right (inr h) =
-      let function : kind_space kind ≡ spaces.CoreFunc = h.in_space in
-      let shim : IsShimFor w earlier spaces.CoreFunc index (link_of w of role) = subst (λ space. IsShimFor w earlier space index (link_of w of role)) function h in
-      subst (λ space. (x : ℕ) × (address_at space index c.items ≡ Some x) × IsRoleServed w a.shims s globals of space x role) (sym function) (shim_served index role right shim)
+      let own : IsShimFor w earlier (kind_space kind) index (link_of w of role) × IsTrue (has_shim w role) = own_is_shim w of earlier (kind_space kind) index role h in
+      let function : kind_space kind ≡ spaces.CoreFunc = own.0.in_space in
+      let shim : IsShimFor w earlier spaces.CoreFunc index (link_of w of role) = subst (λ space. IsShimFor w earlier space index (link_of w of role)) function own.0 in
+      subst (λ space. (x : ℕ) × (address_at space index c.items ≡ Some x) × IsRoleServed w a.shims s globals of space x role) (sym function) (shim_served index role right own.1 shim)
 
   -- the entries of an inline instance, as they were put into the store
   fields_there : (es : List CoreInlineExport) (xs : List Export) (fs : List (List ℕ × Import)) → AllByRecursion (λ f. IsImportRole w f.1) fs → AllZip (IsEntryFor w of earlier) es fs → AllZip (IsNamedEntry c.items) es xs →
@@ -363,6 +372,11 @@ module _ {w : ComponentWorld} {earlier : List Def} {c : Scope} {s : Store} {glob
 linked_in : (w : ComponentWorld) (of : UserModule) (instance : ImportInstance) (field : List ℕ) (role : Import) → found field (fields_of instance) ≡ Some role → link_in w of field instance ≡ Some (link_of w of role)
 linked_in w of (instances.Names fields) field role e = ap (option_map (link_of w of)) e
 linked_in w of (instances.Whole which) field role e = absurd (none-some role e)
+
+-- whether it has a shim, its role says too
+shimmed_in : (w : ComponentWorld) (instance : ImportInstance) (field : List ℕ) (role : Import) → found field (fields_of instance) ≡ Some role → has_shim_in w field instance ≡ has_shim w role
+shimmed_in w (instances.Names fields) field role e = ap (λ o. option_map_or (has_shim w) o false) e
+shimmed_in w (instances.Whole which) field role e = absurd (none-some role e)
 
 -- an item of an instance of a user module is what the link table names
 served_of : (w : ComponentWorld) (s : Store) (es : List Export) (which : MainOrAdapter) (all : AreAllOf w s es which) (name : List ℕ) (e : Export) (type : ExternType) → export_named name es ≡ Some e → e.name ≡ name → found name all.of.world_module.found.offered ≡ Some type →
@@ -424,7 +438,8 @@ module _ (w : ComponentWorld) (ok : IsWorld w) (shims : Option ShimsAt) (of : Wo
       let x : Export = e.0 in
       let t : Thing = record { space = x.space; address = x.address } in
       let said : link_at w of i.module_name i.field ≡ Some (link_of w of.of p.role) = ap (option_and_then (link_in w of.of i.field)) g.1 ∙ linked_in w of.of g.0 i.field p.role g.2 in
-      (t, rw (a.1, e.1) (finds_given m globals types x i.ty (e.2.typed i.ty p.fits)), record { target = link_of w of.of p.role; said = said; serves = e.2.serves })
+      let shimmed : has_shim_at w of i.module_name i.field ≡ has_shim w p.role = ap (λ o. option_map_or (has_shim_in w i.field) o false) g.1 ∙ shimmed_in w g.0 i.field p.role g.2 in
+      (t, rw (a.1, e.1) (finds_given m globals types x i.ty (e.2.typed i.ty p.fits)), record { target = link_of w of.of p.role; said = said; serves = e.2.serves; direct = λ none. e.2.direct (sym shimmed ∙ none) })
 
   -- so does one for which a whole instance is given
   whole_given : (arguments : List (List ℕ × List Export)) → AllZip (IsOffered w shims m.store globals of.of) arguments of.found.imports.modules → (i : ImportType) → FitsInstance w of.found i → GivenThere arguments i
@@ -444,7 +459,7 @@ module _ (w : ComponentWorld) (ok : IsWorld w) (shims : Option ShimsAt) (of : Wo
       let served : IsServedIn w m.store x.space x.address (ExportOf ref) = served_of w m.store a.0 p.which all i.field x type e.1 (found_name i.field a.0 x e.1) offered e.2.0 e.2.1 in
       let has : HasType m.store globals x.space x.address i.ty =
       export_typed w ok m.store globals typed x.space x.address ref i.ty (λ other listed_other same t there. named_matches w ok p.which i.field i.ty p.offered other listed_other same t there) served in
-      (t, rw (a.1, e.1) (finds_given m globals types x i.ty has), record { target = ExportOf ref; said = ap (option_and_then (link_in w of.of i.field)) p.whole; serves = inl served })
+      (t, rw (a.1, e.1) (finds_given m globals types x i.ty has), record { target = ExportOf ref; said = ap (option_and_then (link_in w of.of i.field)) p.whole; serves = inl served; direct = λ none. served })
 
   -- each import of the module finds what was planned for it
   pub given_there : (arguments : List (List ℕ × List Export)) → AllZip (IsOffered w shims m.store globals of.of) arguments of.found.imports.modules → (i : ImportType) → IsGivenImport w of.found i → GivenThere arguments i

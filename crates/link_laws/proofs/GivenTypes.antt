@@ -13,7 +13,7 @@ use Rattle.comp_trees.specs.DefinedTrees.{TypeTree, OfOthers}
 use Rattle.nested_terms.specs.Nested.{NestedScope, no_function, ExportedFunction, ExportedType, empty_scope, with_item, imports_after, exports_after}
 use Rattle.comp_inventories.specs.Inventories.{inventory, scope_of, type_of_argument, given_by, nested_exports}
 use Rattle.comp_inventories.proofs.Components.{component_at}
-use Rattle.comp_terms.specs.Exports.{IsTypeGiven, IsImportGiven, InstantiatesNested}
+use Rattle.comp_terms.specs.Instances.{IsTypeGiven, IsImportGiven, InstantiatesNested}
 
 module _ (earlier : List Def) (arguments : List Argument) (given : List ℕ → TypeTree) where
   abbrev here : List ℕ → TypeTree

@@ -1,7 +1,7 @@
 -- An instance of a core module runs, and the store agrees with the longer list: of a user module, of the shims, and of the fixup.
 use Rattle.std.proofs.Common.{arith, ◌≤◌, ◌+◌, ◌^◌, inl, inr, ◌≡◌, ◌∙◌, ℕ, zero, suc, ◌<◌, Bool, false, List, [], ◌∷◌, ◌++◌, length, map, filter, refl, sym, ap, ap₂, subst, append-nil, append_assoc, Option, Some, None, cond}
 use Rattle.std.proofs.lemmas.List.{map-append, length-map, length-replicate}
-use Rattle.std.proofs.lemmas.Option.{none-some, same_Some, slice_get-map}
+use Rattle.std.proofs.lemmas.Option.{none-some, same_Some, slice_get-map, slice_get_within}
 use Rattle.std.specs.Option.{option_map}
 use Rattle.std.specs.Prelude.{Contains, codes}
 use Rattle.std.specs.List.{slice_get, flat_map, AllZip, AllByRecursion, filter_map, slice_set, range_with_len}
@@ -49,12 +49,12 @@ use Rattle.std.proofs.lemmas.List.Elements.{filter_map-append, Contains-append_l
 use Rattle.link_laws.specs.Composition.{GeneratedModules, generated_sections, at_root, item_instantiates}
 use Rattle.link_laws.specs.Linking.{module_meanings}
 use Rattle.link_laws.proofs.Zips.{all_some-each}
-use Rattle.link_laws.proofs.Stores.{IsOpaqueOf, ShimsAt, exports_of_shims, HasSharedMemory, IsModuleInstance, IsInlineInstance, IsFilledWith, AreFilled, AreShims, IsServedAs, IsNamedEntry, ExportsShims, MayHaveShims, IsPlanned, IsPlannedUser, NumberedFrom, AreResources, HasGlobalType, HasGlobals, Agrees}
+use Rattle.link_laws.proofs.Stores.{IsOpaqueOf, ShimsAt, exports_of_shims, HasSharedMemory, IsModuleInstance, IsInlineInstance, IsFilledWith, AreFilled, AreShims, IsServedAs, IsNamedEntry, ExportsShims, MayHaveShims, IsPlanned, IsPlannedUser, NumberedFrom, AreResources, HasGlobalType, HasGlobals, HasTable, IsOwnTable, IsOwnIfTable, HasOwnTables, Agrees}
 use Rattle.link_laws.proofs.Given.{thing_there, target_there, user_below, apart, not_shims, not_fixup, of_shims, module_there, address_there}
 use Rattle.link_laws.proofs.GivenImports.{purpose_opaque, IsOffered, arguments_there, given_there}
 use Rattle.link_laws.proofs.Plain.{only, nothing_in, IsRightModule, module_right, IsGivenImport, given_imports}
-use Rattle.link_laws.proofs.UserExports.{Exports, Alike, all_exports, all_alike, same_exports, each_export, all_globals, each_global}
-use Rattle.link_laws.proofs.Kept.{sizes_kept, sizes_set, HasGlobals-kept, HasSharedMemory-kept, IsFilledWith-kept, ShimsKept, shims_same, MayHaveShims-kept, Keeps, things_kept, IsPlannedUser-kept, AreKeyExports-kept, AreResources-kept}
+use Rattle.link_laws.proofs.UserExports.{Exports, Alike, IsFreshTable, IsFreshIfTable, each_table, all_exports, all_alike, same_exports, each_export, all_globals, each_global}
+use Rattle.link_laws.proofs.Kept.{sizes_kept, sizes_set, HasGlobals-kept, HasOwnTables-kept, HasSharedMemory-kept, IsFilledWith-kept, ShimsKept, shims_same, MayHaveShims-kept, Keeps, things_kept, IsPlannedUser-kept, AreKeyExports-kept, AreResources-kept}
 
 -- ---- generated modules
 
@@ -158,6 +158,13 @@ set_there [] n x y h = absurd (none-some y h)
 set_there (z ∷ xs) zero x y h = refl
 set_there (z ∷ xs) (suc n) x y h = set_there xs n x y h
 
+set_elsewhere : {X : Type 0} (xs : List X) (n m : ℕ) (x : X) → (n ≡ m → ⊥) → slice_get (slice_set xs n x) m ≡ slice_get xs m
+set_elsewhere [] n m x other = refl
+set_elsewhere (z ∷ xs) zero zero x other = absurd (other refl)
+set_elsewhere (z ∷ xs) zero (suc m) x other = refl
+set_elsewhere (z ∷ xs) (suc n) zero x other = refl
+set_elsewhere (z ∷ xs) (suc n) (suc m) x other = set_elsewhere xs n m x (λ e. other (ap suc e))
+
 mapped_twice : (es : List Export) → map (λ (e : Export). Some e.address) es ≡ map (λ f. Some f) (map (λ (e : Export). e.address) es)
 mapped_twice [] = refl
 mapped_twice (e ∷ es) = ap (λ l. Some e.address ∷ l) (mapped_twice es)
@@ -177,6 +184,22 @@ module _ {w : ComponentWorld} {earlier : List Def} {c : Scope} {s : Store} {g : 
   module_address number l =
       let same : 0 + number ≡ number = omega arith in
       numbered_at 0 (filter (is_of spaces.CoreModule) c.items) (length s.core_modules) number a.modules (address_there a spaces.CoreModule number l) ∙ ap (λ (n : ℕ). Some n) same
+
+  -- new tables are not that of the shims
+  tables_apart : (tables : List (List (Option ℕ))) (es : List Export) → AllByRecursion (IsFreshIfTable (length s.code.tables) tables) es → AllByRecursion (IsOwnIfTable w a.shims tables) es
+  tables_apart tables es fresh = AllByRecursion-weaker by es fresh
+    where
+      before : (at : ShimsAt) → a.shims ≡ Some at → (shims_of w ≡ [] → ⊥) → at.table < length s.code.tables
+      before at there any =
+          let are : AreShims w s (flat_map (at_root item_instantiates) earlier) at = subst (MayHaveShims w s (flat_map (at_root item_instantiates) earlier)) there a.with_shims in
+          let t : HasTable s.code.tables at.table = are.slotted any in
+          slice_get_within s.code.tables at.table t.slots t.present
+
+      by : (e : Export) → IsFreshIfTable (length s.code.tables) tables e → IsOwnIfTable w a.shims tables e
+      by e h space =
+          let t : IsFreshTable (length s.code.tables) tables e.address = h space in
+          let new = t.new in
+          record { size = t.size; empty = t.empty; apart = λ at there any same. let below : at.table < length s.code.tables = before at there any in omega (arith, below, new, same) }
 
   -- any user module: what it imports is given, and its instance exports what the module offers
   pub step_user : IsWorld w → (number : ℕ) (arguments : List CoreArgument) (h : InstantiatesUser w earlier number arguments) → IsRightModule w h.of → Steps w gen earlier c s g (defs.Item (items.CoreInstantiate number arguments))
@@ -235,6 +258,11 @@ module _ {w : ComponentWorld} {earlier : List Def} {c : Scope} {s : Store} {g : 
       λ other listed. subst (λ (o : WorldModule). AllZip (HasGlobalType types) own o.found.offered) (same_Some of other (sym h.listed ∙ listed)) (each_global user es m0) in
       let globals : AllByRecursion (HasGlobals w types) (m1.store.module_instances ++ instance ∷ []) =
       AllByRecursion-push (HasGlobals w types) m1.store.module_instances instance (subst (AllByRecursion (HasGlobals w types)) (sym users) (AllByRecursion-weaker (HasGlobals-kept w grown) s.module_instances a.with_globals)) own_globals in
+      let fresh : AllByRecursion (IsFreshIfTable (length s.code.tables) m1.store.code.tables) own = each_table user (length s.code.tables) es m0 (at_least (length s.code.tables)) in
+      let own_tables : HasOwnTables w a.shims m1.store.code.tables instance = λ other listed. tables_apart m1.store.code.tables own fresh in
+      let tables : AllByRecursion (HasOwnTables w a.shims m1.store.code.tables) (m1.store.module_instances ++ instance ∷ []) =
+      AllByRecursion-push (HasOwnTables w a.shims m1.store.code.tables) m1.store.module_instances instance
+      (subst (AllByRecursion (HasOwnTables w a.shims m1.store.code.tables)) (sym users) (AllByRecursion-weaker (HasOwnTables-kept w a.shims more.tables) s.module_instances a.with_tables)) own_tables in
       let alike : (after : Now) → map type_of after.globals ≡ g → Alike (machine c s after) m0 = λ after count. record { store = refl; globals = count ∙ sym (types-cells g) } in
       let new : (after : Now) → map type_of after.globals ≡ g → new_user number es found.0 (machine c s after) ≡ machine (with_thing c t c.imports) s' (with_exports user es (machine c s after)).now = λ after count.
       ap₂ (λ l m. with_module_instance (record { module_number = number; given = found.0; exports = l }) m)
@@ -279,6 +307,7 @@ module _ {w : ComponentWorld} {earlier : List Def} {c : Scope} {s : Store} {g : 
             (map-append (λ (u : ModuleInstance). u.module_number) m1.store.module_instances (instance ∷ []) ∙ ap (λ (l : List ModuleInstance). map (λ (u : ModuleInstance). u.module_number) l ++ number ∷ []) users)
             planned
             globals
+            tables
             there
             (sym (append-nil (map (λ (e : Export). e.name) c.exports)))
             (AreKeyExports-kept w k (required_keys w) c.exports a.lifted)
@@ -325,6 +354,7 @@ module _ {w : ComponentWorld} {earlier : List Def} {c : Scope} {s : Store} {g : 
         made = r.are;
         exported = AllByRecursion-push (ExportsShims w at) s.module_instances instance (subst (AllByRecursion (ExportsShims w at)) (sym no_instance) tt) (λ e. refl);
         memory = memory_made memory s s' refl;
+        slotted = λ any. record { slots = empty_table (length shims); present = shim_table_there memory shims r.functions s.code any };
         unfilled = λ any no. shim_table_there memory shims r.functions s.code any;
         filled = λ yes. absurd (no_fixup yes);
       } in (
@@ -351,6 +381,7 @@ module _ {w : ComponentWorld} {earlier : List Def} {c : Scope} {s : Store} {g : 
             (AllByRecursion-weaker (IsPlannedUser-kept w k a.shims (Some at) new) s.module_instances a.served)
             (λ of listed. absurd (not_shims w number (user_below w number of listed) refl)))
             (AllByRecursion-push (HasGlobals w g) s.module_instances instance a.with_globals (λ of listed. absurd (not_shims w number (user_below w number of listed) refl)))
+            (AllByRecursion-push (HasOwnTables w (Some at) s'.code.tables) s.module_instances instance (subst (AllByRecursion (HasOwnTables w (Some at) s'.code.tables)) (sym no_instance) tt) (λ of listed. absurd (not_shims w number (user_below w number of listed) refl)))
             are
             (sym (append-nil (map (λ (e : Export). e.name) c.exports)))
             (AreKeyExports-kept w k (required_keys w) c.exports a.lifted)
@@ -485,9 +516,26 @@ module _ {w : ComponentWorld} {earlier : List Def} {c : Scope} {s : Store} {g : 
         made = shims_kept s.code s'.code (λ i f e. e) at.table 0 at.address shims before.made;
         exported = AllByRecursion-push (ExportsShims w at) s.module_instances instance before.exported (λ e. let same : suc (shims_number w) ≡ shims_number w = e in absurd (omega (arith, same)));
         memory = HasSharedMemory-kept k (shared_memory w) at.memory before.memory;
+        slotted = λ any. record {
+          slots = map (λ (e : Export). Some e.address) actual;
+          present = set_there s.code.tables at.table (map (λ (e : Export). Some e.address) actual) (empty_table (length shims)) can.present;
+        };
         unfilled = λ any no. absurd (no (Contains-append_right numbers (fixup_number w ∷ []) (fixup_number w) (zero, omega arith, refl)));
         filled = λ yes. is_filled;
       }
+
+      -- the tables of user modules are left as they are
+      tables_left : (u : ModuleInstance) → HasOwnTables w a.shims s.code.tables u → HasOwnTables w a.shims s'.code.tables u
+      tables_left u own of listed = AllByRecursion-weaker by u.exports (own of listed)
+        where
+          by : (e : Export) → IsOwnIfTable w a.shims s.code.tables e → IsOwnIfTable w a.shims s'.code.tables e
+          by e own_table space =
+              let t : IsOwnTable w a.shims s.code.tables e.address = own_table space in
+              record {
+                size = t.size;
+                empty = set_elsewhere s.code.tables at.table e.address (map (λ (x : Export). Some x.address) actual) (t.apart at found.1 h.any) ∙ t.empty;
+                apart = t.apart;
+              }
 
       arguments_held : (now : Now) → all_some (map (core_argument (machine c s now)) (record { name = codes "actual"; instance = h.actual } ∷ record { name = codes "shim"; instance = h.shims } ∷ [])) ≡ Some (fixup_arguments shims actual at.address at.table at.memory)
       arguments_held now = rw (inline.1, inline.2.present, of.1, of.2.present, found.2) refl
@@ -517,6 +565,7 @@ module _ {w : ComponentWorld} {earlier : List Def} {c : Scope} {s : Store} {g : 
             (AllByRecursion-weaker (IsPlannedUser-kept w k a.shims a.shims here) s.module_instances a.served)
             (λ of listed. absurd (not_fixup w (fixup_number w) (user_below w (fixup_number w) of listed) refl)))
             (AllByRecursion-push (HasGlobals w g) s.module_instances instance a.with_globals (λ of listed. absurd (not_fixup w (fixup_number w) (user_below w (fixup_number w) of listed) refl)))
+            (AllByRecursion-push (HasOwnTables w a.shims s'.code.tables) s.module_instances instance (AllByRecursion-weaker tables_left s.module_instances a.with_tables) (λ of listed. absurd (not_fixup w (fixup_number w) (user_below w (fixup_number w) of listed) refl)))
             (subst (MayHaveShims w s' (numbers ++ fixup_number w ∷ [])) (sym found.1) are)
             (sym (append-nil (map (λ (e : Export). e.name) c.exports)))
             (AreKeyExports-kept w k (required_keys w) c.exports a.lifted)

@@ -4,7 +4,7 @@ use Rattle.std.proofs.lemmas.List.Elements.{filter-append, Contains-append_left}
 use Rattle.std.proofs.lemmas.Option.{none-some, same_Some}
 use Rattle.std.proofs.lemmas.Bool.Decides.{Decides-eqb}
 use Rattle.std.specs.Prelude.{Contains}
-use Rattle.std.specs.List.{slice_get, slice_set, AllZip, AllByRecursion}
+use Rattle.std.specs.List.{slice_get, slice_set, AllByRecursion}
 use Rattle.comp_lists.proofs.Lists.{slice_get-append, slice_get-end, AllZip-weaker, AllByRecursion-weaker}
 use Rattle.comp_lists.specs.Found.{found}
 use Rattle.comp_bytes.specs.Spaces.{kind_space, sort_space}
@@ -53,7 +53,7 @@ use Rattle.nested_laws.proofs.Kept.{AreGiven-kept, AreNestedExports-kept}
 use Rattle.wit_data.specs.declared.worlds.WorldItem.{WorldItem}
 use Rattle.wit_data.specs.declared.worlds.WorldItem.TheVariants as world_items
 use Rattle.link_laws.proofs.Zips.{mapped_some, AllByRecursion-join}
-use Rattle.link_laws.proofs.Stores.{IsOpaqueOf, HasSlots, IsItemTyped, IsUserItem, IsUserExport, IsInstance, ShimsAt, AreShimExports, AreModuleExports, IsModuleInstance, IsNamedEntry, IsTypeAt, IsHeldOption, IsArgumentHeld, ItemIs, DefIs, Means, IsEntryItem, IsTypeEntry, IsFunctionEntry, IsInstanceThing, IsFunctionExported, IsItemExported, HasGlobalType, HasGlobals, IsGlobalTyped, IsMemoryOfMain, IsShimExported, IsReallocHeld, HasSharedMemory, IsOptionHeld, IsLoweringOf, IsServedAs, IsShimGiven, IsServedIn, Serves, IsPlanned, IsPlannedUser, IsFilledWith, AreFilled, ExportsShims, AreShims, MayHaveShims, IsLiftedFrom, function_at_key, IsRequiredAt, IsAmong, IsTypeAmong, IsItemExport, IsKeyExport, AreKeyExports, IsDestroyedBy, IsOwnResource, IsOwnIfDefined, AreResources, HasNumber}
+use Rattle.link_laws.proofs.Stores.{IsOpaqueOf, HasSlots, IsItemTyped, IsUserItem, IsUserExport, IsInstance, ShimsAt, AreShimExports, AreModuleExports, IsModuleInstance, IsNamedEntry, IsTypeAt, IsHeldOption, IsArgumentHeld, ItemIs, DefIs, Means, IsEntryItem, IsTypeEntry, IsFunctionEntry, IsInstanceThing, IsFunctionExported, IsItemExported, HasGlobalType, HasGlobals, IsGlobalTyped, HasTable, IsOwnTable, IsOwnIfTable, HasOwnTables, IsMemoryOfMain, IsShimExported, IsReallocHeld, HasSharedMemory, IsOptionHeld, IsLoweringOf, IsServedAs, IsShimGiven, IsServedIn, Serves, IsPlanned, IsPlannedUser, IsFilledWith, AreFilled, ExportsShims, AreShims, MayHaveShims, IsLiftedFrom, function_at_key, IsRequiredAt, IsAmong, IsTypeAmong, IsItemExport, IsKeyExport, AreKeyExports, IsDestroyedBy, IsOwnResource, IsOwnIfDefined, AreResources, HasNumber}
 
 -- a table that is kept has as many slots as before
 pub record KeepsSizes (old new : List (List (Option ℕ))) : Type 0 where
@@ -404,7 +404,8 @@ module _ {a b : List Thing} {s t : Store} (k : Keeps a b s t) where
   Serves-kept w old new same space address target (inr h) = inr (h.0, IsShimGiven-kept w old new same address target h.1)
 
   pub IsPlanned-kept : (w : ComponentWorld) (old new : Option ShimsAt) → ShimsKept old new → (of : WorldModule) (x : Thing) (i : ImportType) → IsPlanned w old s of x i → IsPlanned w new t of x i
-  IsPlanned-kept w old new same of x i h = record { target = h.target; said = h.said; serves = Serves-kept w old new same x.space x.address h.target h.serves }
+  IsPlanned-kept w old new same of x i h =
+      record { target = h.target; said = h.said; serves = Serves-kept w old new same x.space x.address h.target h.serves; direct = λ none. IsServedIn-kept w x.space x.address h.target (h.direct none) }
 
   pub IsFilledWith-kept : (w : ComponentWorld) (shim : Shim) (function : ℕ) → IsFilledWith w s shim function → IsFilledWith w t shim function
   IsFilledWith-kept w shim function h = record { purpose = h.purpose; stands_for = h.stands_for; serves = IsServedAs-kept w function (target_of w h.purpose) h.serves }
@@ -418,6 +419,7 @@ module _ {a b : List Thing} {s t : Store} (k : Keeps a b s t) where
     made = shims_kept s.code t.code k.code.at at.table 0 at.address (shims_of w) h.made;
     exported = exported;
     memory = HasSharedMemory-kept (shared_memory w) at.memory h.memory;
+    slotted = λ any. let t : HasTable s.code.tables at.table = h.slotted any in record { slots = t.slots; present = tables.at at.table t.slots t.present };
     unfilled = λ any no. tables.at at.table (empty_table (length (shims_of w))) (h.unfilled any (λ yes. no (Contains-append_left numbers more (fixup_number w) yes)));
     filled = λ yes.
         let f : AreFilled w s at.table = h.filled (no_fixup yes) in
@@ -555,6 +557,13 @@ HasGlobalType-kept {old} {new} k e (name, type) h = record { named = h.named; is
     by : (type : ExternType) → IsGlobalTyped old e.address type → IsGlobalTyped new e.address type
     by (externs.Global global) h = k.at e.address global.val_type h
     by type h = tt
+
+-- tables of user modules stay what they are where there are more, and the shims are where they were
+pub HasOwnTables-kept : (w : ComponentWorld) (shims : Option ShimsAt) {old new : List (List (Option ℕ))} → KeepsEntries old new → (u : ModuleInstance) → HasOwnTables w shims old u → HasOwnTables w shims new u
+HasOwnTables-kept w shims {old} {new} k u h of listed = AllByRecursion-weaker by u.exports (h of listed)
+  where
+    by : (e : Export) → IsOwnIfTable w shims old e → IsOwnIfTable w shims new e
+    by e t space = let own : IsOwnTable w shims old e.address = t space in record { size = own.size; empty = k.at e.address (empty_table own.size) own.empty; apart = own.apart }
 
 pub HasGlobals-kept : (w : ComponentWorld) {old new : List ValType} → KeepsEntries old new → (u : ModuleInstance) → HasGlobals w old u → HasGlobals w new u
 HasGlobals-kept w k u h of listed = AllZip-weaker (HasGlobalType-kept k) u.exports of.found.offered (h of listed)

@@ -13,6 +13,7 @@ pub mod Steps
 pub mod InstanceSteps
 mod NestedSteps
 pub mod Marks
+mod Ordered
 mod ImportedTypes
 mod Served
 mod NamedItem
@@ -48,3 +49,5 @@ mod WorkedHandles
 mod WorkedUsers
 mod WorkedGiven
 mod CrossedMemories
+mod OtherLists
+mod OtherRuns

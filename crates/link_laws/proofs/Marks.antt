@@ -3,7 +3,7 @@ use Rattle.std.proofs.Common.{◌≡◌, ◌∙◌, ◌+◌, arith, ℕ, Bool, L
 use Rattle.std.proofs.lemmas.List.{length-map}
 use Rattle.std.proofs.lemmas.Grind.{flat_map-append}
 use Rattle.std.specs.List.{flat_map, filter_map}
-use Rattle.comp_bytes.specs.ScopeNames.{Names, member_export, def_export, item_export, item_names}
+use Rattle.comp_bytes.specs.ScopeNames.{Names, def_export, item_names}
 use Rattle.comp_bytes.specs.declared.types.TypeDef.TheVariants as types
 use Rattle.comp_bytes.specs.declared.def.Item.{Item}
 use Rattle.comp_bytes.specs.declared.def.Item.TheVariants as items
@@ -20,9 +20,9 @@ use Rattle.comp_inventories.specs.Inventories.{Inventory, resources_made, with_d
 use Rattle.wit_data.specs.declared.worlds.WorldItem.{WorldItem}
 use Rattle.wit_data.specs.declared.worlds.WorldItem.TheVariants as world_items
 use Rattle.nested_terms.specs.Naming.{import_names}
-use Rattle.nested_terms.specs.Nested.{NestedScope, function_import, with_item, IsItemRight, AreItemsRight}
+use Rattle.nested_terms.specs.Nested.{NestedScope, with_item, IsItemRight, AreItemsRight}
 use Rattle.comp_trees.specs.DefinedTrees.{TypeTree}
-use Rattle.link_laws.specs.Composition.{at_root, item_module, item_instantiates, item_imports, item_exports, item_customs}
+use Rattle.link_laws.specs.Composition.{at_root, item_module, item_instantiates, item_imports, item_exports, item_customs, item_type_names, names_of_nested}
 use Rattle.link_laws.proofs.ModuleMarks.{fixup_listed, number_listed, bytes_listed, user_range, numbers_listed, mapped_nothing, mapped_each, read_of, reads_users}
 use Rattle.link_laws.proofs.Zips.{flat_map-marked}
 
@@ -50,19 +50,9 @@ abbrev custom_mark : Landmark → List (List ℕ)
 custom_mark (CustomNamed name) = name ∷ []
 custom_mark _ = []
 
--- the names that a type of instances exports
-abbrev pub item_type_names : Item → List Names
-item_type_names (items.InstanceType t) = flat_map member_export t.members ∷ []
-item_type_names _ = []
-
 abbrev type_mark : Landmark → List Names
 type_mark (InstanceTypeOf names) = names ∷ []
 type_mark _ = []
-
--- the names of the functions that a nested component imports, and the names that it exports
-abbrev pub nested_lists_of : Def → List Names
-nested_lists_of (defs.Item i) = []
-nested_lists_of (defs.Component inner) = flat_map function_import inner ∷ flat_map item_export inner ∷ []
 
 abbrev nested_mark : Landmark → List Names
 nested_mark (NestedOf imports exports) = imports ∷ exports ∷ []
@@ -96,7 +86,7 @@ type_is : (d : Def) → at_root item_type_names d ≡ flat_map type_mark (filter
 type_is (defs.Item (items.Type (types.Resource destructor))) = refl
 type_is d = refl
 
-nested_is : (d : Def) → nested_lists_of d ≡ flat_map nested_mark (filter_map landmark (d ∷ []))
+nested_is : (d : Def) → names_of_nested d ≡ flat_map nested_mark (filter_map landmark (d ∷ []))
 nested_is (defs.Item (items.Type (types.Resource destructor))) = refl
 nested_is d = refl
 
@@ -399,9 +389,9 @@ module _ (n : Naming) (w : ComponentWorld) (ds : List Def) (built : IsBuilt n w 
       ∙ rw (types_said, none_of_modules type_mark refl (λ b. refl) (λ k. refl), exports_nothing n w type_mark (λ i e. refl) (λ s. refl)) (append-nil (instance_type_names w))
 
   -- the nested components import the functions, and export what, the world says
-  pub root_nested_names : flat_map nested_lists_of ds ≡ nested_names w
+  pub root_nested_names : flat_map names_of_nested ds ≡ nested_names w
   root_nested_names =
-      read_marks nested_lists_of nested_mark nested_is (λ n c. refl)
+      read_marks names_of_nested nested_mark nested_is (λ n c. refl)
       ∙ rw (said_by nested_mark (λ s. refl) (λ names. refl), none_of_modules nested_mark refl (λ b. refl) (λ k. refl))
       (of_keys n w nested_mark (λ r. nested_lists w (exported_item w r.key))
       (λ r. of_key n w nested_mark (nested_lists w (exported_item w r.key)) [] r (nested_of w (exported_item w r.key)) refl ∙ append-nil (nested_lists w (exported_item w r.key)))

@@ -16,6 +16,7 @@ use Rattle.comp_worlds.specs.declared.world.ComponentWorld.{ComponentWorld}
 use Rattle.comp_runs.specs.Store.{CoreItem}
 use Rattle.comp_runs.specs.Machine.{Machine}
 use Rattle.link_laws.specs.Meeting.{SameReference, KeepsReferences, CoreMeets}
+use Rattle.link_laws.specs.Linking.{IsFilled}
 use Rattle.link_laws.proofs.Served.{acts_alone}
 
 -- a moment at which the outside traps
@@ -23,11 +24,11 @@ abbrev pub traps_next : Machine → Now
 traps_next m = record { globals = m.now.globals; answers = Traps ∷ []; events = []; moments = [] }
 
 -- the function whose call trapped
-abbrev first_called : List Event → Option ℕ
+abbrev pub first_called : List Event → Option ℕ
 first_called (Called function arguments ∷ events) = Some function
 first_called events = None
 
-abbrev trapped_in : Outcome → Option ℕ
+abbrev pub trapped_in : Outcome → Option ℕ
 trapped_in (core.Trapped cause now) = first_called now.events
 trapped_in outcome = None
 
@@ -65,6 +66,16 @@ one_called m own target hook arguments fits same = by (fit own.signature.params 
     by : (b : Bool) → fit own.signature.params arguments ≡ b → own.address ≡ target.address
     by true e = same_Some own.address target.address (sym (trapped m own 0 arguments true e) ∙ (ap trapped_in same ∙ trapped m target hook arguments true fits))
     by false e = absurd (none-some target.address (sym (trapped m own 0 arguments false e) ∙ (ap trapped_in same ∙ trapped m target hook arguments true fits)))
+
+-- what calls nothing from outside is no shim that is filled
+pub never_filled : (m : Machine) (address : ℕ) → ((arguments : List Value) → trapped_in (acts m.store.code address arguments (traps_next m)) ≡ None) → IsFilled m address → ⊥
+never_filled m address quiet filled =
+    let params : List ValType = filled.target.signature.params in
+    let arguments : List Value = map zero_of params in
+    none-some filled.target.address
+    (sym (quiet arguments)
+    ∙ (ap trapped_in (filled.acts.same arguments (traps_next m) (fit_zeros params) (keeps_own m.now.globals))
+    ∙ trapped m filled.target 0 arguments true (fit_zeros params)))
 
 module _ (w : ComponentWorld) (m : Machine) (address : ℕ) (P : CoreItem → Type 0) (c : CoreMeets w m None address P) where
   -- where a call of the core function is a call of the opaque function that is this item

@@ -34,7 +34,8 @@ use Rattle.comp_links.specs.Lists.{RequiredKey, required_keys, RequiredFunction,
 use Rattle.comp_links.specs.Links.{core_name, lift_options}
 use Rattle.world_values.specs.Items.{functions_in}
 use Rattle.comp_terms.specs.Planned.{type_of_function, IsLiftFor}
-use Rattle.comp_terms.specs.Exports.{IsImportGiven, IsArgumentIn, IsArgumentRight, InstantiatesNested, exports_in, IsRequiredLift, ExportsFunction, PassesOn, ExportsTypes, ExportsInterface}
+use Rattle.comp_terms.specs.Instances.{IsImportGiven, IsArgumentIn, IsArgumentRight, InstantiatesNested}
+use Rattle.comp_terms.specs.Exports.{exports_in, IsRequiredLift, ExportsFunction, PassesOn, ExportsTypes, ExportsInterface}
 use Rattle.comp_runs.specs.Store.{Thing, Export, TypeItem, ComponentItem, ModuleInstance, Store}
 use Rattle.comp_runs.specs.Machine.{Scope, Machine, address_at, is_of, export_in, export_of, all_some}
 use Rattle.comp_runs.specs.Running.{argument, run}
@@ -206,6 +207,7 @@ module _ {w : ComponentWorld} {earlier : List Def} {c : Scope} {s : Store} {g : 
             (sym (append-nil (map (λ (u : ModuleInstance). u.module_number) s.module_instances)))
             (AllByRecursion-weaker (IsPlannedUser-kept w k a.shims a.shims (shims_same a.shims)) s.module_instances a.served)
             a.with_globals
+            a.with_tables
             (shims_beside a gen k [] refl refl refl)
             (map-append (λ (e : Export). e.name) c.exports (x ∷ []))
             (AreKeyExports-push w s (required_keys w) c.exports r x a.lifted (ap (slice_get (required_keys w)) counted ∙ next) is)

@@ -12,6 +12,8 @@ use Rattle.comp_worlds.specs.declared.world.ComponentWorld.{ComponentWorld}
 use Rattle.comp_links.specs.Lists.{Stated}
 use Rattle.link_laws.specs.Composition.{IsComposed}
 use Rattle.link_laws.proofs.Steps.{no_modules}
+use Rattle.link_laws.proofs.Stores.{main_module}
+use Rattle.link_laws.proofs.Ordered.{named_as}
 use Rattle.link_laws.proofs.Worked.{root_world}
 
 -- main imports f and exports g
@@ -31,10 +33,14 @@ plain_is_composed = record {
   generated = [];
   modules = refl;
   encoded = tt;
+  sections = tt;
   imports = refl;
   exports = refl;
   instances = refl;
   customs = record { front = one_import_one_export; names = []; whole = refl; none_before = refl; named = tt };
+  sound = (tt, (tt, (tt, (tt, (tt, (named_as one_each 0 (main_module one_each) (record { name = root; instance = 0 } ∷ []) refl refl, (tt, (tt, (tt, tt)))))))));
+  nested_names = refl;
+  instance_types = refl;
 }
 
 abbrev suffixed : ExternName

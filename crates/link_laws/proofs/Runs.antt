@@ -1,5 +1,5 @@
 -- A list of right definitions runs, and the final state is linked.
-use Rattle.std.proofs.Common.{◌≡◌, ◌∙◌, ◌≤◌, ◌<◌, ◌+◌, zero, suc, Option, is_some, ℕ, false, List, [], ◌∷◌, ◌++◌, length, map, filter, refl, sym, ap, ap₂, subst, append-nil, append_assoc, add-one, Some, None, arith, IsTrue}
+use Rattle.std.proofs.Common.{Bool, ◌≡◌, ◌∙◌, ◌≤◌, ◌<◌, ◌+◌, zero, suc, Option, is_some, ℕ, false, List, [], ◌∷◌, ◌++◌, length, map, filter, refl, sym, ap, ap₂, subst, append-nil, append_assoc, add-one, Some, None, arith, IsTrue}
 use Rattle.std.proofs.lemmas.List.{map-append, length-map}
 use Rattle.std.proofs.lemmas.Bool.{lt-ltb}
 use Rattle.std.proofs.Math.Dec.{ltb}
@@ -53,9 +53,10 @@ use Rattle.link_laws.proofs.Zips.{AllByRecursion-join}
 use Rattle.link_laws.proofs.InstanceSteps.{IsGenerated, generated_for, none_among, at_least, before_next, step_instantiate}
 use Rattle.link_laws.proofs.Outcomes.{machine, IsNow, IsGood, users_among, users_in, asks, events_of, seen_by, Steps}
 use Rattle.link_laws.proofs.Steps.{no_modules, step_type, step_instance_type, step_import, step_import_type, step_import_resource, step_import_instance, step_alias_function, step_alias_type, step_lower, step_new, step_rep, step_drop, step_lift, step_inline_instance, step_alias, step_module, step_custom}
-use Rattle.link_laws.proofs.Marks.{root_imports, root_modules, root_instances, root_exports, root_export_names, all_resources, no_customs}
+use Rattle.link_laws.proofs.Ordered.{modules_of, sections_in_order, all_sound}
+use Rattle.link_laws.proofs.Marks.{root_type_names, root_nested_names, root_imports, root_modules, root_instances, root_exports, root_export_names, all_resources, no_customs}
 use Rattle.link_laws.proofs.ImportedTypes.{types_served}
-use Rattle.link_laws.proofs.Served.{FilledAtEnd, users_served, resource_defined, number_defined, each_provided, each_type_provided}
+use Rattle.link_laws.proofs.Served.{FilledAtEnd, shims_filled, tables_untouched, users_served, resource_defined, number_defined, each_provided, each_type_provided}
 use Rattle.link_laws.proofs.NestedSteps.{step_component, step_nested, step_export_function, step_export_instance}
 
 -- a generated module is instantiated only where it is one of these
@@ -170,34 +171,30 @@ users_below w = by (user_count w)
 
 -- ---- the generated modules of what was built
 
-abbrev pub modules_of : (w : ComponentWorld) (o : Option GeneratedBytes) → MayBeGenerated w o → GeneratedModules
-modules_of w None h = no_modules
-modules_of w (Some b) h = generated_for w h.debug_names b.fixup
-
 -- their bytes encode them
-bytes_encode : (w : ComponentWorld) (o : Option GeneratedBytes) (h : MayBeGenerated w o) → AllZip Encodes (bytes_listed o) (generated_sections (modules_of w o h))
-bytes_encode w None h = tt
-bytes_encode w (Some b) h = (h.shims, by b.fixup h.fixup)
+bytes_encode : (w : ComponentWorld) (named : Bool) (o : Option GeneratedBytes) → MayBeGenerated w named o → AllZip Encodes (bytes_listed o) (generated_sections (modules_of w named o))
+bytes_encode w named None h = tt
+bytes_encode w named (Some b) h = (h.shims, by b.fixup h.fixup)
   where
-    by : (o : Option (List ℕ)) → IsFixup w h.debug_names o → AllZip Encodes (fixup_listed o) (generated_sections (record { shims = None; fixup = option_map (λ bytes. sections_of_fixup (shims_of w) h.debug_names) o }))
+    by : (o : Option (List ℕ)) → IsFixup w named o → AllZip Encodes (fixup_listed o) (generated_sections (record { shims = None; fixup = option_map (λ bytes. sections_of_fixup (shims_of w) named) o }))
     by None none = tt
     by (Some bytes) fixes = (fixes.0, tt)
 
 -- the instances are in their order
-order_is : (w : ComponentWorld) (o : Option GeneratedBytes) (h : MayBeGenerated w o) → numbers_listed w o ≡ instance_order (length (user_modules w)) (modules_of w o h)
-order_is w None h = range_numbers 0 (user_count w) ∙ sym (append-nil (user_numbers w))
-order_is w (Some b) h = by b.fixup
+order_is : (w : ComponentWorld) (named : Bool) (o : Option GeneratedBytes) → numbers_listed w o ≡ instance_order (length (user_modules w)) (modules_of w named o)
+order_is w named None = range_numbers 0 (user_count w) ∙ sym (append-nil (user_numbers w))
+order_is w named (Some b) = by b.fixup
   where
-    by : (o : Option (List ℕ)) → shims_number w ∷ (user_range w ++ number_listed w o) ≡ instance_order (length (user_modules w)) (generated_for w h.debug_names o)
+    by : (o : Option (List ℕ)) → shims_number w ∷ (user_range w ++ number_listed w o) ≡ instance_order (length (user_modules w)) (generated_for w named o)
     by None = ap (λ ns. shims_number w ∷ (ns ++ [])) (range_numbers 0 (user_count w))
     by (Some bytes) = ap (λ ns. shims_number w ∷ (ns ++ fixup_number w ∷ [])) (range_numbers 0 (user_count w))
 
 -- among them are the user modules
-users_in_order : (w : ComponentWorld) (o : Option GeneratedBytes) (h : MayBeGenerated w o) → users_among w (instance_order (length (user_modules w)) (modules_of w o h)) ≡ numbers_from 0 (length (user_modules w))
-users_in_order w None h = ap (users_among w) (append-nil (user_numbers w)) ∙ all_among (user_count w) (user_numbers w) (users_below w)
-users_in_order w (Some b) h = by b.fixup
+users_in_order : (w : ComponentWorld) (named : Bool) (o : Option GeneratedBytes) → users_among w (instance_order (length (user_modules w)) (modules_of w named o)) ≡ numbers_from 0 (length (user_modules w))
+users_in_order w named None = ap (users_among w) (append-nil (user_numbers w)) ∙ all_among (user_count w) (user_numbers w) (users_below w)
+users_in_order w named (Some b) = by b.fixup
   where
-    by : (o : Option (List ℕ)) → users_among w (instance_order (length (user_modules w)) (generated_for w h.debug_names o)) ≡ numbers_from 0 (length (user_modules w))
+    by : (o : Option (List ℕ)) → users_among w (instance_order (length (user_modules w)) (generated_for w named o)) ≡ numbers_from 0 (length (user_modules w))
     by None =
         filter-append (λ n. ltb n (user_count w)) (user_count w ∷ []) (user_numbers w ++ [])
         ∙ ap₂ (λ xs ys. xs ++ ys) (none_among w (user_count w) (at_least (user_count w))) (ap (users_among w) (append-nil (user_numbers w)) ∙ all_among (user_count w) (user_numbers w) (users_below w))
@@ -208,29 +205,33 @@ users_in_order w (Some b) h = by b.fixup
         ∙ ap₂ (λ xs ys. xs ++ ys) (all_among (user_count w) (user_numbers w) (users_below w)) (none_among w (suc (user_count w)) (before_next (user_count w))))
         ∙ append-nil (user_numbers w))
 
-may_make : (w : ComponentWorld) (o : Option GeneratedBytes) (h : MayBeGenerated w o) → AllByRecursion (MayMake w (modules_of w o h)) (instance_order (length (user_modules w)) (modules_of w o h))
-may_make w None h =
+may_make : (w : ComponentWorld) (named : Bool) (o : Option GeneratedBytes) → MayBeGenerated w named o → AllByRecursion (MayMake w (modules_of w named o)) (instance_order (length (user_modules w)) (modules_of w named o))
+may_make w named None h =
     AllByRecursion-join (MayMake w no_modules) (user_numbers w) [] (AllByRecursion-weaker (λ n below no. absurd (no below)) (user_numbers w) (users_below w)) tt
-may_make w (Some b) h =
-    each_number (λ n no. record { debug_names = h.debug_names; fixup = b.fixup; is = refl; fixes = h.fixup; room = h.room }) (instance_order (length (user_modules w)) (generated_for w h.debug_names b.fixup))
+may_make w named (Some b) h =
+    each_number (λ n no. record { debug_names = named; fixup = b.fixup; is = refl; fixes = h.fixup; room = h.room }) (instance_order (length (user_modules w)) (generated_for w named b.fixup))
 
 -- ---- as a list
 
 -- the modules are instantiated in their order
 instances_in_order : (n : Naming) (w : ComponentWorld) (ds : List Def) (built : IsBuilt n w ds) →
-    flat_map (at_root item_instantiates) ds ≡ instance_order (length (user_modules w)) (modules_of w built.generated built.are_generated)
-instances_in_order n w ds built = root_instances n w ds built ∙ order_is w built.generated built.are_generated
+    flat_map (at_root item_instantiates) ds ≡ instance_order (length (user_modules w)) (modules_of w n.debug_names built.generated)
+instances_in_order n w ds built = root_instances n w ds built ∙ order_is w n.debug_names built.generated
 
 -- what was built is composed as the world says
-pub composed : (n : Naming) (w : ComponentWorld) (ds : List Def) (built : IsBuilt n w ds) → IsComposed n w (modules_of w built.generated built.are_generated) ds
+pub composed : (n : Naming) (w : ComponentWorld) (ds : List Def) (built : IsBuilt n w ds) → IsComposed n w (modules_of w n.debug_names built.generated) ds
 composed n w ds built = record {
   generated = bytes_listed built.generated;
   modules = root_modules n w ds built;
-  encoded = bytes_encode w built.generated built.are_generated;
+  encoded = bytes_encode w n.debug_names built.generated built.are_generated;
+  sections = sections_in_order w n.debug_names built.generated built.are_generated;
   imports = root_imports n w ds built;
   exports = root_exports n w ds built;
   instances = instances_in_order n w ds built;
   customs = record { front = built.front; names = built.names; whole = built.whole; none_before = no_customs n w ds built; named = built.named };
+  sound = all_sound w [] ds built.right;
+  nested_names = root_nested_names n w ds built;
+  instance_types = root_type_names n w ds built;
 }
 
 -- ---- as a run
@@ -241,12 +242,12 @@ no_calls w ok = ap (initialization (task_hook w)) (no_initialize w w.main.export
 start : (w : ComponentWorld) → Agrees w [] (fresh_machine []).scope (fresh_machine []).store []
 start w =
     let none : (inventory []).resources ≡ 0 = ap (λ (v : Inventory). v.resources) inventory-empty in
-    record { shims = None; with_shims = λ yes. nothing_in (shims_number w) yes; means = tt; types = subst (λ (v : Inventory). AllZip (IsTypeEntry (fresh_machine []).store) v.types []) (sym inventory-empty) tt; functions = subst (λ (v : Inventory). AllZip (IsFunctionEntry (fresh_machine []).store) v.functions []) (sym inventory-empty) tt; instances = subst (λ (v : Inventory). AllZip (IsInstanceThing (fresh_machine []).store) v.instances []) (sym inventory-empty) tt; resources = record { counted = sym none; each = tt; numbered = λ number less. let zero_is = none in absurd (omega (arith, less, zero_is)) }; modules = refl; instantiated = refl; served = tt; with_globals = tt; exports = refl; lifted = tt; imports = sym (ap (λ (v : Inventory). v.imports) inventory-empty) }
+    record { shims = None; with_shims = λ yes. nothing_in (shims_number w) yes; means = tt; types = subst (λ (v : Inventory). AllZip (IsTypeEntry (fresh_machine []).store) v.types []) (sym inventory-empty) tt; functions = subst (λ (v : Inventory). AllZip (IsFunctionEntry (fresh_machine []).store) v.functions []) (sym inventory-empty) tt; instances = subst (λ (v : Inventory). AllZip (IsInstanceThing (fresh_machine []).store) v.instances []) (sym inventory-empty) tt; resources = record { counted = sym none; each = tt; numbered = λ number less. let zero_is = none in absurd (omega (arith, less, zero_is)) }; modules = refl; instantiated = refl; served = tt; with_globals = tt; with_tables = tt; exports = refl; lifted = tt; imports = sym (ap (λ (v : Inventory). v.imports) inventory-empty) }
 
 -- where the shims are made, they are filled at the end
-filled_at_end : (w : ComponentWorld) (m : Machine) (o : Option GeneratedBytes) (g : MayBeGenerated w o) (shims : Option ShimsAt) (made : List ℕ) → made ≡ instance_order (length (user_modules w)) (modules_of w o g) →
+filled_at_end : (w : ComponentWorld) (m : Machine) (named : Bool) (o : Option GeneratedBytes) (g : MayBeGenerated w named o) (shims : Option ShimsAt) (made : List ℕ) → made ≡ instance_order (length (user_modules w)) (modules_of w named o) →
     map (λ (u : ModuleInstance). u.module_number) m.store.module_instances ≡ made → MayHaveShims w m.store made shims → (ok : IsWorld w) → FilledAtEnd w ok m shims
-filled_at_end w m o g None made same numbers h ok = none_of m.store.module_instances (λ c. h (subst (λ l. Contains l (shims_number w)) numbers c))
+filled_at_end w m named o g None made same numbers h ok = none_of m.store.module_instances (λ c. h (subst (λ l. Contains l (shims_number w)) numbers c))
   where
     none_of : (us : List ModuleInstance) → (Contains (map (λ (u : ModuleInstance). u.module_number) us) (shims_number w) → ⊥) → AllByRecursion (λ (u : ModuleInstance). u.module_number ≡ shims_number w → ⊥) us
     none_of [] other = tt
@@ -254,13 +255,13 @@ filled_at_end w m o g None made same numbers h ok = none_of m.store.module_insta
       λ e. other (0, omega arith, e),
       none_of us (λ c. other (Contains-append_right (u.module_number ∷ []) (map (λ (u : ModuleInstance). u.module_number) us) (shims_number w) c)),
     )
-filled_at_end w m None g (Some at) made same numbers h ok =
+filled_at_end w m named None g (Some at) made same numbers h ok =
     let own : Contains (user_numbers w) (shims_number w) = subst (λ l. Contains l (shims_number w)) (same ∙ append-nil (user_numbers w)) h.there in
     let below : shims_number w < user_count w = AllByRecursion-contains (λ n. n < user_count w) (user_numbers w) (shims_number w) (users_below w) own in
     absurd (not_shims w (shims_number w) below refl)
-filled_at_end w m (Some b) g (Some at) made same numbers h ok = (h.made, λ any. h.filled (by b.fixup g.fixup same any), h.room, h.exported)
+filled_at_end w m named (Some b) g (Some at) made same numbers h ok = (h.made, λ any. h.filled (by b.fixup g.fixup same any), h.room, h.exported)
   where
-    by : (o : Option (List ℕ)) → IsFixup w g.debug_names o → made ≡ instance_order (length (user_modules w)) (generated_for w g.debug_names o) → (shims_of w ≡ [] → ⊥) → Contains made (fixup_number w)
+    by : (o : Option (List ℕ)) → IsFixup w named o → made ≡ instance_order (length (user_modules w)) (generated_for w named o) → (shims_of w ≡ [] → ⊥) → Contains made (fixup_number w)
     by None none same any = absurd (any none)
     by (Some bytes) fixes same any =
         let last : Contains (user_numbers w ++ fixup_number w ∷ []) (fixup_number w) = Contains-append_right (user_numbers w) (fixup_number w ∷ []) (fixup_number w) (0, omega arith, refl) in
@@ -268,9 +269,9 @@ filled_at_end w m (Some b) g (Some at) made same numbers h ok = (h.made, λ any.
         subst (λ l. Contains l (fixup_number w)) (sym same) among
 
 -- the end of a run is linked
-linked_at_end : (n : Naming) (w : ComponentWorld) (ds : List Def) (m : Machine) → IsWorld w → AreExportsApart n w → (built : IsBuilt n w ds) → {globals : List ValType} → Agrees w ds m.scope m.store globals → m.now.events ≡ events_of (numbers_from 0 (length (user_modules w))) → IsLinked n w (modules_of w built.generated built.are_generated) m
+linked_at_end : (n : Naming) (w : ComponentWorld) (ds : List Def) (m : Machine) → IsWorld w → AreExportsApart n w → (built : IsBuilt n w ds) → {globals : List ValType} → Agrees w ds m.scope m.store globals → m.now.events ≡ events_of (numbers_from 0 (length (user_modules w))) → IsLinked n w (modules_of w n.debug_names built.generated) m
 linked_at_end n w ds m ok apart built {globals} a events =
-    let filled : FilledAtEnd w ok m a.shims = filled_at_end w m built.generated built.are_generated a.shims (flat_map (at_root item_instantiates) ds) (instances_in_order n w ds built) a.instantiated a.with_shims ok in
+    let filled : FilledAtEnd w ok m a.shims = filled_at_end w m n.debug_names built.generated built.are_generated a.shims (flat_map (at_root item_instantiates) ds) (instances_in_order n w ds built) a.instantiated a.with_shims ok in
     record {
       origins = resource_of w;
       start_events = [];
@@ -280,6 +281,8 @@ linked_at_end n w ds m ok apart built {globals} a events =
       types = each_type_provided n w ok apart m a.shims filled (a.exports ∙ root_export_names n w ds built) a.lifted;
       resources = λ address number destructor present. resource_defined w ok m a.shims filled address number destructor present a.resources;
       defined = λ number less. number_defined w ok m a.shims filled number a.resources (subst (λ n. number < n) (sym (all_resources n w ds built)) less);
+      filled = shims_filled w ok m a.shims filled;
+      tables = λ instance i of present listed. tables_untouched w m a.shims a.with_tables instance i of present listed;
       events = events ∙ sym (append-nil (events_of (user_numbers w)));
       started = rw (no_calls w ok) tt;
     }
@@ -356,12 +359,12 @@ quiet_shims w m numbers (Some at) same h unfixed address s =
     }
 
 -- where the definitions don't instantiate the fixup, its number is none of theirs
-no_fixup_before : (w : ComponentWorld) (o : Option GeneratedBytes) (h : MayBeGenerated w o) (ds : List Def) → IsTrue (is_some (modules_of w o h).fixup) → BeforeFixup w (modules_of w o h) ds → Contains (flat_map (at_root item_instantiates) ds) (fixup_number w) → ⊥
-no_fixup_before w None h ds fixed before contains = let none : IsTrue false = fixed in cc
-no_fixup_before w (Some b) h ds fixed before contains = AllByRecursion-contains (λ n. n ≢ fixup_number w) (flat_map (at_root item_instantiates) ds) (fixup_number w) before contains refl
+no_fixup_before : (w : ComponentWorld) (named : Bool) (o : Option GeneratedBytes) (ds : List Def) → IsTrue (is_some (modules_of w named o).fixup) → BeforeFixup w (modules_of w named o) ds → Contains (flat_map (at_root item_instantiates) ds) (fixup_number w) → ⊥
+no_fixup_before w named None ds fixed before contains = let none : IsTrue false = fixed in cc
+no_fixup_before w named (Some b) ds fixed before contains = AllByRecursion-contains (λ n. n ≢ fixup_number w) (flat_map (at_root item_instantiates) ds) (fixup_number w) before contains refl
 
 -- what was built links, whatever the outside returns, where the exported interfaces have names of their own
-pub links : (n : Naming) (w : ComponentWorld) (ds : List Def) → IsWorld w → AreExportsApart n w → (built : IsBuilt n w ds) → Links n w (modules_of w built.generated built.are_generated) ds
+pub links : (n : Naming) (w : ComponentWorld) (ds : List Def) → IsWorld w → AreExportsApart n w → (built : IsBuilt n w ds) → Links n w (modules_of w n.debug_names built.generated) ds
 links n w ds ok apart built = record {
   never_stuck = λ answers. not_stuck all.0 all.1 all.2 made (questions w) answers (outcome w gen ds answers) (good answers);
   ends = λ answers. is_done all.0 all.1 all.2 made (questions w) answers (outcome w gen ds answers) (good answers);
@@ -376,13 +379,13 @@ links n w ds ok apart built = record {
 }
   where
     gen : GeneratedModules
-    gen = modules_of w built.generated built.are_generated
+    gen = modules_of w n.debug_names built.generated
 
     in_order : flat_map (at_root item_instantiates) ds ≡ instance_order (length (user_modules w)) gen
     in_order = instances_in_order n w ds built
 
     may : AllByRecursion (MayMake w gen) (flat_map (at_root item_instantiates) ds)
-    may = subst (AllByRecursion (MayMake w gen)) (sym in_order) (may_make w built.generated built.are_generated)
+    may = subst (AllByRecursion (MayMake w gen)) (sym in_order) (may_make w n.debug_names built.generated built.are_generated)
 
     all : Resolves w gen [] ds (fresh_machine []).scope (fresh_machine []).store []
     all = resolves w gen ok [] ds (fresh_machine []).scope (fresh_machine []).store [] (start w) may built.right
@@ -395,7 +398,7 @@ links n w ds ok apart built = record {
     counted = length-map (user_numbers w) (λ (n : ℕ). Instantiated n) ∙ length-numbers 0 (user_count w)
 
     users : users_among w (flat_map (at_root item_instantiates) ds) ≡ numbers_from 0 (length (user_modules w))
-    users = ap (users_among w) in_order ∙ users_in_order w built.generated built.are_generated
+    users = ap (users_among w) in_order ∙ users_in_order w n.debug_names built.generated
 
     asked : asked_by w ds ≡ questions w
     asked =
@@ -430,4 +433,4 @@ links n w ds ok apart built = record {
         let is : (m.scope ≡ to.0) × (m.store ≡ to.1) × IsNow (seen_by w before) to.2 m.now =
         done_with to.0 to.1 to.2 (seen_by w before) (asked_by w before) answers (outcome w gen before answers) m (to.3 [] (fresh_machine answers).now (fresh answers)) done in
         let a : Agrees w before m.scope m.store to.2 = subst (λ s. Agrees w before m.scope s to.2) (sym is.1) (subst (λ c. Agrees w before c to.1 to.2) (sym is.0) to.4) in
-        quiet_shims w m those a.shims a.instantiated a.with_shims (no_fixup_before w built.generated built.are_generated before fixed unfixed)
+        quiet_shims w m those a.shims a.instantiated a.with_shims (no_fixup_before w n.debug_names built.generated before fixed unfixed)

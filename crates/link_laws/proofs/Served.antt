@@ -2,11 +2,12 @@
 use Rattle.std.proofs.Common.{◌≡◌, ◌∙◌, ◌++◌, inl, inr, ◌+◌, ◌<◌, ◌^◌, arith, length, IsTrue, ℕ, Bool, false, zero, suc, true, List, [], ◌∷◌, map, refl, sym, ap, subst, Option, Some, None, is_some, if◌then◌else◌}
 use Rattle.std.proofs.lemmas.Option.{none-some, same_Some, slice_get_within, slice_get-map}
 use Rattle.std.proofs.lemmas.Slice.Eq.{bytes_eq-Decides}
+use Rattle.std.specs.Prelude.{Contains}
 use Rattle.std.specs.Str.{bytes_eq}
 use Rattle.std.specs.List.{slice_get, flat_map, AllZip, AllByRecursion}
 use Rattle.std.specs.Fmt.{decimal}
 use Rattle.std.specs.Option.{option_map, option_and_then}
-use Rattle.comp_lists.proofs.Lists.{AllZip-at, AllZip-weaker}
+use Rattle.comp_lists.proofs.Lists.{there, AllZip-at, AllZip-weaker, AllByRecursion-weaker}
 use Rattle.comp_bytes.specs.declared.space.Space.TheVariants as spaces
 use Rattle.comp_terms.specs.Terms.{intrinsic_of}
 use Rattle.comp_bytes.specs.Spaces.{is_space}
@@ -60,9 +61,9 @@ use Rattle.nested_laws.proofs.Kept.{is_function}
 use Rattle.nested_laws.proofs.Exports.{front, other_space}
 use Rattle.link_laws.specs.Meeting.{CoreMeets, CoreExportMeets, task_hook, hooks_round, IsExportedItem, ItemMeets, MemoryMeets, IsMainMemory, MeetsOption, ItemIsExport, ItemIsLowering, IsResourceHeld, ItemIsOfResource, Meets, MeetsIn, entry_kind}
 use Rattle.instance_laws.proofs.Held.{tree_of_held}
-use Rattle.link_laws.specs.Linking.{IsServed, AreServed, UsersServed, IsProvided, IsTypeProvided, DestructorMeets, IsDefined, IsNumberDefined, exports_at}
+use Rattle.link_laws.specs.Linking.{IsOpaque, IsUntouched, AreTablesUntouched, ShimsFilled, IsServed, AreServed, UsersServed, IsProvided, IsTypeProvided, DestructorMeets, IsDefined, IsNumberDefined, exports_at}
 use Rattle.link_laws.proofs.Zips.{AllByRecursion-join, each_at}
-use Rattle.link_laws.proofs.Stores.{IsOpaqueOf, ShimsAt, resource_core, IsLoweredFor, IsFunctionOf, IsFunctionExported, IsItemExported, IsServedAs, IsServedIn, IsShimGivenAt, IsShimGiven, ExportsShims, exports_of_shims, Serves, IsFilledWith, AreFilled, main_module, IsPlanned, IsPlannedUser, IsMemoryOfMain, IsShimExported, IsReallocHeld, IsOptionHeld, function_at_key, IsRequiredAt, IsFunctionExport, IsAmong, IsInterfaceExport, IsItemExport, IsKeyExport, AreKeyExports, type_at_key, IsTypeAmong, IsDestroyedBy, IsOwnResource, IsOwnIfDefined, AreResources, HasNumber}
+use Rattle.link_laws.proofs.Stores.{IsOpaqueOf, ShimsAt, resource_core, IsLoweredFor, IsFunctionOf, IsFunctionExported, IsItemExported, IsServedAs, IsServedIn, IsShimGivenAt, IsShimGiven, ExportsShims, exports_of_shims, Serves, IsFilledWith, AreFilled, main_module, IsPlanned, IsPlannedUser, IsMemoryOfMain, IsShimExported, IsReallocHeld, IsOptionHeld, function_at_key, IsRequiredAt, IsFunctionExport, IsAmong, IsInterfaceExport, IsItemExport, IsKeyExport, AreKeyExports, type_at_key, IsTypeAmong, IsTypeOfMemory, IsOwnTable, IsOwnIfTable, HasOwnTables, IsDestroyedBy, IsOwnResource, IsOwnIfDefined, AreResources, HasNumber}
 use Rattle.link_laws.proofs.Given.{by_parts, named_in_space}
 use Rattle.comp_links.proofs.Keys.{one_provider}
 use Rattle.link_laws.proofs.GivenImports.{purpose_opaque, one_purpose}
@@ -153,7 +154,8 @@ module _ (w : ComponentWorld) (ok : IsWorld w) (m : Machine) where
       by : (imported : Option MemoryType) → shared_memory w ≡ imported → (first : Option (List ℕ × MemoryType)) → first_memory w.main.exports.exports ≡ first → memory_from w imported first ≡ Some h.export → IsMainMemory w m address
       by (Some type) imported first firsts named =
           let own : CoreExport = record { of = shims_number w; kind = kinds.Memory; name = memory_name } in
-          subst (λ o. MemoryMeets w m address o (first_memory w.main.exports.exports)) (sym imported) (exported own (same_Some own h.export named))
+          let typed : h.held ≡ type = subst (λ o. IsTypeOfMemory w o h.export h.held) imported h.offered in
+          subst (λ o. MemoryMeets w m address o (first_memory w.main.exports.exports)) (sym imported) (record { exported = exported own (same_Some own h.export named); typed = h.present ∙ ap Some typed })
       by None imported (Some (name, type)) first named =
           let own : CoreExport = record { of = 0; kind = kinds.Memory; name = name } in
           subst (λ o. MemoryMeets w m address o (first_memory w.main.exports.exports)) (sym imported)
@@ -209,6 +211,38 @@ module _ (w : ComponentWorld) (ok : IsWorld w) (m : Machine) where
             let typed : type_of_shim shim ≡ type = one_type m.store f.0 (type_of_shim shim) type own.0 item own.1 o in
             subst (Forwards w ok m address f.0) typed
             (λ arguments now fits. filled_shims_forward m.store.code at.table address place (type_of_shim shim) (map (λ f. Some f) slots.functions) f.0 own.1.what 0 shim_there slots.slots slot own.1.present small arguments now fits);
+      }
+
+  -- each shim is filled, whoever uses it
+  pub shims_filled : (shims : Option ShimsAt) → FilledAtEnd shims → ShimsFilled w m
+  shims_filled None filled address s = absurd (entry_at (λ (i : ModuleInstance). i.module_number ≡ shims_number w → ⊥) m.store.module_instances s.instance s.made filled s.present s.of)
+  shims_filled (Some at) filled address s =
+      let shims : List Shim = shims_of w in
+      let exports : s.made.exports ≡ exports_of_shims w at = entry_at (ExportsShims w at) m.store.module_instances s.instance s.made filled.3 s.present s.of in
+      let own : (place : ℕ) × (place < length shims) × (address ≡ at.address + place) =
+      (shims_found shims at.address at.table at.memory).listed s.name address (subst (λ es. Contains es (record { space = spaces.CoreFunc; name = s.name; address = address })) exports s.exported) in
+      let place : ℕ = own.0 in
+      let listed : (shim : Shim) × (slice_get shims place ≡ Some shim) = there shims place own.1 in
+      let shim : Shim = listed.0 in
+      let type : FuncType = type_of_shim shim in
+      let slots : AreFilled w m.store at.table = filled.1 (λ none. none-some shim (ap (λ l. slice_get l place) (sym none) ∙ listed.1)) in
+      let f = AllZip-at (IsFilledWith w m.store) shims slots.functions place shim slots.each listed.1 in
+      let o : (item : CoreItem) × IsOpaqueOf m.store f.0 type item = purpose_opaque w ok m.store f.0 shim f.2.purpose f.2.stands_for f.2.serves in
+      let place_is : 0 + place ≡ place = omega arith in
+      let shim_there : IsShimAt m.store.code at.table address place type =
+      subst (λ n. IsShimAt m.store.code at.table n place type) (sym own.2)
+      (subst (λ n. IsShimAt m.store.code at.table (at.address + place) n type) place_is (shim_at m.store.code at.table 0 at.address shims place shim filled.0 listed.1)) in
+      let slot : slice_get (map (λ f. Some f) slots.functions) place ≡ Some (Some f.0) = slice_get-map (λ f. Some f) slots.functions place ∙ ap (option_map (λ f. Some f)) f.1 in
+      let within = own.1 in
+      let room = filled.2 in
+      let small : place < 2 ^ 32 = omega (arith, within, room) in
+      record {
+        target = record { address = f.0; signature = type };
+        what = o.1.what;
+        is = o.1.present;
+        acts = record {
+          same = λ arguments now fits kept. filled_shims_forward m.store.code at.table address place type (map (λ f. Some f) slots.functions) f.0 o.1.what 0 shim_there slots.slots slot o.1.present small arguments now fits;
+        };
       }
 
   -- what an instance of their module exports for a place is the shim of that place
@@ -359,8 +393,20 @@ module _ (w : ComponentWorld) (ok : IsWorld w) (m : Machine) (shims : Option Shi
       let x : ForwardsFor w ok m t.address target = given_forwards w ok m shims filled t.address target h.1 in
       function_meets_as t x.function target h.0 x.same x.serves
 
+  -- what the link table names is an opaque function
+  served_opaque : (address : ℕ) (target : Target) → IsServedAs w m.store address target → IsOpaque m address
+  served_opaque address (Lowered function options) h = record { what = h.lowered.is.what; signature = core_signature h.type []; is = h.lowered.is.present }
+  served_opaque address (OfResource function id) h = record { what = h.is.what; signature = resource_core function; is = h.is.present }
+  served_opaque address (ExportOf export_ref) h = record { what = h.is.what; signature = h.type; is = h.is.present }
+  served_opaque address target h = absurd h
+
   planned_served : (of : WorldModule) (t : Thing) (i : ImportType) → IsPlanned w shims m.store of t i → IsServed w m (resource_of w) of t i
-  planned_served of t i h = record { target = h.target; said = h.said; meets = serves_meets t h.target h.serves }
+  planned_served of t i h = record {
+    target = h.target;
+    said = h.said;
+    meets = serves_meets t h.target h.serves;
+    direct = λ none function. served_opaque t.address h.target (subst (λ space. IsServedIn w m.store space t.address h.target) function (h.direct none));
+  }
 
   instance_served : (i : ModuleInstance) (of : WorldModule) → slice_get (user_modules w) i.module_number ≡ Some of → IsPlannedUser w shims m.store i → AreServed w m (resource_of w) of i
   instance_served i of listed h = AllZip-weaker (planned_served of) i.given of.found.imported (h of listed)
@@ -372,6 +418,17 @@ module _ (w : ComponentWorld) (ok : IsWorld w) (m : Machine) (shims : Option Shi
       same_resources : (ts : List TypeId) → AllByRecursion (λ id. resource_of w id ≡ resource_of w id) ts
       same_resources [] = tt
       same_resources (t ∷ ts) = (refl, same_resources ts)
+
+-- ---- tables
+
+-- what generated modules write is none of the tables that user modules export
+pub tables_untouched : (w : ComponentWorld) (m : Machine) (shims : Option ShimsAt) → AllByRecursion (HasOwnTables w shims m.store.code.tables) m.store.module_instances → (instance : ℕ) (i : ModuleInstance) (of : WorldModule) →
+    slice_get m.store.module_instances instance ≡ Some i → slice_get (user_modules w) i.module_number ≡ Some of → AreTablesUntouched m i.exports
+tables_untouched w m shims all instance i of present listed =
+    AllByRecursion-weaker by i.exports (entry_at (HasOwnTables w shims m.store.code.tables) m.store.module_instances instance i all present of listed)
+  where
+    by : (e : Export) → IsOwnIfTable w shims m.store.code.tables e → e.space ≡ spaces.CoreTable → IsUntouched m e.address
+    by e h space = let t : IsOwnTable w shims m.store.code.tables e.address = h space in record { size = t.size; empty = t.empty }
 
 -- ---- exports
 

@@ -1,6 +1,7 @@
--- A worked example: the list with shims links, in every run; with the slots crossed it doesn't.
+-- A worked example: how the list with shims runs. It ends where the outside lets it, and its shims trap before the fixup; but it doesn't
+-- link, since main is given shims for calls that need no memory.
 use Rattle.comp_links.specs.Naming.{own_names}
-use Rattle.std.proofs.Common.{◌≡◌, ◌∙◌, ◌≤◌, ◌++◌, ℕ, zero, suc, Bool, true, false, true≢false, List, [], ◌∷◌, take, refl, sym, ap, subst, Some, None, IsTrue, inl, inr, ◌⊎◌, arith}
+use Rattle.std.proofs.Common.{◌≡◌, ◌∙◌, ◌++◌, ℕ, zero, suc, Bool, true, false, true≢false, List, [], ◌∷◌, take, refl, sym, ap, subst, Some, None, IsTrue, inl, inr, ◌⊎◌, arith}
 use Rattle.std.proofs.lemmas.Option.{none-some, same_Some}
 use Rattle.std.specs.Prelude.{Contains, is_some}
 use Rattle.std.specs.List.{slice_get, AllByRecursion}
@@ -8,20 +9,17 @@ use Rattle.comp_bytes.specs.Spaces.{is_space}
 use Rattle.comp_bytes.specs.declared.space.Space.TheVariants as spaces
 use Rattle.comp_bytes.specs.declared.def.Def.{Def}
 use Rattle.core_runs.specs.Values.{Value, fit}
-use Rattle.core_runs.specs.Store.{Store as CodeStore, Func, Opaque, Cell, Answer, Gives, Traps, Now, ByCode}
+use Rattle.core_runs.specs.Store.{Store as CodeStore, Func, Opaque, Answer, Gives, Traps, Now, ByCode}
 use Rattle.core_runs.specs.Store as core
 use Rattle.core_runs.specs.Execution.{exec, acts}
-use Rattle.comp_bytes.specs.ItemIndices.{in_space}
-use Rattle.comp_runs.specs.Instances.{type_scope}
-use Rattle.link_laws.proofs.ImportedTypes.{none_imported}
 use Rattle.comp_runs.specs.Store.{Export, ModuleInstance}
 use Rattle.comp_runs.specs.Machine.{Machine, Outcome, Done, Stuck}
 use Rattle.link_laws.specs.Composition.{GeneratedModules}
-use Rattle.link_laws.specs.Linking.{outcome, questions, LetsRun, EndsAt, IsLinked, IsShim, TrapsAtOnce, BeforeFixup, Links}
+use Rattle.link_laws.specs.Linking.{outcome, questions, LetsRun, IsShim, TrapsAtOnce, BeforeFixup, ShimsTrapBefore, Links}
 use Rattle.link_laws.proofs.Worked.{plain_core}
-use Rattle.link_laws.proofs.Worked.{machine_of, made}
+use Rattle.link_laws.proofs.Worked.{made}
 use Rattle.link_laws.proofs.WorkedShims.{world, generated, whole_with, whole, shims_bytes, fixup_bytes, shims_instance, shim_function}
-use Rattle.link_laws.proofs.ShimsLinked.{end, straight_is_linked, crossed_is_not_linked}
+use Rattle.link_laws.proofs.ShimsLinked.{end, straight_is_not_linked, crossed_is_not_linked}
 
 abbrev straight_modules : GeneratedModules
 straight_modules = generated (0 ∷ 1 ∷ [])
@@ -42,37 +40,17 @@ abbrev is_stuck : Outcome → Bool
 is_stuck Stuck = true
 is_stuck outcome = false
 
-never_stuck : (answers : List Answer) → outcome world straight_modules definitions answers ≡ Stuck → ⊥
+pub never_stuck : (answers : List Answer) → outcome world straight_modules definitions answers ≡ Stuck → ⊥
 never_stuck [] e = true≢false (sym (ap is_stuck e))
 never_stuck (Traps ∷ answers) e = true≢false (sym (ap is_stuck e))
 never_stuck (Gives [] number ∷ answers) e = true≢false (sym (ap is_stuck e))
 never_stuck (Gives (v ∷ vs) number ∷ answers) e = true≢false (sym (ap is_stuck e))
 
-ends : (answers : List Answer) → LetsRun (questions world) answers → (m : Machine) × (outcome world straight_modules definitions answers ≡ Done m)
+pub ends : (answers : List Answer) → LetsRun (questions world) answers → (m : Machine) × (outcome world straight_modules definitions answers ≡ Done m)
 ends [] lets = absurd lets
 ends (Traps ∷ answers) lets = absurd lets
 ends (Gives [] number ∷ answers) lets = (end number answers, refl)
 ends (Gives (v ∷ vs) number ∷ answers) lets = absurd (true≢false (sym lets.0))
-
-linked : (answers : List Answer) (m : Machine) → outcome world straight_modules definitions answers ≡ Done m → IsLinked own_names world straight_modules m
-linked [] m e = absurd (true≢false (sym (ap is_done e)))
-linked (Traps ∷ answers) m e = absurd (true≢false (sym (ap is_done e)))
-linked (Gives [] number ∷ answers) m e = subst (IsLinked own_names world straight_modules) (ap machine_of e) (straight_is_linked number answers)
-linked (Gives (v ∷ vs) number ∷ answers) m e = absurd (true≢false (sym (ap is_done e)))
-
--- nothing is seen after the instance of main
-abbrev moments_of : Machine → List (List Cell)
-moments_of m = m.now.moments
-
-one_moment : (answers : List Answer) (m : Machine) → EndsAt m (outcome world straight_modules definitions answers) → [] ∷ [] ≡ moments_of m
-one_moment [] m e = ap moments_of e
-one_moment (Traps ∷ answers) m e = ap moments_of e
-one_moment (Gives [] number ∷ answers) m e = ap moments_of e
-one_moment (Gives (v ∷ vs) number ∷ answers) m e = ap moments_of e
-
-no_second : (moments : List (List Cell)) (event : ℕ) (globals : List Cell) → [] ∷ [] ≡ moments → 1 ≤ event → slice_get moments event ≡ Some globals → ⊥
-no_second moments zero globals same late e = omega (arith, late)
-no_second moments (suc n) globals same late e = none-some globals (subst (λ ms. slice_get ms (suc n) ≡ Some globals) (sym same) e)
 
 -- ---- prefixes
 
@@ -229,15 +207,11 @@ module _ (first second : List ℕ) where
 
 -- ---- the two lists
 
-pub straight_links : Links own_names world straight_modules definitions
-straight_links = record {
-  never_stuck = never_stuck;
-  ends = ends;
-  linked = linked;
-  types = λ answers m e. none_imported (in_space spaces.Type definitions) (type_scope m) (λ tree. refl, tt);
-  traps_before = record { each = traps_before shims_bytes (fixup_bytes (0 ∷ 1 ∷ [])) };
-  served_throughout = record { each = λ answers m e event globals late found. absurd (no_second m.now.moments event globals (one_moment answers m e) late found) };
-}
+pub straight_traps_before : ShimsTrapBefore world straight_modules definitions
+straight_traps_before = record { each = traps_before shims_bytes (fixup_bytes (0 ∷ 1 ∷ [])) }
+
+pub straight_does_not_link : Links own_names world straight_modules definitions → ⊥
+straight_does_not_link l = straight_is_not_linked 0 [] (l.linked made _ refl)
 
 pub crossed_does_not_link : Links own_names world (generated (1 ∷ 0 ∷ [])) (whole (1 ∷ 0 ∷ [])) → ⊥
 crossed_does_not_link l = crossed_is_not_linked (l.linked made _ refl)

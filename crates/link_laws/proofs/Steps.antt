@@ -81,7 +81,7 @@ use Rattle.link_laws.specs.Composition.{GeneratedModules, at_root, item_instanti
 use Rattle.link_laws.specs.Linking.{module_meanings}
 use Rattle.link_laws.proofs.Zips.{all_some-self}
 use Rattle.link_laws.proofs.Outcomes.{machine, no_answers, quiet, users_among, Steps}
-use Rattle.link_laws.proofs.Stores.{IsOpaqueOf, IsUserItem, IsUserExport, IsUserInstance, ShimsAt, exports_of_shims, HasSharedMemory, IsModuleInstance, IsNamedEntry, ExportsShims, AreShims, MayHaveShims, IsTypeAt, resource_core, IsResourceItem, DefIs, Means, makes, IsTypeEntry, entry_of, IsFunctionEntry, IsInstanceThing, IsPlannedUser, IsAliasedItem, IsHeldOption, NumberedFrom, HasGlobals, Agrees, AreKeyExports, IsShimGiven, IsDestroyedBy, IsOwnResource, AreResources}
+use Rattle.link_laws.proofs.Stores.{IsOpaqueOf, IsUserItem, IsUserExport, IsUserInstance, ShimsAt, exports_of_shims, HasSharedMemory, IsModuleInstance, IsNamedEntry, ExportsShims, AreShims, MayHaveShims, IsTypeAt, resource_core, IsResourceItem, DefIs, Means, makes, IsTypeEntry, entry_of, IsFunctionEntry, IsInstanceThing, IsPlannedUser, IsAliasedItem, IsHeldOption, NumberedFrom, HasGlobals, HasOwnTables, Agrees, AreKeyExports, IsShimGiven, IsDestroyedBy, IsOwnResource, AreResources}
 use Rattle.link_laws.proofs.Given.{of_shims, module_there, address_there, all_held, scope_there, entry_there, held_there, type_there, instance_type_there, instance_there, imported_there, user_there, space_of_kind, offered_there, shim_there}
 use Rattle.link_laws.proofs.Plain.{only}
 use Rattle.link_laws.proofs.Kept.{sizes_kept, ShimsKept, shims_same, MayHaveShims-kept, keeps_all, IsHeldOption-kept, Keeps, address_at-append, things_kept, keeps_store, keeps_type, keeps_function, keeps_opaque, keeps_core_instance, keeps_module, Means-kept, IsTypeEntry-kept, IsFunctionEntry-kept, IsInstanceThing-kept, IsPlannedUser-kept, AreKeyExports-kept, AreResources-more, AreResources-push}
@@ -272,9 +272,9 @@ module _ {w : ComponentWorld} {earlier : List Def} {c : Scope} {s : Store} {g : 
   pub agrees_with : (d : Def) (c' : Scope) (s' : Store) (g' : List ValType) (t : Thing) (shims : Option ShimsAt) → ShimsKept a.shims shims → c'.items ≡ c.items ++ t ∷ [] → Keeps c.items c'.items s s' →
       Means w shims (earlier ++ d ∷ []) c'.items s' d t → Makes d s' t → NumberedFrom 0 (filter (is_of spaces.CoreModule) c'.items) (length s'.core_modules) →
       map (λ (u : ModuleInstance). u.module_number) s'.module_instances ≡ map (λ (u : ModuleInstance). u.module_number) s.module_instances ++ at_root item_instantiates d →
-      AllByRecursion (IsPlannedUser w shims s') s'.module_instances → AllByRecursion (HasGlobals w g') s'.module_instances → MayHaveShims w s' (flat_map (at_root item_instantiates) earlier ++ at_root item_instantiates d) shims → map (λ (e : Export). e.name) c'.exports ≡ map (λ (e : Export). e.name) c.exports ++ def_export d → AreKeyExports w s' (required_keys w) c'.exports →
+      AllByRecursion (IsPlannedUser w shims s') s'.module_instances → AllByRecursion (HasGlobals w g') s'.module_instances → AllByRecursion (HasOwnTables w shims s'.code.tables) s'.module_instances → MayHaveShims w s' (flat_map (at_root item_instantiates) earlier ++ at_root item_instantiates d) shims → map (λ (e : Export). e.name) c'.exports ≡ map (λ (e : Export). e.name) c.exports ++ def_export d → AreKeyExports w s' (required_keys w) c'.exports →
       c'.imports ≡ imports_made (inventory earlier) d → AreResources w shims s'.types (resources_made (inventory earlier) d) → Agrees w (earlier ++ d ∷ []) c' s' g'
-  agrees_with d c' s' g' t shims same grew keeps means made modules instantiated served with_globals with_shims exports lifted imports resources =
+  agrees_with d c' s' g' t shims same grew keeps means made modules instantiated served with_globals with_tables with_shims exports lifted imports resources =
       let before : List Def = filter makes earlier in
       let old : Inventory = inventory earlier in
       let Meaning : Def → Thing → Type 0 = Means w shims (earlier ++ d ∷ []) c'.items s' in
@@ -301,6 +301,7 @@ module _ {w : ComponentWorld} {earlier : List Def} {c : Scope} {s : Store} {g : 
         instantiated = instantiated ∙ (ap (λ l. l ++ at_root item_instantiates d) a.instantiated ∙ sym (flat-push (at_root item_instantiates) earlier d));
         served = served;
         with_globals = with_globals;
+        with_tables = with_tables;
         with_shims = subst (λ l. MayHaveShims w s' l shims) (sym (flat-push (at_root item_instantiates) earlier d)) with_shims;
         exports = exports ∙ (ap (λ l. l ++ def_export d) a.exports ∙ sym (flat-push def_export earlier d));
         lifted = lifted;
@@ -335,6 +336,7 @@ module _ {w : ComponentWorld} {earlier : List Def} {c : Scope} {s : Store} {g : 
         (rw (users, none) (sym (append-nil (map (λ (u : ModuleInstance). u.module_number) s.module_instances))))
         (subst (AllByRecursion (IsPlannedUser w a.shims s')) (sym users) (AllByRecursion-weaker (IsPlannedUser-kept w keeps a.shims a.shims (shims_same a.shims)) s.module_instances a.served))
         (subst (AllByRecursion (HasGlobals w g)) (sym users) a.with_globals)
+        (subst (λ ts. AllByRecursion (HasOwnTables w a.shims ts) s'.module_instances) (sym tables) (subst (AllByRecursion (HasOwnTables w a.shims s.code.tables)) (sym users) a.with_tables))
         (shims_beside keeps (at_root item_instantiates d) none users tables)
         (rw no_export (sym (append-nil (map (λ (e : Export). e.name) c.exports))))
         (AreKeyExports-kept w keeps (required_keys w) c.exports a.lifted)
@@ -766,6 +768,7 @@ module _ {w : ComponentWorld} {earlier : List Def} {c : Scope} {s : Store} {g : 
             (sym (append-nil (map (λ (u : ModuleInstance). u.module_number) s.module_instances)))
             (AllByRecursion-weaker (IsPlannedUser-kept w k a.shims a.shims (shims_same a.shims)) s.module_instances a.served)
             a.with_globals
+            a.with_tables
             (shims_beside k [] refl refl refl)
             (sym (append-nil (map (λ (e : Export). e.name) c.exports)))
             (AreKeyExports-kept w k (required_keys w) c.exports a.lifted)
@@ -797,6 +800,7 @@ module _ {w : ComponentWorld} {earlier : List Def} {c : Scope} {s : Store} {g : 
           instantiated = a.instantiated ∙ sym (flat-push (at_root item_instantiates) earlier d ∙ append-nil (flat_map (at_root item_instantiates) earlier));
           served = a.served;
           with_globals = a.with_globals;
+          with_tables = a.with_tables;
           with_shims = subst (λ l. MayHaveShims w s l a.shims) (sym (flat-push (at_root item_instantiates) earlier d ∙ append-nil (flat_map (at_root item_instantiates) earlier))) a.with_shims;
           exports = a.exports ∙ sym (flat-push def_export earlier d ∙ append-nil (flat_map def_export earlier));
           lifted = a.lifted;

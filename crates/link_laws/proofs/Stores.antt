@@ -1,5 +1,5 @@
 -- What the items of a run are, next to the definitions that made them.
-use Rattle.std.proofs.Common.{None, ◌≡◌, ◌<◌, ◌^◌, ◌+◌, ◌⊎◌, ℕ, suc, Option, Bool, List, [], ◌∷◌, length, map, filter, Some, is_some}
+use Rattle.std.proofs.Common.{false, None, ◌≡◌, ◌<◌, ◌^◌, ◌+◌, ◌⊎◌, ℕ, suc, Option, Bool, List, [], ◌∷◌, length, map, filter, Some, is_some}
 use Rattle.std.specs.Prelude.{Contains}
 use Rattle.std.specs.Fmt.{decimal}
 use Rattle.std.specs.List.{slice_get, flat_map, AllZip, AllByRecursion}
@@ -44,6 +44,7 @@ use Rattle.shim_plan.specs.declared.shims.Shim.{Shim}
 use Rattle.world_shims.specs.WorldShims.{shims_of}
 use Rattle.shim_runs.specs.ShimRuns.{AreShimsFrom, instance_exports}
 use Rattle.comp_terms.specs.Generated.{shims_number, fixup_number, Purpose, target_of, HasPurpose}
+use Rattle.comp_terms.specs.Shimmed.{has_shim_at}
 use Rattle.comp_worlds.specs.Offered.{shared_memory}
 use Rattle.comp_terms.specs.Terms.{CoreExport, IsInstanceOf, intrinsic_of, imports_in}
 use Rattle.comp_terms.specs.Planned.{main_memory, IsShimPlace, IsTypeOf, type_of_function}
@@ -431,11 +432,12 @@ IsServedIn w s space address target = ⊥
 abbrev pub Serves : ComponentWorld → Option ShimsAt → Store → Space → ℕ → Target → Type 0
 Serves w shims s space address target = IsServedIn w s space address target ⊎ ((space ≡ spaces.CoreFunc) × IsShimGiven w shims address target)
 
--- what an import of a user module is given, by the link table
+-- what an import of a user module is given, by the link table: no shim, where the import has none
 pub record IsPlanned (w : ComponentWorld) (shims : Option ShimsAt) (s : Store) (of : WorldModule) (t : Thing) (i : ImportType) : Type 0 where
   pub target : Target
   pub said : link_at w of i.module_name i.field ≡ Some target
   pub serves : Serves w shims s t.space t.address target
+  pub direct : has_shim_at w of i.module_name i.field ≡ false → IsServedIn w s t.space t.address target
 
 -- an instance of a user module is given all that the module imports
 abbrev pub IsPlannedUser : ComponentWorld → Option ShimsAt → Store → ModuleInstance → Type 0
@@ -465,6 +467,11 @@ HasSharedMemory s None None = Unit {0}
 HasSharedMemory s (Some type) (Some address) = slice_get s.code.memories address ≡ Some type
 HasSharedMemory s type address = ⊥
 
+-- there is a table at this address
+pub record HasTable (tables : List (List (Option ℕ))) (address : ℕ) : Type 0 where
+  pub slots : List (Option ℕ)
+  pub present : slice_get tables address ≡ Some slots
+
 -- The instance of the shims is made, where these modules are instantiated. Its slots, where there are shims, are empty until the fixup
 -- is made, and then hold what the shims stand for.
 pub record AreShims (w : ComponentWorld) (s : Store) (numbers : List ℕ) (at : ShimsAt) : Type 0 where
@@ -473,6 +480,7 @@ pub record AreShims (w : ComponentWorld) (s : Store) (numbers : List ℕ) (at : 
   pub made : AreShimsFrom s.code at.table 0 at.address (shims_of w)
   pub exported : AllByRecursion (ExportsShims w at) s.module_instances
   pub memory : HasSharedMemory s (shared_memory w) at.memory
+  pub slotted : (shims_of w ≡ [] → ⊥) → HasTable s.code.tables at.table
   pub unfilled : (shims_of w ≡ [] → ⊥) → (Contains numbers (fixup_number w) → ⊥) → slice_get s.code.tables at.table ≡ Some (empty_table (length (shims_of w)))
   pub filled : Contains numbers (fixup_number w) → AreFilled w s at.table
 
@@ -609,6 +617,19 @@ pub record HasGlobalType (globals : List ValType) (e : Export) (found : List ℕ
 abbrev pub HasGlobals : ComponentWorld → List ValType → ModuleInstance → Type 0
 HasGlobals w globals u = (of : WorldModule) → slice_get (user_modules w) u.module_number ≡ Some of → AllZip (HasGlobalType globals) u.exports of.found.offered
 
+-- the table at this address is empty, and is not that of the shims, where there are any
+pub record IsOwnTable (w : ComponentWorld) (shims : Option ShimsAt) (tables : List (List (Option ℕ))) (address : ℕ) : Type 0 where
+  pub size : ℕ
+  pub empty : slice_get tables address ≡ Some (empty_table size)
+  pub apart : (at : ShimsAt) → shims ≡ Some at → (shims_of w ≡ [] → ⊥) → at.table ≡ address → ⊥
+
+-- each table that an instance of a user module exports is so
+abbrev pub IsOwnIfTable : ComponentWorld → Option ShimsAt → List (List (Option ℕ)) → Export → Type 0
+IsOwnIfTable w shims tables e = e.space ≡ spaces.CoreTable → IsOwnTable w shims tables e.address
+
+abbrev pub HasOwnTables : ComponentWorld → Option ShimsAt → List (List (Option ℕ)) → ModuleInstance → Type 0
+HasOwnTables w shims tables u = (of : WorldModule) → slice_get (user_modules w) u.module_number ≡ Some of → AllByRecursion (IsOwnIfTable w shims tables) u.exports
+
 -- the scope, the store and the types of the globals are what these definitions make
 pub record Agrees (w : ComponentWorld) (earlier : List Def) (c : Scope) (s : Store) (globals : List ValType) : Type 0 where
   pub shims : Option ShimsAt
@@ -621,6 +642,7 @@ pub record Agrees (w : ComponentWorld) (earlier : List Def) (c : Scope) (s : Sto
   pub instantiated : map (λ (u : ModuleInstance). u.module_number) s.module_instances ≡ flat_map (at_root item_instantiates) earlier
   pub served : AllByRecursion (IsPlannedUser w shims s) s.module_instances
   pub with_globals : AllByRecursion (HasGlobals w globals) s.module_instances
+  pub with_tables : AllByRecursion (HasOwnTables w shims s.code.tables) s.module_instances
   pub with_shims : MayHaveShims w s (flat_map (at_root item_instantiates) earlier) shims
   pub exports : map (λ (e : Export). e.name) c.exports ≡ flat_map def_export earlier
   pub lifted : AreKeyExports w s (required_keys w) c.exports

@@ -1,7 +1,8 @@
 -- What an instance of a user module adds to a machine: its exports, each at an address of its own.
-use Rattle.std.proofs.Common.{◌≡◌, ◌∙◌, ℕ, List, [], ◌∷◌, ◌++◌, length, map, refl, sym, ap, ap₂, subst, Some, None}
+use Rattle.std.proofs.Common.{◌≡◌, ◌∙◌, ◌≤◌, ◌+◌, arith, length-append, Option, ℕ, List, [], ◌∷◌, ◌++◌, length, map, refl, sym, ap, ap₂, subst, Some, None}
 use Rattle.std.proofs.lemmas.List.{map-append, length-map, length-replicate}
-use Rattle.std.specs.List.{slice_get, AllZip}
+use Rattle.std.specs.List.{slice_get, AllZip, AllByRecursion}
+use Rattle.comp_bytes.specs.declared.space.Space.TheVariants as spaces
 use Rattle.core_types.specs.declared.types.ValType.{ValType}
 use Rattle.comp_lists.proofs.Lists.{slice_get-end}
 use Rattle.core_runs.specs.Store.{Opaque, Foreign}
@@ -62,6 +63,24 @@ one_address (externs.Table type) m n a = ap (λ (s : Store). length s.code.table
 one_address (externs.Memory type) m n a = ap (λ (s : Store). length s.code.memories) a.store
 one_address (externs.Global type) m n a = sym (length-map m.now.globals type_of) ∙ (ap (λ (ts : List ValType). length ts) a.globals ∙ length-map n.now.globals type_of)
 
+-- an empty table whose address isn't below this one
+pub record IsFreshTable (from : ℕ) (tables : List (List (Option ℕ))) (address : ℕ) : Type 0 where
+  pub size : ℕ
+  pub empty : slice_get tables address ≡ Some (empty_table size)
+  pub new : from ≤ address
+
+abbrev pub IsFreshIfTable : ℕ → List (List (Option ℕ)) → Export → Type 0
+IsFreshIfTable from tables e = e.space ≡ spaces.CoreTable → IsFreshTable from tables e.address
+
+no_table_func : spaces.CoreFunc ≡ spaces.CoreTable → ⊥
+no_table_func e = cc
+
+no_table_memory : spaces.CoreMemory ≡ spaces.CoreTable → ⊥
+no_table_memory e = cc
+
+no_table_global : spaces.CoreGlobal ≡ spaces.CoreTable → ⊥
+no_table_global e = cc
+
 module _ (user : ℕ) where
   pub all_exports : (es : ExportTypes) (m : Machine) → Exports m (with_exports user es m)
   all_exports [] m = record { same = refl; code = keeps_same refl; tables = keeps_same refl; memories = keeps_same refl; known = keeps_same refl }
@@ -106,6 +125,21 @@ module _ (user : ℕ) where
         record { named = refl; space = refl; is = item_unchanged next (with_exports user es next) (all_exports es next) e type (item_added name type m) },
         each_export es next,
       )
+
+  -- ---- the tables of the exports
+
+  -- each is new and empty
+  pub each_table : (from : ℕ) (es : ExportTypes) (m : Machine) → from ≤ length m.store.code.tables → AllByRecursion (IsFreshIfTable from (with_exports user es m).store.code.tables) (exported_by user es m)
+  each_table from [] m l = tt
+  each_table from ((name, externs.Table type) ∷ es) m l =
+      let next : Machine = with_export (ExportedBy user name) (externs.Table type) m in
+      let added : length (m.store.code.tables ++ empty_table type.minimum ∷ []) ≡ length m.store.code.tables + 1 = length-append m.store.code.tables (empty_table type.minimum ∷ []) in (
+        λ space. record { size = type.minimum; empty = (all_exports es next).tables.at (length m.store.code.tables) (empty_table type.minimum) (slice_get-end m.store.code.tables (empty_table type.minimum)); new = l },
+        each_table from es next (omega (arith, l, added)),
+      )
+  each_table from ((name, externs.Func type) ∷ es) m l = (λ space. absurd (no_table_func space), each_table from es (with_export (ExportedBy user name) (externs.Func type) m) l)
+  each_table from ((name, externs.Memory type) ∷ es) m l = (λ space. absurd (no_table_memory space), each_table from es (with_export (ExportedBy user name) (externs.Memory type) m) l)
+  each_table from ((name, externs.Global type) ∷ es) m l = (λ space. absurd (no_table_global space), each_table from es (with_export (ExportedBy user name) (externs.Global type) m) l)
 
   -- ---- the globals of the exports
 

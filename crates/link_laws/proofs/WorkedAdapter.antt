@@ -40,7 +40,7 @@ abbrev memory_text : List ℕ
 memory_text = codes "memory"
 
 -- where the adapter imports the memory from, and the two functions
-abbrev memories : List ℕ
+abbrev pub memories : List ℕ
 memories = codes "env"
 
 abbrev pub functions : List ℕ

@@ -29,13 +29,18 @@ use Rattle.comp_runs.specs.Store.{Export, ExportedBy, Function, Lifting, ModuleI
 use Rattle.comp_runs.specs.Machine.{Machine, Outcome, Done, Trapped, Open, Stuck}
 use Rattle.link_laws.specs.Composition.{IsComposed}
 use Rattle.link_laws.specs.Meeting.{ItemIsExport, CoreExportMeets, hooks_round, IsMainMemory, Meets, entry_kind}
-use Rattle.link_laws.specs.Linking.{outcome, questions, LetsRun, EndsAt, AreServed, IsServed, LiftMeets, IsProvided, IsLinked, Links}
+use Rattle.link_laws.specs.Linking.{outcome, ShimsFilled, AreTablesUntouched, questions, LetsRun, EndsAt, AreServed, IsServed, LiftMeets, IsProvided, IsLinked, Links}
 use Rattle.link_laws.proofs.Worked.{plain_core}
 use Rattle.link_laws.proofs.Steps.{no_modules}
 use Rattle.link_laws.proofs.Worked.{machine_of, core_function, h, k, a}
 use Rattle.link_laws.proofs.Stores.{main_module}
 use Rattle.link_laws.proofs.NamedItem.{own_item}
-use Rattle.link_laws.proofs.WorkedAdapter.{adapter, functions, world, wit_of, definitions, crossed_definitions, memory_at, main_instance, adapter_instance, straight, crossed, taken_from_main}
+use Rattle.link_laws.proofs.Ordered.{named_as}
+use Rattle.link_laws.proofs.WorkedAdapter.{adapter, memories, functions, world, wit_of, definitions, crossed_definitions, memory_at, main_instance, adapter_instance, straight, crossed, taken_from_main}
+
+-- the adapter, as a user module
+abbrev the_adapter : WorldModule
+the_adapter = adapter_module (a, adapter)
 
 -- ---- the lists
 
@@ -44,10 +49,14 @@ straight_is_composed = record {
   generated = [];
   modules = refl;
   encoded = tt;
+  sections = tt;
   imports = refl;
   exports = refl;
   instances = refl;
   customs = record { front = definitions; names = []; whole = refl; none_before = refl; named = tt };
+  sound = (tt, (tt, (named_as world 0 (main_module world) [] refl refl, (tt, (tt, (named_as world 1 the_adapter (record { name = memories; instance = 1 } ∷ record { name = functions; instance = 0 } ∷ []) refl refl, (tt, (tt, (tt, (tt, (tt, (tt, (tt, tt)))))))))))));
+  nested_names = refl;
+  instance_types = refl;
 }
 
 pub crossed_is_composed : IsComposed own_names world no_modules crossed_definitions
@@ -55,10 +64,14 @@ crossed_is_composed = record {
   generated = [];
   modules = refl;
   encoded = tt;
+  sections = tt;
   imports = refl;
   exports = refl;
   instances = refl;
   customs = record { front = crossed_definitions; names = []; whole = refl; none_before = refl; named = tt };
+  sound = (tt, (tt, (named_as world 0 (main_module world) [] refl refl, (tt, (tt, (tt, (tt, (tt, (named_as world 1 the_adapter (record { name = memories; instance = 1 } ∷ record { name = functions; instance = 2 } ∷ []) refl refl, (tt, (tt, (tt, (tt, (tt, (tt, tt)))))))))))))));
+  nested_names = refl;
+  instance_types = refl;
 }
 
 -- ---- opaque functions
@@ -84,10 +97,6 @@ no_hooks None = refl
 no_hooks (Some kind) = refl
 
 -- ---- the end of a run
-
--- the adapter, as a user module
-abbrev the_adapter : WorldModule
-the_adapter = adapter_module (a, adapter)
 
 abbrev made_adapter : ModuleInstance
 made_adapter = adapter_instance (memory_at 0 ∷ core_function 1 ∷ core_function 0 ∷ [])
@@ -159,10 +168,10 @@ module _ (number number' : ℕ) (rest : List Answer) where
 
   adapter_served : AreServed world m no_origins the_adapter made_adapter
   adapter_served = (
-    record { target = MainMemory; said = refl; meets = memory_meets },
+    record { target = MainMemory; said = refl; meets = memory_meets; direct = λ none function. cc },
     (
-      record { target = ExportOf (of_main k); said = refl; meets = meets_k },
-      (record { target = ExportOf (of_main g); said = refl; meets = meets_g None }, tt),
+      record { target = ExportOf (of_main k); said = refl; meets = meets_k; direct = λ none function. record { what = 1; signature = plain_core; is = refl } },
+      (record { target = ExportOf (of_main g); said = refl; meets = meets_g None; direct = λ none function. record { what = 0; signature = plain_core; is = refl } }, tt),
     ),
   )
 
@@ -200,6 +209,24 @@ module _ (number number' : ℕ) (rest : List Answer) where
     meets = record { core = 3; held = []; is = refl; enters = meets_h (Some (entry_kind [])); same = tt };
   }
 
+  -- there is no module of shims
+  no_instance : (i j : ModuleInstance) → i ≡ j → i.module_number < 2 → j.module_number ≡ 2 → ⊥
+  no_instance i j same below of = let number : i.module_number ≡ 2 = ap (λ (x : ModuleInstance). x.module_number) same ∙ of in omega (arith, below, number)
+
+  no_shims : ShimsFilled world m
+  no_shims address s = absurd (by s.instance s.present)
+    where
+      by : (instance : ℕ) → slice_get m.store.module_instances instance ≡ Some s.made → ⊥
+      by zero e = no_instance main_instance s.made (same_Some main_instance s.made e) (omega arith) s.of
+      by (suc zero) e = no_instance made_adapter s.made (same_Some made_adapter s.made e) (omega arith) s.of
+      by (suc (suc n)) e = none-some s.made e
+
+  -- and no module exports a table
+  no_tables : (instance : ℕ) (i : ModuleInstance) (of : WorldModule) → slice_get m.store.module_instances instance ≡ Some i → slice_get (user_modules world) i.module_number ≡ Some of → AreTablesUntouched m i.exports
+  no_tables zero i of e u = subst (λ (x : ModuleInstance). AreTablesUntouched m x.exports) (same_Some main_instance i e) ((λ space. cc), ((λ space. cc), ((λ space. cc), ((λ space. cc), tt))))
+  no_tables (suc zero) i of e u = subst (λ (x : ModuleInstance). AreTablesUntouched m x.exports) (same_Some made_adapter i e) ((λ space. cc), tt)
+  no_tables (suc (suc n)) i of e u = absurd (none-some i e)
+
   pub straight_is_linked : IsLinked own_names world no_modules m
   straight_is_linked = record {
     origins = no_origins;
@@ -210,6 +237,8 @@ module _ (number number' : ℕ) (rest : List Answer) where
     types = tt;
     resources = λ address number destructor present. absurd (none_at m.store.types refl address number destructor present);
     defined = λ number less. let none : number < 0 = less in absurd (omega (arith, none));
+    filled = no_shims;
+    tables = no_tables;
     events = refl;
     started = tt;
   }

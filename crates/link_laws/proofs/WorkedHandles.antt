@@ -46,7 +46,8 @@ use Rattle.comp_links.specs.Targets.{Main, ResourceFunction, New, Rep, Drop, OfR
 use Rattle.comp_terms.specs.Terms.{IsResource as IsResourceAt, intrinsic_of}
 use Rattle.comp_terms.specs.Terms as terms
 use Rattle.comp_terms.specs.Planned.{IsEntryFor, IsArgumentFor}
-use Rattle.comp_terms.specs.Exports.{IsNestedFor, InstantiatesNested, ExportsInterface}
+use Rattle.comp_terms.specs.Instances.{InstantiatesNested}
+use Rattle.comp_terms.specs.Exports.{IsNestedFor, ExportsInterface}
 use Rattle.comp_terms.specs.Rules.{DefinesResource, IsBuilt}
 use Rattle.comp_runs.specs.Store.{IntrinsicOf}
 use Rattle.comp_runs.specs.Machine.{Machine, Outcome, Stuck}
@@ -275,6 +276,7 @@ instantiated_9 = record {
   made = record { made = refl };
   scoped = (omega arith, (omega arith, tt));
   apart = imports_apart;
+  exact = refl;
   right = nested_right;
   each = (record { argument = _; named = refl; denotes = record { within = omega arith; tree = refl } }, (record { argument = _; named = refl; denotes = record { within = omega arith; tree = refl } }, tt));
 }
@@ -287,6 +289,7 @@ instantiated_10 = record {
   made = record { made = refl };
   scoped = (omega arith, (omega arith, tt));
   apart = imports_apart;
+  exact = refl;
   right = nested_right;
   each = (record { argument = _; named = refl; denotes = record { within = omega arith; tree = refl } }, (record { argument = _; named = refl; denotes = record { within = omega arith; tree = refl } }, tt));
 }

@@ -47,7 +47,8 @@ use Rattle.comp_links.specs.Targets.{Main, Drop, OfResource}
 use Rattle.comp_terms.specs.Terms.{IsResource as IsResourceAt, IsOfResource}
 use Rattle.comp_terms.specs.Terms as terms
 use Rattle.comp_terms.specs.Planned.{IsEntryFor, IsArgumentFor}
-use Rattle.comp_terms.specs.Rules.{AliasesImported, ImportsInterface, IsBuilt}
+use Rattle.comp_terms.specs.Instances.{ImportsInterface}
+use Rattle.comp_terms.specs.Rules.{AliasesImported, IsBuilt}
 use Rattle.comp_runs.specs.Store.{IntrinsicOf}
 use Rattle.comp_runs.specs.Machine.{Machine, Outcome}
 use Rattle.link_laws.specs.Meeting.{CoreMeets, ItemIsOfResource, Meets}
@@ -198,7 +199,7 @@ members_right = (tt, (tt, tt))
 
 i_imported : ImportsInterface world (ds 1) 0
 unfolding inventory values_from
-i_imported = record { key = keys.Interface (interface_id 0); id = interface_id 0; stated = refl; outer = []; members = two_resources; is = refl; right = members_right }
+i_imported = record { key = keys.Interface (interface_id 0); id = interface_id 0; stated = refl; outer = []; members = two_resources; is = refl; right = members_right; types = (refl, (refl, tt)) }
 
 s_aliased : AliasesImported (ds 3) spaces.Type 0 s
 unfolding inventory

@@ -48,7 +48,8 @@ use Rattle.comp_links.specs.Naming.{own_names}
 use Rattle.comp_links.specs.Targets.{Main, Lifted as LiftedFrom}
 use Rattle.comp_terms.specs.Terms.{IsInstanceOf, IsFunctionType}
 use Rattle.comp_terms.specs.Planned.{IsLiftFor}
-use Rattle.comp_terms.specs.Exports.{IsNestedFor, InstantiatesNested, IsRequiredLift, ExportsInterface}
+use Rattle.comp_terms.specs.Instances.{InstantiatesNested}
+use Rattle.comp_terms.specs.Exports.{IsNestedFor, IsRequiredLift, ExportsInterface}
 use Rattle.comp_terms.specs.Rules.{IsBuilt}
 use Rattle.comp_runs.specs.Store.{ExportedBy, Lifting, Export}
 use Rattle.comp_runs.specs.Machine.{Outcome, Done}
@@ -308,6 +309,7 @@ instantiated_8 = record {
   made = record { made = refl };
   scoped = (omega arith, (omega arith, tt));
   apart = arguments_apart;
+  exact = refl;
   right = nested_right;
   each = (record { argument = _; named = refl; typed = refl }, (record { argument = _; named = refl; typed = refl }, tt));
 }
@@ -320,6 +322,7 @@ instantiated_9 = record {
   made = record { made = refl };
   scoped = (omega arith, (omega arith, tt));
   apart = arguments_apart;
+  exact = refl;
   right = nested_right;
   each = (record { argument = _; named = refl; typed = refl }, (record { argument = _; named = refl; typed = refl }, tt));
 }

@@ -37,7 +37,8 @@ use Rattle.comp_links.proofs.WorkedImports.{interface_of, interface_id, type_id,
 use Rattle.comp_links.specs.Lists.{AreExportsApart, type_of_world}
 use Rattle.comp_links.specs.Targets.{Main}
 use Rattle.comp_links.specs.Naming.{own_names}
-use Rattle.comp_terms.specs.Exports.{IsNestedFor, InstantiatesNested, ExportsInterface}
+use Rattle.comp_terms.specs.Instances.{InstantiatesNested}
+use Rattle.comp_terms.specs.Exports.{IsNestedFor, ExportsInterface}
 use Rattle.comp_terms.specs.Rules.{IsBuilt}
 use Rattle.comp_runs.specs.Store.{Export, tree_held}
 use Rattle.comp_runs.specs.Machine.{Machine}
@@ -176,10 +177,10 @@ nested_for : IsNestedFor world (exporting 0 1)
 nested_for = record { key = key; id = interface_id 0; item = refl; types = tt; apart = none_apart }
 
 instantiated_3 : InstantiatesNested (ds 3) 0 []
-instantiated_3 = record { definitions = exporting 0 1; given = no_types; made = record { made = refl }; scoped = tt; apart = none_apart; right = nested_right; each = tt }
+instantiated_3 = record { definitions = exporting 0 1; given = no_types; made = record { made = refl }; scoped = tt; apart = none_apart; exact = refl; right = nested_right; each = tt }
 
 abbrev instantiated_4 : InstantiatesNested (ds 4) 0 []
-instantiated_4 = record { definitions = exporting 0 1; given = no_types; made = record { made = refl }; scoped = tt; apart = none_apart; right = nested_right; each = tt }
+instantiated_4 = record { definitions = exporting 0 1; given = no_types; made = record { made = refl }; scoped = tt; apart = none_apart; exact = refl; right = nested_right; each = tt }
 
 exported : ExportsInterface world (ds 4) 0
 unfolding values_from

@@ -38,7 +38,8 @@ use Rattle.comp_links.specs.Targets.{Main, OfInterface}
 use Rattle.comp_terms.specs.Terms.{IsImportedFunction, IsLowering}
 use Rattle.comp_terms.specs.Terms as terms
 use Rattle.comp_terms.specs.Planned.{IsTypeOf, IsEntryFor, IsArgumentFor}
-use Rattle.comp_terms.specs.Rules.{AliasesImported, ImportsInterface, IsBuilt}
+use Rattle.comp_terms.specs.Instances.{ImportsInterface}
+use Rattle.comp_terms.specs.Rules.{AliasesImported, IsBuilt}
 use Rattle.comp_runs.specs.Store.{Lowering, Imported}
 use Rattle.link_laws.specs.Linking.{outcome, IsLinked, Links}
 use Rattle.link_laws.proofs.Stores.{main_module}
@@ -157,7 +158,7 @@ function_right = ((refl, omega arith), (refl, (record { type = f_tree x; tree = 
 
 t_imported : ImportsInterface world (ds 1) 0
 unfolding inventory values_from
-t_imported = record { key = keys.Interface (interface_id 0); id = interface_id 0; stated = refl; outer = []; members = exports_record; is = refl; right = record_right }
+t_imported = record { key = keys.Interface (interface_id 0); id = interface_id 0; stated = refl; outer = []; members = exports_record; is = refl; right = record_right; types = (refl, tt) }
 
 p_aliased : AliasesImported (ds 2) spaces.Type 0 p
 unfolding inventory
@@ -165,7 +166,7 @@ p_aliased = record { number = 0; outer = []; members = exports_record; imported 
 
 u_imported : ImportsInterface world (ds 4) 2
 unfolding inventory values_from
-u_imported = record { key = keys.Interface (interface_id 1); id = interface_id 1; stated = refl; outer = outer; members = exports_function 1; is = refl; right = function_right }
+u_imported = record { key = keys.Interface (interface_id 1); id = interface_id 1; stated = refl; outer = outer; members = exports_function 1; is = refl; right = function_right; types = tt }
 
 f_aliased : AliasesImported (ds 6) spaces.Func 1 f
 unfolding inventory

@@ -57,7 +57,8 @@ use Rattle.comp_links.specs.Targets.{Main, OfInterface, Drop, Lowered}
 use Rattle.comp_terms.specs.Terms.{IsResource as IsResourceAt, IsOfResource, IsImportedFunction, IsLowering}
 use Rattle.comp_terms.specs.Terms as terms
 use Rattle.comp_terms.specs.Planned.{IsTypeOf, IsEntryFor, IsArgumentFor}
-use Rattle.comp_terms.specs.Rules.{AliasesImported, ImportsInterface, IsBuilt}
+use Rattle.comp_terms.specs.Instances.{ImportsInterface}
+use Rattle.comp_terms.specs.Rules.{AliasesImported, IsBuilt}
 use Rattle.comp_runs.specs.Store.{Lowering, IntrinsicOf, Function, Imported}
 use Rattle.comp_runs.specs.Machine.{Machine}
 use Rattle.link_laws.specs.Meeting.{CoreMeets, ItemIsLowering, IsImport, Meets}
@@ -236,7 +237,7 @@ shared_right = ((refl, omega arith), (omega arith, (refl, (refl, (record { type 
 
 t_imported : ImportsInterface world (ds 1) 0
 unfolding inventory values_from
-t_imported = record { key = keys.Interface (interface_id 0); id = interface_id 0; stated = refl; outer = []; members = exports_resource; is = refl; right = resource_right }
+t_imported = record { key = keys.Interface (interface_id 0); id = interface_id 0; stated = refl; outer = []; members = exports_resource; is = refl; right = resource_right; types = (refl, tt) }
 
 r_aliased : AliasesImported (ds 2) spaces.Type 0 r
 unfolding inventory
@@ -244,7 +245,7 @@ r_aliased = record { number = 0; outer = []; members = exports_resource; importe
 
 u_imported : ImportsInterface world (ds 4) 2
 unfolding inventory values_from
-u_imported = record { key = keys.Interface (interface_id 1); id = interface_id 1; stated = refl; outer = outer; members = shared; is = refl; right = shared_right }
+u_imported = record { key = keys.Interface (interface_id 1); id = interface_id 1; stated = refl; outer = outer; members = shared; is = refl; right = shared_right; types = (refl, tt) }
 
 r_there : IsResourceAt (ds 6) 1 (resource 0)
 unfolding inventory

@@ -192,9 +192,9 @@ pub fixup_encoded : Encodes fixup_bytes table_fixup
 unfolding leb128 signed_within
 fixup_encoded = (all_below (encoding_of table_fixup).counts refl, refl)
 
-unfoldable pub are_generated : AreGenerated world bytes
+unfoldable pub are_generated : AreGenerated world false bytes
 unfolding values_from digits
-are_generated = record { debug_names = false; shims = shims_encoded; fixup = (fixup_encoded, λ e. cc); any = λ e. cc; room = omega arith }
+are_generated = record { shims = shims_encoded; fixup = (fixup_encoded, λ e. cc); any = λ e. cc; room = omega arith }
 
 -- ---- a list for it, where the lowering has these options
 

@@ -93,7 +93,11 @@ f_given = record {
     each = (
       record {
         named = refl;
-        serves = inr (record { place = 0; stands = record { shim = only_shim; purpose = OfImport Main role_f; listed = refl; stands_for = stands_for_f; same = refl }; in_space = refl; is = record { instance = 0; made = record { made = refl }; of = shims_made 7 refl } });
+        serves = inr (record {
+          shim = record { place = 0; stands = record { shim = only_shim; purpose = OfImport Main role_f; listed = refl; stands_for = stands_for_f; same = refl }; in_space = refl; is = record { instance = 0; made = record { made = refl }; of = shims_made 7 refl } };
+          of_kind = stands_for_f.of_kind;
+          shimmed = refl;
+        });
         supplied = record { encoding = λ e. refl; memory = λ e. cc; realloc = λ shared needed. cc };
       },
       tt,

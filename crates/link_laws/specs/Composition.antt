@@ -1,17 +1,29 @@
 -- What a list of definitions is to a validated world, as a list (component model, explainer: component definitions).
-use Rattle.std.specs.Prelude.{◌≡◌, ◌++◌, ℕ, List, [], ◌∷◌, Option, Some, None, length, zero, suc}
-use Rattle.std.specs.List.{AllZip, flat_map}
+use Rattle.std.specs.Prelude.{◌≡◌, ◌<◌, ◌++◌, ℕ, Bool, true, false, List, [], ◌∷◌, Option, Some, None, length, zero, suc, map, slice_get}
+use Rattle.std.specs.List.{AllByRecursion, AllZip, IsDistinct, flat_map}
+use Rattle.std.specs.Str.{bytes_eq}
+use Rattle.comp_bytes.specs.ScopeNames.{Names, member_export, item_export}
+use Rattle.comp_bytes.specs.declared.space.Sort.{Sort}
+use Rattle.comp_bytes.specs.declared.space.Sort.TheVariants as sorts
+use Rattle.comp_bytes.specs.declared.types.Description.{Description}
+use Rattle.comp_bytes.specs.declared.types.Description.TheVariants as descriptions
+use Rattle.comp_bytes.specs.declared.def.CoreArgument.{CoreArgument}
 use Rattle.comp_bytes.specs.declared.def.Item.{Item}
 use Rattle.comp_bytes.specs.declared.def.Item.TheVariants as items
 use Rattle.comp_bytes.specs.declared.def.Def.{Def}
 use Rattle.comp_bytes.specs.declared.def.Def.TheVariants as defs
-use Rattle.core_bytes.specs.Modules.{Encodes}
+use Rattle.core_bytes.specs.Modules.{Encodes, id_of}
+use Rattle.core_bytes.specs.declared.entry.Export.{Export}
 use Rattle.core_bytes.specs.declared.section.Section.{Section}
+use Rattle.core_bytes.specs.declared.section.Section.TheVariants as sections
+use Rattle.nested_terms.specs.Nested.{function_import}
+use Rattle.comp_terms.specs.Instances.{ImportsInterface, IsNestedRight, InstantiatesNested, IsInstanceOfNested}
 use Rattle.comp_worlds.specs.declared.world.ComponentWorld.{ComponentWorld}
-use Rattle.comp_links.specs.Modules.{user_modules}
+use Rattle.comp_links.specs.Modules.{WorldModule, user_modules}
 use Rattle.comp_terms.specs.UserBytes.{user_bytes}
+use Rattle.comp_runs.specs.Instances.{section_exports}
 use Rattle.comp_links.specs.Naming.{Naming}
-use Rattle.comp_links.specs.Lists.{Stated, described_sort, AreNames, stated_imports, stated_exports}
+use Rattle.comp_links.specs.Lists.{Stated, described_sort, AreNames, stated_imports, stated_exports, nested_names, instance_type_names}
 
 -- n consecutive numbers from this one on
 abbrev pub numbers_from : ℕ → ℕ → List ℕ
@@ -62,6 +74,18 @@ listed (Some x) = x ∷ []
 abbrev pub generated_sections : GeneratedModules → List (List Section)
 generated_sections g = listed g.shims ++ listed g.fixup
 
+-- Sections as a module has them, where those before have ids up to this one: their ids ascend, so that each is there at most once, and
+-- behind them is the section of names, where debug names are on (core standard, binary format: modules).
+abbrev pub AreSectionsAfter : ℕ → Bool → List Section → Type 0
+AreSectionsAfter id debug_names [] = debug_names ≡ false
+AreSectionsAfter id debug_names (sections.Names names ∷ ss) = (debug_names ≡ true) × (ss ≡ [])
+AreSectionsAfter id debug_names (s ∷ ss) = (id < id_of s) × AreSectionsAfter (id_of s) debug_names ss
+
+-- the sections of a module, which exports nothing twice
+pub record AreSections (debug_names : Bool) (ss : List Section) : Type 0 where
+  pub ordered : AreSectionsAfter 0 debug_names ss
+  pub once : IsDistinct bytes_eq (map (λ (e : Export). e.name) (flat_map section_exports ss))
+
 -- the number of a module, where there is one, and the number after it
 abbrev numbered : {A : Type 0} → ℕ → Option A → List ℕ
 numbered k None = []
@@ -75,6 +99,46 @@ number_after k (Some x) = suc k
 abbrev pub instance_order : ℕ → GeneratedModules → List ℕ
 instance_order users g = numbered users g.shims ++ (numbers_from 0 users ++ numbered (number_after users g.shims) g.fixup)
 
+-- ---- definitions after the earlier ones
+
+-- the arguments of a user module are named after the modules that it imports from, in their order
+abbrev pub AreArgumentsNamed : ComponentWorld → ℕ → List CoreArgument → Type 0
+AreArgumentsNamed w number arguments =
+    (of : WorldModule) → slice_get (user_modules w) number ≡ Some of → map (λ (a : CoreArgument). a.name) arguments ≡ map (λ g. g.0) of.found.imports.modules
+
+-- a function is exported, or an instance of a nested component, as it is
+abbrev pub IsExportSound : List Def → Sort → ℕ → Option Description → Type 0
+IsExportSound earlier sorts.Func index None = Unit {0}
+IsExportSound earlier sorts.Instance index None = IsInstanceOfNested earlier index
+IsExportSound earlier sort index description = ⊥
+
+-- A nested component has types, imports and exports, each of which may stand where it does, and nothing else: no core module, no
+-- instance, no custom section, and no resource. Its instances, and those of user modules, are given one argument for each import. An
+-- imported instance has the types that are needed of it.
+abbrev pub IsSound : ComponentWorld → List Def → Def → Type 0
+IsSound w earlier (defs.Component inner) = IsNestedRight inner
+IsSound w earlier (defs.Item (items.CoreInstantiate number arguments)) = AreArgumentsNamed w number arguments
+IsSound w earlier (defs.Item (items.Import name (descriptions.Instance index))) = ImportsInterface w earlier index
+IsSound w earlier (defs.Item (items.Instantiate component arguments)) = InstantiatesNested earlier component arguments
+IsSound w earlier (defs.Item (items.Export name sort index description)) = IsExportSound earlier sort index description
+IsSound w earlier d = Unit {0}
+
+abbrev pub AreSound : ComponentWorld → List Def → List Def → Type 0
+AreSound w earlier [] = Unit {0}
+AreSound w earlier (d ∷ ds) = IsSound w earlier d × AreSound w (earlier ++ d ∷ []) ds
+
+-- ---- names in nested components and in types of instances
+
+-- the names of the functions that a nested component imports, and the names that it exports
+abbrev pub names_of_nested : Def → List Names
+names_of_nested (defs.Item i) = []
+names_of_nested (defs.Component inner) = flat_map function_import inner ∷ flat_map item_export inner ∷ []
+
+-- the names that a type of instances exports
+abbrev pub item_type_names : Item → List Names
+item_type_names (items.InstanceType t) = flat_map member_export t.members ∷ []
+item_type_names _ = []
+
 -- ---- the whole list
 
 -- at most one custom section, at the end, with the names of the items
@@ -86,12 +150,17 @@ pub record EndsWithNames (ds : List Def) : Type 0 where
   pub named : AreNames names
 
 -- As a list: the user modules are the first core modules, byte for byte but for the names that adapters may get for debuggers, and all
--- others are generated; the imports and exports are exactly the stated ones; each module is instantiated once, in order.
+-- others are generated; the imports and exports are exactly the stated ones; each module is instantiated once, in order; nested
+-- components pass on functions and types, under the stated names, and the types of imported instances export what is needed of them.
 pub record IsComposed (n : Naming) (w : ComponentWorld) (g : GeneratedModules) (ds : List Def) : Type 0 where
   pub generated : List (List ℕ)
   pub modules : flat_map (at_root item_module) ds ≡ user_bytes n.debug_names w ++ generated
   pub encoded : AllZip Encodes generated (generated_sections g)
+  pub sections : AllByRecursion (AreSections n.debug_names) (generated_sections g)
   pub imports : flat_map (at_root item_imports) ds ≡ stated_imports n w
   pub exports : flat_map (at_root item_exports) ds ≡ stated_exports n w
   pub instances : flat_map (at_root item_instantiates) ds ≡ instance_order (length (user_modules w)) g
   pub customs : EndsWithNames ds
+  pub sound : AreSound w [] ds
+  pub nested_names : flat_map names_of_nested ds ≡ nested_names w
+  pub instance_types : flat_map (at_root item_type_names) ds ≡ instance_type_names w

@@ -1,6 +1,6 @@
 -- What a list of definitions is to a validated world when it is run (component model, explainer: component definitions;
 -- Canonical ABI: `canon lift`, `canon lower`).
-use Rattle.std.specs.Prelude.{◌≡◌, ◌≢◌, ◌≤◌, ◌<◌, ◌+◌, ◌++◌, ◌&&◌, ℕ, nat_le, Bool, List, [], ◌∷◌, Option, Some, None, length, map, filter, slice_get, is_some, IsTrue, Contains}
+use Rattle.std.specs.Prelude.{false, ◌≡◌, ◌≢◌, ◌≤◌, ◌<◌, ◌+◌, ◌++◌, ◌&&◌, ℕ, nat_le, Bool, List, [], ◌∷◌, Option, Some, None, length, map, filter, slice_get, is_some, IsTrue, Contains}
 use Rattle.std.specs.List.{AllByRecursion, AllZip, flat_map, list_all}
 use Rattle.std.specs.Option.{option_and_then}
 use Rattle.comp_bytes.specs.declared.space.Space.TheVariants as spaces
@@ -8,15 +8,18 @@ use Rattle.comp_bytes.specs.Spaces.{is_space, space_of}
 use Rattle.comp_bytes.specs.declared.def.Item.TheVariants as items
 use Rattle.comp_bytes.specs.declared.def.Def.{Def}
 use Rattle.comp_bytes.specs.declared.def.Def.TheVariants as defs
+use Rattle.core_types.specs.declared.types.FuncType.{FuncType}
 use Rattle.core_types.specs.declared.types.ValType.{ValType}
 use Rattle.core_runs.specs.declared.bracket.Bracketed.TheVariants as brackets
 use Rattle.core_runs.specs.declared.bracket.TaskHook.{TaskHook}
 use Rattle.core_runs.specs.declared.bracket.TaskHook.TheVariants.{InitializeStart, InitializeFinish}
-use Rattle.core_runs.specs.Hooks.{hook_number}
+use Rattle.core_runs.specs.declared.bracket.AfterHook.TheVariants.{Nothing}
+use Rattle.core_runs.specs.Hooks.{around, hook_number}
 use Rattle.core_runs.specs.Values.{Value, I32Value, fit}
-use Rattle.core_runs.specs.Store.{Cell, Event, Instantiated, Called, Answer, Gives, Traps, Func, signature_of, Now, ByCode}
+use Rattle.core_runs.specs.Store.{Cell, Event, Instantiated, Called, Answer, Gives, Traps, Func, Opaque, signature_of, Now, ByCode}
 use Rattle.core_runs.specs.Store as core
 use Rattle.core_runs.specs.Execution.{acts}
+use Rattle.core_runs.specs.Instances.{empty_table}
 use Rattle.core_runs.specs.Expected.{Known, Is}
 use Rattle.core_runs.specs.Sections.{parts_of}
 use Rattle.wit_data.specs.declared.ids.TypeId.{TypeId}
@@ -39,7 +42,8 @@ use Rattle.comp_runs.specs.Store.{Thing, Export, CoreItem, OwnResource, tree_hel
 use Rattle.comp_runs.specs.Machine.{Machine, Outcome, Done, Trapped, Open, Stuck, export_of}
 use Rattle.comp_runs.specs.Instances.{ModuleMeaning, OfUser, OfGenerated, type_scope}
 use Rattle.comp_runs.specs.Running.{run, fresh_machine}
-use Rattle.link_laws.specs.Meeting.{KeepsReferences, ItemIsExport, CoreExportMeets, IsLift, Meets, task_hook}
+use Rattle.comp_terms.specs.Shimmed.{has_shim_at}
+use Rattle.link_laws.specs.Meeting.{KeepsReferences, ActsAs, ItemIsExport, CoreExportMeets, IsLift, Meets, task_hook}
 use Rattle.link_laws.specs.Composition.{GeneratedModules, generated_sections, numbers_from, number_after, instance_order, at_root, item_instantiates}
 
 -- ---- how a list runs
@@ -93,11 +97,19 @@ LetsRun (types ∷ rest) (Gives results cell ∷ answers) = IsTrue (fit types re
 
 -- ---- imports
 
--- what an import was given is what the link table says of it
+-- the core function is opaque: its calls never go through generated code
+pub record IsOpaque (m : Machine) (address : ℕ) : Type 0 where
+  pub what : ℕ
+  pub signature : FuncType
+  pub is : slice_get m.store.code.functions address ≡ Some (Opaque what signature)
+
+-- What an import was given is what the link table says of it. A function that is given to an import which has no shim works from the
+-- moment that it is given.
 pub record IsServed (w : ComponentWorld) (m : Machine) (origins : TypeId → Resource) (of : WorldModule) (thing : Thing) (i : ImportType) : Type 0 where
   pub target : Target
   pub said : link_at w of i.module_name i.field ≡ Some target
   pub meets : Meets w m origins thing target
+  pub direct : has_shim_at w of i.module_name i.field ≡ false → thing.space ≡ spaces.CoreFunc → IsOpaque m thing.address
 
 -- an instance of a module: each import is served
 abbrev pub AreServed : ComponentWorld → Machine → (TypeId → Resource) → WorldModule → ModuleInstance → Type 0
@@ -157,6 +169,43 @@ pub record IsNumberDefined (m : Machine) (number : ℕ) : Type 0 where
   pub destructor : Option ℕ
   pub is : slice_get m.store.types address ≡ Some (OwnResource number destructor)
 
+-- ---- tables
+
+-- the table has nothing in its slots that generated code put there
+pub record IsUntouched (m : Machine) (address : ℕ) : Type 0 where
+  pub size : ℕ
+  pub empty : slice_get m.store.code.tables address ≡ Some (empty_table size)
+
+-- the tables that these exports of a user module name
+abbrev pub AreTablesUntouched : Machine → List Export → Type 0
+AreTablesUntouched m exports = AllByRecursion (λ (e : Export). e.space ≡ spaces.CoreTable → IsUntouched m e.address) exports
+
+-- ---- shims
+
+-- a shim, by its address: what the module of shims exports under a decimal number
+abbrev is_digit : ℕ → Bool
+is_digit c = nat_le 0x30 c && nat_le c 0x39
+
+pub record IsShim (w : ComponentWorld) (m : Machine) (address : ℕ) : Type 0 where
+  pub instance : ℕ
+  pub made : ModuleInstance
+  pub name : List ℕ
+  pub present : slice_get m.store.module_instances instance ≡ Some made
+  pub of : made.module_number ≡ length (user_modules w)
+  pub exported : Contains made.exports (record { space = spaces.CoreFunc; name = name; address = address })
+  pub numbered : IsTrue (list_all is_digit name)
+
+-- the shim is filled: a call of it is one of an opaque function
+pub record IsFilled (m : Machine) (address : ℕ) : Type 0 where
+  pub target : Known
+  pub what : ℕ
+  pub is : Is m.store.code target what
+  pub acts : ActsAs m address (around None Nothing) 0 target
+
+-- each shim is, also one that no import uses
+abbrev pub ShimsFilled : ComponentWorld → Machine → Type 0
+ShimsFilled w m = (address : ℕ) → IsShim w m address → IsFilled m address
+
 -- ---- the end of a run
 
 -- an event is this call
@@ -167,8 +216,8 @@ MakesCall w m (Called address arguments) call =
 MakesCall w m event call = ⊥
 
 -- At the end: each module has one instance, in order; each import is served, and each required function and type is
--- provided; each resource that is defined is one of the world's, and each of these is defined; and what was seen from outside is the instantiation of each user
--- module, and then the start calls.
+-- provided; each resource that is defined is one of the world's, and each of these is defined; each shim is filled, and no table of
+-- a user module is written; and what was seen from outside is the instantiation of each user module, and then the start calls.
 pub record IsLinked (n : Naming) (w : ComponentWorld) (g : GeneratedModules) (m : Machine) : Type 0 where
   pub origins : TypeId → Resource
   pub start_events : List Event
@@ -178,6 +227,8 @@ pub record IsLinked (n : Naming) (w : ComponentWorld) (g : GeneratedModules) (m 
   pub types : AllByRecursion (IsTypeProvided n w m) (required_types w)
   pub resources : (address number : ℕ) (destructor : Option ℕ) → slice_get m.store.types address ≡ Some (OwnResource number destructor) → IsDefined w m number destructor
   pub defined : (number : ℕ) → number < length (own_resources w) → IsNumberDefined m number
+  pub filled : ShimsFilled w m
+  pub tables : (instance : ℕ) (i : ModuleInstance) (of : WorldModule) → slice_get m.store.module_instances instance ≡ Some i → slice_get (user_modules w) i.module_number ≡ Some of → AreTablesUntouched m i.exports
   pub events : m.now.events ≡ map (λ n. Instantiated n) (numbers_from 0 (length (user_modules w))) ++ start_events
   pub started : AllZip (MakesCall w m) start_events (start_calls w)
 
@@ -197,20 +248,7 @@ imported_among ds trees = []
 abbrev pub TypesServed : ComponentWorld → List Def → Machine → Type 0
 TypesServed w ds m = imported_among (filter (λ d. is_space spaces.Type (space_of d)) ds) (type_scope m) ≡ stated_types w
 
--- ---- shims
-
--- a shim, by its address: what the module of shims exports under a decimal number
-abbrev is_digit : ℕ → Bool
-is_digit c = nat_le 0x30 c && nat_le c 0x39
-
-pub record IsShim (w : ComponentWorld) (m : Machine) (address : ℕ) : Type 0 where
-  pub instance : ℕ
-  pub made : ModuleInstance
-  pub name : List ℕ
-  pub present : slice_get m.store.module_instances instance ≡ Some made
-  pub of : made.module_number ≡ length (user_modules w)
-  pub exported : Contains made.exports (record { space = spaces.CoreFunc; name = name; address = address })
-  pub numbered : IsTrue (list_all is_digit name)
+-- ---- before the fixup
 
 -- a call of the function traps with no event, for all arguments of its type, and whatever happened since in globals that
 -- hold no reference
@@ -231,10 +269,10 @@ pub record ShimsTrapBefore (w : ComponentWorld) (g : GeneratedModules) (ds : Lis
 abbrev pub events_before_start : ComponentWorld → GeneratedModules → ℕ
 events_before_start w g = length (user_modules w) + elim g.fixup [ None ↦ 0 | Some ss ↦ length (parts_of ss).segments ]
 
--- From the first event of the fixup's start function on, each import is served, also in a run that ends early.
+-- From the first event of the fixup's start function on, each shim is filled and each import is served, also in a run that ends early.
 pub record ServedThroughout (w : ComponentWorld) (g : GeneratedModules) (ds : List Def) : Type 0 where
   pub each : (answers : List Answer) (m : Machine) → EndsAt m (outcome w g ds answers) → (event : ℕ) (globals : List Cell) → events_before_start w g ≤ event → slice_get m.now.moments event ≡ Some globals →
-      (origins : TypeId → Resource) × UsersServed w (record m { now = record m.now { globals = globals } }) origins
+      ShimsFilled w (record m { now = record m.now { globals = globals } }) × (origins : TypeId → Resource) × UsersServed w (record m { now = record m.now { globals = globals } }) origins
 
 -- When it is run, whatever the outside returns: it is never stuck; it is done where the answers let it; where it is done
 -- it is linked, and the types that it imports are the world's; shims trap before they are filled, and are filled before

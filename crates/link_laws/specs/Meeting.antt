@@ -113,9 +113,14 @@ pub record ItemMeets (w : ComponentWorld) (m : Machine) (space : Space) (address
   pub of : IsModule w number export_ref.of
   pub is : IsExportedItem m number space export_ref.name address
 
--- main's memory: what it exports, or, where it imports one, what the module of shims exports in its place
+-- the memory that the module of shims exports in the place of one that main imports, with the type that main imports
+pub record IsSharedMemory (w : ComponentWorld) (m : Machine) (address : ℕ) (imported : MemoryType) : Type 0 where
+  pub exported : IsExportedItem m (length (user_modules w)) spaces.CoreMemory (codes "$memory") address
+  pub typed : slice_get m.store.code.memories address ≡ Some imported
+
+-- main's memory: what it exports, or, where it imports one, what the module of shims exports
 abbrev pub MemoryMeets : ComponentWorld → Machine → ℕ → Option MemoryType → Option (List ℕ × MemoryType) → Type 0
-MemoryMeets w m address (Some imported) exported = IsExportedItem m (length (user_modules w)) spaces.CoreMemory (codes "$memory") address
+MemoryMeets w m address (Some imported) exported = IsSharedMemory w m address imported
 MemoryMeets w m address None (Some exported) = ItemMeets w m spaces.CoreMemory address (record { of = Main; name = exported.0 })
 MemoryMeets w m address None None = ⊥
 

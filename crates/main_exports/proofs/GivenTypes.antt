@@ -15,7 +15,7 @@ use Rattle.comp_inventories.specs.Inventories.{Inventory, InstanceEntry, NestedI
 use Rattle.comp_inventories.proofs.Inventories.{inventory-push}
 use Rattle.comp_inventories.proofs.Counting.{instances-counted}
 use Rattle.comp_inventories.proofs.Components.{component_at}
-use Rattle.comp_terms.specs.Exports.{IsTypeGiven, IsImportGiven}
+use Rattle.comp_terms.specs.Instances.{IsTypeGiven, IsImportGiven}
 use Rattle.comp_bytes.specs.ItemIndices.{IsAt}
 use Rattle.comp_bytes.specs.Spaces.{items_in}
 use Rattle.comp_bytes.specs.declared.space.Space.TheVariants as spaces

@@ -48,7 +48,8 @@ use Rattle.comp_worlds.specs.declared.world.ComponentWorld.{ComponentWorld}
 use Rattle.comp_links.specs.Lists.{required_keys, resource_of, IsTypeImport}
 use Rattle.comp_links.specs.Targets.{UserModule as User}
 use Rattle.interface_needs.proofs.Lists.{all_both}
-use Rattle.comp_terms.specs.Exports.{IsNestedRight, IsNestedFor, IsArgumentIn, IsArgumentRight, IsFunctionGiven, IsTypeGiven, IsImportGiven, InstantiatesNested, PassesOn, ExportsInterface, exports_in}
+use Rattle.comp_terms.specs.Instances.{IsNestedRight, IsArgumentIn, IsArgumentRight, IsFunctionGiven, IsTypeGiven, IsImportGiven, InstantiatesNested}
+use Rattle.comp_terms.specs.Exports.{IsNestedFor, PassesOn, ExportsInterface, exports_in}
 use Rattle.comp_terms.specs.Rules.{Grows, NestedOf, nested_marked}
 use Rattle.comp_items.proofs.Kept.{Longer, denotes-kept}
 use Rattle.root_imports.specs.Growing.{Grows-by, Grows-then}
@@ -130,6 +131,7 @@ module _ (old new : List Def) (g : Longer old new) where
     given = h.given;
     scoped = AllByRecursion-weaker (λ (a : Argument) r. in_range-kept a.sort a.index r) arguments h.scoped;
     apart = h.apart;
+    exact = h.exact;
     right = h.right;
     each = AllByRecursion-weaker (λ (i : NestedImport) k. given-kept arguments i h.scoped k) (imports_after h.given empty_scope definitions) h.each;
   }
@@ -142,7 +144,7 @@ adds_instance w old mid new definitions arguments component right of given first
     let kept : AreArgumentsFor mid definitions arguments = arguments_after old mid (record { more = defs.Component definitions ∷ []; grown = first }) definitions arguments given in
     Grows-then (Grows-by (defs.Component definitions) first (right, of))
     (Grows-by (defs.Item (items.Instantiate component arguments)) second
-    (record { definitions = definitions; given = kept.given; made = at; scoped = kept.scoped; apart = kept.apart; right = kept.right; each = kept.each }))
+    (record { definitions = definitions; given = kept.given; made = at; scoped = kept.scoped; apart = kept.apart; exact = kept.exact; right = kept.right; each = kept.each }))
 
 -- ---- what is known of the nested component of an interface
 
@@ -192,16 +194,19 @@ module _ (w : ComponentWorld) (key : WorldKey) (listed : List (List ℕ × TypeI
     pub names_apart : IsDistinct bytes_eq (map (λ (a : Argument). a.name) arguments)
     names_apart = subst (λ as'. IsDistinct bytes_eq (map (λ (a : Argument). a.name) as')) (sym h.both) distinct
 
+    pub names_exact : map (λ (a : Argument). a.name) arguments ≡ flat_map function_import c.items ++ flat_map type_import c.items
+    names_exact = ap (map (λ (a : Argument). a.name)) h.both ∙ both_named
+
     pub each_given : AllByRecursion (IsImportGiven ds arguments) (imports_after n.given empty_scope c.items)
     each_given = subst (λ as'. AllByRecursion (IsImportGiven ds as') (imports_after n.given empty_scope c.items)) (sym h.both) given
 
     -- the arguments are those of the component
     abbrev pub arguments_for : AreArgumentsFor ds c.items arguments
-    arguments_for = record { given = n.given; scoped = all_scoped; apart = names_apart; right = n.passes.right; each = each_given }
+    arguments_for = record { given = n.given; scoped = all_scoped; apart = names_apart; exact = names_exact; right = n.passes.right; each = each_given }
 
     -- an instance that is given them is one of it
     abbrev pub instantiates : (component : ℕ) → IsAt ds spaces.Component component (defs.Component c.items) → InstantiatesNested ds component arguments
-    instantiates component made = record { definitions = c.items; given = n.given; made = made; scoped = all_scoped; apart = names_apart; right = n.passes.right; each = each_given }
+    instantiates component made = record { definitions = c.items; given = n.given; made = made; scoped = all_scoped; apart = names_apart; exact = names_exact; right = n.passes.right; each = each_given }
 
     -- and the lifts are passed on
     pub lifts_passed : AllByRecursion (λ (e : List ℕ × Function). e.0 ≡ e.1.name) entries → IsDistinct bytes_eq (keys_of entries) → AllByRecursion (PassesOn w ds arguments (exports_after n.given empty_scope c.items)) (functions_at of key entries)

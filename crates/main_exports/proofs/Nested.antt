@@ -31,7 +31,8 @@ use Rattle.nested_components.specs.declared.type_import.TypeImport.{TypeImport}
 use Rattle.comp_worlds.specs.declared.world.ComponentWorld.{ComponentWorld}
 use Rattle.comp_links.specs.Lists.{resource_of}
 use Rattle.comp_links.specs.Targets.{UserModule as User}
-use Rattle.comp_terms.specs.Exports.{IsFunctionGiven, IsTypeGiven, IsImportGiven, PassesOn}
+use Rattle.comp_terms.specs.Instances.{IsFunctionGiven, IsTypeGiven, IsImportGiven}
+use Rattle.comp_terms.specs.Exports.{PassesOn}
 use Rattle.interface_needs.proofs.Lists.{all_both}
 use Rattle.comp_terms.specs.Planned.{type_of_function}
 use Rattle.main_exports.specs.Exports.{functions_at, AreLiftArguments, IsTypeArgument}

@@ -22,7 +22,7 @@ use Rattle.wit_data.specs.declared.ids.TypeId.{TypeId}
 use Rattle.wit_data.specs.declared.functions.Function.{Function as WitFunction}
 use Rattle.wit_data.specs.declared.worlds.WorldKey.{WorldKey}
 use Rattle.comp_trees.specs.DefinedTrees.{TypeTree, OfFunctions}
-use Rattle.nested_terms.specs.Nested.{function_import, empty_scope, imports_after, AreItemsRight}
+use Rattle.nested_terms.specs.Nested.{function_import, type_import, empty_scope, imports_after, AreItemsRight}
 use Rattle.nested_components.specs.Functions.{IsNestedComponent}
 use Rattle.nested_components.specs.declared.component.NestedComponent.{NestedComponent}
 use Rattle.nested_components.specs.declared.type_import.TypeImport.{TypeImport}
@@ -40,7 +40,8 @@ use Rattle.comp_links.specs.Links.{core_name, export_of, lift_realloc}
 use Rattle.comp_links.specs.Lists.{RequiredFunction, RequiredKey, functions_required, required_keys, resource_of, type_of_world}
 use Rattle.comp_links.specs.Modules.{module_found, user_modules}
 use Rattle.comp_links.specs.Targets.{UserModule as User}
-use Rattle.comp_terms.specs.Exports.{IsArgumentRight, IsImportGiven, IsRequiredLift, exports_in}
+use Rattle.comp_terms.specs.Instances.{IsArgumentRight, IsImportGiven}
+use Rattle.comp_terms.specs.Exports.{IsRequiredLift, exports_in}
 use Rattle.comp_links.specs.Naming.{Naming}
 use Rattle.comp_terms.specs.Rules.{Grows, Landmark, NestedOf, export_marked}
 use Rattle.comp_terms.specs.Terms.{IsInstanceOf}
@@ -191,11 +192,12 @@ pub record IsNextAdapter (w : ComponentWorld) (first : ℕ) (name : List ℕ) (a
 abbrev pub nested_mark : List Item → Landmark
 nested_mark definitions = NestedOf (flat_map function_import definitions) (flat_map item_export definitions)
 
--- the arguments are earlier functions and types under distinct names, one for each import of the component
+-- the arguments are earlier functions and types under distinct names, one for each import of the component, and no others
 pub record AreArgumentsFor (ds : List Def) (definitions : List Item) (arguments : List Argument) : Type 0 where
   pub given : List ℕ → TypeTree
   pub scoped : AllByRecursion (IsArgumentRight ds) arguments
   pub apart : IsDistinct bytes_eq (map (λ a. a.name) arguments)
+  pub exact : map (λ a. a.name) arguments ≡ flat_map function_import definitions ++ flat_map type_import definitions
   pub right : AreItemsRight given empty_scope definitions
   pub each : AllByRecursion (IsImportGiven ds arguments) (imports_after given empty_scope definitions)
 

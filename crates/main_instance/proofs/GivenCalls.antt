@@ -39,7 +39,7 @@ module _ (w : ComponentWorld) (ok : IsEncodable w) (u : UserModule) (user : IsUs
   call_encoded = encoding_found w (user_of u.which) u.found.now user.named i.role (Some encoding) own_encoding
 
   -- its shim is what it is given
-  pub call_given : (ds : List Def) (index : ℕ) → IsShimAlias w ds kind (Some index) → IsGivenFor w ds spaces.CoreFunc index (link_of w (user_of u.which) i.role)
+  pub call_given : (ds : List Def) (index : ℕ) → IsShimAlias w ds kind (Some index) → IsGivenFor w (user_of u.which) ds spaces.CoreFunc index i.role
   call_given ds index h = given_by_shim w ok (record { of = user_of u.which; core = i }) among encoding call_encoded kind own_kind ds index h
 
   -- without one it needs no options, unless main imports its memory
@@ -59,6 +59,6 @@ module _ (w : ComponentWorld) (ok : IsEncodable w) (u : UserModule) (user : IsUs
 
   -- a lowering of the function that it calls is what it is given
   pub direct_given : (ds : List Def) (index : ℕ) (called : WorldFunction) → link_of w (user_of u.which) role ≡ Lowered called (lower_options w (user_of u.which) role) → IsItemFor w ds spaces.CoreFunc index (Lowered called (lower_options w (user_of u.which) i.role)) →
-      IsGivenFor w ds spaces.CoreFunc index (link_of w (user_of u.which) i.role)
+      IsGivenFor w (user_of u.which) ds spaces.CoreFunc index i.role
   direct_given ds index called links h =
       inl (subst (λ t. IsItemFor w ds spaces.CoreFunc index t) (ap (λ r. Lowered called (lower_options w (user_of u.which) r)) is ∙ (sym links ∙ sym (ap (link_of w (user_of u.which)) is))) h)

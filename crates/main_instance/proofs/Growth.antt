@@ -12,6 +12,7 @@ use Rattle.standard_kinds.specs.declared.kinds.ExportKind.TheVariants as kinds
 use Rattle.comp_bytes.specs.Spaces.{items_in, kind_space}
 use Rattle.comp_builder.specs.Built.{Built}
 use Rattle.comp_roles.specs.declared.imports.Import.{Import}
+use Rattle.comp_roles.specs.declared.imports.Import.TheVariants as imports
 use Rattle.comp_roles.specs.declared.imports.ImportInstance.{ImportInstance}
 use Rattle.comp_roles.specs.declared.imports.ImportInstance.TheVariants as instances
 use Rattle.comp_roles.specs.declared.libraries.MainOrAdapter.{MainOrAdapter}
@@ -23,7 +24,7 @@ use Rattle.root_imports.specs.declared.met_types.MetTypes.{MetTypes}
 use Rattle.comp_links.specs.Links.{link_of}
 use Rattle.comp_terms.specs.Terms.{Term, Is}
 use Rattle.comp_terms.specs.Terms as terms
-use Rattle.comp_terms.specs.Planned.{IsItemFor, IsShimFor, IsGivenFor, IsEntryFor, IsInlineInstanceFor, IsArgumentFor}
+use Rattle.comp_terms.specs.Planned.{IsItemFor, IsShimFor, IsOwnShim, IsGivenFor, IsEntryFor, IsInlineInstanceFor, IsArgumentFor}
 use Rattle.comp_terms.specs.Rules.{IsEntry}
 use Rattle.wit_types.specs.declared.maps.TypeEncodingMaps.{TypeEncodingMaps}
 use Rattle.comp_items.specs.Items.{Extends}
@@ -50,12 +51,19 @@ module _ {w : ComponentWorld} {old new : List Def} (g : Longer old new) where
   IsShimFor-kept {space} {i} {target} h =
       record { place = h.place; stands = h.stands; in_space = h.in_space; is = exported-kept g h.is }
 
-  pub IsGivenFor-kept : {space : Space} {i : ℕ} {target : Target} → IsGivenFor w old space i target → IsGivenFor w new space i target
-  IsGivenFor-kept (inl h) = inl (IsItemFor-kept h)
-  IsGivenFor-kept (inr h) = inr (IsShimFor-kept h)
+-- an import's own shim, and what it is given
+own_shim-kept : (w : ComponentWorld) (old new : List Def) → Longer old new → (of : UserModule) (space : Space) (i : ℕ) (role : Import) → IsOwnShim w of old space i role → IsOwnShim w of new space i role
+unfolding IsShimFor-kept
+own_shim-kept w old new g of space i (imports.AdapterExport adapter name type) h = record { shim = IsShimFor-kept g h.shim; of_kind = h.of_kind }
+own_shim-kept w old new g of space i role h = record { shim = IsShimFor-kept g h.shim; of_kind = h.of_kind; shimmed = h.shimmed }
 
+given-kept : (w : ComponentWorld) (old new : List Def) → Longer old new → (of : UserModule) (space : Space) (i : ℕ) (role : Import) → IsGivenFor w of old space i role → IsGivenFor w of new space i role
+given-kept w old new g of space i role (inl h) = inl (IsItemFor-kept g h)
+given-kept w old new g of space i role (inr h) = inr (own_shim-kept w old new g of space i role h)
+
+module _ {w : ComponentWorld} {old new : List Def} (g : Longer old new) where
   pub IsEntryFor-kept : {of : UserModule} {e : CoreInlineExport} {f : List ℕ × Import} → IsEntryFor w of old e f → IsEntryFor w of new e f
-  IsEntryFor-kept {of} {e} {f} h = record { named = h.named; serves = IsGivenFor-kept h.serves; supplied = h.supplied }
+  IsEntryFor-kept {of} {e} {f} h = record { named = h.named; serves = given-kept w old new g of (kind_space e.kind) e.index f.1 h.serves; supplied = h.supplied }
 
   pub IsInlineInstanceFor-kept : {of : UserModule} {b : ℕ} {fields : List (List ℕ × Import)} → IsInlineInstanceFor w of old b fields → IsInlineInstanceFor w of new b fields
   IsInlineInstanceFor-kept {of} {b} {fields} h = record { entries = h.entries; made = at-kept g h.made; each = AllZip-weaker (λ x y. IsEntryFor-kept) h.entries fields h.each }
@@ -93,7 +101,7 @@ sources-kept {w} {s} {met} {old} {new} {maps} {instances} g h = record { valid =
 
 pub entries_in_range : (w : ComponentWorld) (of : UserModule) (ds : List Def) (es : List CoreInlineExport) (fs : List (List ℕ × Import)) → AllZip (IsEntryFor w of ds) es fs → AllByRecursion (IsEntry ds) es
 entries_in_range w of ds [] [] h = tt
-entries_in_range w of ds (e ∷ es) (f ∷ fs) h = (record { scoped = given e.kind e.index (link_of w of f.1) h.0.serves }, entries_in_range w of ds es fs h.1)
+entries_in_range w of ds (e ∷ es) (f ∷ fs) h = (record { scoped = given e.kind e.index f.1 h.0.serves }, entries_in_range w of ds es fs h.1)
   where
     term_in_range : (kind : ExportKind) (index : ℕ) (t : Term) → Is ds (kind_space kind) index t → index < items_in (kind_space kind) ds
     term_in_range kinds.Func index (terms.Lowering origin type written) is = in_range is.made
@@ -104,8 +112,15 @@ entries_in_range w of ds (e ∷ es) (f ∷ fs) h = (record { scoped = given e.ki
     term_in_range kinds.Global index (terms.Exported e) is = subst (λ space. index < items_in space ds) (sym is.0) (in_range is.1.made)
     term_in_range kind index t is = absurd is
 
-    given : (kind : ExportKind) (index : ℕ) (target : Target) → IsGivenFor w ds (kind_space kind) index target → index < items_in (kind_space kind) ds
-    given kind index target (inl h) = term_in_range kind index h.term h.is
-    given kind index target (inr h) = subst (λ space. index < items_in space ds) (sym h.in_space) (in_range h.is.made)
+    shim_in_range : (space : Space) (index : ℕ) (target : Target) → IsShimFor w ds space index target → index < items_in space ds
+    shim_in_range space index target h = subst (λ space. index < items_in space ds) (sym h.in_space) (in_range h.is.made)
+
+    own_in_range : (space : Space) (index : ℕ) (role : Import) → IsOwnShim w of ds space index role → index < items_in space ds
+    own_in_range space index (imports.AdapterExport adapter name type) h = shim_in_range space index (link_of w of (imports.AdapterExport adapter name type)) h.shim
+    own_in_range space index role h = shim_in_range space index (link_of w of role) h.shim
+
+    given : (kind : ExportKind) (index : ℕ) (role : Import) → IsGivenFor w of ds (kind_space kind) index role → index < items_in (kind_space kind) ds
+    given kind index role (inl h) = term_in_range kind index h.term h.is
+    given kind index role (inr h) = own_in_range (kind_space kind) index role h
 entries_in_range w of ds [] (f ∷ fs) h = absurd h
 entries_in_range w of ds (e ∷ es) [] h = absurd h

@@ -9,7 +9,7 @@ ghost use Rattle.comp_bytes.specs.Spaces.{kind_space};
 ghost use Rattle.comp_bytes.specs.declared.space.Space.TheVariants.{CoreFunc};
 ghost use Rattle.comp_items.specs.Items.{Extends};
 ghost use Rattle.comp_links.specs.Supplied.{IsSuppliedImport};
-ghost use Rattle.comp_links.specs.Links.{link_of, lower_needs, lower_options, lower_realloc};
+ghost use Rattle.comp_links.specs.Links.{lower_needs, lower_options, lower_realloc};
 ghost use Rattle.comp_options.specs.Options.{needs};
 ghost use Rattle.comp_links.specs.Targets.{OfRoot, OfInterface, Drop, Lowered, OfResource};
 ghost use Rattle.comp_lists.specs.Found.{found};
@@ -221,7 +221,7 @@ impl ImportSources<'_> {
         ensures same { root.new ≡ record root.old { items = root.new.items } }
         ensures extends { Extends root.old.items root.new.items }
         ensures grows { OnOk result (Grows root.old.world.now root.old.items.defs root.new.items.defs []) }
-        ensures given { IfOk result (λ index. IsGivenFor root.old.world.now root.new.items.defs CoreFunc index (link_of root.old.world.now (user_of self.now.user.which) import.now)) }
+        ensures given { IfOk result (λ index. IsGivenFor root.old.world.now (user_of self.now.user.which) root.new.items.defs CoreFunc index import.now) }
         ensures supplied { OnOk result (IsSuppliedImport root.old.world.now (user_of self.now.user.which) import.now) }
         ensures cause { IfErr result (IsCauseAmong root.old.world.now (record { of = user_of self.now.user.which; core = import_at place.entry import.now } ∷ []) []) }
     {
@@ -261,7 +261,7 @@ impl ImportSources<'_> {
         ensures same { root.new ≡ record root.old { items = root.new.items } }
         ensures extends { Extends root.old.items root.new.items }
         ensures grows { OnOk result (Grows root.old.world.now root.old.items.defs root.new.items.defs []) }
-        ensures given { IfOk result (λ index. IsGivenFor root.old.world.now root.new.items.defs CoreFunc index (link_of root.old.world.now (user_of self.now.user.which) import.now)) }
+        ensures given { IfOk result (λ index. IsGivenFor root.old.world.now (user_of self.now.user.which) root.new.items.defs CoreFunc index import.now) }
         ensures supplied { OnOk result (IsSuppliedImport root.old.world.now (user_of self.now.user.which) import.now) }
         ensures cause { IfErr result (IsCauseAmong root.old.world.now (record { of = user_of self.now.user.which; core = import_at place.entry import.now } ∷ []) []) }
     {
@@ -297,7 +297,7 @@ impl ImportSources<'_> {
         ensures same { root.new ≡ record root.old { items = root.new.items } }
         ensures extends { Extends root.old.items root.new.items }
         ensures grows { OnOk result (Grows root.old.world.now root.old.items.defs root.new.items.defs []) }
-        ensures made { IfOk result (λ item. IsGivenFor root.old.world.now root.new.items.defs (kind_space item.0) item.1 (link_of root.old.world.now (user_of self.now.user.which) import.now)) }
+        ensures made { IfOk result (λ item. IsGivenFor root.old.world.now (user_of self.now.user.which) root.new.items.defs (kind_space item.0) item.1 import.now) }
         ensures supplied { OnOk result (IsSuppliedImport root.old.world.now (user_of self.now.user.which) import.now) }
         ensures cause { IfErr result (IsCauseAmong root.old.world.now (record { of = user_of self.now.user.which; core = record { module_name = «module».now; field = field.now; role = import.now } } ∷ []) []) }
     {

@@ -11,7 +11,7 @@ ghost use Rattle.comp_items.specs.Items.{Extends};
 ghost use Rattle.comp_links.specs.Links.{module_of};
 ghost use Rattle.comp_links.specs.Roles.{field_path};
 ghost use Rattle.comp_links.specs.Targets.{Main, Adapter, ExportOf, MainMemory};
-ghost use Rattle.comp_terms.specs.Planned.{main_memory, IsItemFor, IsShimFor};
+ghost use Rattle.comp_terms.specs.Planned.{main_memory, IsItemFor, IsShimOfKind};
 ghost use Rattle.comp_terms.specs.Rules.{Grows};
 ghost use Rattle.comp_worlds.specs.Offered.{memory_of_main, OffersItem, NamedOffers};
 ghost use Rattle.core_options.specs.Causes.{IsMemoryRefusal};
@@ -98,7 +98,7 @@ impl ImportSources<'_> {
         ensures same { root.new ≡ record root.old { items = root.new.items } }
         ensures extends { Extends root.old.items root.new.items }
         ensures grows { OnOk result (Grows root.old.world.now root.old.items.defs root.new.items.defs []) }
-        ensures given { IfOk result (λ index. IsShimFor root.old.world.now root.new.items.defs CoreFunc index (ExportOf (record { of = Adapter adapter.now; name = function.now }))) }
+        ensures given { IfOk result (λ index. IsShimOfKind root.old.world.now root.new.items.defs CoreFunc index (ExportOf (record { of = Adapter adapter.now; name = function.now })) (adapter_kind adapter.now function.now)) }
         ensures cause { IfErr result IsRefusal }
     {
         let kind = kind_of_adapter(root.items.allocator(), adapter, function)?;

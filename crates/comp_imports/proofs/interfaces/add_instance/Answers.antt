@@ -28,7 +28,7 @@ returns-clause-grows c =
     let one : Grows w s.items.defs mid.defs (InstanceTypeOf (names_of_interface w c.args.interface) ∷ []) = subst (λ (ns : List (List ℕ)). Grows w s.items.defs mid.defs (InstanceTypeOf ns ∷ [])) names (type_added w c.args.key.now c.args.interface s.items mid c.in_ok-index.index ty appended c.in_ok-ty.ensures.members) in
     let two : Grows w mid.defs new (Imported (record { name = c.in_ok-name.name; sort = sorts.Instance }) ∷ []) =
     Grows-by import (ap (λ (b : Built). b.defs) c.in_ok-instance.ensures.adds.1)
-    (instance_right w c.args.key.now c.args.interface s.items mid c.in_ok-index.index ty appended c.in_ok-ty.ensures.members (c.requires.next.stated c.requires.some) c.in_ok-index.ensures.made) in
+    (instance_right w c.args.key.now c.args.interface s.items mid c.in_ok-index.index ty appended c.in_ok-ty.ensures.members (c.requires.next.stated c.requires.some) c.in_ok-index.ensures.made c.in_ok-ty.ensures.types) in
     Grows-then one (subst (λ (n : ExternName). Grows w mid.defs new (Imported (record { name = n; sort = sorts.Instance }) ∷ [])) c.in_ok-name.ensures two)
 
 pub returns-clause-imported : goal.returns-clause-imported

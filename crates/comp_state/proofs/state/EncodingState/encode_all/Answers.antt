@@ -24,7 +24,11 @@ encode_exports-requires-clause-none c =
     let of_state : Grows w c.encode_imports.new.self.built.defs c.encode_core_modules.new.self.built.defs (bytes_marked c.encode_imports.new.self.debug_names w) = rw (← first) c.in_ok-encode_core_modules.ensures.grows in
     let users : Grows w c.encode_imports.new.self.built.defs c.encode_core_modules.new.self.built.defs (bytes_marked c.args.self.now.debug_names w) =
     subst (λ b. Grows w c.encode_imports.new.self.built.defs c.encode_core_modules.new.self.built.defs (bytes_marked b w)) (ap (λ (m : Naming). m.debug_names) c.in_ok-encode_imports.ensures.names) of_state in
-    let instances : AddsInstances w c.encode_core_modules.new.self.built.defs c.encode_core_instantiation.new.self.built.defs = rw (← second) c.in_ok-encode_core_instantiation.ensures.added in
+    let of_options : AddsInstances w c.encode_core_modules.new.self.debug_names c.encode_core_modules.new.self.built.defs c.encode_core_instantiation.new.self.built.defs = rw (← second) c.in_ok-encode_core_instantiation.ensures.added in
+    let same_names : c.encode_core_modules.new.self.debug_names ≡ c.args.self.now.debug_names =
+    ap (λ (e : Encoding). e.debug_names) c.in_ok-encode_core_modules.ensures.same ∙ ap (λ (m : Naming). m.debug_names) c.in_ok-encode_imports.ensures.names in
+    let instances : AddsInstances w c.args.self.now.debug_names c.encode_core_modules.new.self.built.defs c.encode_core_instantiation.new.self.built.defs =
+    subst (λ b. AddsInstances w b c.encode_core_modules.new.self.built.defs c.encode_core_instantiation.new.self.built.defs) same_names of_options in
     none_exported (naming_in c.args.self.now) w c.args.self.now.built.defs c.encode_imports.new.self.built.defs c.encode_core_modules.new.self.built.defs c.encode_core_instantiation.new.self.built.defs c.requires.empty
     c.in_ok-encode_imports.ensures.grows users instances
 
@@ -40,7 +44,11 @@ returns-clause-built c =
     let of_state : Grows w c.encode_imports.new.self.built.defs c.encode_core_modules.new.self.built.defs (bytes_marked c.encode_imports.new.self.debug_names w) = rw (← first) c.in_ok-encode_core_modules.ensures.grows in
     let users : Grows w c.encode_imports.new.self.built.defs c.encode_core_modules.new.self.built.defs (bytes_marked c.args.self.now.debug_names w) =
     subst (λ b. Grows w c.encode_imports.new.self.built.defs c.encode_core_modules.new.self.built.defs (bytes_marked b w)) (ap (λ (m : Naming). m.debug_names) c.in_ok-encode_imports.ensures.names) of_state in
-    let instances : AddsInstances w c.encode_core_modules.new.self.built.defs c.encode_core_instantiation.new.self.built.defs = rw (← second) c.in_ok-encode_core_instantiation.ensures.added in
+    let of_options : AddsInstances w c.encode_core_modules.new.self.debug_names c.encode_core_modules.new.self.built.defs c.encode_core_instantiation.new.self.built.defs = rw (← second) c.in_ok-encode_core_instantiation.ensures.added in
+    let same_names : c.encode_core_modules.new.self.debug_names ≡ c.args.self.now.debug_names =
+    ap (λ (e : Encoding). e.debug_names) c.in_ok-encode_core_modules.ensures.same ∙ ap (λ (m : Naming). m.debug_names) c.in_ok-encode_imports.ensures.names in
+    let instances : AddsInstances w c.args.self.now.debug_names c.encode_core_modules.new.self.built.defs c.encode_core_instantiation.new.self.built.defs =
+    subst (λ b. AddsInstances w b c.encode_core_modules.new.self.built.defs c.encode_core_instantiation.new.self.built.defs) same_names of_options in
     let exports : Grows w c.encode_core_instantiation.new.self.built.defs c.encode_exports.new.self.built.defs (exports_marked n w) = rw (← third, ← named) c.in_ok-encode_exports.ensures.grows in
     built_by_steps n w c.args.self.now.built.defs c.encode_imports.new.self.built.defs c.encode_core_modules.new.self.built.defs c.encode_core_instantiation.new.self.built.defs c.encode_exports.new.self.built.defs c.requires.empty
     c.in_ok-encode_imports.ensures.grows users instances exports

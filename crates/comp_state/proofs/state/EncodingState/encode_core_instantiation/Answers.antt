@@ -55,7 +55,7 @@ pub returns-clause-ordered : goal.returns-clause-ordered
 returns-clause-ordered c = subst (λ (e : Encoding). AreExportsInOrder e.world) c.self.view_is c.in_ok-users.ensures.ordered
 
 pub returns-clause-added : goal.returns-clause-added
-returns-clause-added c = subst (λ (e : Encoding). AddsInstances e.world e.built.defs c.encode_core_instantiation.new.root.items.defs) c.self.view_is c.in_ok-users.ensures.added
+returns-clause-added c = subst (λ (e : Encoding). AddsInstances e.world e.debug_names e.built.defs c.encode_core_instantiation.new.root.items.defs) c.self.view_is c.in_ok-users.ensures.added
 
 pub returns-clause-encoded : goal.returns-clause-encoded
 returns-clause-encoded c = subst (λ (e : Encoding). AllByRecursion (λ (i : UserImport). IsSuppliedImport e.world i.of i.core.role) (user_imports e.world)) c.self.view_is c.in_ok-users.ensures.supplied

@@ -14,7 +14,8 @@ use Rattle.comp_items.proofs.Remembering.{longer}
 use Rattle.comp_links.specs.Lists.{RequiredFunction, required_keys}
 use Rattle.comp_links.proofs.Keys.{key_at}
 use Rattle.comp_links.specs.Naming.{name_of}
-use Rattle.comp_terms.specs.Exports.{IsNestedRight, IsNestedFor, ExportsInterface, exports_in}
+use Rattle.comp_terms.specs.Instances.{IsNestedRight}
+use Rattle.comp_terms.specs.Exports.{IsNestedFor, ExportsInterface, exports_in}
 use Rattle.comp_terms.specs.Rules.{Exported, Grows, Landmark}
 use Rattle.core_options.specs.Causes.{IsCauseAmong, IsEncodedExport}
 use Rattle.core_options.specs.MainOptions.{HasLiftOptions}

@@ -1,0 +1,218 @@
+-- The sections of generated modules are in their order, with debug names where these are on, and export nothing twice; and each
+-- definition is sound.
+use Rattle.std.proofs.Common.{◌≡◌, ◌∙◌, ◌<◌, ◌≤◌, ◌+◌, ◌^◌, ℕ, suc, Bool, true, false, true≢false, List, [], ◌∷◌, ◌++◌, length, Option, Some, None, map, refl, sym, ap, ap₂, subst, append-nil, inl, inr, arith}
+use Rattle.std.proofs.lemmas.Fmt.{decimal_is_IsNumeral}
+use Rattle.std.proofs.lemmas.Map.Keys.{IsDistinct-cons}
+use Rattle.std.proofs.lemmas.Slice.Eq.{bytes_eq-Decides}
+use Rattle.std.specs.Prelude.{codes}
+use Rattle.std.specs.Fmt.{decimal}
+use Rattle.std.specs.Str.{bytes_eq}
+use Rattle.std.specs.Str.Parse.{IsNumeral}
+use Rattle.std.proofs.lemmas.Option.{none-some, same_Some}
+use Rattle.std.specs.List.{slice_get, flat_map, AllByRecursion, AllZip, IsDistinct}
+use Rattle.std.specs.Option.{option_map}
+use Rattle.core_types.specs.declared.types.FuncType.{FuncType}
+use Rattle.core_types.specs.declared.types.MemoryType.{MemoryType}
+use Rattle.core_bytes.specs.declared.entry.Export.{Export}
+use Rattle.core_bytes.specs.declared.entry.Import.{Import}
+use Rattle.comp_bytes.specs.declared.space.Sort.{Sort}
+use Rattle.comp_bytes.specs.declared.space.Sort.TheVariants as sorts
+use Rattle.comp_bytes.specs.declared.types.Description.{Description}
+use Rattle.comp_bytes.specs.declared.types.Description.TheVariants as descriptions
+use Rattle.comp_bytes.specs.declared.def.CoreArgument.{CoreArgument}
+use Rattle.comp_bytes.specs.declared.def.Item.TheVariants as items
+use Rattle.comp_roles.specs.declared.imports.ImportInstance.{ImportInstance}
+use Rattle.comp_bytes.specs.declared.def.Def.{Def}
+use Rattle.comp_bytes.specs.declared.def.Def.TheVariants as defs
+use Rattle.comp_worlds.specs.Offered.{shared_memory}
+use Rattle.comp_worlds.specs.declared.world.ComponentWorld.{ComponentWorld}
+use Rattle.shim_modules.specs.Shims as shims
+use Rattle.shim_modules.specs.declared.shims.ShimFunction.{ShimFunction}
+use Rattle.fixup_modules.specs.Fixups.{Fixup, nothing_fixed}
+use Rattle.fixup_modules.specs.Sections as fixups
+use Rattle.interned_types.specs.Interning.{interned}
+use Rattle.shim_plan.specs.declared.shims.Shim.{Shim}
+use Rattle.world_shims.specs.WorldShims.{shims_of, type_of_shim, types_with, functions_of, sections_of_shims, fixup_with, sections_of_fixup}
+use Rattle.shim_runs.proofs.Exported.{other_digits}
+use Rattle.comp_runs.specs.Instances.{section_exports}
+use Rattle.comp_terms.specs.Generated.{GeneratedBytes, MayBeGenerated}
+use Rattle.comp_links.specs.Targets.{UserModule}
+use Rattle.comp_links.specs.Modules.{WorldModule, user_modules}
+use Rattle.comp_terms.specs.Planned.{IsArgumentFor}
+use Rattle.comp_terms.specs.Rules.{InstantiatesModule, IsExportRight, IsRight, RightAfter}
+use Rattle.link_laws.specs.Composition.{GeneratedModules, generated_sections, AreSectionsAfter, AreSections, AreArgumentsNamed, IsExportSound, IsSound, AreSound}
+use Rattle.link_laws.proofs.Given.{user_below, not_shims, not_fixup}
+use Rattle.link_laws.proofs.Steps.{no_modules}
+use Rattle.link_laws.proofs.InstanceSteps.{generated_for}
+
+-- the generated modules of what was built
+abbrev pub modules_of : ComponentWorld → Bool → Option GeneratedBytes → GeneratedModules
+modules_of w named None = no_modules
+modules_of w named (Some b) = generated_for w named b.fixup
+
+-- ---- sections
+
+shim_names_last : (id : ℕ) (debug_names : Bool) (functions : List ShimFunction) → AreSectionsAfter id debug_names (shims.names_of debug_names functions)
+shim_names_last id false functions = refl
+shim_names_last id true functions = (refl, refl)
+
+shims_in_order : (memory : Option MemoryType) (types : List FuncType) (functions : List ShimFunction) (debug_names : Bool) → AreSectionsAfter 0 debug_names (shims.shim_sections memory types functions debug_names)
+shims_in_order None types [] debug_names = (omega arith, (omega arith, shim_names_last 7 debug_names []))
+shims_in_order (Some type) types [] debug_names = (omega arith, (omega arith, (omega arith, shim_names_last 7 debug_names [])))
+shims_in_order None types (f ∷ fs) debug_names = (omega arith, (omega arith, (omega arith, (omega arith, (omega arith, shim_names_last 10 debug_names (f ∷ fs))))))
+shims_in_order (Some type) types (f ∷ fs) debug_names = (omega arith, (omega arith, (omega arith, (omega arith, (omega arith, (omega arith, shim_names_last 10 debug_names (f ∷ fs)))))))
+
+fixup_names_last : (id : ℕ) (debug_names : Bool) (entries : List Import) → AreSectionsAfter id debug_names (fixups.names_of debug_names entries)
+fixup_names_last id false entries = refl
+fixup_names_last id true entries = (refl, refl)
+
+fixup_in_order : (f : Fixup) (debug_names : Bool) → AreSectionsAfter 0 debug_names (fixups.fixup_sections f debug_names)
+fixup_in_order f debug_names = (omega arith, (omega arith, (omega arith, fixup_names_last 9 debug_names (fixups.with_table f).entries)))
+
+-- ---- exports
+
+-- their names
+abbrev names_in : List Export → List (List ℕ)
+names_in es = map (λ (e : Export). e.name) es
+
+-- a name that is none of these
+abbrev IsOther : List ℕ → List (List ℕ) → Type 0
+IsOther name names = AllByRecursion (λ other. bytes_eq name other ≡ false) names
+
+-- a name that is no number is none of a shim
+never_numbered : (m : ℕ) (name : List ℕ) → m < 2 ^ 32 → (IsNumeral 10 name → ⊥) → bytes_eq (decimal m) name ≡ false
+never_numbered m name small other = by (bytes_eq (decimal m) name) refl
+  where
+    by : (b : Bool) → bytes_eq (decimal m) name ≡ b → b ≡ false
+    by false e = refl
+    by true e = absurd (other (subst (IsNumeral 10) ((bytes_eq-Decides (decimal m) name).0 e) (decimal_is_IsNumeral m (omega (arith, small))).0))
+
+-- an earlier number has other digits
+earlier_digits : (m n : ℕ) → n < 2 ^ 32 → m < n → bytes_eq (decimal m) (decimal n) ≡ false
+earlier_digits m n small below = by (bytes_eq (decimal m) (decimal n)) refl
+  where
+    by : (b : Bool) → bytes_eq (decimal m) (decimal n) ≡ b → b ≡ false
+    by false e = refl
+    by true e = absurd (true≢false (sym ((bytes_eq-Decides (decimal n) (decimal m)).1 (sym ((bytes_eq-Decides (decimal m) (decimal n)).0 e))) ∙ other_digits n m small below))
+
+numbers_after : (m number : ℕ) (fs : List ShimFunction) (rest : List Export) → m < number → number + length fs ≤ 2 ^ 32 → IsOther (decimal m) (names_in rest) → IsOther (decimal m) (names_in (shims.shim_exports number fs ++ rest))
+numbers_after m number [] rest below room h = h
+numbers_after m number (f ∷ fs) rest below room h = (earlier_digits m number (omega (arith, room)) below, numbers_after m (suc number) fs rest (omega (arith, below)) (omega (arith, room)) h)
+
+numbers_apart : (number : ℕ) (fs : List ShimFunction) (rest : List Export) → number + length fs ≤ 2 ^ 32 → ((m : ℕ) → m < 2 ^ 32 → IsOther (decimal m) (names_in rest)) → IsDistinct bytes_eq (names_in rest) → IsDistinct bytes_eq (names_in (shims.shim_exports number fs ++ rest))
+numbers_apart number [] rest room others apart = apart
+numbers_apart number (f ∷ fs) rest room others apart =
+    IsDistinct-cons bytes_eq (decimal number) (names_in (shims.shim_exports (suc number) fs ++ rest))
+    (numbers_after number (suc number) fs rest (omega arith) (omega (arith, room)) (others number (omega (arith, room))))
+    (numbers_apart (suc number) fs rest (omega (arith, room)) others apart)
+
+-- the table and the memory have other names
+abbrev behind : Option MemoryType → List ShimFunction → List Export
+behind memory fs = shims.table_exports fs ++ shims.memory_exports memory
+
+no_table : IsNumeral 10 (codes "$imports") → ⊥
+no_table h = let below : 36 < 10 = h.1.0 in absurd (omega (arith, below))
+
+no_memory : IsNumeral 10 (codes "$memory") → ⊥
+no_memory h = let below : 36 < 10 = h.1.0 in absurd (omega (arith, below))
+
+never_behind : (memory : Option MemoryType) (fs : List ShimFunction) (m : ℕ) → m < 2 ^ 32 → IsOther (decimal m) (names_in (behind memory fs))
+never_behind None [] m small = tt
+never_behind (Some type) [] m small = (never_numbered m (codes "$memory") small no_memory, tt)
+never_behind None (f ∷ fs) m small = (never_numbered m (codes "$imports") small no_table, tt)
+never_behind (Some type) (f ∷ fs) m small = (never_numbered m (codes "$imports") small no_table, (never_numbered m (codes "$memory") small no_memory, tt))
+
+behind_apart : (memory : Option MemoryType) (fs : List ShimFunction) → IsDistinct bytes_eq (names_in (behind memory fs))
+unfolding IsDistinct
+behind_apart None [] = tt
+behind_apart (Some type) [] = (tt, tt)
+behind_apart None (f ∷ fs) = (tt, tt)
+behind_apart (Some type) (f ∷ fs) = ((refl, tt), (tt, tt))
+
+exported_by_shims : (memory : Option MemoryType) (types : List FuncType) (fs : List ShimFunction) (debug_names : Bool) → flat_map section_exports (shims.shim_sections memory types fs debug_names) ≡ shims.exports_of memory fs
+exported_by_shims None types [] true = append-nil (shims.exports_of None [])
+exported_by_shims None types [] false = append-nil (shims.exports_of None [])
+exported_by_shims (Some type) types [] true = append-nil (shims.exports_of (Some type) [])
+exported_by_shims (Some type) types [] false = append-nil (shims.exports_of (Some type) [])
+exported_by_shims None types (f ∷ fs) true = append-nil (shims.exports_of None (f ∷ fs))
+exported_by_shims None types (f ∷ fs) false = append-nil (shims.exports_of None (f ∷ fs))
+exported_by_shims (Some type) types (f ∷ fs) true = append-nil (shims.exports_of (Some type) (f ∷ fs))
+exported_by_shims (Some type) types (f ∷ fs) false = append-nil (shims.exports_of (Some type) (f ∷ fs))
+
+exported_by_fixup : (f : Fixup) (debug_names : Bool) → flat_map section_exports (fixups.fixup_sections f debug_names) ≡ []
+exported_by_fixup f true = refl
+exported_by_fixup f false = refl
+
+none_apart : IsDistinct {K = List ℕ} bytes_eq []
+unfolding IsDistinct
+none_apart = tt
+
+-- there is a function for each shim
+functions_counted : (types : List FuncType) (ss : List Shim) → length (functions_of types ss) ≡ length ss
+functions_counted types [] = refl
+functions_counted types (s ∷ ss) = ap suc (functions_counted (interned types (type_of_shim s)) ss)
+
+-- ---- both modules
+
+are_shims : (memory : Option MemoryType) (ss : List Shim) (debug_names : Bool) → length ss < 2 ^ 32 → AreSections debug_names (sections_of_shims memory ss debug_names)
+are_shims memory ss debug_names room =
+    let fs : List ShimFunction = functions_of [] ss in
+    let counted : length fs ≡ length ss = functions_counted [] ss in
+    record {
+      ordered = shims_in_order memory (types_with [] ss) fs debug_names;
+      once = subst (λ es. IsDistinct bytes_eq (names_in es)) (sym (exported_by_shims memory (types_with [] ss) fs debug_names))
+          (numbers_apart 0 fs (behind memory fs) (omega (arith, room, counted)) (never_behind memory fs) (behind_apart memory fs));
+    }
+
+are_fixup : (f : Fixup) (debug_names : Bool) → AreSections debug_names (fixups.fixup_sections f debug_names)
+are_fixup f debug_names = record { ordered = fixup_in_order f debug_names; once = subst (λ es. IsDistinct bytes_eq (names_in es)) (sym (exported_by_fixup f debug_names)) none_apart }
+
+pub sections_in_order : (w : ComponentWorld) (debug_names : Bool) (o : Option GeneratedBytes) → MayBeGenerated w debug_names o → AllByRecursion (AreSections debug_names) (generated_sections (modules_of w debug_names o))
+sections_in_order w debug_names None h = tt
+sections_in_order w debug_names (Some b) h = (are_shims (shared_memory w) (shims_of w) debug_names h.room, by b.fixup)
+  where
+    by : (o : Option (List ℕ)) → AllByRecursion (AreSections debug_names) (generated_sections (record { shims = None; fixup = option_map (λ bytes. sections_of_fixup (shims_of w) debug_names) o }))
+    by None = tt
+    by (Some bytes) = (are_fixup (fixup_with nothing_fixed (shims_of w)) debug_names, tt)
+
+-- ---- definitions
+
+export_sound : (w : ComponentWorld) (earlier : List Def) (sort : Sort) (index : ℕ) (description : Option Description) → IsExportRight w earlier sort index description → IsExportSound earlier sort index description
+export_sound w earlier sorts.Func index None h = tt
+export_sound w earlier sorts.Instance index None h = record { component = h.component; arguments = h.arguments; made = h.instance }
+export_sound w earlier sort index description h = absurd h
+
+-- the arguments of a user module, by their names
+arguments_named : (w : ComponentWorld) (of : UserModule) (earlier : List Def) (as' : List CoreArgument) (gs : List (List ℕ × ImportInstance)) → AllZip (IsArgumentFor w of earlier) as' gs →
+    map (λ (a : CoreArgument). a.name) as' ≡ map (λ g. g.0) gs
+arguments_named w of earlier [] [] h = refl
+arguments_named w of earlier (a ∷ as') (g ∷ gs) h = ap₂ (λ n ns. n ∷ ns) h.0.named (arguments_named w of earlier as' gs h.1)
+arguments_named w of earlier [] (g ∷ gs) h = absurd h
+arguments_named w of earlier (a ∷ as') [] h = absurd h
+
+-- where this user module has the number
+pub named_as : (w : ComponentWorld) (number : ℕ) (m : WorldModule) (arguments : List CoreArgument) → slice_get (user_modules w) number ≡ Some m → map (λ (a : CoreArgument). a.name) arguments ≡ map (λ g. g.0) m.found.imports.modules →
+    AreArgumentsNamed w number arguments
+named_as w number m arguments at same of listed = subst (λ (x : WorldModule). map (λ (a : CoreArgument). a.name) arguments ≡ map (λ g. g.0) x.found.imports.modules) (same_Some m of (sym at ∙ listed)) same
+
+-- where none has
+pub named_none : (w : ComponentWorld) (number : ℕ) (arguments : List CoreArgument) → slice_get (user_modules w) number ≡ None → AreArgumentsNamed w number arguments
+named_none w number arguments none of listed = absurd (none-some of (sym none ∙ listed))
+
+users_named : (w : ComponentWorld) (earlier : List Def) (number : ℕ) (arguments : List CoreArgument) → InstantiatesModule w earlier number arguments → AreArgumentsNamed w number arguments
+users_named w earlier number arguments (inl h) of listed = named_as w number h.of arguments h.listed (arguments_named w h.of.of earlier arguments h.of.found.imports.modules h.each) of listed
+users_named w earlier number arguments (inr (inl h)) of listed = absurd (not_shims w number (user_below w number of listed) h.numbered)
+users_named w earlier number arguments (inr (inr h)) of listed = absurd (not_fixup w number (user_below w number of listed) h.numbered)
+
+-- a definition that keeps its rule is sound
+right_is_sound : (w : ComponentWorld) (earlier : List Def) (d : Def) → IsRight w earlier d → IsSound w earlier d
+right_is_sound w earlier (defs.Component inner) h = h.0
+right_is_sound w earlier (defs.Item (items.CoreInstantiate number arguments)) h = users_named w earlier number arguments h
+right_is_sound w earlier (defs.Item (items.Import name (descriptions.Instance index))) h = h
+right_is_sound w earlier (defs.Item (items.Instantiate component arguments)) h = h
+right_is_sound w earlier (defs.Item (items.Export name sort index description)) h = export_sound w earlier sort index description h
+right_is_sound w earlier d h = tt
+
+pub all_sound : (w : ComponentWorld) (earlier ds : List Def) → RightAfter w earlier ds → AreSound w earlier ds
+all_sound w earlier [] h = tt
+all_sound w earlier (d ∷ ds) h = (right_is_sound w earlier d h.0, all_sound w (earlier ++ d ∷ []) ds h.1)
