@@ -15,7 +15,8 @@ use Rattle.comp_encoder.specs.Prepared.{IsWorldOf}
 use Rattle.comp_encoder.specs.Component.{IsComponentOf, IsEncoding}
 use Rattle.comp_encoder.specs.Outputs.{NoSharedName}
 use Rattle.comp_encoder.proofs.ExportsApart.{exports_apart}
-use Rattle.link_laws.proofs.Runs.{modules_of, composed, links}
+use Rattle.link_laws.proofs.Ordered.{modules_of}
+use Rattle.link_laws.proofs.Runs.{composed, links}
 
 pub made_of : (n : Naming) (w : ComponentWorld) (validate : Bool) (bytes : List ℕ) (ds : List Def) → IsEncodable w → NoSharedName n.canonical w → Encodes bytes ds →
     Scoped ds × IsBuilt n w ds → (IsTrue validate → NamesOk ds) → IsComponentOf n w validate bytes
@@ -23,7 +24,7 @@ made_of n w validate bytes ds valid none encodes built named = record {
   defs = ds;
   encodes = encodes;
   scoped = built.0;
-  generated = modules_of w built.1.generated built.1.are_generated;
+  generated = modules_of w n.debug_names built.1.generated;
   composed = composed n w ds built.1;
   links = links n w ds valid.valid (exports_apart n w valid.valid none) built.1;
   named = named;

@@ -13,7 +13,7 @@ pub mod Steps
 pub mod InstanceSteps
 mod NestedSteps
 pub mod Marks
-mod Ordered
+pub mod Ordered
 mod ImportedTypes
 mod Served
 mod NamedItem

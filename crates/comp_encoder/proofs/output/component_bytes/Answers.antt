@@ -4,14 +4,15 @@ use Rattle.comp_encoder.specs.Outputs.{IsOutputRefusal}
 use Rattle.comp_encoder.proofs.Answered.{made_of}
 use Rattle.comp_encoder.proofs.Naming.{check_refusal, no_name_cause}
 use Rattle.comp_encoder.proofs.Refused.{refused_as}
-use Rattle.link_laws.proofs.Runs.{modules_of, composed}
+use Rattle.link_laws.proofs.Ordered.{modules_of}
+use Rattle.link_laws.proofs.Runs.{composed}
 use Rattle.comp_encoder.proofs.output.component_bytes.Goals as goal
 
 pub returns-in_err-check_if-clause-cause : goal.returns-in_err-check_if-clause-cause
 returns-in_err-check_if-clause-cause c =
     let made = c.in_ok-component.ensures.ok in
     refused_as c.from_residual-in_err-check_if.result _ (IsOutputRefusal (naming_of c.args.names) c.args.world.now c.args.validate) c.from_residual-in_err-check_if.ensures.1
-    (check_refusal (naming_of c.args.names) c.args.world.now c.in_ok-component.component.defs c.requires.valid made.1 (modules_of c.args.world.now made.1.generated made.1.are_generated) (composed (naming_of c.args.names) c.args.world.now c.in_ok-component.component.defs made.1) made.0 c.args.validate _
+    (check_refusal (naming_of c.args.names) c.args.world.now c.in_ok-component.component.defs c.requires.valid made.1 (modules_of c.args.world.now (naming_of c.args.names).debug_names made.1.generated) (composed (naming_of c.args.names) c.args.world.now c.in_ok-component.component.defs made.1) made.0 c.args.validate _
     c.in_err-check_if.ensures.cause)
 
 pub returns-clause-ok : goal.returns-clause-ok
@@ -28,6 +29,6 @@ returns-clause-refused c =
       encodings = c.in_ok-component.ensures.refused refl;
       made = c.in_ok-component.ensures.made refl;
       order = c.in_ok-component.ensures.order refl;
-      names = λ on fault. no_name_cause (naming_of c.args.names) c.args.world.now c.in_ok-component.component.defs c.requires.valid made.1 (modules_of c.args.world.now made.1.generated made.1.are_generated) (composed (naming_of c.args.names) c.args.world.now c.in_ok-component.component.defs made.1)
+      names = λ on fault. no_name_cause (naming_of c.args.names) c.args.world.now c.in_ok-component.component.defs c.requires.valid made.1 (modules_of c.args.world.now (naming_of c.args.names).debug_names made.1.generated) (composed (naming_of c.args.names) c.args.world.now c.in_ok-component.component.defs made.1)
           (c.in_ok-check_if.ensures.ok on) fault;
     }
