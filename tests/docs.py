@@ -5,7 +5,7 @@
                        linking theorem uses, directly or not, and no others but those of refusals; the numbers of lines there are
                        right, and in all no more than MOST_LINES; docs/ERRORS.md has each code of an error; docs/LEFT_OUT.md has
                        the numbers of cases that wait for what is left out, and docs/PROVED.md those of all files of cases; the names
-                       of the cases of a file differ; no more clauses are wider than 100 columns than MOST_WIDE, a number that only
+                       of the cases of a file differ; CONTRIBUTING.md leads to each file in which its examples are found; no more clauses are wider than 100 columns than MOST_WIDE, a number that only
                        falls. The last line is 'N passed, M failed', and the exit status is 1 where M is not 0.
     docs.py --write    fills the numbers of lines in docs/LINKING.md, which count definitions (no imports, comments or blank lines), and
                        the tables of cases of docs/LEFT_OUT.md and docs/PROVED.md.
@@ -40,6 +40,13 @@ ROW = re.compile(r"^(\| .* \| )(`.*`)( \| )(\d+)( \|)$", re.M)
 TOTAL = re.compile(r"(lines of definitions, )([\d,]+)( in all)")
 NO_DEFINITION = re.compile(r"\s*(use |--|$)")
 QUOTED = re.compile(r"`([^`]+)`")
+CONTRIBUTING = f"{TOP}/CONTRIBUTING.md"
+# What was added last of its kind, by the word that its files have, and the sections that lead through them.
+EXAMPLES = {
+    r"\bemit_canonical_names\b": ["A new option of the command line"],
+    r"\bSubtaskCancel\b": ["A new role of core imports", "A new kind of definition"],
+    r"\bInstantiate\b": ["A new kind of definition"],
+}
 CODE = re.compile(r'#\[error\("([A-Z]\d+) (\w+)')
 
 
@@ -204,10 +211,45 @@ def faults_of_clauses():
     return [f"crates: {total} clauses are wider than {WIDTH} columns, and {MOST_WIDE} are the most: give what they say a name in specs/"]
 
 
+def led_to(sections):
+    """The files to which the tables of these sections of CONTRIBUTING.md lead, and the crates."""
+    files, crates = set(), set()
+    for title in sections:
+        names, folder = [], ""
+        section = text_of(CONTRIBUTING).partition(f"\n## {title}\n")[2].partition("\n## ")[0]
+        for row in filter(lambda line: line.startswith("|"), section.splitlines()):
+            cells = row.split("|")
+            names = QUOTED.findall(cells[1]) or names
+            for file in QUOTED.findall(cells[2]):
+                folder = file.rpartition("/")[0] if "/" in file else folder
+                files.update(f"{name}/{folder}/{file.rpartition('/')[2]}" for name in names)
+            crates.update(names)
+    return files, crates
+
+
+def is_led_to(path, files, crates):
+    """Whether a file of a crate is among those, or in a folder that is; the crate is enough for proofs and for what proofs are made of."""
+    crate, part = path.split("/")[:2]
+    whole = path.rpartition(".")[0]
+    return crate in crates and (part not in ("src", "specs") or any(it.endswith("/") and path.startswith(it) or it in (path, whole) for it in files))
+
+
+def faults_of_ways():
+    faults, texts = [], {}
+    for ending in ("src/**/*.rt", "specs/**/*.antt", "proofs/**/*.antt"):
+        for path in sorted(glob.glob(f"{TOP}/crates/*/{ending}", recursive=True)):
+            texts[os.path.relpath(path, f"{TOP}/crates")] = text_of(path)
+    for word, sections in EXAMPLES.items():
+        files, crates = led_to(sections)
+        found = [path for path, text in texts.items() if re.search(word, text) and "/Worked" not in path]
+        faults += [f"CONTRIBUTING.md: {' and '.join(sections)}: no row leads to crates/{path}" for path in found if not is_led_to(path, files, crates)]
+    return faults
+
+
 def check():
     crates = set(os.listdir(f"{TOP}/crates"))
     documents = [f"{TOP}/README.md", f"{TOP}/CONTRIBUTING.md", *sorted(glob.glob(f"{TOP}/docs/*.md"))]
-    parts = [faults_of_linking(), faults_of_errors(), faults_of_left_out(), faults_of_case_table(), faults_of_case_names(), faults_of_clauses(), *(faults_of_document(it, crates) for it in documents)]
+    parts = [faults_of_linking(), faults_of_errors(), faults_of_left_out(), faults_of_case_table(), faults_of_case_names(), faults_of_ways(), faults_of_clauses(), *(faults_of_document(it, crates) for it in documents)]
     for faults in parts:
         for fault in faults:
             print(fault)
