@@ -1,5 +1,5 @@
 -- The instance of the fixup can be made: each slot holds what is given for its shim, and then main is initialized.
-use Rattle.std.proofs.Common.{◌≡◌, ◌∙◌, ◌+◌, ℕ, Bool, true, false, ◌&&◌, List, [], ◌∷◌, ◌++◌, length, map, drop, Option, Some, None, if◌then◌else◌, append-nil, append_assoc, length-append, refl, sym, ap, arith}
+use Rattle.std.proofs.Common.{◌≡◌, ◌∙◌, ◌+◌, ℕ, Bool, true, false, ◌&&◌, List, [], ◌∷◌, ◌++◌, length, map, drop, Option, Some, None, if◌then◌else◌, append-nil, append_assoc, length-append, refl, sym, ap, subst, arith}
 use Rattle.std.proofs.Math.Seq.{drop-length}
 use Rattle.std.proofs.lemmas.Bool.{eq-eqb}
 use Rattle.std.proofs.lemmas.Bool.Decides.{nat_tests}
@@ -8,16 +8,14 @@ use Rattle.std.proofs.lemmas.List.FromFn.{length-range_with_len}
 use Rattle.std.proofs.lemmas.Simd.{map-map}
 use Rattle.std.specs.List.{slice_get, slice_set, flat_map, range_with_len, AllZip}
 use Rattle.std.specs.Prelude.{nat_le}
-use Rattle.comp_lists.proofs.Lists.{length-AllZip}
+use Rattle.comp_lists.proofs.Lists.{length-AllZip, slice_get-end}
 use Rattle.core_types.specs.declared.types.FuncType.{FuncType}
 use Rattle.core_types.specs.declared.types.MemoryType.{MemoryType}
 use Rattle.core_types.specs.declared.types.ValType.{ValType}
 use Rattle.core_types.specs.declared.types.ValType.TheVariants.{I32, I64, F32, F64, Ref}
 use Rattle.core_types.specs.declared.types.RefType.TheVariants.{FuncRef, Concrete}
-use Rattle.core_bytes.specs.declared.entity.EntityType.{EntityType}
-use Rattle.core_bytes.specs.declared.entity.EntityType.TheVariants as entities
-use Rattle.core_bytes.specs.declared.entry.ElementSegment.{ElementSegment}
 use Rattle.core_bytes.specs.declared.entry.Import.{Import}
+use Rattle.core_bytes.specs.declared.section.Section.{Section}
 use Rattle.core_bytes.specs.declared.section.Section.TheVariants as sections
 use Rattle.core_runs.specs.Values.{same_value_type, same_value_types, same_signature}
 use Rattle.core_runs.specs.Values.{Value}
@@ -36,15 +34,15 @@ use Rattle.fixup_modules.proofs.Building.{type_kept}
 use Rattle.fixup_modules.proofs.Filling.{counts_given, all_among}
 use Rattle.fixup_modules.proofs.Making.{segments_if, entities_of, fixup_parts, parts_are, own_if, frame_of, made_with, instance_is, starts}
 use Rattle.comp_runs.specs.Store.{Export, Store as RunStore}
-use Rattle.comp_runs.specs.Machine.{Scope, Machine, all_some}
+use Rattle.comp_runs.specs.Machine.{Scope, Machine, Next, Outcome, all_some, resumed}
 use Rattle.comp_runs.specs.Instances.{section_imports, section_exports, export_at, with_module_instance}
 use Rattle.shim_plan.specs.declared.shims.Shim.{Shim}
-use Rattle.world_shims.specs.WorldShims.{type_of_shim, types_with, fixup_with, sections_of_fixup}
-use Rattle.shim_runs.specs.ShimRuns.{machine, IsActual, CanFix, FixupRun, fixup_arguments}
+use Rattle.world_shims.specs.WorldShims.{type_of_shim, types_with, fixup_of, sections_of_fixup}
+use Rattle.shim_runs.specs.ShimRuns.{machine, with_code, HasSlots, with_slots, AreCalls, IsActual, CanFix, FixupRun, fixup_arguments}
 use Rattle.shim_runs.proofs.Instantiating.{IsMade, made_runs}
 use Rattle.shim_runs.proofs.ShimInstance.{own_type}
-use Rattle.shim_runs.proofs.FixupImports.{imports_of, fixup_is}
-use Rattle.shim_runs.proofs.FixupGiven.{argument_of, imports_given, things_given, values_given, values_are}
+use Rattle.shim_runs.proofs.FixupImports.{imports_of, types_with_call, call_imports, call_indices, table_imports, fixup_is}
+use Rattle.shim_runs.proofs.FixupGiven.{argument_of, imports_given, things_given, table_values, values_given, values_are}
 
 -- ---- types
 

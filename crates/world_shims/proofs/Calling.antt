@@ -1,6 +1,7 @@
 -- A fixup with shims that calls the function with which main is initialized.
-use Rattle.std.proofs.Common.{inl, inr, ◌≡◌, ◌∙◌, ◌+◌, ◌<◌, ◌≤◌, ◌^◌, ◌⊎◌, ◌&&◌, ◌||◌, ℕ, Bool, false, List, [], ◌∷◌, ◌++◌, length, Option, Some, None, refl, sym, ap, subst, arith}
-use Rattle.std.specs.Prelude.{codes}
+use Rattle.std.proofs.Common.{inl, inr, ◌≡◌, ◌∙◌, ◌+◌, ◌<◌, ◌≤◌, ◌^◌, ◌&&◌, ◌||◌, ℕ, Bool, false, List, [], ◌∷◌, ◌++◌, length, Option, Some, None, refl, sym, ap, subst, arith}
+use Rattle.std.specs.Prelude.{codes, Result, Ok, Err, IfErr}
+use Rattle.std.specs.Result.{IsErrAnd}
 use Rattle.std.specs.List.{AllByRecursion, list_any, find}
 use Rattle.std.specs.Str.{bytes_eq}
 use Rattle.std.proofs.lemmas.List.{length_push}
@@ -10,13 +11,14 @@ use Rattle.standard_kinds.specs.declared.kinds.ExportKind.TheVariants as kinds
 use Rattle.comp_lists.specs.Tables.{with_first}
 use Rattle.comp_lists.proofs.Lists.{AllByRecursion-weaker, AllByRecursion-push}
 use Rattle.core_types.specs.declared.types.TableType.{TableType}
+use Rattle.core_runs.specs.Bodies.{table_of_shims}
 use Rattle.core_bytes.specs.declared.entity.EntityType.{EntityType}
 use Rattle.core_bytes.specs.declared.entity.EntityType.TheVariants as entities
 use Rattle.core_bytes.specs.declared.entry.Import.{Import}
 use Rattle.fixup_modules.specs.declared.fault.ShimFault.{ShimFault}
 use Rattle.fixup_modules.specs.declared.fault.ShimFault.TheVariants as faults
 use Rattle.fixup_modules.specs.declared.instances.ImportedInstance.TheVariants as instances
-use Rattle.fixup_modules.specs.Imports.{Imported, is_kind, count_of, is_named, entry_of, has_import, is_taken, has_other_type, ImportCause}
+use Rattle.fixup_modules.specs.Imports.{Imported, is_kind, count_of, is_named, entry_of, import_index, is_taken, ImportCause}
 use Rattle.fixup_modules.specs.Fixups.{Fixup, nothing_fixed, thunk, thunk_item, with_shim, with_initialize, CallCause}
 use Rattle.fixup_modules.specs.Faults.{of_build}
 use Rattle.fixup_modules.specs.Sections.{table_name, shim_table, EncodeCause}
@@ -104,16 +106,16 @@ few_calls : (f : Fixup) (initialize : Option (List ℕ)) → IsFromActual f → 
 few_calls f None h many = let none : length f.calls ≡ 0 = ap (λ l. length l) h.no_calls in omega (arith, none, many)
 few_calls f (Some name) h many =
     let none : length f.calls ≡ 0 = ap (λ l. length l) h.no_calls in
-    let one = length_push f.calls _ in
+    let one = length_push f.calls (import_index f.imported instances.Main name (thunk_item f.types)) in
     omega (arith, none, one, many)
 
 encode_up_to : (f : Fixup) (initialize : Option (List ℕ)) (e : ShimFault) → IsFromActual f → EncodeCause (with_call f initialize) e → IsUpTo 1 e
 encode_up_to f initialize faults.Memory h cause = tt
-encode_up_to f initialize (faults.TooMany n) h (inl cause) = table_up_to f initialize _ (faults.TooMany n) h cause.1
+encode_up_to f initialize (faults.TooMany n) h (inl cause) = table_up_to f initialize (table_of_shims (length (with_call f initialize).fills)) (faults.TooMany n) h cause.1
 encode_up_to f initialize (faults.TooMany n) h (inr cause) = absurd (few_calls f initialize h cause.0)
-encode_up_to f initialize (faults.InstanceKind name) h (inl cause) = table_up_to f initialize _ (faults.InstanceKind name) h cause.1
+encode_up_to f initialize (faults.InstanceKind name) h (inl cause) = table_up_to f initialize (table_of_shims (length (with_call f initialize).fills)) (faults.InstanceKind name) h cause.1
 encode_up_to f initialize (faults.InstanceKind name) h (inr cause) = absurd cause.1
-encode_up_to f initialize (faults.ImportType of name) h (inl cause) = table_up_to f initialize _ (faults.ImportType of name) h cause.1
+encode_up_to f initialize (faults.ImportType of name) h (inl cause) = table_up_to f initialize (table_of_shims (length (with_call f initialize).fills)) (faults.ImportType of name) h cause.1
 encode_up_to f initialize (faults.ImportType of name) h (inr cause) = absurd cause.1
 
 pub encode_refused : (f g : Fixup) (initialize : Option (List ℕ)) (e : ShimFault) → IsFromActual f → g ≡ with_call f initialize → EncodeCause g e → IsOfCounts e
@@ -147,3 +149,7 @@ call_beyond shims f (build.TooMany n) is h =
 pub shims_beyond : (shims : List Shim) (e : BuildFault) → HasTooMany (length shims) e → HasTooMany (length shims + 1) e
 shims_beyond shims build.Memory h = tt
 shims_beyond shims (build.TooMany n) h = omega (arith, h)
+
+pub refused_as : {X E : Type 0} (r : Result X E) (e : E) (P : E → Type 0) → IsErrAnd r (λ x. x ≡ e) → P e → IfErr r P
+refused_as (Ok x) e P h k = absurd h
+refused_as (Err x) e P h k = subst P (sym h) k
