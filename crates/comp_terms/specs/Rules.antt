@@ -52,7 +52,7 @@ use Rattle.comp_links.specs.Naming.{Naming}
 use Rattle.comp_links.specs.Lists.{ImportEntry, ImportedInterface, WorldType, RootFunction, import_entries, names_of_interface, type_of_world, Stated, root_function, root_type, described_sort, stated_import, stated_export, functions_of_interface, nested_export_names, RequiredKey, required_keys, ProvidedType, provided_resources, AreNames}
 use Rattle.comp_links.specs.Links.{destructor_of}
 use Rattle.comp_terms.specs.Terms.{InstanceOf as InstanceTerm, imports_in, IsFunctionType, IsResource, IsImportedFunction, Is}
-use Rattle.fixup_modules.specs.declared.instances.ImportedInstance.{ImportedInstance}
+use Rattle.fixup_modules.specs.declared.instances.ImportedInstance.{ImportedInstance as FixupInstance}
 use Rattle.fixup_modules.specs.declared.instances.ImportedInstance.TheVariants as sources
 use Rattle.fixup_modules.specs.Sections.{all_imported}
 use Rattle.world_shims.specs.WorldShims.{shims_of, initialize_of, fixup_of}
@@ -131,13 +131,13 @@ abbrev pub made_before_fixup : ComponentWorld → List ℕ
 made_before_fixup w = shims_if w (has_shim_module w) ++ range_with_len 0 (length (user_modules w))
 
 -- what the fixup imports from: what the shims stand for, main, or the module of shims
-abbrev pub IsFixupSource : ComponentWorld → List Def → ℕ → ImportedInstance → Type 0
+abbrev pub IsFixupSource : ComponentWorld → List Def → ℕ → FixupInstance → Type 0
 IsFixupSource w earlier index sources.Actual = AreFillsFor w earlier index
 IsFixupSource w earlier index sources.Main = Is earlier spaces.CoreInstance index (InstanceTerm 0)
 IsFixupSource w earlier index sources.Shim = Is earlier spaces.CoreInstance index (InstanceTerm (shims_number w))
 IsFixupSource w earlier index (sources.Adapter name) = ⊥
 
-pub record IsFixupArgument (w : ComponentWorld) (earlier : List Def) (a : CoreArgument) (source : List ℕ × ImportedInstance) : Type 0 where
+pub record IsFixupArgument (w : ComponentWorld) (earlier : List Def) (a : CoreArgument) (source : List ℕ × FixupInstance) : Type 0 where
   pub named : a.name ≡ source.0
   pub serves : IsFixupSource w earlier a.instance source.1
 

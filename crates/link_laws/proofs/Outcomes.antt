@@ -1,19 +1,18 @@
 -- How a definition goes on from one state of a run to the next, whatever is answered, and what is seen of it.
 use Rattle.std.proofs.Common.{arith, ◌≤◌, ◌+◌, ◌≡◌, ◌∙◌, ℕ, suc, false, List, [], ◌∷◌, ◌++◌, length, map, filter, refl, sym, ap, ap₂, subst, append-nil, length-append, IsTrue}
 use Rattle.std.proofs.Math.Dec.{ltb}
-use Rattle.std.specs.List.{flat_map}
 use Rattle.comp_bytes.specs.declared.def.Def.{Def}
 use Rattle.comp_worlds.specs.declared.world.ComponentWorld.{ComponentWorld}
 use Rattle.comp_links.specs.Modules.{user_modules}
 use Rattle.core_types.specs.declared.types.ValType.{ValType}
 use Rattle.core_runs.specs.Values.{Value, I32Value, I64Value}
 use Rattle.core_runs.specs.Instances.{type_of}
-use Rattle.core_runs.specs.Store.{Answer, Gives, Traps, Event, Instantiated, Now, Cell, Kept, Foreign}
+use Rattle.core_runs.specs.Store.{Answer, Gives, Traps, Event, Now, Cell, Kept, Foreign}
 use Rattle.core_runs.specs.Execution.{answered, seen, renewed}
 use Rattle.comp_runs.specs.Store.{Store}
 use Rattle.comp_runs.specs.Machine.{Scope, Machine, Outcome, Done, Trapped, Open, Stuck, resumed}
 use Rattle.comp_runs.specs.Running.{run}
-use Rattle.link_laws.specs.Composition.{GeneratedModules, at_root, item_instantiates}
+use Rattle.link_laws.specs.Composition.{GeneratedModules}
 use Rattle.link_laws.specs.Linking.{module_meanings, LetsRun}
 use Rattle.link_laws.proofs.Stores.{Agrees}
 
@@ -43,19 +42,9 @@ IsGood c s g es questions answers Stuck = ⊥
 abbrev pub users_among : ComponentWorld → List ℕ → List ℕ
 users_among w numbers = filter (λ n. ltb n (length (user_modules w))) numbers
 
--- those that a definition instantiates
-abbrev pub users_in : ComponentWorld → Def → List ℕ
-users_in w d = users_among w (at_root item_instantiates d)
-
--- the calls of the outside that are made for these, by their result types, and what is seen of them
-abbrev pub asks : List ℕ → List (List ValType)
-asks users = map (λ n. []) users
-
-abbrev pub events_of : List ℕ → List Event
-events_of users = map (λ n. Instantiated n) users
-
-abbrev pub seen_by : ComponentWorld → List Def → List Event
-seen_by w ds = flat_map (λ d. events_of (users_in w d)) ds
+-- the calls of the outside that are seen, by their result types: none returns a value
+abbrev pub asks : List Event → List (List ValType)
+asks events = map (λ e. []) events
 
 -- one call more
 one_more : (c : Scope) (s : Store) (g : List ValType) (es : List Event) (questions : List (List ValType)) (cell : ℕ) (answers : List Answer) (o : Outcome) →
@@ -89,44 +78,51 @@ good_answered c s g es questions (Gives (v ∷ values) number ∷ answers) now m
     no : IsTrue false → ⊥
     no e = cc
 
--- A definition that instantiates these user modules runs, and the rest is run from this scope, this store and globals of these types.
-abbrev pub Continues : (w : ComponentWorld) (gen : GeneratedModules) (d : Def) (c : Scope) (s : Store) (g : List ValType) (c' : Scope) (s' : Store) (g' : List ValType) → List ℕ → Type 0
-Continues w gen d c s g c' s' g' users =
-    (e : Scope) (t : Store) (k : List ValType) (es : List Event) (questions : List (List ValType)) (rest : List Def) →
-    ((now : Now) → IsNow (es ++ events_of users) g' now → IsGood e t k ((es ++ events_of users) ++ seen_by w rest) questions now.answers (run (module_meanings w gen) rest (machine c' s' now))) →
-    (now : Now) → IsNow es g now → IsGood e t k (es ++ (events_of users ++ seen_by w rest)) (asks users ++ questions) now.answers (run (module_meanings w gen) (d ∷ rest) (machine c s now))
+-- A definition runs with these events, and the rest is run from this scope, this store and globals of these types.
+abbrev pub Continues : (w : ComponentWorld) (gen : GeneratedModules) (d : Def) (c : Scope) (s : Store) (g : List ValType) (c' : Scope) (s' : Store) (g' : List ValType) → List Event → Type 0
+Continues w gen d c s g c' s' g' seen =
+    (e : Scope) (t : Store) (k : List ValType) (es later : List Event) (questions : List (List ValType)) (rest : List Def) →
+    ((now : Now) → IsNow (es ++ seen) g' now → IsGood e t k ((es ++ seen) ++ later) questions now.answers (run (module_meanings w gen) rest (machine c' s' now))) →
+    (now : Now) → IsNow es g now → IsGood e t k (es ++ (seen ++ later)) (asks seen ++ questions) now.answers (run (module_meanings w gen) (d ∷ rest) (machine c s now))
 
 pub record Runs (w : ComponentWorld) (gen : GeneratedModules) (d : Def) (c : Scope) (s : Store) (g : List ValType) (c' : Scope) (s' : Store) (g' : List ValType) : Type 0 where
-  pub continues : Continues w gen d c s g c' s' g' (users_in w d)
+  pub seen : List Event
+  pub continues : Continues w gen d c s g c' s' g' seen
 
 -- a definition that calls nothing outside
-pub quiet : (w : ComponentWorld) (gen : GeneratedModules) (d : Def) (c : Scope) (s : Store) (g : List ValType) (c' : Scope) (s' : Store) → users_in w d ≡ [] →
+pub quiet_continues : (w : ComponentWorld) (gen : GeneratedModules) (d : Def) (c : Scope) (s : Store) (g : List ValType) (c' : Scope) (s' : Store) →
+    ((rest : List Def) (now : Now) → run (module_meanings w gen) (d ∷ rest) (machine c s now) ≡ run (module_meanings w gen) rest (machine c' s' now)) → Continues w gen d c s g c' s' g []
+quiet_continues w gen d c s g c' s' same e t k es later questions rest go now at =
+    let after : List Event → Type 0 =
+    λ l. (n : Now) → IsNow l g n → IsGood e t k (l ++ later) questions n.answers (run (module_meanings w gen) rest (machine c' s' n)) in
+    let plain : after es = subst after (append-nil es) go in
+    subst (IsGood e t k (es ++ later) questions now.answers) (sym (same rest now)) (plain now at)
+
+abbrev pub quiet : (w : ComponentWorld) (gen : GeneratedModules) (d : Def) (c : Scope) (s : Store) (g : List ValType) (c' : Scope) (s' : Store) →
     ((rest : List Def) (now : Now) → run (module_meanings w gen) (d ∷ rest) (machine c s now) ≡ run (module_meanings w gen) rest (machine c' s' now)) → Runs w gen d c s g c' s' g
-quiet w gen d c s g c' s' none same = record { continues = subst (Continues w gen d c s g c' s' g) (sym none) none_seen }
-  where
-    none_seen : Continues w gen d c s g c' s' g []
-    none_seen e t k es questions rest go now at =
-        let after : List Event → Type 0 =
-        λ l. (n : Now) → IsNow l g n → IsGood e t k (l ++ seen_by w rest) questions n.answers (run (module_meanings w gen) rest (machine c' s' n)) in
-        let plain : after es = subst after (append-nil es) go in
-        subst (IsGood e t k (es ++ seen_by w rest) questions now.answers) (sym (same rest now)) (plain now at)
+quiet w gen d c s g c' s' same = record { seen = []; continues = quiet_continues w gen d c s g c' s' same }
 
-abbrev pub Steps : ComponentWorld → GeneratedModules → List Def → Scope → Store → List ValType → Def → Type 0
-Steps w gen earlier c s g d = (c' : Scope) × (s' : Store) × (g' : List ValType) × Runs w gen d c s g c' s' g' × Agrees w (earlier ++ d ∷ []) c' s' g'
+-- the scope and the store agree with one more definition, of which this was seen
+pub record AgreesWith (w : ComponentWorld) (ds : List Def) (c : Scope) (s : Store) (g : List ValType) (before seen : List Event) : Type 0 where
+  pub agrees : Agrees w ds c s g
+  pub events : agrees.events ≡ before ++ seen
 
--- the event of one more instance is among all of them
-pub few : (w : ComponentWorld) (number : ℕ) (es : List Event) (g : List ValType) (rest : List Def) (now : Now) → IsNow es g now → length (seen now (Instantiated number)).moments ≤ length (es ++ (Instantiated number ∷ seen_by w rest))
-few w number es g rest now at =
+abbrev pub Steps : ComponentWorld → GeneratedModules → List Def → Scope → Store → List ValType → List Event → Def → Type 0
+Steps w gen earlier c s g before d = (c' : Scope) × (s' : Store) × (g' : List ValType) × (r : Runs w gen d c s g c' s' g') × AgreesWith w (earlier ++ d ∷ []) c' s' g' before r.seen
+
+-- one more event is among all of them
+pub few : (event : Event) (es later : List Event) (g : List ValType) (now : Now) → IsNow es g now → length (seen now event).moments ≤ length (es ++ (event ∷ later))
+few event es later g now at =
     let before : length now.moments ≡ length es = at.moments in
     let more : length (now.moments ++ now.globals ∷ []) ≡ length now.moments + 1 = length-append now.moments (now.globals ∷ []) in
-    let all : length (es ++ (Instantiated number ∷ seen_by w rest)) ≡ length es + suc (length (seen_by w rest)) = length-append es (Instantiated number ∷ seen_by w rest) in
+    let all : length (es ++ (event ∷ later)) ≡ length es + suc (length later) = length-append es (event ∷ later) in
     omega (arith, before, more, all)
 
-pub one_event : (number : ℕ) (es : List Event) (g k : List ValType) (now after : Now) → IsNow es g now → after.events ≡ (seen now (Instantiated number)).events → after.moments ≡ (seen now (Instantiated number)).moments → map type_of after.globals ≡ k →
-    IsNow (es ++ Instantiated number ∷ []) k after
-one_event number es g k now after at events moments count = record {
-  events = events ∙ ap (λ l. l ++ Instantiated number ∷ []) at.events;
-  moments = ap (λ (l : List (List Cell)). length l) moments ∙ (length-append now.moments (now.globals ∷ []) ∙ (ap (λ n. n + 1) at.moments ∙ sym (length-append es (Instantiated number ∷ []))));
+pub one_event : (event : Event) (es : List Event) (g k : List ValType) (now after : Now) → IsNow es g now → after.events ≡ (seen now event).events → after.moments ≡ (seen now event).moments → map type_of after.globals ≡ k →
+    IsNow (es ++ event ∷ []) k after
+one_event event es g k now after at events moments count = record {
+  events = events ∙ ap (λ l. l ++ event ∷ []) at.events;
+  moments = ap (λ (l : List (List Cell)). length l) moments ∙ (length-append now.moments (now.globals ∷ []) ∙ (ap (λ n. n + 1) at.moments ∙ sym (length-append es (event ∷ []))));
   globals = count;
 }
 

@@ -67,7 +67,7 @@ use Rattle.link_laws.proofs.Stores.{IsOpaqueOf, ShimsAt, resource_core, IsLowere
 use Rattle.link_laws.proofs.Given.{by_parts, named_in_space}
 use Rattle.comp_links.proofs.Keys.{one_provider}
 use Rattle.link_laws.proofs.GivenImports.{purpose_opaque, one_purpose}
-use Rattle.link_laws.proofs.Plain.{no_hook, function_key}
+use Rattle.link_laws.proofs.Plain.{nothing_in, no_hook, function_key}
 use Rattle.comp_worlds.specs.WorldContents.{exported_item}
 
 -- ---- opaque functions
@@ -174,10 +174,10 @@ entry_at P (y ∷ xs) (suc n) x h e = entry_at P xs n x h.1 e
 module _ (w : ComponentWorld) (ok : IsWorld w) (m : Machine) where
   -- the shims are filled at the end
   abbrev pub FilledAtEnd : Option ShimsAt → Type 0
-  FilledAtEnd None = AllByRecursion (λ (i : ModuleInstance). i.module_number ≡ shims_number w → ⊥) m.store.module_instances
+  FilledAtEnd None = AllByRecursion (ExportsShims w None) m.store.module_instances
   FilledAtEnd (Some at) =
       AreShimsFrom m.store.code at.table 0 at.address (shims_of w) × ((shims_of w ≡ [] → ⊥) → AreFilled w m.store at.table) × (length (shims_of w) < 2 ^ 32)
-      × AllByRecursion (ExportsShims w at) m.store.module_instances
+      × AllByRecursion (ExportsShims w (Some at)) m.store.module_instances
 
   -- A shim forwards to what it stands for: for an import what that is to be given, or an export.
   record ForwardsFor (address : ℕ) (target : Target) : Type 0 where
@@ -215,10 +215,12 @@ module _ (w : ComponentWorld) (ok : IsWorld w) (m : Machine) where
 
   -- each shim is filled, whoever uses it
   pub shims_filled : (shims : Option ShimsAt) → FilledAtEnd shims → ShimsFilled w m
-  shims_filled None filled address s = absurd (entry_at (λ (i : ModuleInstance). i.module_number ≡ shims_number w → ⊥) m.store.module_instances s.instance s.made filled s.present s.of)
+  shims_filled None filled address s =
+      let none : s.made.exports ≡ [] = entry_at (ExportsShims w None) m.store.module_instances s.instance s.made filled s.present s.of in
+      nothing_in (record { space = spaces.CoreFunc; name = s.name; address = address }) (subst (λ (es : List Export). Contains es (record { space = spaces.CoreFunc; name = s.name; address = address })) none s.exported)
   shims_filled (Some at) filled address s =
       let shims : List Shim = shims_of w in
-      let exports : s.made.exports ≡ exports_of_shims w at = entry_at (ExportsShims w at) m.store.module_instances s.instance s.made filled.3 s.present s.of in
+      let exports : s.made.exports ≡ exports_of_shims w at = entry_at (ExportsShims w (Some at)) m.store.module_instances s.instance s.made filled.3 s.present s.of in
       let own : (place : ℕ) × (place < length shims) × (address ≡ at.address + place) =
       (shims_found shims at.address at.table at.memory).listed s.name address (subst (λ es. Contains es (record { space = spaces.CoreFunc; name = s.name; address = address })) exports s.exported) in
       let place : ℕ = own.0 in
@@ -248,7 +250,7 @@ module _ (w : ComponentWorld) (ok : IsWorld w) (m : Machine) where
   -- what an instance of their module exports for a place is the shim of that place
   shim_held_at : (at : ShimsAt) → FilledAtEnd (Some at) → (address : ℕ) (target : Target) → IsShimExported w m.store address target → IsShimGivenAt w at address target
   shim_held_at at filled address target h =
-      let exports : h.instance.exports ≡ exports_of_shims w at = entry_at (ExportsShims w at) m.store.module_instances h.user h.instance filled.3 h.present h.of in
+      let exports : h.instance.exports ≡ exports_of_shims w at = entry_at (ExportsShims w (Some at)) m.store.module_instances h.user h.instance filled.3 h.present h.of in
       let shim : ℕ → Export = λ n. record { space = spaces.CoreFunc; name = decimal h.place; address = n } in
       let found : export_named (decimal h.place) (exports_of_shims w at) ≡ Some (shim (at.address + h.place)) =
       (shims_found (shims_of w) at.address at.table at.memory).found h.place (slice_get_within (shims_of w) h.place h.stands.shim h.stands.listed) filled.2 in
@@ -265,7 +267,9 @@ module _ (w : ComponentWorld) (ok : IsWorld w) (m : Machine) where
 
   -- a shim for an export meets it
   shim_meets_export : (shims : Option ShimsAt) → FilledAtEnd shims → (kind : Bracketed) (address : ℕ) (export_ref : ExportRef) → IsShimExported w m.store address (ExportOf export_ref) → CoreExportMeets w m (Some kind) address export_ref
-  shim_meets_export None filled kind address export_ref h = absurd (entry_at (λ (i : ModuleInstance). i.module_number ≡ shims_number w → ⊥) m.store.module_instances h.user h.instance filled h.present h.of)
+  shim_meets_export None filled kind address export_ref h =
+      let none : h.instance.exports ≡ [] = entry_at (ExportsShims w None) m.store.module_instances h.user h.instance filled h.present h.of in
+      absurd (none-some (record { space = spaces.CoreFunc; name = decimal h.place; address = address }) (ap (export_named (decimal h.place)) (sym none) ∙ h.exported))
   shim_meets_export (Some at) filled kind address export_ref h =
       let x : ForwardsFor address (ExportOf export_ref) = shim_forwards address at (ExportOf export_ref) filled (shim_held_at at filled address (ExportOf export_ref) h) in
       export_meets (Some kind) address x.function export_ref x.serves (x.same x.serves.type (ExportedBy x.serves.user export_ref.name) x.serves.is)
