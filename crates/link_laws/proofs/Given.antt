@@ -3,6 +3,7 @@ use Rattle.std.proofs.Common.{◌≡◌, ◌∙◌, ◌⊎◌, inl, inr, ◌+◌
 use Rattle.std.proofs.lemmas.List.{length-map}
 use Rattle.std.proofs.lemmas.List.Sums.{length-filter}
 use Rattle.std.proofs.lemmas.Option.{same_Some, none-some, get_or_from_slice_get, slice_get_within}
+use Rattle.std.specs.Prelude.{IsSome}
 use Rattle.std.specs.Fmt.{decimal}
 use Rattle.std.specs.List.{slice_get, flat_map, AllZip, AllByRecursion}
 use Rattle.std.specs.Option.{option_map, option_and_then}
@@ -205,6 +206,13 @@ has_by_memory w type imported = ap (has_shims_in (shims_of w)) imported ∙ by (
     by : (ss : List Shim) → has_shims_in ss (Some type) ≡ true
     by [] = refl
     by (s ∷ ss) = refl
+
+pub has_by_shared : (w : ComponentWorld) → IsSome (shared_memory w) → has_shim_module w ≡ true
+has_by_shared w imported = by (shared_memory w) imported refl
+  where
+    by : (o : Option MemoryType) → IsSome o → shared_memory w ≡ o → has_shim_module w ≡ true
+    by None some none = cc
+    by (Some type) some is = has_by_memory w type is
 
 -- then the fixup comes behind it
 pub fixup_behind : (w : ComponentWorld) → has_shim_module w ≡ true → fixup_number w ≡ suc (shims_number w)

@@ -238,6 +238,10 @@ fixup_instance : (w : ComponentWorld) (o : Option (List ℕ)) → flat_map insta
 fixup_instance w None = refl
 fixup_instance w (Some bytes) = refl
 
+-- lists that are joined are those that they equal, joined
+joined_four : {A : Type 0} {a a' b b' c c' d d' : List A} → a ≡ a' → b ≡ b' → c ≡ c' → d ≡ d' → a ++ (b ++ (c ++ d)) ≡ a' ++ (b' ++ (c' ++ d'))
+joined_four a b c d = ap₂ (λ xs ys. xs ++ ys) a (ap₂ (λ xs ys. xs ++ ys) b (ap₂ (λ xs ys. xs ++ ys) c d))
+
 same_bytes : (bytes : List (List ℕ)) → map (λ (b : List ℕ). b) bytes ≡ bytes
 same_bytes [] = refl
 same_bytes (b ∷ bytes) = ap (λ l. b ∷ l) (same_bytes bytes)
@@ -255,13 +259,13 @@ module _ (named : Bool) (w : ComponentWorld) where
   users_modules b =
       let own : flat_map module_mark (bytes_marked named w) ≡ user_bytes named w = mapped_each module_mark ModuleIs (λ (x : List ℕ). x) (λ x. refl) (user_bytes named w) ∙ same_bytes (user_bytes named w) in
       let no_numbers : flat_map module_mark (users_marked w) ≡ [] = mapped_nothing module_mark InstanceOf (λ n. refl) (user_range w) in
-      reads_users module_mark refl named w b ∙ rw (own, shims_module w b.shims, no_numbers, fixup_module w b.fixup) refl
+      reads_users module_mark refl named w b ∙ joined_four own (shims_module w b.shims) no_numbers (fixup_module w b.fixup)
 
   -- the instances
   users_instances : (b : GeneratedBytes) → flat_map instance_mark (modules_marked named w b) ≡ numbers_listed w b
   users_instances b =
       let no_bytes : flat_map instance_mark (bytes_marked named w) ≡ [] = mapped_nothing instance_mark ModuleIs (λ x. refl) (user_bytes named w) in
-      reads_users instance_mark refl named w b ∙ rw (no_bytes, shims_instance w b.shims, numbers_read (user_range w), fixup_instance w b.fixup) refl
+      reads_users instance_mark refl named w b ∙ joined_four no_bytes (shims_instance w b.shims) (numbers_read (user_range w)) (fixup_instance w b.fixup)
 
   -- the resources
   users_resources : (b : GeneratedBytes) → flat_map resource_mark (modules_marked named w b) ≡ map (λ id. 0) (provided_resources w)

@@ -57,7 +57,7 @@ use Rattle.core_types.specs.declared.types.GlobalType.{GlobalType}
 use Rattle.core_types.specs.declared.types.ValType.{ValType}
 use Rattle.comp_worlds.specs.declared.world.ComponentWorld.{ComponentWorld}
 use Rattle.core_runs.specs.Instances.{there_is, type_of}
-use Rattle.core_runs.specs.Store.{Opaque, Cell, Now}
+use Rattle.core_runs.specs.Store.{Opaque, Event, Cell, Now}
 use Rattle.core_runs.specs.Values.{same_value_type}
 use Rattle.comp_runs.specs.Store.{Thing, Export, HeldOption, HeldEncoding, HeldMemory, HeldRealloc, HeldPostReturn, HeldAsync, HeldCallback, CoreItem, Lowering, IntrinsicOf, Function, Imported, Lifting, TypeItem, TreeOf, ImportedResource, OwnResource, item_tree, tree_held, own_resources as resources_among, InstanceTypeOf, ModuleInstance, Store}
 use Rattle.comp_links.specs.Targets.{ExportRef, ExportOf, ResourceFunction, New, Rep, Drop}
@@ -80,11 +80,11 @@ use Rattle.instance_laws.proofs.Importing.{instance_type_made, import_runs, alia
 use Rattle.link_laws.specs.Composition.{GeneratedModules, at_root, item_instantiates}
 use Rattle.link_laws.specs.Linking.{module_meanings}
 use Rattle.link_laws.proofs.Zips.{all_some-self}
-use Rattle.link_laws.proofs.Outcomes.{machine, no_answers, quiet, users_among, Steps}
-use Rattle.link_laws.proofs.Stores.{IsOpaqueOf, IsUserItem, IsUserExport, IsUserInstance, ShimsAt, exports_of_shims, HasSharedMemory, IsModuleInstance, IsNamedEntry, ExportsShims, AreShims, MayHaveShims, IsTypeAt, resource_core, IsResourceItem, DefIs, Means, makes, IsTypeEntry, entry_of, IsFunctionEntry, IsInstanceThing, IsPlannedUser, IsAliasedItem, IsHeldOption, NumberedFrom, HasGlobals, HasOwnTables, Agrees, AreKeyExports, IsShimGiven, IsDestroyedBy, IsOwnResource, AreResources}
-use Rattle.link_laws.proofs.Given.{of_shims, module_there, address_there, all_held, scope_there, entry_there, held_there, type_there, instance_type_there, instance_there, imported_there, user_there, space_of_kind, offered_there, shim_there}
+use Rattle.link_laws.proofs.Outcomes.{AgreesWith, machine, no_answers, quiet, users_among, Steps}
+use Rattle.link_laws.proofs.Stores.{IsSeen, expected_of, expects, IsOpaqueOf, IsUserItem, IsUserExport, IsUserInstance, ShimsAt, exports_of_shims, HasSharedMemory, IsModuleInstance, IsNamedEntry, ExportsShims, AreShims, MayHaveShims, IsTypeAt, resource_core, IsResourceItem, DefIs, Means, makes, IsTypeEntry, entry_of, IsFunctionEntry, IsInstanceThing, IsPlannedUser, IsAliasedItem, IsHeldOption, NumberedFrom, HasGlobals, HasOwnTables, Agrees, AreKeyExports, IsShimGiven, IsDestroyedBy, IsOwnResource, AreResources}
+use Rattle.link_laws.proofs.Given.{has_by_place, has_by_shared, of_shims, module_there, address_there, all_held, scope_there, entry_there, held_there, type_there, instance_type_there, instance_there, imported_there, user_there, space_of_kind, offered_there, shim_there}
 use Rattle.link_laws.proofs.Plain.{only}
-use Rattle.link_laws.proofs.Kept.{sizes_kept, ShimsKept, shims_same, MayHaveShims-kept, keeps_all, IsHeldOption-kept, Keeps, address_at-append, things_kept, keeps_store, keeps_type, keeps_function, keeps_opaque, keeps_core_instance, keeps_module, Means-kept, IsTypeEntry-kept, IsFunctionEntry-kept, IsInstanceThing-kept, IsPlannedUser-kept, AreKeyExports-kept, AreResources-more, AreResources-push}
+use Rattle.link_laws.proofs.Kept.{AreSeen-kept, sizes_kept, ShimsKept, shims_same, MayHaveShims-kept, keeps_all, IsHeldOption-kept, Keeps, address_at-append, things_kept, keeps_store, keeps_type, keeps_function, keeps_opaque, keeps_core_instance, keeps_module, Means-kept, IsTypeEntry-kept, IsFunctionEntry-kept, IsInstanceThing-kept, IsPlannedUser-kept, AreKeyExports-kept, AreResources-more, AreResources-push}
 
 -- a list without generated modules
 abbrev pub no_modules : GeneratedModules
@@ -345,7 +345,9 @@ module _ {w : ComponentWorld} {earlier : List Def} {c : Scope} {s : Store} {g : 
         (rw no_export (sym (append-nil (map (λ (e : Export). e.name) c.exports))))
         (AreKeyExports-kept w keeps (required_keys w) c.exports a.lifted)
         imports
-        resources,
+        resources
+        []
+        (subst (λ ns. AllZip (IsSeen w s') [] (flat_map (expected_of w) ns)) (sym none) tt),
   )
 
   -- the step of a type of values or functions
@@ -777,7 +779,9 @@ module _ {w : ComponentWorld} {earlier : List Def} {c : Scope} {s : Store} {g : 
             (sym (append-nil (map (λ (e : Export). e.name) c.exports)))
             (AreKeyExports-kept w k (required_keys w) c.exports a.lifted)
             a.imports
-            a.resources,
+            a.resources
+            []
+            tt,
       )
 
   pub step_custom : (name contents : List ℕ) → Steps w gen earlier c s g a.events (defs.Item (items.Custom name contents))
@@ -789,8 +793,10 @@ module _ {w : ComponentWorld} {earlier : List Def} {c : Scope} {s : Store} {g : 
         s,
         g,
         quiet w gen d c s g c s (λ rest now. refl),
-        record {
+        record { events = sym (append-nil a.events); agrees = record {
           shims = a.shims;
+          events = a.events;
+          seen = subst (AllZip (IsSeen w s) a.events) (sym (flat-push (expects w) earlier d ∙ append-nil (flat_map (expects w) earlier))) a.seen;
           means = subst (λ ds. AllZip (Means w a.shims (earlier ++ d ∷ []) c.items s) ds c.items) (sym same)
               (AllZip-weaker (Means-kept w a.shims a.shims (shims_same a.shims) earlier (earlier ++ d ∷ []) (λ space index e i. IsAt-append (d ∷ []) i) (keeps_all c.items s)) (filter makes earlier) c.items a.means);
           types = subst (λ (v : Inventory). AllZip (IsTypeEntry s) v.types (filter (is_of spaces.Type) c.items)) (sym (inventory-push earlier d))
@@ -809,5 +815,5 @@ module _ {w : ComponentWorld} {earlier : List Def} {c : Scope} {s : Store} {g : 
           exports = a.exports ∙ sym (flat-push def_export earlier d ∙ append-nil (flat_map def_export earlier));
           lifted = a.lifted;
           imports = a.imports ∙ sym (ap (λ (v : Inventory). v.imports) (inventory-push earlier d));
-        },
+        } },
       )
