@@ -3,7 +3,7 @@ use Rattle.std.proofs.Common.{arith, ◌≤◌, ◌+◌, ◌^◌, inl, inr, ◌�
 use Rattle.std.proofs.lemmas.List.{map-append, length-map, length-replicate}
 use Rattle.std.proofs.lemmas.Option.{none-some, same_Some, slice_get-map, slice_get_within}
 use Rattle.std.specs.Option.{option_map}
-use Rattle.std.specs.Prelude.{Contains, codes}
+use Rattle.std.specs.Prelude.{Contains, nat_eq, codes}
 use Rattle.std.specs.List.{slice_get, flat_map, AllZip, AllByRecursion, filter_map, slice_set, range_with_len}
 use Rattle.comp_lists.proofs.Lists.{length-AllZip, slice_get-append, slice_get-end, AllZip-weaker, AllByRecursion-weaker, AllByRecursion-push, AllByRecursion-contains}
 use Rattle.comp_bytes.specs.Spaces.{kind_space, items_in}
@@ -47,6 +47,7 @@ use Rattle.shim_plan.specs.declared.shims.Shim.{Shim}
 use Rattle.core_types.specs.declared.types.ValType.{ValType}
 use Rattle.core_runs.specs.Instances.{empty_table, type_of}
 use Rattle.std.proofs.lemmas.Bool.{lt-ltb, le-ltb}
+use Rattle.std.proofs.lemmas.Bool.Decides.{nat_tests}
 use Rattle.std.proofs.lemmas.List.Elements.{filter_map-append, Contains-append_left, Contains-append_right}
 use Rattle.link_laws.specs.Meeting.{task_hook}
 use Rattle.link_laws.specs.Composition.{GeneratedModules, generated_sections, at_root, item_instantiates}
@@ -106,19 +107,16 @@ shims_meaning w gen h has =
     by None has none = cc
     by (Some bytes) has is = refl
 
+abbrev meanings : ComponentWorld → Bool → Option (List ℕ) → Option (List ℕ) → List ModuleMeaning
+meanings w debug_names shims fixup = map (λ ss. OfGenerated ss) (generated_sections (generated_for w debug_names (record { shims = shims; fixup = fixup })))
+
 fixup_meaning : (w : ComponentWorld) (gen : GeneratedModules) (h : IsGenerated w gen) → has_fixup w ≡ true → slice_get (module_meanings w gen) (fixup_number w) ≡ Some (OfGenerated (sections_of_fixup (shims_of w) (initialize_of w) h.debug_names))
 fixup_meaning w gen h any = ap (λ x. meaning_at (user_modules w) x (fixup_number w)) h.is ∙ by (has_shim_module w) h.bytes.shims h.bytes.fixup refl any h.are.shims h.are.fixup
   where
-    abbrev fixup : ModuleMeaning
-    fixup = OfGenerated (sections_of_fixup (shims_of w) (initialize_of w) h.debug_names)
-
-    abbrev meanings : Option (List ℕ) → Option (List ℕ) → List ModuleMeaning
-    meanings shims fixup = map (λ ss. OfGenerated ss) (generated_sections (generated_for w h.debug_names (record { shims = shims; fixup = fixup })))
-
     by : (has : Bool) (shims behind : Option (List ℕ)) → has_shim_module w ≡ has → has_fixup w ≡ true → IsShimModule w h.debug_names shims → IsFixup w h.debug_names behind →
-        meaning_at (user_modules w) (generated_for w h.debug_names (record { shims = shims; fixup = behind })) (number_behind has (shims_number w)) ≡ Some fixup
-    by true (Some bytes) (Some behind) is any s f = second_behind meaning_of_user (user_modules w) (meanings (Some bytes) (Some behind))
-    by false None (Some behind) is any s f = first_behind meaning_of_user (user_modules w) (meanings None (Some behind))
+        meaning_at (user_modules w) (generated_for w h.debug_names (record { shims = shims; fixup = behind })) (number_behind has (shims_number w)) ≡ Some (OfGenerated (sections_of_fixup (shims_of w) (initialize_of w) h.debug_names))
+    by true (Some bytes) (Some behind) is any s f = second_behind meaning_of_user (user_modules w) (meanings w h.debug_names (Some bytes) (Some behind))
+    by false None (Some behind) is any s f = first_behind meaning_of_user (user_modules w) (meanings w h.debug_names None (Some behind))
     by true None (Some behind) is any s f = cc
     by false (Some bytes) (Some behind) is any s f = let has : has_shim_module w ≡ true = s.1 in cc
     by has shims None is any s f = cc
@@ -138,9 +136,6 @@ range_below start (suc count) end l = (omega (arith, l), range_below (start + 1)
 before_fixup : (w : ComponentWorld) → AllByRecursion (λ n. n < fixup_number w) (made_before_fixup w)
 before_fixup w = by (has_shim_module w)
   where
-    users : ℕ
-    users = length (user_modules w)
-
     by : (has : Bool) → AllByRecursion (λ n. n < number_behind has (shims_number w)) (shims_if w has ++ range_with_len 0 (length (user_modules w)))
     by true = (under (length (user_modules w)), range_below 0 (length (user_modules w)) (suc (length (user_modules w))) (omega arith))
     by false = range_below 0 (length (user_modules w)) (length (user_modules w)) (omega arith)
@@ -153,26 +148,24 @@ above_users w = by (has_shim_module w)
     by false = omega arith
 
 -- what is expected of an instance of each module
-expected_user : (w : ComponentWorld) (number : ℕ) → number < length (user_modules w) → expected_of w number ≡ Made number ∷ []
+pub expected_user : (w : ComponentWorld) (number : ℕ) → number < length (user_modules w) → expected_of w number ≡ Made number ∷ []
 expected_user w number below = ap (λ b. cond b (Made number ∷ []) (calls_if w (nat_eq number (fixup_number w)))) (lt-ltb number (length (user_modules w)) below)
 
-expected_shims : (w : ComponentWorld) → has_shim_module w ≡ true → expected_of w (shims_number w) ≡ []
+pub expected_shims : (w : ComponentWorld) → has_shim_module w ≡ true → expected_of w (shims_number w) ≡ []
 expected_shims w has =
     ap (λ b. cond b (Made (shims_number w) ∷ []) (calls_if w (nat_eq (shims_number w) (fixup_number w)))) (le-ltb (shims_number w) (length (user_modules w)) (at_least (shims_number w)))
     ∙ (ap (λ n. calls_if w (nat_eq (shims_number w) n)) (fixup_behind w has) ∙ ap (calls_if w) (other (shims_number w)))
   where
     other : (n : ℕ) → nat_eq n (suc n) ≡ false
-    other zero = refl
-    other (suc n) = other n
+    other n = grind (arith, nat_tests)
 
-expected_fixup : (w : ComponentWorld) → expected_of w (fixup_number w) ≡ map (λ call. Calls call) (start_calls w)
+pub expected_fixup : (w : ComponentWorld) → expected_of w (fixup_number w) ≡ map (λ call. Calls call) (start_calls w)
 expected_fixup w =
     ap (λ b. cond b (Made (fixup_number w) ∷ []) (calls_if w (nat_eq (fixup_number w) (fixup_number w)))) (le-ltb (fixup_number w) (length (user_modules w)) (above_users w))
     ∙ ap (calls_if w) (same (fixup_number w))
   where
     same : (n : ℕ) → nat_eq n n ≡ true
-    same zero = refl
-    same (suc n) = same n
+    same n = grind (arith, nat_tests)
 
 -- the numbers of instances, by the landmarks and by the definitions
 number_of_one : (d : Def) → filter_map instance_number (filter_map landmark (d ∷ [])) ≡ at_root item_instantiates d
@@ -494,6 +487,11 @@ module _ {w : ComponentWorld} {earlier : List Def} {c : Scope} {s : Store} {g : 
     pub made : (shims ≡ [] → ⊥) → a.shims ≡ Some at
     pub held : (now : Now) → all_some (map (core_argument (machine c s now)) arguments) ≡ Some (fixup_arguments shims None actual [] at.address at.table at.memory)
 
+  two_held : (x y : CoreArgument) (of_x of_y : ℕ) (actual exports : List Export) → address_at spaces.CoreInstance x.instance c.items ≡ Some of_x → slice_get s.core_instances of_x ≡ Some actual → x.name ≡ codes "actual" →
+      address_at spaces.CoreInstance y.instance c.items ≡ Some of_y → slice_get s.core_instances of_y ≡ Some exports → y.name ≡ codes "shim" →
+      (now : Now) → all_some (map (core_argument (machine c s now)) (x ∷ y ∷ [])) ≡ Some ((codes "actual", actual) ∷ (codes "shim", exports) ∷ [])
+  two_held x y of_x of_y actual exports x_at x_is x_named y_at y_is y_named now = rw (x_at, x_is, x_named, y_at, y_is, y_named) refl
+
   arguments_held : IsWorld w → (shims : List Shim) → shims_of w ≡ shims → (arguments : List CoreArgument) → AllZip (IsFixupArgument w earlier) arguments (fixup_instances shims None) → HoldsArguments shims arguments
   arguments_held ok [] same [] h = record { actual = []; filling = tt; at = record { address = 0; table = 0; memory = None }; made = λ any. absurd (any refl); held = λ now. refl }
   arguments_held ok [] same (x ∷ xs) h = absurd h
@@ -502,8 +500,8 @@ module _ {w : ComponentWorld} {earlier : List Def} {c : Scope} {s : Store} {g : 
   arguments_held ok (shim ∷ shims) same (x ∷ y ∷ z ∷ more) h = absurd h.1.1
   arguments_held ok (shim ∷ shims) same (x ∷ y ∷ []) h =
       let fills : AreFillsFor w earlier x.instance = h.0.serves in
-      let inline : (x : ℕ) × (address_at spaces.CoreInstance x.instance c.items ≡ Some x) × IsInlineInstance c.items s fills.entries x = thing_there a fills.made in
-      let of : (x : ℕ) × (address_at spaces.CoreInstance y.instance c.items ≡ Some x) × IsModuleInstance w a.shims s (shims_number w) x = module_there a h.1.0.serves in
+      let inline : (n : ℕ) × (address_at spaces.CoreInstance x.instance c.items ≡ Some n) × IsInlineInstance c.items s fills.entries n = thing_there a fills.made in
+      let of : (n : ℕ) × (address_at spaces.CoreInstance y.instance c.items ≡ Some n) × IsModuleInstance w a.shims s (shims_number w) n = module_there a h.1.0.serves in
       let found : (at : ShimsAt) × (a.shims ≡ Some at) × (of.2.exports ≡ exports_of_shims w at) × (length (shims_of w) < 2 ^ 32) =
       of_shims w s (flat_map (at_root item_instantiates) earlier) of.2.user of.2.exports a.shims (has_by_shims w (λ none. cc)) a.with_shims of.2.each in
       let at : ShimsAt = found.0 in
@@ -513,7 +511,9 @@ module _ {w : ComponentWorld} {earlier : List Def} {c : Scope} {s : Store} {g : 
         filling = subst (λ l. AllZip (IsFilling w s) l inline.2.exports) same (fills_there ok fills.entries (shims_of w) inline.2.exports fills.each inline.2.each);
         at = at;
         made = λ any. found.1;
-        held = λ now. rw (inline.1, inline.2.present, of.1, of.2.present, exports, h.0.named, h.1.0.named) refl;
+        held = λ now.
+            two_held x y inline.0 of.0 inline.2.exports of.2.exports inline.1 inline.2.present h.0.named of.1 of.2.present h.1.0.named now
+            ∙ ap (λ (l : List Export). Some ((codes "actual", inline.2.exports) ∷ (codes "shim", l) ∷ [])) exports;
       }
 
   pub step_fixup : IsWorld w → IsGenerated w gen → (number : ℕ) (arguments : List CoreArgument) → InstantiatesFixup w earlier number arguments → Steps w gen earlier c s g a.events (defs.Item (items.CoreInstantiate number arguments))

@@ -416,8 +416,8 @@ wit_g = record { name = g; kind = Freestanding; params = []; result = None }
 
 pub keeps_the_rules : IsBuilt own_names one_each one_import_one_export
 keeps_the_rules = record {
-  generated = None;
-  are_generated = tt;
+  generated = record { shims = None; fixup = None };
+  are_generated = record { shims = refl; fixup = refl; room = omega arith };
   front = one_import_one_export;
   names = [];
   whole = refl;
