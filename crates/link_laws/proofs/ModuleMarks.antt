@@ -6,7 +6,7 @@ use Rattle.comp_worlds.specs.declared.world.ComponentWorld.{ComponentWorld}
 use Rattle.comp_links.specs.Modules.{user_modules}
 use Rattle.comp_links.specs.Lists.{ProvidedType, provided_resources}
 use Rattle.comp_terms.specs.Generated.{shims_number, fixup_number, GeneratedBytes}
-use Rattle.comp_terms.specs.Rules.{Landmark, ModuleIs, InstanceOf, ResourceDefined, resources_marked, bytes_marked, users_marked, shims_marked, fixup_marked, modules_marked}
+use Rattle.comp_terms.specs.Rules.{Landmark, ResourceDefined, resources_marked, bytes_marked, users_marked, shims_marked, fixup_marked, modules_marked}
 
 -- the bytes of a generated module, and its number, where there is one
 abbrev pub bytes_if : Option (List ℕ) → List (List ℕ)

@@ -7,7 +7,6 @@ use Rattle.std.proofs.lemmas.Map.Views.{Contains-from_lookup}
 use Rattle.std.specs.Prelude.{Contains, nat_eq}
 use Rattle.std.specs.List.{slice_get, AllByRecursion}
 use Rattle.std.specs.Str.{bytes_eq}
-use Rattle.comp_lists.specs.Found.{found}
 use Rattle.comp_lists.proofs.Lists.{AllByRecursion-weaker, AllByRecursion-contains}
 use Rattle.wit_data.specs.Keys.{is_same_key}
 use Rattle.core_types.specs.declared.types.FuncType.{FuncType}
@@ -26,7 +25,6 @@ use Rattle.comp_roles.specs.CoreTypes.{called_type, core_type}
 use Rattle.comp_roles.specs.declared.exports.Export.{Export as WorldExport}
 use Rattle.comp_roles.specs.declared.exports.Export.TheVariants as exports
 use Rattle.comp_roles.specs.declared.imports.Import.{Import}
-use Rattle.comp_roles.specs.declared.imports.Import.TheVariants as imports
 use Rattle.comp_roles.specs.declared.imports.ImportInstance.{ImportInstance}
 use Rattle.comp_roles.specs.declared.imports.ImportInstance.TheVariants as instances
 use Rattle.comp_roles.specs.declared.offered.ExternType.{ExternType}

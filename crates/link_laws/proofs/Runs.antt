@@ -1,11 +1,11 @@
 -- A list of right definitions runs, and the final state is linked.
-use Rattle.std.proofs.Common.{Bool, ◌≡◌, ◌∙◌, ◌≤◌, ◌<◌, ◌+◌, zero, suc, Option, is_some, ℕ, false, List, [], ◌∷◌, ◌++◌, length, map, filter, refl, sym, ap, ap₂, subst, append-nil, append_assoc, add-one, Some, None, arith, IsTrue, true}
+use Rattle.std.proofs.Common.{Bool, ◌≡◌, ◌∙◌, ◌≤◌, ◌<◌, ◌+◌, zero, suc, Option, is_some, ℕ, List, [], ◌∷◌, ◌++◌, length, map, refl, sym, ap, ap₂, subst, append-nil, append_assoc, add-one, Some, None, arith, IsTrue, true}
 use Rattle.std.proofs.lemmas.List.{map-append, length-map}
 use Rattle.std.proofs.lemmas.Option.{slice_get_within, none-some, same_Some}
 use Rattle.std.proofs.lemmas.List.Elements.{Contains-append_right}
 use Rattle.std.proofs.lemmas.Grind.{flat_map-append}
 use Rattle.std.specs.Prelude.{Contains, ◌≢◌}
-use Rattle.comp_lists.proofs.Lists.{there, AllByRecursion-front, AllByRecursion-back, AllByRecursion-contains, Contains-map}
+use Rattle.comp_lists.proofs.Lists.{there, AllByRecursion-front, AllByRecursion-back, AllByRecursion-contains}
 use Rattle.core_bytes.specs.Modules.{Encodes}
 use Rattle.shim_plan.specs.declared.shims.Shim.{Shim}
 use Rattle.world_shims.specs.WorldShims.{shims_of, type_of_shim, initialize_of}
@@ -116,7 +116,7 @@ resolves w gen ok earlier (d ∷ ds) c s g a may h =
           subst (λ q. IsGood all.0 all.1 all.2 (es ++ (first ++ rest)) q now.answers (run (module_meanings w gen) (d ∷ ds) (machine c s now))) (sym (map-append (λ (e : Event). []) first rest))
           (one.3.continues all.0 all.1 all.2 es rest (asks rest) ds (λ n k. all.4 (es ++ first) n k) now at),
       subst (λ l. AgreesWith w l all.0 all.1 all.2 a.events (first ++ rest)) (append_assoc earlier (d ∷ []) ds)
-      (record { agrees = all.5.agrees; events = all.5.events ∙ (ap (λ l. l ++ rest) one.4.events ∙ append_assoc a.events first rest) }),
+          (record { agrees = all.5.agrees; events = all.5.events ∙ (ap (λ l. l ++ rest) one.4.events ∙ append_assoc a.events first rest) }),
     )
 
 -- ---- the numbers of user modules

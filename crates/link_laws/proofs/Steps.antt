@@ -80,7 +80,7 @@ use Rattle.instance_laws.proofs.Importing.{instance_type_made, import_runs, alia
 use Rattle.link_laws.specs.Composition.{GeneratedModules, at_root, item_instantiates}
 use Rattle.link_laws.specs.Linking.{module_meanings}
 use Rattle.link_laws.proofs.Zips.{all_some-self}
-use Rattle.link_laws.proofs.Outcomes.{AgreesWith, machine, no_answers, quiet, users_among, Steps}
+use Rattle.link_laws.proofs.Outcomes.{AgreesWith, machine, no_answers, quiet, Steps}
 use Rattle.link_laws.proofs.Stores.{IsSeen, expected_of, expects, IsOpaqueOf, IsUserItem, IsUserExport, IsUserInstance, ShimsAt, exports_of_shims, HasSharedMemory, IsModuleInstance, IsNamedEntry, ExportsShims, AreShims, MayHaveShims, IsTypeAt, resource_core, IsResourceItem, DefIs, Means, makes, IsTypeEntry, entry_of, IsFunctionEntry, IsInstanceThing, IsPlannedUser, IsAliasedItem, IsHeldOption, NumberedFrom, HasGlobals, HasOwnTables, Agrees, AreKeyExports, IsShimGiven, IsDestroyedBy, IsOwnResource, AreResources}
 use Rattle.link_laws.proofs.Given.{has_by_place, has_by_shared, of_shims, module_there, address_there, all_held, scope_there, entry_there, held_there, type_there, instance_type_there, instance_there, imported_there, user_there, space_of_kind, offered_there, shim_there}
 use Rattle.link_laws.proofs.Plain.{only}
@@ -289,28 +289,31 @@ module _ {w : ComponentWorld} {earlier : List Def} {c : Scope} {s : Store} {g : 
       each_joined (IsInstanceThing s') old.instances (instances_made old d) (filter (is_of spaces.Instance) c.items) (filter (is_of spaces.Instance) (t ∷ [])) (AllZip-weaker (IsInstanceThing-kept keeps) old.instances (filter (is_of spaces.Instance) c.items) a.instances) made.2 in
       let all_seen : AllZip (IsSeen w s') (a.events ++ seen) (flat_map (expects w) earlier ++ expects w d) =
       each_joined (IsSeen w s') a.events seen (flat_map (expects w) earlier) (expects w d) (AreSeen-kept keeps w a.events (flat_map (expects w) earlier) a.seen) are_seen in
-      record { events = refl; agrees = record {
-        shims = shims;
-        events = a.events ++ seen;
-        seen = subst (AllZip (IsSeen w s') (a.events ++ seen)) (sym (flat-push (expects w) earlier d)) all_seen;
-        means = subst (λ ds. AllZip Meaning ds c'.items) (sym (made-push earlier d t.space means.space)) (subst (λ ts. AllZip Meaning (before ++ d ∷ []) ts) (sym grew) pushed);
-        types = subst (λ (v : Inventory). AllZip (IsTypeEntry s') v.types (filter (is_of spaces.Type) c'.items)) (sym (inventory-push earlier d))
-            (subst (λ ts. AllZip (IsTypeEntry s') (old.types ++ types_made old d) ts) (sym (of spaces.Type)) more_types);
-        functions = subst (λ (v : Inventory). AllZip (IsFunctionEntry s') v.functions (filter (is_of spaces.Func) c'.items)) (sym (inventory-push earlier d))
-            (subst (λ ts. AllZip (IsFunctionEntry s') (old.functions ++ functions_made old d) ts) (sym (of spaces.Func)) more_functions);
-        instances = subst (λ (v : Inventory). AllZip (IsInstanceThing s') v.instances (filter (is_of spaces.Instance) c'.items)) (sym (inventory-push earlier d))
-            (subst (λ ts. AllZip (IsInstanceThing s') (old.instances ++ instances_made old d) ts) (sym (of spaces.Instance)) more_instances);
-        resources = subst (λ (v : Inventory). AreResources w shims s'.types v.resources) (sym (inventory-push earlier d)) resources;
-        modules = modules;
-        instantiated = instantiated ∙ (ap (λ l. l ++ at_root item_instantiates d) a.instantiated ∙ sym (flat-push (at_root item_instantiates) earlier d));
-        served = served;
-        with_globals = with_globals;
-        with_tables = with_tables;
-        with_shims = subst (λ l. MayHaveShims w s' l shims) (sym (flat-push (at_root item_instantiates) earlier d)) with_shims;
-        exports = exports ∙ (ap (λ l. l ++ def_export d) a.exports ∙ sym (flat-push def_export earlier d));
-        lifted = lifted;
-        imports = imports ∙ sym (ap (λ (v : Inventory). v.imports) (inventory-push earlier d));
-      } }
+      record {
+        events = refl;
+        agrees = record {
+          shims = shims;
+          events = a.events ++ seen;
+          seen = subst (AllZip (IsSeen w s') (a.events ++ seen)) (sym (flat-push (expects w) earlier d)) all_seen;
+          means = subst (λ ds. AllZip Meaning ds c'.items) (sym (made-push earlier d t.space means.space)) (subst (λ ts. AllZip Meaning (before ++ d ∷ []) ts) (sym grew) pushed);
+          types = subst (λ (v : Inventory). AllZip (IsTypeEntry s') v.types (filter (is_of spaces.Type) c'.items)) (sym (inventory-push earlier d))
+              (subst (λ ts. AllZip (IsTypeEntry s') (old.types ++ types_made old d) ts) (sym (of spaces.Type)) more_types);
+          functions = subst (λ (v : Inventory). AllZip (IsFunctionEntry s') v.functions (filter (is_of spaces.Func) c'.items)) (sym (inventory-push earlier d))
+              (subst (λ ts. AllZip (IsFunctionEntry s') (old.functions ++ functions_made old d) ts) (sym (of spaces.Func)) more_functions);
+          instances = subst (λ (v : Inventory). AllZip (IsInstanceThing s') v.instances (filter (is_of spaces.Instance) c'.items)) (sym (inventory-push earlier d))
+              (subst (λ ts. AllZip (IsInstanceThing s') (old.instances ++ instances_made old d) ts) (sym (of spaces.Instance)) more_instances);
+          resources = subst (λ (v : Inventory). AreResources w shims s'.types v.resources) (sym (inventory-push earlier d)) resources;
+          modules = modules;
+          instantiated = instantiated ∙ (ap (λ l. l ++ at_root item_instantiates d) a.instantiated ∙ sym (flat-push (at_root item_instantiates) earlier d));
+          served = served;
+          with_globals = with_globals;
+          with_tables = with_tables;
+          with_shims = subst (λ l. MayHaveShims w s' l shims) (sym (flat-push (at_root item_instantiates) earlier d)) with_shims;
+          exports = exports ∙ (ap (λ l. l ++ def_export d) a.exports ∙ sym (flat-push def_export earlier d));
+          lifted = lifted;
+          imports = imports ∙ sym (ap (λ (v : Inventory). v.imports) (inventory-push earlier d));
+        };
+      }
 
   -- the shims after a definition that makes no instance
   pub shims_beside : {b : List Thing} {s' : Store} → Keeps c.items b s s' → (more : List ℕ) → more ≡ [] → s'.module_instances ≡ s.module_instances → s'.code.tables ≡ s.code.tables →
@@ -793,27 +796,30 @@ module _ {w : ComponentWorld} {earlier : List Def} {c : Scope} {s : Store} {g : 
         s,
         g,
         quiet w gen d c s g c s (λ rest now. refl),
-        record { events = sym (append-nil a.events); agrees = record {
-          shims = a.shims;
-          events = a.events;
-          seen = subst (AllZip (IsSeen w s) a.events) (sym (flat-push (expects w) earlier d ∙ append-nil (flat_map (expects w) earlier))) a.seen;
-          means = subst (λ ds. AllZip (Means w a.shims (earlier ++ d ∷ []) c.items s) ds c.items) (sym same)
-              (AllZip-weaker (Means-kept w a.shims a.shims (shims_same a.shims) earlier (earlier ++ d ∷ []) (λ space index e i. IsAt-append (d ∷ []) i) (keeps_all c.items s)) (filter makes earlier) c.items a.means);
-          types = subst (λ (v : Inventory). AllZip (IsTypeEntry s) v.types (filter (is_of spaces.Type) c.items)) (sym (inventory-push earlier d))
-              (subst (λ es. AllZip (IsTypeEntry s) es (filter (is_of spaces.Type) c.items)) (sym (append-nil old.types)) a.types);
-          functions = subst (λ (v : Inventory). AllZip (IsFunctionEntry s) v.functions (filter (is_of spaces.Func) c.items)) (sym (inventory-push earlier d))
-              (subst (λ es. AllZip (IsFunctionEntry s) es (filter (is_of spaces.Func) c.items)) (sym (append-nil old.functions)) a.functions);
-          instances = subst (λ (v : Inventory). AllZip (IsInstanceThing s) v.instances (filter (is_of spaces.Instance) c.items)) (sym (inventory-push earlier d))
-              (subst (λ es. AllZip (IsInstanceThing s) es (filter (is_of spaces.Instance) c.items)) (sym (append-nil old.instances)) a.instances);
-          resources = subst (λ (v : Inventory). AreResources w a.shims s.types v.resources) (sym (inventory-push earlier d)) a.resources;
-          modules = a.modules;
-          instantiated = a.instantiated ∙ sym (flat-push (at_root item_instantiates) earlier d ∙ append-nil (flat_map (at_root item_instantiates) earlier));
-          served = a.served;
-          with_globals = a.with_globals;
-          with_tables = a.with_tables;
-          with_shims = subst (λ l. MayHaveShims w s l a.shims) (sym (flat-push (at_root item_instantiates) earlier d ∙ append-nil (flat_map (at_root item_instantiates) earlier))) a.with_shims;
-          exports = a.exports ∙ sym (flat-push def_export earlier d ∙ append-nil (flat_map def_export earlier));
-          lifted = a.lifted;
-          imports = a.imports ∙ sym (ap (λ (v : Inventory). v.imports) (inventory-push earlier d));
-        } },
+        record {
+          events = sym (append-nil a.events);
+          agrees = record {
+            shims = a.shims;
+            events = a.events;
+            seen = subst (AllZip (IsSeen w s) a.events) (sym (flat-push (expects w) earlier d ∙ append-nil (flat_map (expects w) earlier))) a.seen;
+            means = subst (λ ds. AllZip (Means w a.shims (earlier ++ d ∷ []) c.items s) ds c.items) (sym same)
+                (AllZip-weaker (Means-kept w a.shims a.shims (shims_same a.shims) earlier (earlier ++ d ∷ []) (λ space index e i. IsAt-append (d ∷ []) i) (keeps_all c.items s)) (filter makes earlier) c.items a.means);
+            types = subst (λ (v : Inventory). AllZip (IsTypeEntry s) v.types (filter (is_of spaces.Type) c.items)) (sym (inventory-push earlier d))
+                (subst (λ es. AllZip (IsTypeEntry s) es (filter (is_of spaces.Type) c.items)) (sym (append-nil old.types)) a.types);
+            functions = subst (λ (v : Inventory). AllZip (IsFunctionEntry s) v.functions (filter (is_of spaces.Func) c.items)) (sym (inventory-push earlier d))
+                (subst (λ es. AllZip (IsFunctionEntry s) es (filter (is_of spaces.Func) c.items)) (sym (append-nil old.functions)) a.functions);
+            instances = subst (λ (v : Inventory). AllZip (IsInstanceThing s) v.instances (filter (is_of spaces.Instance) c.items)) (sym (inventory-push earlier d))
+                (subst (λ es. AllZip (IsInstanceThing s) es (filter (is_of spaces.Instance) c.items)) (sym (append-nil old.instances)) a.instances);
+            resources = subst (λ (v : Inventory). AreResources w a.shims s.types v.resources) (sym (inventory-push earlier d)) a.resources;
+            modules = a.modules;
+            instantiated = a.instantiated ∙ sym (flat-push (at_root item_instantiates) earlier d ∙ append-nil (flat_map (at_root item_instantiates) earlier));
+            served = a.served;
+            with_globals = a.with_globals;
+            with_tables = a.with_tables;
+            with_shims = subst (λ l. MayHaveShims w s l a.shims) (sym (flat-push (at_root item_instantiates) earlier d ∙ append-nil (flat_map (at_root item_instantiates) earlier))) a.with_shims;
+            exports = a.exports ∙ sym (flat-push def_export earlier d ∙ append-nil (flat_map def_export earlier));
+            lifted = a.lifted;
+            imports = a.imports ∙ sym (ap (λ (v : Inventory). v.imports) (inventory-push earlier d));
+          };
+        },
       )
