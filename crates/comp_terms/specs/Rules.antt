@@ -54,8 +54,7 @@ use Rattle.comp_links.specs.Links.{destructor_of}
 use Rattle.comp_terms.specs.Terms.{InstanceOf as InstanceTerm, imports_in, IsFunctionType, IsResource, IsImportedFunction, Is}
 use Rattle.fixup_modules.specs.declared.instances.ImportedInstance.{ImportedInstance as FixupInstance}
 use Rattle.fixup_modules.specs.declared.instances.ImportedInstance.TheVariants as sources
-use Rattle.fixup_modules.specs.Sections.{all_imported}
-use Rattle.world_shims.specs.WorldShims.{shims_of, initialize_of, fixup_of}
+use Rattle.world_shims.specs.WorldShims.{shims_of, initialize_of, fixup_instances}
 use Rattle.comp_terms.specs.UserBytes.{user_bytes}
 use Rattle.comp_terms.specs.Generated.{has_shim_module, has_fixup, shims_number, fixup_number, GeneratedBytes, AreGenerated}
 use Rattle.comp_worlds.specs.Offered.{shared_memory}
@@ -147,7 +146,7 @@ pub record InstantiatesFixup (w : ComponentWorld) (earlier : List Def) (number :
   pub any : has_fixup w ≡ true
   pub scoped : number < items_in spaces.CoreModule earlier
   pub last : instances_in earlier ≡ made_before_fixup w
-  pub given : AllZip (IsFixupArgument w earlier) arguments (all_imported (fixup_of (shims_of w) (initialize_of w))).instances
+  pub given : AllZip (IsFixupArgument w earlier) arguments (fixup_instances (shims_of w) (initialize_of w))
 
 abbrev pub InstantiatesModule : ComponentWorld → List Def → ℕ → List CoreArgument → Type 0
 InstantiatesModule w earlier number arguments = InstantiatesUser w earlier number arguments ⊎ InstantiatesShims w earlier number arguments ⊎ InstantiatesFixup w earlier number arguments

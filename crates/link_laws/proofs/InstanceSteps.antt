@@ -19,8 +19,8 @@ use Rattle.comp_inventories.specs.Inventories.{inventory}
 use Rattle.core_types.specs.declared.types.MemoryType.{MemoryType}
 use Rattle.comp_terms.specs.Generated.{shims_number, fixup_number, IsFixup, target_of, has_shim_module, has_fixup, number_behind, GeneratedBytes, IsShimModule, AreGenerated}
 use Rattle.comp_worlds.specs.Offered.{shared_memory}
-use Rattle.world_shims.specs.WorldShims.{shims_of, type_of_shim, sections_of_shims, sections_of_fixup, initialize_of}
-use Rattle.shim_runs.specs.ShimRuns.{with_shims, with_memory, memory_address, ShimsRun, IsActual, CanFix, with_slots, fixup_arguments, FixupRun, HasSlots, AreCalls, fixup_instances, instance_exports}
+use Rattle.world_shims.specs.WorldShims.{shims_of, type_of_shim, sections_of_shims, sections_of_fixup, initialize_of, fixup_instances}
+use Rattle.shim_runs.specs.ShimRuns.{with_shims, with_memory, memory_address, ShimsRun, IsActual, CanFix, with_slots, fixup_arguments, FixupRun, HasSlots, AreCalls, instance_exports}
 use Rattle.comp_roles.specs.declared.imports.ImportInstance.{ImportInstance}
 use Rattle.comp_worlds.specs.declared.world.ComponentWorld.{ComponentWorld}
 use Rattle.core_runs.specs.Store.{Opaque, Instantiated, Now}
@@ -40,7 +40,6 @@ use Rattle.link_laws.proofs.Outcomes.{machine, no_answers, IsNow, IsGood, good_a
 use Rattle.link_laws.proofs.Steps.{filter-push, with_thing, numbered_at, given_same, export_beside, not_last, agrees_with}
 use Rattle.shim_runs.proofs.Placed.{shims_kept}
 use Rattle.shim_runs.proofs.ShimInstance.{shims_run, shim_table_there, shim_tables_kept, shim_memories_kept}
-use Rattle.shim_runs.proofs.FixupImports.{fixup_is}
 use Rattle.shim_runs.proofs.FixupInstance.{fixup_run}
 use Rattle.world_shims.proofs.Numbered.{shims_numbered}
 use Rattle.shim_plan.specs.declared.shims.Shim.{Shim}
@@ -533,8 +532,7 @@ module _ {w : ComponentWorld} {earlier : List Def} {c : Scope} {s : Store} {g : 
       no_call = no_initialize w w.main.exports.exports ok.main.export_roles
 
       those : HoldsArguments shims arguments
-      those = arguments_held ok shims refl arguments
-          (subst (AllZip (IsFixupArgument w earlier) arguments) ((fixup_is shims (initialize_of w) (shims_numbered w) there.are.room).instances ∙ ap (fixup_instances shims) no_call) h.given)
+      those = arguments_held ok shims refl arguments (subst (λ o. AllZip (IsFixupArgument w earlier) arguments (fixup_instances shims o)) no_call h.given)
 
       at : ShimsAt
       at = those.at

@@ -35,7 +35,7 @@ use Rattle.interned_types.specs.Interning.{interned}
 use Rattle.shim_plan.specs.declared.shims.Shim.{Shim}
 use Rattle.world_shims.specs.WorldShims.{shims_of, initialize_of, type_of_shim, types_with, functions_of, sections_of_shims, fixup_of}
 use Rattle.shim_runs.proofs.FixupInstance.{no_exports}
-use Rattle.shim_runs.proofs.Exported.{other_digits}
+use Rattle.world_shims.proofs.Digits.{other_digits}
 use Rattle.comp_runs.specs.Instances.{section_exports}
 use Rattle.comp_terms.specs.Generated.{GeneratedBytes, AreGenerated}
 use Rattle.comp_links.specs.Targets.{UserModule}

@@ -23,8 +23,9 @@ use Rattle.shim_plan.specs.Plans.{AreNumbered}
 use Rattle.shim_plan.specs.declared.shims.Shim.{Shim}
 use Rattle.world_shims.specs.WorldShims.{type_of_shim, types_with}
 use Rattle.shim_runs.specs.ShimRuns.{table_exported, memory_exported, instance_exports, IsActual, AreCalls, fixup_arguments}
-use Rattle.shim_runs.proofs.Exported.{same_name, other_digits, behind_shims}
-use Rattle.shim_runs.proofs.FixupImports.{imports_of, call_imports, table_imports}
+use Rattle.world_shims.proofs.Digits.{same_name, other_digits}
+use Rattle.shim_runs.proofs.Exported.{behind_shims}
+use Rattle.world_shims.proofs.FixupImports.{imports_of, call_imports, table_imports}
 
 -- ---- the table
 

@@ -41,7 +41,7 @@ use Rattle.world_shims.specs.WorldShims.{type_of_shim, types_with, fixup_of, sec
 use Rattle.shim_runs.specs.ShimRuns.{machine, with_code, HasSlots, with_slots, AreCalls, IsActual, CanFix, FixupRun, fixup_arguments}
 use Rattle.shim_runs.proofs.Instantiating.{IsMade, made_runs}
 use Rattle.shim_runs.proofs.ShimInstance.{own_type}
-use Rattle.shim_runs.proofs.FixupImports.{imports_of, types_with_call, call_imports, call_indices, table_imports, fixup_is}
+use Rattle.world_shims.proofs.FixupImports.{imports_of, types_with_call, call_imports, call_indices, table_imports, fixup_is}
 use Rattle.shim_runs.proofs.FixupGiven.{argument_of, imports_given, things_given, table_values, values_given, values_are}
 
 -- ---- types

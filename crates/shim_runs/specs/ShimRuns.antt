@@ -24,7 +24,7 @@ use Rattle.comp_runs.specs.Machine.{Scope, Machine, Next, export_named, export_o
 use Rattle.comp_runs.specs.Instances.{Arguments, with_module_instance, instantiate_generated}
 use Rattle.shim_plan.specs.Plans.{AreNumbered}
 use Rattle.shim_plan.specs.declared.shims.Shim.{Shim}
-use Rattle.world_shims.specs.WorldShims.{type_of_shim, sections_of_shims, sections_of_fixup}
+use Rattle.world_shims.specs.WorldShims.{type_of_shim, sections_of_shims, sections_of_fixup, fixup_instances}
 
 -- ---- shims in a store
 
@@ -140,22 +140,6 @@ AreCalls code main None called = called ≡ []
 AreCalls code main (Some name) [] = ⊥
 AreCalls code main (Some name) (address ∷ []) = IsCall code main name address
 AreCalls code main (Some name) (a ∷ b ∷ more) = ⊥
-
--- the instances that its imports are from, and the arguments that are these
-abbrev pub actual_if : List Shim → List (List ℕ × ImportedInstance)
-actual_if [] = []
-actual_if (s ∷ ss) = (codes "actual", instances.Actual) ∷ []
-
-abbrev pub main_if : Option (List ℕ) → List (List ℕ × ImportedInstance)
-main_if None = []
-main_if (Some name) = (codes "main", instances.Main) ∷ []
-
-abbrev pub shim_if : List Shim → List (List ℕ × ImportedInstance)
-shim_if [] = []
-shim_if (s ∷ ss) = (codes "shim", instances.Shim) ∷ []
-
-abbrev pub fixup_instances : List Shim → Option (List ℕ) → List (List ℕ × ImportedInstance)
-fixup_instances shims initialize = actual_if shims ++ (main_if initialize ++ shim_if shims)
 
 -- what each of them exports
 abbrev pub exports_given : List Export → List Export → List Export → ImportedInstance → List Export

@@ -7,3 +7,5 @@ pub mod Adding
 pub mod Calling
 pub mod Arguments
 pub mod Worked
+pub mod Digits
+pub mod FixupImports

@@ -1,6 +1,6 @@
 -- The shims of a world, and the two modules that are generated for them, as values. (The rules are this project's own, over
 -- the core standard's modules.)
-use Rattle.std.specs.Prelude.{ℕ, Bool, List, [], ◌∷◌, length, map, Option, Some, None}
+use Rattle.std.specs.Prelude.{ℕ, Bool, List, [], ◌∷◌, ◌++◌, length, map, codes, Option, Some, None}
 use Rattle.std.specs.List.{flat_map}
 use Rattle.core_types.specs.declared.types.FuncType.{FuncType}
 use Rattle.core_types.specs.declared.types.MemoryType.{MemoryType}
@@ -17,6 +17,8 @@ use Rattle.shim_plan.specs.Plans.{with_needed}
 use Rattle.shim_plan.specs.declared.shims.Shim.{Shim}
 use Rattle.shim_modules.specs.Shims.{shim_sections}
 use Rattle.shim_modules.specs.declared.shims.ShimFunction.{ShimFunction}
+use Rattle.fixup_modules.specs.declared.instances.ImportedInstance.{ImportedInstance}
+use Rattle.fixup_modules.specs.declared.instances.ImportedInstance.TheVariants as instances
 use Rattle.fixup_modules.specs.Fixups.{Fixup, nothing_fixed, with_shim, with_initialize}
 use Rattle.fixup_modules.specs.Sections.{fixup_sections}
 
@@ -74,3 +76,19 @@ fixup_of shims initialize = with_call (fixup_with nothing_fixed shims) initializ
 
 abbrev pub sections_of_fixup : List Shim → Option (List ℕ) → Bool → List Section
 sections_of_fixup shims initialize debug_names = fixup_sections (fixup_of shims initialize) debug_names
+
+-- the instances that its imports are from, by the names of its arguments, in order
+abbrev pub actual_if : List Shim → List (List ℕ × ImportedInstance)
+actual_if [] = []
+actual_if (s ∷ ss) = (codes "actual", instances.Actual) ∷ []
+
+abbrev pub main_if : Option (List ℕ) → List (List ℕ × ImportedInstance)
+main_if None = []
+main_if (Some name) = (codes "main", instances.Main) ∷ []
+
+abbrev pub shim_if : List Shim → List (List ℕ × ImportedInstance)
+shim_if [] = []
+shim_if (s ∷ ss) = (codes "shim", instances.Shim) ∷ []
+
+abbrev pub fixup_instances : List Shim → Option (List ℕ) → List (List ℕ × ImportedInstance)
+fixup_instances shims initialize = actual_if shims ++ (main_if initialize ++ shim_if shims)

@@ -20,10 +20,9 @@ use Rattle.fixup_modules.specs.Sections.{table_name, shim_table, with_table, tab
 use Rattle.fixup_modules.proofs.Named.{all_before, grown}
 use Rattle.shim_plan.specs.Plans.{AreNumbered}
 use Rattle.shim_plan.specs.declared.shims.Shim.{Shim}
-use Rattle.world_shims.specs.WorldShims.{type_of_shim, types_with, fixup_with, fixup_of}
+use Rattle.world_shims.specs.WorldShims.{type_of_shim, types_with, fixup_with, fixup_of, fixup_instances}
 use Rattle.world_shims.proofs.Arguments.{of_actual}
-use Rattle.shim_runs.specs.ShimRuns.{fixup_instances}
-use Rattle.shim_runs.proofs.Exported.{other_digits}
+use Rattle.world_shims.proofs.Digits.{other_digits}
 
 -- ---- imports of earlier shims
 
