@@ -6,10 +6,9 @@ use Rattle.comp_lists.proofs.Lists.{AllZip-weaker, AllZip-end, AllByRecursion-co
 use Rattle.comp_builder.specs.Built.{Built}
 use Rattle.comp_bytes.specs.declared.def.CoreArgument.{CoreArgument}
 use Rattle.comp_bytes.specs.declared.def.Def.{Def}
-use Rattle.comp_bytes.proofs.ItemIndices.{IsAt-append}
 use Rattle.comp_items.specs.Items.{Extends}
 use Rattle.comp_items.proofs.Extending.{extends_none, extends_then}
-use Rattle.comp_items.proofs.Kept.{Longer, instance-kept}
+use Rattle.comp_items.proofs.Kept.{Longer, at-kept, instance-kept}
 use Rattle.comp_terms.specs.Rules.{Grows, IsFixupSource, IsFixupArgument}
 use Rattle.comp_worlds.specs.declared.world.ComponentWorld.{ComponentWorld}
 use Rattle.fixup_modules.specs.declared.instances.ImportedInstance.{ImportedInstance}
@@ -22,11 +21,14 @@ use Rattle.main_fixup.proofs.Filled.{fill-kept}
 
 -- ---- what stays while definitions are added
 
+pub shims-kept : {w : ComponentWorld} {old new : List Def} → Longer old new → (shim_instance : Option ℕ) → IsShimsAt w old shim_instance → IsShimsAt w new shim_instance
+shims-kept g (Some instance) h = instance-kept g h
+shims-kept g None h = absurd h
+
 there-kept : {w : ComponentWorld} {old new : List Def} → Longer old new → (shim_instance : Option ℕ) (source : ImportedInstance) → IsSourceThere w old shim_instance source → IsSourceThere w new shim_instance source
 there-kept g shim_instance from.Actual h = tt
 there-kept g shim_instance from.Main h = tt
-there-kept g (Some instance) from.Shim h = instance-kept g h
-there-kept g None from.Shim h = absurd h
+there-kept g shim_instance from.Shim h = shims-kept g shim_instance h
 there-kept g shim_instance (from.Adapter name) h = absurd h
 
 source-kept : {w : ComponentWorld} {old new : List Def} → Longer old new → (index : ℕ) (source : ImportedInstance) → IsFixupSource w old index source → IsFixupSource w new index source
