@@ -14,7 +14,7 @@ use core_options::StateFault;
 use main_fixup::{FillSources, encode_fixup};
 use root_imports::RootScope;
 use shim_plan::Shims;
-use world_shims::fixup_of_world;
+use world_shims::fixup_of_shims;
 
 /// Adds the fixup's module and its instance, where there are shims to fill, or main is to be initialized.
 ///
@@ -37,7 +37,8 @@ pub(crate) fn encode_indirect_lowerings(
     ensures cause { IfErr result (IsCause root.old.world.now) }
 {
     let alloc = root.items.allocator();
-    let Some(fixup) = fixup_of_world(alloc, root.world, shims, debug_names)? else {
+    let initialize = root.world.main.exports.initialize();
+    let Some(fixup) = fixup_of_shims(alloc, shims, initialize, debug_names)? else {
         return Ok(());
     };
     let module = fixup.module.core_module(alloc)?;

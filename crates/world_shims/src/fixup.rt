@@ -6,11 +6,11 @@ ghost use Rattle.fixup_modules.specs.Fixups.{nothing_fixed, with_shim};
 ghost use Rattle.fixup_modules.specs.Sections.{encoded_fixup};
 ghost use Rattle.world_shims.specs.Refusals.{IsFullOrMemory, HasTooMany, IsOfCounts};
 ghost use Rattle.world_shims.specs.Fixing.{IsNext, IsFromActual};
-ghost use Rattle.world_shims.specs.WorldShims.{type_of_shim, fixup_with, initialize_of, with_call, fixup_of};
+ghost use Rattle.world_shims.specs.WorldShims.{type_of_shim, fixup_with, with_call, fixup_of};
+ghost use Rattle.std.specs.Option.{option_copied};
 
 use crate::core_type::core_type;
 use byte_encoding::BuildFault;
-use comp_worlds::ComponentWorld;
 use fixup_modules::{EncodedFixup, FixupModule, ShimFault};
 use shim_plan::{Shim, Shims};
 use std::alloc::Global;
@@ -64,13 +64,13 @@ fn fixup_with_shims(alloc: Global, shims: &Shims) -> Result<FixupModule, BuildFa
 
 /// Lets the function be called with which main is initialized, where it has one.
 #[tactic(auto, using(crate::proofs::Calling::call_refused, crate::proofs::Calling::call_too_many))]
-fn add_call(fixup: &mut FixupModule, world: &ComponentWorld) -> Result<(), BuildFault>
+fn add_call(fixup: &mut FixupModule, initialize: Option<&str>) -> Result<(), BuildFault>
     requires { IsFromActual fixup.old }
-    ensures ok { OnOk result (fixup.new ≡ with_call fixup.old (initialize_of world.now)) }
+    ensures ok { OnOk result (fixup.new ≡ with_call fixup.old (option_copied initialize.entry)) }
     ensures cause { IfErr result IsFullOrMemory }
     ensures many { IfErr result (HasTooMany (length fixup.old.fills + 1)) }
 {
-    let Some(name) = world.main.exports.initialize() else {
+    let Some(name) = initialize else {
         return Ok(());
     };
     match fixup.add_initialize(name) {
@@ -80,8 +80,7 @@ fn add_call(fixup: &mut FixupModule, world: &ComponentWorld) -> Result<(), Build
 }
 
 /// The module that is instantiated last, with its arguments, or `None` where there is nothing to do: it imports a function for each
-/// shim from `actual`, under the shim's name and with its type, the function with which main is initialized, where it has one, from
-/// `main`, and the table of the shims, where there are any, from `shim`; slot number i is filled with the function of shim number i; and
+/// shim from `actual`, under the shim's name and with its type, the function `initialize`, where main has one, from `main`, and the table of the shims, where there are any, from `shim`; slot number i is filled with the function of shim number i; and
 /// then main is initialized.
 ///
 /// It is refused with [`BuildFault::TooMany`] only where there are 2^32 - 1 shims or more, and with [`BuildFault::Memory`]
@@ -89,18 +88,18 @@ fn add_call(fixup: &mut FixupModule, world: &ComponentWorld) -> Result<(), Build
 ///
 /// Core standard, structure: modules, element segments, start function.
 #[tactic(auto, using(crate::proofs::Calling::encode_refused, crate::proofs::Calling::encode_too_many, crate::proofs::Calling::call_beyond, crate::proofs::Calling::shims_beyond))]
-pub fn fixup_of_world(
+pub fn fixup_of_shims(
     alloc: Global,
-    world: &ComponentWorld,
     shims: &Shims,
+    initialize: Option<&str>,
     debug_names: bool,
 ) -> Result<Option<EncodedFixup>, BuildFault>
-    ensures ok { IfOk result (λ made. made ≡ encoded_fixup (fixup_of shims.now (initialize_of world.now)) debug_names) }
+    ensures ok { IfOk result (λ made. made ≡ encoded_fixup (fixup_of shims.now (option_copied initialize.entry)) debug_names) }
     ensures cause { IfErr result IsFullOrMemory }
     ensures many { IfErr result (HasTooMany (length shims.now + 1)) }
 {
     let mut fixup = fixup_with_shims(alloc, shims)?;
-    add_call(&mut fixup, world)?;
+    add_call(&mut fixup, initialize)?;
     match fixup.encode(debug_names) {
         Ok(encoded) => Ok(encoded),
         Err(fault) => Err(build_fault(fault)),

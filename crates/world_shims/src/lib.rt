@@ -15,6 +15,6 @@ mod fixup;
 mod plan;
 mod shim_module;
 
-pub use fixup::fixup_of_world;
+pub use fixup::fixup_of_shims;
 pub use plan::plan_shims;
 pub use shim_module::module_of_shims;
