@@ -6,11 +6,14 @@
 
 use crate::roles::{print_export, print_import};
 use crate::worlds::world_of;
-use core_names::{ModuleKind, Reading, Refusal, WorldNames, export_role, import_role};
+use core_export_names::export_role;
+use core_import_names::{ModuleKind, import_role};
+use name_parts::{Reading, Refusal};
 use record_values::{ExportRole, ImportRole, Wit};
 use standard_kinds::ExportKind;
 use std::alloc::{AllocError, Global};
 use test_cases::word_and_rest;
+use world_names::WorldNames;
 
 fn kind(word: &str) -> ExportKind {
     match word {
