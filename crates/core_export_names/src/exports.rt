@@ -63,7 +63,7 @@ fn use_role(use_: Use, named: TypeName) -> ExportRole
 /// Whether a scope has what this is a use of.
 fn is_used(
     alloc: Global,
-    names: &WorldNames<'_>,
+    names: &WorldNames,
     scope: &Scope,
     use_: Use,
     name: &str,
@@ -78,7 +78,7 @@ fn is_used(
     }
 }
 
-fn used(alloc: Global, names: &WorldNames<'_>, scope: &Scope, use_: Use, name: &str) -> Meaning
+fn used(alloc: Global, names: &WorldNames, scope: &Scope, use_: Use, name: &str) -> Meaning
     ensures { IfOk result (λ r. r ≡ used names.now scope.now use_ name.now) }
 {
     if !is_used(alloc, names, scope, use_, name)? {
@@ -90,7 +90,7 @@ fn used(alloc: Global, names: &WorldNames<'_>, scope: &Scope, use_: Use, name: &
 
 fn used_if(
     alloc: Global,
-    names: &WorldNames<'_>,
+    names: &WorldNames,
     scope: &Scope,
     use_: Use,
     name: Option<&str>,
@@ -105,7 +105,7 @@ fn used_if(
 
 fn used_before(
     alloc: Global,
-    names: &WorldNames<'_>,
+    names: &WorldNames,
     scope: &Scope,
     use_: Use,
     suffix: &str,
@@ -118,7 +118,7 @@ fn used_before(
 }
 
 /// What is of the world itself.
-fn used_of_root(alloc: Global, names: &WorldNames<'_>, use_: Use, name: &str) -> Meaning
+fn used_of_root(alloc: Global, names: &WorldNames, use_: Use, name: &str) -> Meaning
     ensures { IfOk result (λ r. r ≡ used names.now (root sides.Exported) use_ name.now) }
 {
     let scope = root(Side::Exported);
@@ -157,7 +157,7 @@ fn older_plain_role(name: &str) -> Meaning
 
 fn used_of(
     alloc: Global,
-    names: &WorldNames<'_>,
+    names: &WorldNames,
     use_: Use,
     interface: Reading<InterfaceName>,
     name: &str,
@@ -177,7 +177,7 @@ fn used_of(
 /// What is of the exported interface of a label.
 fn used_labelled(
     alloc: Global,
-    names: &WorldNames<'_>,
+    names: &WorldNames,
     use_: Use,
     label: &str,
     name: &str,
@@ -189,7 +189,7 @@ fn used_labelled(
     used_of(alloc, names, use_, interface, name)
 }
 
-fn used_split(alloc: Global, names: &WorldNames<'_>, use_: Use, name: &str) -> Meaning
+fn used_split(alloc: Global, names: &WorldNames, use_: Use, name: &str) -> Meaning
     ensures { IfOk result (λ r. r ≡ used_split names.now use_ (split_once 35 name.now)) }
 {
     match split_once(name, '#') {
@@ -199,7 +199,7 @@ fn used_split(alloc: Global, names: &WorldNames<'_>, use_: Use, name: &str) -> M
 }
 
 #[tactic(auto, unfolding(crate::specs::ExportNames::used_name))]
-fn used_name(alloc: Global, names: &WorldNames<'_>, use_: Use, name: &str) -> Meaning
+fn used_name(alloc: Global, names: &WorldNames, use_: Use, name: &str) -> Meaning
     ensures { IfOk result (λ r. r ≡ used_name names.now use_ name.now) }
 {
     either(
@@ -208,7 +208,7 @@ fn used_name(alloc: Global, names: &WorldNames<'_>, use_: Use, name: &str) -> Me
     )
 }
 
-fn used_name_if(alloc: Global, names: &WorldNames<'_>, use_: Use, name: Option<&str>) -> Meaning
+fn used_name_if(alloc: Global, names: &WorldNames, use_: Use, name: Option<&str>) -> Meaning
     ensures { IfOk result (λ r. r ≡ used_name_if names.now use_ (option_copied name.entry)) }
 {
     match name {
@@ -219,7 +219,7 @@ fn used_name_if(alloc: Global, names: &WorldNames<'_>, use_: Use, name: Option<&
 
 fn used_name_after(
     alloc: Global,
-    names: &WorldNames<'_>,
+    names: &WorldNames,
     use_: Use,
     prefix: &str,
     name: &str,
@@ -229,7 +229,7 @@ fn used_name_after(
     used_name_if(alloc, names, use_, after(prefix, name))
 }
 
-fn destructor_of(alloc: Global, names: &WorldNames<'_>, label: &str, name: Option<&str>) -> Meaning
+fn destructor_of(alloc: Global, names: &WorldNames, label: &str, name: Option<&str>) -> Meaning
     ensures { IfOk result (λ r. r ≡ destructor_of names.now label.now (option_copied name.entry)) }
 {
     match name {
@@ -238,7 +238,7 @@ fn destructor_of(alloc: Global, names: &WorldNames<'_>, label: &str, name: Optio
     }
 }
 
-fn destructor(alloc: Global, names: &WorldNames<'_>, name: &str) -> Meaning
+fn destructor(alloc: Global, names: &WorldNames, name: &str) -> Meaning
     ensures { IfOk result (λ r. r ≡ destructor names.now (split_once 35 name.now)) }
 {
     match split_once(name, '#') {
@@ -247,7 +247,7 @@ fn destructor(alloc: Global, names: &WorldNames<'_>, name: &str) -> Meaning
     }
 }
 
-fn called_name(alloc: Global, names: &WorldNames<'_>, name: &str) -> Meaning
+fn called_name(alloc: Global, names: &WorldNames, name: &str) -> Meaning
     ensures { IfOk result (λ r. r ≡ called_name names.now name.now) }
 {
     let callback = Use::Called(AbiVariant::GuestExportAsync);
@@ -259,7 +259,7 @@ fn called_name(alloc: Global, names: &WorldNames<'_>, name: &str) -> Meaning
     )
 }
 
-fn helper_name(alloc: Global, names: &WorldNames<'_>, name: &str) -> Meaning
+fn helper_name(alloc: Global, names: &WorldNames, name: &str) -> Meaning
     ensures { IfOk result (λ r. r ≡ helper_name names.now name.now) }
 {
     any_of_three(
@@ -270,7 +270,7 @@ fn helper_name(alloc: Global, names: &WorldNames<'_>, name: &str) -> Meaning
 }
 
 #[tactic(auto, unfolding(crate::specs::ExportNames::older_function))]
-fn older_function(alloc: Global, names: &WorldNames<'_>, name: &str) -> Meaning
+fn older_function(alloc: Global, names: &WorldNames, name: &str) -> Meaning
     ensures { IfOk result (λ r. r ≡ older_function names.now name.now) }
 {
     any_of_three(
@@ -299,7 +299,7 @@ fn standard_plain_role(name: &str) -> Meaning
 }
 
 #[tactic(auto, unfolding(crate::specs::ExportNames::standard_in))]
-fn standard_in(alloc: Global, names: &WorldNames<'_>, scope: &Scope, name: &str) -> Meaning
+fn standard_in(alloc: Global, names: &WorldNames, scope: &Scope, name: &str) -> Meaning
     ensures { IfOk result (λ r. r ≡ standard_in names.now scope.now name.now) }
 {
     let called = Use::Called(AbiVariant::GuestExport);
@@ -312,7 +312,7 @@ fn standard_in(alloc: Global, names: &WorldNames<'_>, scope: &Scope, name: &str)
 
 fn standard_of(
     alloc: Global,
-    names: &WorldNames<'_>,
+    names: &WorldNames,
     interface: Reading<InterfaceName>,
     name: &str,
 ) -> Meaning
@@ -328,7 +328,7 @@ fn standard_of(
     }
 }
 
-fn standard_labelled(alloc: Global, names: &WorldNames<'_>, label: &str, name: &str) -> Meaning
+fn standard_labelled(alloc: Global, names: &WorldNames, label: &str, name: &str) -> Meaning
     ensures { IfOk result (λ r. r ≡ standard_labelled names.now label.now name.now) }
 {
     if label.is_empty() {
@@ -339,7 +339,7 @@ fn standard_labelled(alloc: Global, names: &WorldNames<'_>, label: &str, name: &
     standard_of(alloc, names, interface, name)
 }
 
-fn standard_split(alloc: Global, names: &WorldNames<'_>, text: &str) -> Meaning
+fn standard_split(alloc: Global, names: &WorldNames, text: &str) -> Meaning
     ensures { IfOk result (λ r. r ≡ standard_split names.now (split_once 124 text.now)) }
 {
     match split_once(text, '|') {
@@ -348,7 +348,7 @@ fn standard_split(alloc: Global, names: &WorldNames<'_>, text: &str) -> Meaning
     }
 }
 
-fn standard_item(alloc: Global, names: &WorldNames<'_>, name: &str) -> Meaning
+fn standard_item(alloc: Global, names: &WorldNames, name: &str) -> Meaning
     ensures { IfOk result (λ r. r ≡ standard_item names.now name.now) }
 {
     match after("cm32p2|", name) {
@@ -358,7 +358,7 @@ fn standard_item(alloc: Global, names: &WorldNames<'_>, name: &str) -> Meaning
 }
 
 #[tactic(auto, unfolding(crate::specs::ExportNames::standard_function))]
-fn standard_function(alloc: Global, names: &WorldNames<'_>, name: &str) -> Meaning
+fn standard_function(alloc: Global, names: &WorldNames, name: &str) -> Meaning
     ensures { IfOk result (λ r. r ≡ standard_function names.now name.now) }
 {
     either(standard_plain_role(name), standard_item(alloc, names, name))
@@ -366,7 +366,7 @@ fn standard_function(alloc: Global, names: &WorldNames<'_>, name: &str) -> Meani
 
 // ---- all of it
 
-fn older_if(alloc: Global, names: &WorldNames<'_>, rejects_older: bool, name: &str) -> Meaning
+fn older_if(alloc: Global, names: &WorldNames, rejects_older: bool, name: &str) -> Meaning
     ensures { IfOk result (λ r. r ≡ older_if names.now rejects_older name.now) }
 {
     if rejects_older {
@@ -388,7 +388,7 @@ fn memory_named(rejects_older: bool, name: &str) -> Reading<ExportRole>
 
 fn function_export(
     alloc: Global,
-    names: &WorldNames<'_>,
+    names: &WorldNames,
     rejects_older: bool,
     name: &str,
 ) -> Meaning
@@ -402,7 +402,7 @@ fn function_export(
 
 fn export_of_kind(
     alloc: Global,
-    names: &WorldNames<'_>,
+    names: &WorldNames,
     rejects_older: bool,
     kind: ExportKind,
     name: &str,
@@ -429,7 +429,7 @@ fn is_wide(name: &str) -> bool
 #[tactic(auto, unfolding(crate::specs::ExportNames::export_role))]
 pub fn export_role(
     alloc: Global,
-    names: &WorldNames<'_>,
+    names: &WorldNames,
     rejects_older: bool,
     kind: ExportKind,
     name: &str,

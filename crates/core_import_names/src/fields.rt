@@ -19,7 +19,7 @@ pub(crate) type Meaning = Result<Reading<ImportRole>, AllocError>;
 /// The call of a function in some form.
 pub(crate) fn called(
     alloc: Global,
-    names: &WorldNames<'_>,
+    names: &WorldNames,
     scope: &Scope,
     abi: AbiVariant,
     name: Option<&str>,
@@ -39,7 +39,7 @@ pub(crate) fn called(
 /// The call of the function that a name has after a prefix.
 pub(crate) fn called_after(
     alloc: Global,
-    names: &WorldNames<'_>,
+    names: &WorldNames,
     scope: &Scope,
     abi: AbiVariant,
     prefix: &str,
@@ -61,7 +61,7 @@ fn drop_of(resource: Option<TypeName>) -> Reading<ImportRole>
 }
 
 /// The drop of a resource.
-fn dropped(alloc: Global, names: &WorldNames<'_>, scope: &Scope, name: Option<&str>) -> Meaning
+fn dropped(alloc: Global, names: &WorldNames, scope: &Scope, name: Option<&str>) -> Meaning
     ensures { IfOk result (λ r. r ≡ dropped names.now scope.now (option_copied name.entry)) }
 {
     let Some(name) = name else {
@@ -74,7 +74,7 @@ fn dropped(alloc: Global, names: &WorldNames<'_>, scope: &Scope, name: Option<&s
 /// The drop of the resource that a name has after a prefix.
 pub(crate) fn dropped_after(
     alloc: Global,
-    names: &WorldNames<'_>,
+    names: &WorldNames,
     scope: &Scope,
     prefix: &str,
     name: &str,
@@ -87,7 +87,7 @@ pub(crate) fn dropped_after(
 /// The drop of the resource that a name has before a suffix.
 pub(crate) fn dropped_before(
     alloc: Global,
-    names: &WorldNames<'_>,
+    names: &WorldNames,
     scope: &Scope,
     suffix: &str,
     name: &str,
@@ -119,7 +119,7 @@ fn handle_role(operation: HandleOperation, resource: TypeName) -> ImportRole
 /// What is done to the handles of a resource of an exported interface.
 fn own_resource(
     alloc: Global,
-    names: &WorldNames<'_>,
+    names: &WorldNames,
     scope: &Scope,
     operation: HandleOperation,
     name: Option<&str>,
@@ -140,7 +140,7 @@ fn own_resource(
 /// What is done to the handles of the resource that a name has after a prefix.
 pub(crate) fn own_resource_after(
     alloc: Global,
-    names: &WorldNames<'_>,
+    names: &WorldNames,
     scope: &Scope,
     operation: HandleOperation,
     prefix: &str,
@@ -155,7 +155,7 @@ pub(crate) fn own_resource_after(
 /// What is done to the handles of the resource that a name has before a suffix.
 pub(crate) fn own_resource_before(
     alloc: Global,
-    names: &WorldNames<'_>,
+    names: &WorldNames,
     scope: &Scope,
     operation: HandleOperation,
     suffix: &str,
@@ -168,7 +168,7 @@ pub(crate) fn own_resource_before(
 }
 
 /// The `task.return` of a function.
-fn returned(alloc: Global, names: &WorldNames<'_>, scope: &Scope, name: Option<&str>) -> Meaning
+fn returned(alloc: Global, names: &WorldNames, scope: &Scope, name: Option<&str>) -> Meaning
     ensures { IfOk result (λ r. r ≡ returned names.now scope.now (option_copied name.entry)) }
 {
     let Some(name) = name else {
@@ -187,7 +187,7 @@ fn returned(alloc: Global, names: &WorldNames<'_>, scope: &Scope, name: Option<&
 /// The `task.return` of the function that a name has after a prefix.
 pub(crate) fn returned_after(
     alloc: Global,
-    names: &WorldNames<'_>,
+    names: &WorldNames,
     scope: &Scope,
     prefix: &str,
     name: &str,
@@ -222,7 +222,7 @@ fn is_imported(side: Side) -> bool
 /// One of the streams and futures of a function, or one without values.
 fn payload_at(
     alloc: Global,
-    names: &WorldNames<'_>,
+    names: &WorldNames,
     scope: &Scope,
     index: Option<u32>,
     function: &str,
@@ -258,7 +258,7 @@ fn payload_role(parts: PayloadName<'_>, payload: Payload, is_async: bool) -> Imp
 
 fn payload_of(
     alloc: Global,
-    names: &WorldNames<'_>,
+    names: &WorldNames,
     scope: &Scope,
     is_async: bool,
     parts: PayloadName<'_>,
@@ -279,7 +279,7 @@ fn payload_of(
 /// An operation on a stream or future.
 pub(crate) fn payload(
     alloc: Global,
-    names: &WorldNames<'_>,
+    names: &WorldNames,
     scope: &Scope,
     is_async: bool,
     name: Option<&str>,
@@ -299,7 +299,7 @@ pub(crate) fn payload(
 /// The operation on a stream or future that a name has after a prefix.
 pub(crate) fn payload_after(
     alloc: Global,
-    names: &WorldNames<'_>,
+    names: &WorldNames,
     scope: &Scope,
     is_async: bool,
     prefix: &str,

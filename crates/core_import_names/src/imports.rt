@@ -42,7 +42,7 @@ fn as_builtin(alloc: Global, name: &str) -> Meaning
     }
 }
 
-fn imported_field(alloc: Global, names: &WorldNames<'_>, scope: &Scope, name: &str) -> Meaning
+fn imported_field(alloc: Global, names: &WorldNames, scope: &Scope, name: &str) -> Meaning
     ensures { IfOk result (λ r. r ≡ field_on_side names.now scope.now sides.Imported name.now) }
 {
     let asynchronous = AbiVariant::GuestImportAsync;
@@ -53,7 +53,7 @@ fn imported_field(alloc: Global, names: &WorldNames<'_>, scope: &Scope, name: &s
     )
 }
 
-fn handle_field(alloc: Global, names: &WorldNames<'_>, scope: &Scope, name: &str) -> Meaning
+fn handle_field(alloc: Global, names: &WorldNames, scope: &Scope, name: &str) -> Meaning
     ensures { IfOk result (λ r. r ≡ handle_field names.now scope.now name.now) }
 {
     use HandleOperation::{Drop, New, Rep};
@@ -64,7 +64,7 @@ fn handle_field(alloc: Global, names: &WorldNames<'_>, scope: &Scope, name: &str
     )
 }
 
-fn exported_field(alloc: Global, names: &WorldNames<'_>, scope: &Scope, name: &str) -> Meaning
+fn exported_field(alloc: Global, names: &WorldNames, scope: &Scope, name: &str) -> Meaning
     ensures { IfOk result (λ r. r ≡ field_on_side names.now scope.now sides.Exported name.now) }
 {
     any_of_three(
@@ -74,7 +74,7 @@ fn exported_field(alloc: Global, names: &WorldNames<'_>, scope: &Scope, name: &s
     )
 }
 
-fn field_on_side(alloc: Global, names: &WorldNames<'_>, scope: &Scope, name: &str) -> Meaning
+fn field_on_side(alloc: Global, names: &WorldNames, scope: &Scope, name: &str) -> Meaning
     ensures { IfOk result (λ r. r ≡ field_on_side names.now scope.now scope.now.side name.now) }
 {
     match scope.side {
@@ -83,7 +83,7 @@ fn field_on_side(alloc: Global, names: &WorldNames<'_>, scope: &Scope, name: &st
     }
 }
 
-fn payload_field(alloc: Global, names: &WorldNames<'_>, scope: &Scope, name: &str) -> Meaning
+fn payload_field(alloc: Global, names: &WorldNames, scope: &Scope, name: &str) -> Meaning
     ensures { IfOk result (λ r. r ≡ payload_field names.now scope.now name.now) }
 {
     either(
@@ -92,7 +92,7 @@ fn payload_field(alloc: Global, names: &WorldNames<'_>, scope: &Scope, name: &st
     )
 }
 
-fn encoded_field(alloc: Global, names: &WorldNames<'_>, scope: &Scope, name: &str) -> Meaning
+fn encoded_field(alloc: Global, names: &WorldNames, scope: &Scope, name: &str) -> Meaning
     ensures { IfOk result (λ r. r ≡ encoded_field names.now scope.now name.now) }
 {
     either(
@@ -102,7 +102,7 @@ fn encoded_field(alloc: Global, names: &WorldNames<'_>, scope: &Scope, name: &st
 }
 
 #[tactic(auto, unfolding(crate::specs::ImportNames::field))]
-fn field(alloc: Global, names: &WorldNames<'_>, scope: &Scope, name: &str) -> Meaning
+fn field(alloc: Global, names: &WorldNames, scope: &Scope, name: &str) -> Meaning
     ensures { IfOk result (λ r. r ≡ field names.now scope.now name.now) }
 {
     if is_not_encoded(name) {
@@ -113,7 +113,7 @@ fn field(alloc: Global, names: &WorldNames<'_>, scope: &Scope, name: &str) -> Me
 
 fn field_of(
     alloc: Global,
-    names: &WorldNames<'_>,
+    names: &WorldNames,
     side: Side,
     interface: Reading<InterfaceName>,
     name: &str,
@@ -131,14 +131,14 @@ fn field_of(
 }
 
 /// A field of the world itself.
-fn root_field(alloc: Global, names: &WorldNames<'_>, side: Side, name: &str) -> Meaning
+fn root_field(alloc: Global, names: &WorldNames, side: Side, name: &str) -> Meaning
     ensures { IfOk result (λ r. r ≡ field names.now (root side) name.now) }
 {
     let scope = root(side);
     field(alloc, names, &scope, name)
 }
 
-fn root_import(alloc: Global, names: &WorldNames<'_>, name: &str) -> Meaning
+fn root_import(alloc: Global, names: &WorldNames, name: &str) -> Meaning
     ensures { IfOk result (λ r. r ≡ root_import names.now name.now) }
 {
     either(
@@ -147,7 +147,7 @@ fn root_import(alloc: Global, names: &WorldNames<'_>, name: &str) -> Meaning
     )
 }
 
-fn of_root(alloc: Global, names: &WorldNames<'_>, module: &str, name: &str) -> Meaning
+fn of_root(alloc: Global, names: &WorldNames, module: &str, name: &str) -> Meaning
     ensures { IfOk result (λ r. r ≡ of_root names.now «module».now name.now) }
 {
     if module != "$root" {
@@ -156,7 +156,7 @@ fn of_root(alloc: Global, names: &WorldNames<'_>, module: &str, name: &str) -> M
     root_import(alloc, names, name)
 }
 
-fn of_imported(alloc: Global, names: &WorldNames<'_>, label: &str, name: &str) -> Meaning
+fn of_imported(alloc: Global, names: &WorldNames, label: &str, name: &str) -> Meaning
     ensures { IfOk result (λ r. r ≡ field_of names.now sides.Imported
         (imported_label names.now label.now) name.now) }
 {
@@ -164,7 +164,7 @@ fn of_imported(alloc: Global, names: &WorldNames<'_>, label: &str, name: &str) -
     field_of(alloc, names, Side::Imported, interface, name)
 }
 
-fn of_exported_root(alloc: Global, names: &WorldNames<'_>, module: &str, name: &str) -> Meaning
+fn of_exported_root(alloc: Global, names: &WorldNames, module: &str, name: &str) -> Meaning
     ensures { IfOk result (λ r. r ≡ of_exported_root names.now «module».now name.now) }
 {
     if module != "[export]$root" {
@@ -173,7 +173,7 @@ fn of_exported_root(alloc: Global, names: &WorldNames<'_>, module: &str, name: &
     root_field(alloc, names, Side::Exported, name)
 }
 
-fn of_exported(alloc: Global, names: &WorldNames<'_>, label: Option<&str>, name: &str) -> Meaning
+fn of_exported(alloc: Global, names: &WorldNames, label: Option<&str>, name: &str) -> Meaning
     ensures { IfOk result (λ r. r ≡ of_exported names.now (option_copied label.entry) name.now) }
 {
     let Some(label) = label else {
@@ -183,13 +183,13 @@ fn of_exported(alloc: Global, names: &WorldNames<'_>, label: Option<&str>, name:
     field_of(alloc, names, Side::Exported, interface, name)
 }
 
-fn of_exported_label(alloc: Global, names: &WorldNames<'_>, module: &str, name: &str) -> Meaning
+fn of_exported_label(alloc: Global, names: &WorldNames, module: &str, name: &str) -> Meaning
     ensures { IfOk result (λ r. r ≡ of_exported_label names.now «module».now name.now) }
 {
     of_exported(alloc, names, after("[export]", module), name)
 }
 
-fn older_imported(alloc: Global, names: &WorldNames<'_>, module: &str, name: &str) -> Meaning
+fn older_imported(alloc: Global, names: &WorldNames, module: &str, name: &str) -> Meaning
     ensures { IfOk result (λ r. r ≡ older_imported names.now «module».now name.now) }
 {
     either(
@@ -198,7 +198,7 @@ fn older_imported(alloc: Global, names: &WorldNames<'_>, module: &str, name: &st
     )
 }
 
-fn older_exported(alloc: Global, names: &WorldNames<'_>, module: &str, name: &str) -> Meaning
+fn older_exported(alloc: Global, names: &WorldNames, module: &str, name: &str) -> Meaning
     ensures { IfOk result (λ r. r ≡ older_exported names.now «module».now name.now) }
 {
     either(
@@ -208,7 +208,7 @@ fn older_exported(alloc: Global, names: &WorldNames<'_>, module: &str, name: &st
 }
 
 #[tactic(auto, unfolding(crate::specs::ImportNames::older_import))]
-fn older_import(alloc: Global, names: &WorldNames<'_>, module: &str, name: &str) -> Meaning
+fn older_import(alloc: Global, names: &WorldNames, module: &str, name: &str) -> Meaning
     ensures { IfOk result (λ r. r ≡ older_import names.now «module».now name.now) }
 {
     either(
@@ -219,7 +219,7 @@ fn older_import(alloc: Global, names: &WorldNames<'_>, module: &str, name: &str)
 
 // ---- the standard form
 
-fn standard_imported(alloc: Global, names: &WorldNames<'_>, scope: &Scope, name: &str) -> Meaning
+fn standard_imported(alloc: Global, names: &WorldNames, scope: &Scope, name: &str) -> Meaning
     ensures { IfOk result (λ r. r ≡ standard_on_side names.now scope.now sides.Imported name.now) }
 {
     either(
@@ -228,7 +228,7 @@ fn standard_imported(alloc: Global, names: &WorldNames<'_>, scope: &Scope, name:
     )
 }
 
-fn standard_exported(alloc: Global, names: &WorldNames<'_>, scope: &Scope, name: &str) -> Meaning
+fn standard_exported(alloc: Global, names: &WorldNames, scope: &Scope, name: &str) -> Meaning
     ensures { IfOk result (λ r. r ≡ standard_on_side names.now scope.now sides.Exported name.now) }
 {
     use HandleOperation::{Drop, New, Rep};
@@ -240,7 +240,7 @@ fn standard_exported(alloc: Global, names: &WorldNames<'_>, scope: &Scope, name:
 }
 
 #[tactic(auto, unfolding(crate::specs::ImportNames::standard_field))]
-fn standard_field(alloc: Global, names: &WorldNames<'_>, scope: &Scope, name: &str) -> Meaning
+fn standard_field(alloc: Global, names: &WorldNames, scope: &Scope, name: &str) -> Meaning
     ensures { IfOk result (λ r. r ≡ standard_field names.now scope.now name.now) }
 {
     match scope.side {
@@ -251,7 +251,7 @@ fn standard_field(alloc: Global, names: &WorldNames<'_>, scope: &Scope, name: &s
 
 fn standard_field_of(
     alloc: Global,
-    names: &WorldNames<'_>,
+    names: &WorldNames,
     side: Side,
     interface: Reading<InterfaceName>,
     name: &str,
@@ -268,7 +268,7 @@ fn standard_field_of(
     }
 }
 
-fn standard_root(alloc: Global, names: &WorldNames<'_>, module: &str, name: &str) -> Meaning
+fn standard_root(alloc: Global, names: &WorldNames, module: &str, name: &str) -> Meaning
     ensures { IfOk result (λ r. r ≡ standard_root names.now «module».now name.now) }
 {
     if module != "cm32p2" {
@@ -280,7 +280,7 @@ fn standard_root(alloc: Global, names: &WorldNames<'_>, module: &str, name: &str
 
 fn standard_labelled(
     alloc: Global,
-    names: &WorldNames<'_>,
+    names: &WorldNames,
     side: Side,
     label: Option<&str>,
     name: &str,
@@ -297,7 +297,7 @@ fn standard_labelled(
 
 fn standard_after(
     alloc: Global,
-    names: &WorldNames<'_>,
+    names: &WorldNames,
     side: Side,
     prefix: &str,
     module: &str,
@@ -310,7 +310,7 @@ fn standard_after(
 }
 
 #[tactic(auto, unfolding(crate::specs::ImportNames::standard_import))]
-fn standard_import(alloc: Global, names: &WorldNames<'_>, module: &str, name: &str) -> Meaning
+fn standard_import(alloc: Global, names: &WorldNames, module: &str, name: &str) -> Meaning
     ensures { IfOk result (λ r. r ≡ standard_import names.now «module».now name.now) }
 {
     any_of_three(
@@ -379,7 +379,7 @@ fn adapter_import(
 
 fn older_if(
     alloc: Global,
-    names: &WorldNames<'_>,
+    names: &WorldNames,
     rejects_older: bool,
     module: &str,
     name: &str,
@@ -395,7 +395,7 @@ fn older_if(
 
 fn world_import(
     alloc: Global,
-    names: &WorldNames<'_>,
+    names: &WorldNames,
     rejects_older: bool,
     module: &str,
     name: &str,
@@ -410,7 +410,7 @@ fn world_import(
 
 fn function_import(
     alloc: Global,
-    names: &WorldNames<'_>,
+    names: &WorldNames,
     rejects_older: bool,
     kind: ExportKind,
     module: &str,
@@ -436,7 +436,7 @@ fn is_wide(module: &str) -> bool
 
 fn narrow_import(
     alloc: Global,
-    names: &WorldNames<'_>,
+    names: &WorldNames,
     module_kind: ModuleKind,
     rejects_older: bool,
     kind: ExportKind,
@@ -458,7 +458,7 @@ fn narrow_import(
 #[tactic(auto, unfolding(crate::specs::ImportNames::import_role))]
 pub fn import_role(
     alloc: Global,
-    names: &WorldNames<'_>,
+    names: &WorldNames,
     module_kind: ModuleKind,
     rejects_older: bool,
     kind: ExportKind,

@@ -50,7 +50,7 @@ fn print_export_reading(alloc: Global, reading: Reading<ExportRole>) -> Result<S
 
 fn import_answer(
     alloc: Global,
-    names: &WorldNames<'_>,
+    names: &WorldNames,
     word: &str,
     name: &str,
 ) -> Result<String, AllocError> {
@@ -75,7 +75,7 @@ fn import_answer(
 
 fn export_answer(
     alloc: Global,
-    names: &WorldNames<'_>,
+    names: &WorldNames,
     word: &str,
     name: &str,
 ) -> Result<String, AllocError> {
@@ -85,7 +85,7 @@ fn export_answer(
     print_export_reading(alloc, reading)
 }
 
-fn name_answer(alloc: Global, wit: &Wit, input: &str) -> Result<String, AllocError> {
+fn name_answer(alloc: Global, wit: Wit, input: &str) -> Result<String, AllocError> {
     let names = WorldNames::of(alloc, wit)?;
     let (word, rest) = word_and_rest(input);
     let (what, name) = word_and_rest(rest);
@@ -97,5 +97,5 @@ fn name_answer(alloc: Global, wit: &Wit, input: &str) -> Result<String, AllocErr
 
 pub(crate) fn answer(alloc: Global, given: &str, input: &str) -> Result<String, AllocError> {
     let wit = world_of(alloc, given)?;
-    name_answer(alloc, &wit, input)
+    name_answer(alloc, wit, input)
 }

@@ -22,8 +22,8 @@ use Rattle.world_names.specs.declared.tables.WorldNames.{WorldNames}
 use Rattle.name_parts.specs.Readings.{◌⊕◌, otherwise}
 
 abbrev pub items_of : WorldNames → Side → List (ItemKey × Item)
-items_of n sides.Imported = n.wit.now.imports
-items_of n sides.Exported = n.wit.now.exports
+items_of n sides.Imported = n.wit.imports
+items_of n sides.Exported = n.wit.exports
 
 abbrev pub as_interface : Option Item → Reading InterfaceName
 as_interface None = readings.Nothing

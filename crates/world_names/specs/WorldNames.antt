@@ -1,6 +1,6 @@
 -- What a world has by name: the functions and the resources of its interfaces, and the interfaces by the ids that compatible
 -- versions share (component model, explainer: `canonversion`).
-use Rattle.std.specs.Prelude.{◌≡◌, ℕ, List, [], ◌∷◌, ⊤, Option, Some, None}
+use Rattle.std.specs.Prelude.{ℕ, List, [], ◌∷◌, ⊤, Option, Some, None}
 use Rattle.std.specs.Map.{lookup}
 use Rattle.std.specs.Str.{bytes_eq}
 use Rattle.indexmap.specs.IndexMap.{insert_entry}
@@ -25,6 +25,7 @@ use Rattle.record_versions.specs.Groups.{candidates, greatest_after}
 use Rattle.name_parts.specs.declared.reading.Reading.{Reading}
 use Rattle.name_parts.specs.declared.reading.Reading.TheVariants as readings
 use Rattle.name_parts.specs.declared.reading.Refusal.TheVariants as refusals
+use Rattle.world_names.specs.declared.tables.Tables.{Tables}
 use Rattle.world_names.specs.declared.tables.WorldNames.{WorldNames}
 
 abbrev pub owned : Owner → List ℕ → TypeName
@@ -103,10 +104,17 @@ exported_after table (e ∷ es) = exported_after (with_exported table e.1) es
 
 -- ---- all of these
 
--- the tables are those of the world
-pub record AreNamesOf (wit : Wit) (n : WorldNames) : Type 0 where
-  pub world : n.wit.now ≡ wit
-  pub functions : n.functions ≡ functions_after [] wit.interfaces
-  pub resources : n.resources ≡ of_items (of_interfaces [] wit.interfaces) wit.imports
-  pub imported : n.imported_versions ≡ greatest_after [] (candidates wit.imports)
-  pub exported : n.exported_versions ≡ exported_after [] wit.exports
+abbrev pub tables_of : Wit → Tables
+tables_of wit = record {
+  functions = functions_after [] wit.interfaces;
+  resources = of_items (of_interfaces [] wit.interfaces) wit.imports;
+  imported_versions = greatest_after [] (candidates wit.imports);
+  exported_versions = exported_after [] wit.exports;
+}
+
+abbrev pub with_tables : Wit → Tables → WorldNames
+with_tables wit t = record { wit = wit; functions = t.functions; resources = t.resources; imported_versions = t.imported_versions; exported_versions = t.exported_versions }
+
+-- a world with its tables
+abbrev pub names_of : Wit → WorldNames
+names_of wit = with_tables wit (tables_of wit)

@@ -22,7 +22,7 @@ pub enum Side {
 /// What a label stands for, or out of memory.
 type Found = Result<Reading<InterfaceName>, AllocError>;
 
-pub(crate) fn items_of<'a>(names: &'a WorldNames<'_>, side: Side) -> &'a Keyed<ItemKey, Item>
+pub(crate) fn items_of<'a>(names: &'a WorldNames, side: Side) -> &'a Keyed<ItemKey, Item>
     ensures { result.now ≡ items_of names.now side }
 {
     match side {
@@ -41,14 +41,14 @@ fn as_interface(alloc: Global, item: Option<&Item>) -> Found
 }
 
 /// The interface that a side of the world has under a key.
-fn interface_at(alloc: Global, names: &WorldNames<'_>, side: Side, key: &ItemKey) -> Found
+fn interface_at(alloc: Global, names: &WorldNames, side: Side, key: &ItemKey) -> Found
     ensures { IfOk result (λ r. r ≡ interface_at names.now side key.now) }
 {
     as_interface(alloc, items_of(names, side).get(key))
 }
 
 /// The interface that a side of the world has under a name.
-fn interface_named(alloc: Global, names: &WorldNames<'_>, side: Side, label: &str) -> Found
+fn interface_named(alloc: Global, names: &WorldNames, side: Side, label: &str) -> Found
     ensures { IfOk result (λ r. r ≡ interface_at names.now side (ItemKey.Name label.now)) }
 {
     let key = ItemKey::Name(Text::from_str(alloc, label)?);
@@ -56,7 +56,7 @@ fn interface_named(alloc: Global, names: &WorldNames<'_>, side: Side, label: &st
 }
 
 /// The interface of a side of the world that has an id.
-fn interface_of_id(alloc: Global, names: &WorldNames<'_>, side: Side, label: &str) -> Found
+fn interface_of_id(alloc: Global, names: &WorldNames, side: Side, label: &str) -> Found
     ensures { IfOk result (λ r. r ≡ interface_at names.now side (ItemKey.Interface label.now)) }
 {
     let key = ItemKey::Interface(SharedText::from_str(alloc, label)?);
@@ -64,7 +64,7 @@ fn interface_of_id(alloc: Global, names: &WorldNames<'_>, side: Side, label: &st
 }
 
 /// The interface of a side of the world whose name there, or whose id, is the label.
-pub fn labelled(alloc: Global, names: &WorldNames<'_>, side: Side, label: &str) -> Found
+pub fn labelled(alloc: Global, names: &WorldNames, side: Side, label: &str) -> Found
     ensures { IfOk result (λ r. r ≡ labelled names.now side label.now) }
 {
     either(
@@ -84,7 +84,7 @@ fn candidate_name(alloc: Global, candidate: Option<&Candidate>) -> Found
     }
 }
 
-fn newest(alloc: Global, names: &WorldNames<'_>, canonical: &Text) -> Found
+fn newest(alloc: Global, names: &WorldNames, canonical: &Text) -> Found
     ensures { IfOk result (λ r. r ≡ newest names.now canonical.now) }
 {
     candidate_name(alloc, names.imported_versions.get(canonical))
@@ -98,7 +98,7 @@ fn compatible_label(alloc: Global, label: &str) -> Result<Option<Compatible>, Al
     compatible(alloc, &name)
 }
 
-fn newest_compatible(alloc: Global, names: &WorldNames<'_>, label: &str) -> Found
+fn newest_compatible(alloc: Global, names: &WorldNames, label: &str) -> Found
     ensures { IfOk result (λ r. r ≡ newest_compatible names.now (versions.compatible
         (InterfaceName.Id label.now))) }
 {
@@ -111,7 +111,7 @@ fn newest_compatible(alloc: Global, names: &WorldNames<'_>, label: &str) -> Foun
 /// The imported interface of a label of the older form: by its name in the world or its id, or the one of
 /// greatest version that is compatible with the label.
 #[tactic(auto, unfolding(crate::specs::Labels::imported_label))]
-pub fn imported_label(alloc: Global, names: &WorldNames<'_>, label: &str) -> Found
+pub fn imported_label(alloc: Global, names: &WorldNames, label: &str) -> Found
     ensures { IfOk result (λ r. r ≡ imported_label names.now label.now) }
 {
     let found = labelled(alloc, names, Side::Imported, label)?;
@@ -126,7 +126,7 @@ pub fn imported_label(alloc: Global, names: &WorldNames<'_>, label: &str) -> Fou
 
 // ---- canonical ids
 
-fn whole_id(alloc: Global, names: &WorldNames<'_>, side: Side, label: &str) -> Found
+fn whole_id(alloc: Global, names: &WorldNames, side: Side, label: &str) -> Found
     ensures { IfOk result (λ r. r ≡ whole_id names.now side label.now (versions.compatible
         (InterfaceName.Id label.now))) }
 {
@@ -147,7 +147,7 @@ fn as_reading(alloc: Global, reading: Option<&Reading<InterfaceName>>) -> Found
     }
 }
 
-fn of_canonical(alloc: Global, names: &WorldNames<'_>, side: Side, label: &str) -> Found
+fn of_canonical(alloc: Global, names: &WorldNames, side: Side, label: &str) -> Found
     ensures { IfOk result (λ r. r ≡ of_canonical names.now side label.now) }
 {
     let canonical = Text::from_str(alloc, label)?;
@@ -160,7 +160,7 @@ fn of_canonical(alloc: Global, names: &WorldNames<'_>, side: Side, label: &str) 
 /// The interface of a label of the standard form: by its name in the world, or by its id with the part of
 /// its version that compatible versions share.
 #[tactic(auto, unfolding(crate::specs::Labels::canonical_label))]
-pub fn canonical_label(alloc: Global, names: &WorldNames<'_>, side: Side, label: &str) -> Found
+pub fn canonical_label(alloc: Global, names: &WorldNames, side: Side, label: &str) -> Found
     ensures { IfOk result (λ r. r ≡ canonical_label names.now side label.now) }
 {
     any_of_three(

@@ -57,7 +57,7 @@ fn is_function(item: Option<&Item>) -> bool
 /// Whether the world itself has a function on a side.
 fn has_world_function(
     alloc: Global,
-    names: &WorldNames<'_>,
+    names: &WorldNames,
     side: Side,
     name: &str,
 ) -> Result<bool, AllocError>
@@ -70,7 +70,7 @@ fn has_world_function(
 /// Whether an interface has a function.
 fn has_interface_function(
     alloc: Global,
-    names: &WorldNames<'_>,
+    names: &WorldNames,
     side: Side,
     interface: &InterfaceName,
     name: &str,
@@ -86,7 +86,7 @@ fn has_interface_function(
 /// Whether a scope has a function.
 pub fn has_function(
     alloc: Global,
-    names: &WorldNames<'_>,
+    names: &WorldNames,
     scope: &Scope,
     name: &str,
 ) -> Result<bool, AllocError>
@@ -103,7 +103,7 @@ pub fn has_function(
 /// The resource that a scope has under a name, which may be that of another name.
 pub fn resource(
     alloc: Global,
-    names: &WorldNames<'_>,
+    names: &WorldNames,
     scope: &Scope,
     name: &str,
 ) -> Result<Option<TypeName>, AllocError>
@@ -127,7 +127,7 @@ fn is_itself(name: &TypeName, resource: Option<&TypeName>) -> bool
 
 fn has_interface_resource(
     alloc: Global,
-    names: &WorldNames<'_>,
+    names: &WorldNames,
     interface: &InterfaceName,
     name: &str,
 ) -> Result<bool, AllocError>
@@ -144,7 +144,7 @@ fn has_interface_resource(
 /// another one.
 pub fn is_own_resource(
     alloc: Global,
-    names: &WorldNames<'_>,
+    names: &WorldNames,
     scope: &Scope,
     name: &str,
 ) -> Result<bool, AllocError>

@@ -3,7 +3,7 @@
 ghost use Rattle.std.specs.Prelude.{◌≡◌, [], Some, IfOk, OnOk};
 ghost use Rattle.record_versions.specs.Compatible as versions;
 ghost use Rattle.record_versions.specs.Groups.{candidates, greatest_after};
-ghost use Rattle.world_names.specs.WorldNames.{owned, with_functions, functions_after, with_alias, with_named, with_type, with_types, of_interfaces, with_item, of_items, with_compatible, with_exported, exported_after, AreNamesOf};
+ghost use Rattle.world_names.specs.WorldNames.{owned, with_functions, functions_after, with_alias, with_named, with_type, with_types, of_interfaces, with_item, of_items, with_compatible, with_exported, exported_after, tables_of, with_tables, names_of};
 
 use comp_lists::{Keyed, Text, TryClone};
 use name_parts::{Reading, Refusal};
@@ -22,16 +22,17 @@ type Resources = Keyed<TypeName, TypeName>;
 /// Exported interfaces by the ids that compatible versions share.
 type Exported = Keyed<Text, Reading<InterfaceName>>;
 
-/// What a world has by name. It is made once of a world, and then each look-up takes the time of a hash.
-pub struct WorldNames<'w> {
-    pub(crate) wit: &'w Wit,
+/// What a world has by name, with the world. It is made once of a world, and then each look-up takes the time of a
+/// hash.
+pub struct WorldNames {
+    pub(crate) wit: Wit,
     pub(crate) functions: Functions,
     pub(crate) resources: Resources,
     pub(crate) imported_versions: Greatest,
     pub(crate) exported_versions: Exported,
 }
 
-impl<'w> Drop for WorldNames<'w> {
+impl Drop for WorldNames {
     fn drop(self) {
         let WorldNames {
             wit: _,
@@ -41,6 +42,15 @@ impl<'w> Drop for WorldNames<'w> {
             exported_versions: _,
         } = self;
     }
+}
+
+/// The tables of a world.
+#[derive(Drop)]
+struct Tables {
+    functions: Functions,
+    resources: Resources,
+    imported_versions: Greatest,
+    exported_versions: Exported,
 }
 
 // ---- functions
@@ -280,21 +290,64 @@ fn imported_of(alloc: Global, items: &Keyed<ItemKey, Item>) -> Result<Greatest, 
     }
 }
 
-impl<'w> WorldNames<'w> {
+fn tables_of(alloc: Global, wit: &Wit) -> Result<Tables, AllocError>
+    ensures { IfOk result (λ t. t ≡ tables_of wit.now) }
+{
+    let functions = functions_of(alloc, &wit.interfaces)?;
+    let resources = resources_of(alloc, wit)?;
+    let imported_versions = imported_of(alloc, &wit.imports)?;
+    let exported_versions = exported_of(alloc, &wit.exports)?;
+    Ok(Tables {
+        functions,
+        resources,
+        imported_versions,
+        exported_versions,
+    })
+}
+
+fn with_tables(wit: Wit, tables: Tables) -> WorldNames
+    ensures { result ≡ with_tables wit tables }
+{
+    let Tables {
+        functions,
+        resources,
+        imported_versions,
+        exported_versions,
+    } = tables;
+    WorldNames {
+        wit,
+        functions,
+        resources,
+        imported_versions,
+        exported_versions,
+    }
+}
+
+impl WorldNames {
     /// The names of a world. The only error is out of memory.
-    pub fn of(alloc: Global, wit: &'w Wit) -> Result<WorldNames<'w>, AllocError>
-        ensures { IfOk result (AreNamesOf wit.now) }
+    pub fn of(alloc: Global, wit: Wit) -> Result<WorldNames, AllocError>
+        ensures { IfOk result (λ n. n ≡ names_of wit) }
     {
-        let functions = functions_of(alloc, &wit.interfaces)?;
-        let resources = resources_of(alloc, wit)?;
-        let imported_versions = imported_of(alloc, &wit.imports)?;
-        let exported_versions = exported_of(alloc, &wit.exports)?;
-        Ok(WorldNames {
+        match tables_of(alloc, &wit) {
+            Ok(tables) => Ok(with_tables(wit, tables)),
+            Err(refused) => {
+                drop(wit);
+                Err(refused)
+            }
+        }
+    }
+
+    /// The world.
+    pub fn into_wit(self) -> Wit
+        ensures { result ≡ self.wit }
+    {
+        let WorldNames {
             wit,
-            functions,
-            resources,
-            imported_versions,
-            exported_versions,
-        })
+            functions: _,
+            resources: _,
+            imported_versions: _,
+            exported_versions: _,
+        } = self;
+        wit
     }
 }
