@@ -175,13 +175,7 @@ fn used_of(
 }
 
 /// What is of the exported interface of a label.
-fn used_labelled(
-    alloc: Global,
-    names: &WorldNames,
-    use_: Use,
-    label: &str,
-    name: &str,
-) -> Meaning
+fn used_labelled(alloc: Global, names: &WorldNames, use_: Use, label: &str, name: &str) -> Meaning
     ensures { IfOk result (λ r. r ≡ used_of names.now use_
         (labelled names.now sides.Exported label.now) name.now) }
 {
@@ -386,12 +380,7 @@ fn memory_named(rejects_older: bool, name: &str) -> Reading<ExportRole>
     }
 }
 
-fn function_export(
-    alloc: Global,
-    names: &WorldNames,
-    rejects_older: bool,
-    name: &str,
-) -> Meaning
+fn function_export(alloc: Global, names: &WorldNames, rejects_older: bool, name: &str) -> Meaning
     ensures { IfOk result (λ r. r ≡ function_export names.now rejects_older name.now) }
 {
     either(

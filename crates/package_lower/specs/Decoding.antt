@@ -1,8 +1,7 @@
 -- What a module says of its component. Its sections that describe one are records and packages, whose worlds are merged. Where a
 -- package is among them, or where there are none, the names of core imports and core exports give roles, by the merged world.
-use Rattle.std.specs.Prelude.{◌≡◌, ℕ, Bool, true, false, ◌||◌, List, [], ◌∷◌, Result, Ok, if◌then◌else◌}
+use Rattle.std.specs.Prelude.{◌≡◌, ⊤, ℕ, Bool, true, false, ◌||◌, List, [], ◌∷◌, Result, Ok, if◌then◌else◌}
 use Rattle.std.specs.List.{list_any}
-use Rattle.std.specs.Map.{keys_of}
 use Rattle.core_sections.specs.declared.core_module.CoreModule.{CoreModule}
 use Rattle.core_sections.specs.Entries.{module_of}
 use Rattle.gathered_worlds.specs.Equalities.{tests, role_tests}
@@ -14,12 +13,12 @@ use Rattle.world_names.specs.WorldNames.{names_of}
 use Rattle.package_lower.specs.declared.fault.Failure.{Failure}
 use Rattle.package_lower.specs.Faults.{◌>>=◌, lifted, read}
 use Rattle.package_lower.specs.Sections.{divided, once_after}
-use Rattle.package_lower.specs.Reading.{is_binary, records_from}
+use Rattle.package_lower.specs.Reading.{is_binary, records_after}
 use Rattle.package_lower.specs.Roles.{imports_after, exports_after}
 
 -- what texts say together
-unfoldable pub said_in : List (List ℕ) → Result Bindgen Failure
-said_in texts = records_from 0 texts >>= λ rs. read (bindgen_of tests role_tests rs)
+unfoldable pub said_in : List (List ℕ × ⊤) → Result Bindgen Failure
+said_in texts = records_after [] texts >>= λ rs. read (bindgen_of tests role_tests rs)
 
 abbrev pub is_empty : List (List ℕ) → Bool
 is_empty [] = true
@@ -50,7 +49,7 @@ with_names rejects_older bytes said = lifted (module_of bytes) >>= λ core. name
 -- what a module says whose sections hold these texts; equal ones count once
 unfoldable pub said_of : Bool → List ℕ → List (List ℕ) → Result Bindgen Failure
 said_of rejects_older bytes texts =
-    said_in (keys_of (once_after [] texts)) >>= λ said.
+    said_in (once_after [] texts) >>= λ said.
     if names_count texts then with_names rejects_older bytes said else Ok said
 
 -- a module without the sections that describe its component, and what it says of that

@@ -1,6 +1,6 @@
 -- What the sections that describe a component say. One that is binary is a WIT package; another one is a record. A package
 -- says a world, and how its functions encode texts; the roles of core imports and exports are in their names.
-use Rattle.std.specs.Prelude.{ℕ, suc, ◌==◌, ◌||◌, List, [], ◌∷◌, codes, Bool, false, Option, Some, None, Result, Ok, Err, if◌then◌else◌}
+use Rattle.std.specs.Prelude.{⊤, ℕ, ◌==◌, ◌||◌, List, [], ◌∷◌, ◌++◌, length, codes, Bool, false, Option, Some, None, Result, Ok, Err, if◌then◌else◌}
 use Rattle.package_syntax.specs.declared.fault.Reason.{Reason}
 use Rattle.package_syntax.specs.declared.fault.Reason.TheVariants as reasons
 use Rattle.record_faults.specs.declared.fault.Refusal.TheVariants as plain_refusals
@@ -55,7 +55,10 @@ of_package n text = by_package n (package_of text)
 abbrev pub of_text : ℕ → List ℕ → Result Record Failure
 of_text n text = if is_binary text then of_package n text else read (record_in text)
 
--- what these texts say, the first of which is at this position
-abbrev pub records_from : ℕ → List (List ℕ) → Result (List Record) Failure
-records_from n [] = Ok []
-records_from n (text ∷ texts) = of_text n text >>= λ r. records_from (suc n) texts >>= λ rs. Ok (r ∷ rs)
+-- what the sections so far say, and a further one
+abbrev pub text_step : List Record → List ℕ → Result (List Record) Failure
+text_step rs text = of_text (length rs) text >>= λ r. Ok (rs ++ r ∷ [])
+
+abbrev pub records_after : List Record → List (List ℕ × ⊤) → Result (List Record) Failure
+records_after rs [] = Ok rs
+records_after rs (t ∷ ts) = text_step rs t.0 >>= λ us. records_after us ts

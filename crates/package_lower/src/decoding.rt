@@ -2,8 +2,8 @@
 
 ghost use Rattle.std.specs.Prelude.{◌≡◌, ◌≢◌, [], map, IfOk};
 ghost use Rattle.std.specs.List.{list_any};
-ghost use Rattle.std.specs.Map.{keys_of};
 ghost use Rattle.package_lower.specs.Faults.{Gives};
+ghost use Rattle.record_merge.specs.Said.{no_wit};
 ghost use Rattle.package_lower.specs.Reading.{is_binary};
 ghost use Rattle.package_lower.specs.Decoding.{said_in, names_count, with_named, named, with_names, said_of, decoding};
 ghost use Rattle.package_lower.specs.Sections.{once_after};
@@ -15,13 +15,15 @@ use crate::sections::{Divided, divide, once};
 use comp_lists::{Bytes, Keyed, SharedBytes};
 use core_sections::{CoreModule, read_module};
 use record_merge::{Bindgen, Roles, bindgen_of};
+use record_values::Wit;
 use std::alloc::Global;
+use std::mem::replace;
 use world_names::WorldNames;
 
 /// What the texts of sections say together.
 #[tactic(auto, unfolding(crate::specs::Decoding::said_in))]
 fn said_in(alloc: Global, texts: &Keyed<Bytes, ()>) -> Result<Bindgen, Failure>
-    ensures { Gives (λ b. b) result (said_in (keys_of texts.now)) }
+    ensures { Gives (λ b. b) result (said_in texts.now) }
 {
     let records = records_of(alloc, texts)?;
     Ok(bindgen_of(alloc, records)?)
@@ -57,7 +59,13 @@ fn with_named(
     ensures { Gives (λ _. roles.new) result (with_named names.now rejects_older core.now roles.old) }
 {
     let imports = core.imports.as_slice();
-    add_imports(alloc, names, rejects_older, &mut roles.import_roles, imports)?;
+    add_imports(
+        alloc,
+        names,
+        rejects_older,
+        &mut roles.import_roles,
+        imports,
+    )?;
     add_exports(
         alloc,
         names,
@@ -65,6 +73,17 @@ fn with_named(
         &mut roles.export_roles,
         &core.exports,
     )
+}
+
+/// A world that says nothing.
+fn no_wit(alloc: Global) -> Wit
+    ensures { result ≡ no_wit }
+{
+    Wit {
+        interfaces: Keyed::new(alloc),
+        imports: Keyed::new(alloc),
+        exports: Keyed::new(alloc),
+    }
 }
 
 /// What was said, with the roles that names give.
@@ -76,13 +95,12 @@ fn named(
 ) -> Result<Bindgen, Failure>
     ensures { Gives (λ b. b) result (named rejects_older core.now said) }
 {
-    let Bindgen { wit, mut roles } = said;
+    let mut said = said;
+    let wit = replace(&mut said.wit, no_wit(alloc));
     let names = WorldNames::of(alloc, wit)?;
-    with_named(alloc, &names, rejects_older, core, &mut roles)?;
-    Ok(Bindgen {
-        wit: names.into_wit(),
-        roles,
-    })
+    with_named(alloc, &names, rejects_older, core, &mut said.roles)?;
+    said.wit = names.into_wit();
+    Ok(said)
 }
 
 /// What was said, with the roles that the names of a module give.

@@ -20,7 +20,7 @@ pub enum LowerFault {
     Plain(PlainFault),
     /// The section that describes a component at this position among those of the module, from 0, holds no package that can
     /// be read.
-    #[error("P4 PackageBinary section={section} {fault:?}")]
+    #[error("P4 PackageBinary section={section} {fault}")]
     Package { section: usize, fault: PackageFault },
     /// The name of a core import or a core export can be read in two ways.
     #[error("P14 SeveralMeanings name={name}")]
@@ -95,7 +95,9 @@ impl From<Failure> for LowerFault {
     fn from(failure: Failure) -> LowerFault {
         match failure {
             Failure::Memory => LowerFault::Plain(PlainFault::Memory),
-            Failure::Refused(Refusal::Plain(refusal)) => LowerFault::Plain(PlainFault::from(refusal)),
+            Failure::Refused(Refusal::Plain(refusal)) => LowerFault::Plain(PlainFault::from(
+                refusal,
+            )),
             Failure::Refused(Refusal::Package { section, fault }) => {
                 LowerFault::Package { section, fault }
             }

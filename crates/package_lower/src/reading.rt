@@ -1,10 +1,8 @@
 //! What the sections that describe a component say: records, and WIT packages in binary form.
 
-ghost use Rattle.std.specs.Prelude.{◌≡◌, List, ℕ, option_map, Err};
-ghost use Rattle.std.specs.Map.{keys_of};
-ghost use Rattle.std.specs.Option.{option_copied};
+ghost use Rattle.std.specs.Prelude.{◌≡◌, [], option_map, Err};
 ghost use Rattle.package_lower.specs.Faults.{Gives};
-ghost use Rattle.package_lower.specs.Reading.{is_binary, is_begin, reason_left_out, left_out, record_of, refusal_of, of_package, of_text, records_from};
+ghost use Rattle.package_lower.specs.Reading.{is_binary, is_begin, reason_left_out, left_out, record_of, refusal_of, of_package, of_text, text_step, records_after};
 
 use crate::fault::{Failure, Refusal};
 use comp_lists::{Bytes, Keyed, Seq, Text};
@@ -63,9 +61,7 @@ fn refuse(alloc: Global, section: usize, fault: PackageFault) -> Result<Record, 
     match left_out(fault) {
         Some(what) => {
             let what = Text::from_str(alloc, what)?;
-            Err(Failure::Refused(Refusal::Plain(PlainRefusal::LeftOut {
-                what,
-            })))
+            Err(Failure::Refused(Refusal::Plain(PlainRefusal::LeftOut { what })))
         }
         None => Err(Failure::Refused(Refusal::Package { section, fault })),
     }
@@ -119,16 +115,22 @@ fn of_text(alloc: Global, section: usize, text: &[u8]) -> Result<Record, Failure
     Ok(read_record(alloc, text)?)
 }
 
+/// Adds what the text of a further section says.
+fn add_record(alloc: Global, records: &mut Seq<Record>, text: &Bytes) -> Result<(), Failure>
+    ensures { Gives (λ _. records.new) result (text_step records.old text.now) }
+{
+    let section = records.len();
+    let record = of_text(alloc, section, text.as_slice())?;
+    Ok(records.push(record)?)
+}
+
 /// What the texts of sections say, one by one.
-pub(crate) fn records_of(
-    alloc: Global,
-    texts: &Keyed<Bytes, ()>,
-) -> Result<Seq<Record>, Failure>
-    ensures { Gives (λ rs. rs) result (records_from 0 (keys_of texts.now)) }
+pub(crate) fn records_of(alloc: Global, texts: &Keyed<Bytes, ()>) -> Result<Seq<Record>, Failure>
+    ensures { Gives (λ rs. rs) result (records_after [] texts.now) }
 {
     let mut records = Seq::new(alloc);
-    for (section, (text, _)) in texts.iter().enumerate() {
-        records.push(of_text(alloc, section, text.as_slice())?)?;
+    for (text, _) in texts.iter() {
+        add_record(alloc, &mut records, text)?;
     }
     Ok(records)
 }

@@ -3,8 +3,8 @@
 //! The input of a case is a core module in hexadecimal digits and, after a space, its records, with ` & ` between two of them, if it
 //! has any. Further modules follow after ` + `, each with its name: `NAME: MODULE` is an adapter, and `library NAME: MODULE` a
 //! library, with its arguments behind its name (`argument_cases`). Options may be in front of all, as in
-//! `[canonical, rename a:b/c to d:e/f] 0061736d..`: `canonical`, `debug-names`, `no-merge`, `memory-grow`, `unchecked` (without
-//! `validate`, which is on otherwise) and `rename NAME to NAME`. The answer is the component in hexadecimal digits, by the encoder over
+//! `[canonical, rename a:b/c to d:e/f] 0061736d..`: `canonical`, `debug-names`, `no-merge`, `memory-grow`, `reject-legacy`, `unchecked`
+//! (without `validate`, which is on otherwise) and `rename NAME to NAME`. The answer is the component in hexadecimal digits, by the encoder over
 //! the lower layer by records, and in the file `packages.txt` over that by packages; or the fault. `test_cases` says how the files are read; each says where its expected answers are from.
 #![tactic(auto)]
 
@@ -71,7 +71,7 @@ fn has(options: &str, wanted: &str) -> bool {
 }
 
 /// An encoder with options.
-fn encoder_with<L: Lower>(
+fn encoder_with<L: Lower + Drop>(
     alloc: Global,
     layer: L,
     options: &str,
@@ -114,7 +114,7 @@ fn add_part<L: Lower>(
 }
 
 /// The component of the modules of an input, the first of which is given as main.
-fn component_of<L: Lower>(
+fn component_of<L: Lower + Drop>(
     alloc: Global,
     layer: L,
     input: &str,
@@ -129,8 +129,16 @@ fn component_of<L: Lower>(
     encoder.encode()
 }
 
+/// The lower layer by packages, with the options of an input.
+fn layer_with(input: &str) -> PackageLower {
+    let (options, _) = options_and_rest(input);
+    PackageLower {
+        reject_legacy_names: has(options, "reject-legacy"),
+    }
+}
+
 /// The component, or the fault, as text.
-fn answer_by<L: Lower>(alloc: Global, layer: L, input: &str) -> Result<String, AllocError> {
+fn answer_by<L: Lower + Drop>(alloc: Global, layer: L, input: &str) -> Result<String, AllocError> {
     match component_of(alloc, layer, input) {
         Ok(component) => hex::encode(alloc, &component),
         Err(EncodeFault::Memory) => Err(AllocError),
@@ -156,7 +164,7 @@ impl Topic for Modules {
     fn answer(self, alloc: Global, _given: &str, input: &str) -> Result<String, AllocError> {
         match self {
             Modules::Records => answer_by(alloc, PlainLower::new(), input),
-            Modules::Packages => answer_by(alloc, PackageLower::new(), input),
+            Modules::Packages => answer_by(alloc, layer_with(input), input),
         }
     }
 }
