@@ -39,5 +39,5 @@ read (Err e) = Err (of_plain (of_record e))
 abbrev pub flat : Failure → LowerFault
 flat failures.Memory = faults.Plain plain_faults.Memory
 flat (failures.Refused (refusals.Plain r)) = faults.Plain (flat_refusal r)
-flat (failures.Refused (refusals.Package «section» fault)) = faults.Package «section» fault
+flat (failures.Refused (refusals.Package section fault)) = faults.Package section fault
 flat (failures.Refused (refusals.SeveralMeanings name)) = faults.SeveralMeanings name

@@ -28,7 +28,7 @@ is_binary (byte ∷ bytes) = is_begin byte
 abbrev pub reason_left_out : Reason → Option (List ℕ)
 reason_left_out reasons.OldForm = Some (codes "package-before-components")
 reason_left_out reasons.FixedLengthList = Some (codes "fixed-length-list")
-reason_left_out reasons.«Map» = Some (codes "map")
+reason_left_out reasons.Map = Some (codes "map")
 reason_left_out reason = None
 
 abbrev pub left_out : PackageFault → Option (List ℕ)

@@ -1,6 +1,6 @@
 -- The roles that the names of core imports and core exports give in the world of a module (component model, build targets). An
 -- import or export that has a role by a record keeps it.
-use Rattle.std.specs.Prelude.{◌≡◌, ℕ, Bool, List, [], ◌∷◌, ◌++◌, Option, Some, None, is_some, Result, Ok, Err, if◌then◌else◌}
+use Rattle.std.specs.Prelude.{◌≡◌, ℕ, Bool, List, [], ◌∷◌, ◌++◌, codes, Option, Some, None, is_some, Result, Ok, Err, if◌then◌else◌}
 use Rattle.std.specs.Map.{lookup}
 use Rattle.std.specs.Str.{bytes_eq}
 use Rattle.core_sections.specs.declared.entries.CoreImport.{CoreImport}
@@ -29,11 +29,17 @@ use Rattle.package_lower.specs.declared.fault.Failure.TheVariants as failures
 use Rattle.package_lower.specs.declared.fault.Refusal.TheVariants as refusals
 use Rattle.package_lower.specs.Faults.{◌>>=◌}
 
+abbrev pub left_out : List ℕ → Failure
+left_out what = failures.Refused (refusals.Plain (plain_refusals.LeftOut what))
+
+abbrev pub several : List ℕ → Failure
+several name = failures.Refused (refusals.SeveralMeanings name)
+
 -- the refusal of a name
 abbrev pub refused : NameRefusal → List ℕ → Failure
-refused name_refusals.SeveralMeanings name = failures.Refused (refusals.SeveralMeanings name)
-refused name_refusals.NotEncoded name = failures.Refused (refusals.Plain (plain_refusals.LeftOut name))
-refused name_refusals.WideMemory name = failures.Refused (refusals.Plain (plain_refusals.LeftOut name))
+refused name_refusals.SeveralMeanings name = several name
+refused name_refusals.NotEncoded name = left_out name
+refused name_refusals.WideMemory name = left_out (codes "cm64p2")
 
 -- no tag has a role
 abbrev pub kind_of : EntityType → Option ExportKind

@@ -1,6 +1,6 @@
 //! The lower layer.
 
-ghost use Rattle.std.specs.Prelude.{◌≡◌};
+ghost use Rattle.std.specs.Prelude.{◌≡◌, false};
 
 use crate::decoding::decode;
 use crate::fault::LowerFault;
@@ -24,7 +24,7 @@ pub struct PackageLower {
 impl PackageLower {
     /// The layer that takes both forms of names.
     pub fn new() -> PackageLower
-        ensures { result ≡ record { reject_legacy_names = Bool.false } }
+        ensures { result ≡ record { reject_legacy_names = false } }
     {
         PackageLower {
             reject_legacy_names: false,

@@ -56,7 +56,7 @@ fn left_out(fault: PackageFault) -> Option<&'static str>
 
 /// The refusal of a package.
 fn refuse(alloc: Global, section: usize, fault: PackageFault) -> Result<Record, Failure>
-    ensures { Gives (λ r. r) result (Err (refusal_of «section» fault)) }
+    ensures { Gives (λ r. r) result (Err (refusal_of section fault)) }
 {
     match left_out(fault) {
         Some(what) => {
@@ -87,7 +87,7 @@ fn record_of(alloc: Global, package: Package) -> Record
 }
 
 fn of_package(alloc: Global, section: usize, text: &[u8]) -> Result<Record, Failure>
-    ensures { Gives (λ r. r) result (of_package «section» text.now) }
+    ensures { Gives (λ r. r) result (of_package section text.now) }
 {
     match read_package(alloc, text) {
         Ok(package) => Ok(record_of(alloc, package)),
@@ -107,7 +107,7 @@ fn of_package(alloc: Global, section: usize, text: &[u8]) -> Result<Record, Fail
 
 /// What the text of a section says.
 fn of_text(alloc: Global, section: usize, text: &[u8]) -> Result<Record, Failure>
-    ensures { Gives (λ r. r) result (of_text «section» text.now) }
+    ensures { Gives (λ r. r) result (of_text section text.now) }
 {
     if is_binary(text) {
         return of_package(alloc, section, text);

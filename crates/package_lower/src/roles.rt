@@ -5,7 +5,7 @@ ghost use Rattle.std.specs.Map.{lookup};
 ghost use Rattle.record_values.specs.Names.{is_same_import};
 ghost use Rattle.std.specs.Str.{bytes_eq};
 ghost use Rattle.package_lower.specs.Faults.{Gives};
-ghost use Rattle.package_lower.specs.Roles.{import_name, kind_of, exported_kind, of_adapter, refused, as_import, import_by_kind, named_import, with_role, import_step, imports_after, as_export, export_by_kind, named_export, with_export_role, export_step, exports_after};
+ghost use Rattle.package_lower.specs.Roles.{left_out, several, import_name, kind_of, exported_kind, of_adapter, refused, as_import, import_by_kind, named_import, with_role, import_step, imports_after, as_export, export_by_kind, named_export, with_export_role, export_step, exports_after};
 
 use crate::fault::{Failure, Refusal};
 use comp_lists::{Keyed, Text};
@@ -19,19 +19,30 @@ use standard_kinds::ExportKind;
 use std::alloc::{AllocError, Global};
 use world_names::WorldNames;
 
+/// The refusal of what is left out, by this name.
+fn left_out<T>(alloc: Global, what: &str) -> Result<T, Failure>
+    ensures { Gives (λ x. x) result (Err (left_out what.now)) }
+{
+    let what = Text::from_str(alloc, what)?;
+    Err(Failure::Refused(Refusal::Plain(PlainRefusal::LeftOut { what })))
+}
+
+/// The refusal of a name that can be read in two ways.
+fn several<T>(alloc: Global, name: &Text) -> Result<T, Failure>
+    ensures { Gives (λ x. x) result (Err (several name.now)) }
+{
+    let name = name.clone(alloc)?;
+    Err(Failure::Refused(Refusal::SeveralMeanings { name }))
+}
+
 /// The refusal of a name.
 fn refuse<T>(alloc: Global, refusal: NameRefusal, name: &Text) -> Result<T, Failure>
     ensures { Gives (λ x. x) result (Err (refused refusal name.now)) }
 {
-    let name = name.clone(alloc)?;
     match refusal {
-        NameRefusal::SeveralMeanings => Err(Failure::Refused(Refusal::SeveralMeanings { name })),
-        NameRefusal::NotEncoded => Err(Failure::Refused(Refusal::Plain(PlainRefusal::LeftOut {
-            what: name,
-        }))),
-        NameRefusal::WideMemory => Err(Failure::Refused(Refusal::Plain(PlainRefusal::LeftOut {
-            what: name,
-        }))),
+        NameRefusal::SeveralMeanings => several(alloc, name),
+        NameRefusal::NotEncoded => left_out(alloc, name.as_str()),
+        NameRefusal::WideMemory => left_out(alloc, "cm64p2"),
     }
 }
 
