@@ -1,0 +1,32 @@
+-- Writing one value after another, as loops do: what is written, and what is still to be written, is the whole.
+use Rattle.std.proofs.Common.{◌≡◌, ℕ, ◌<◌, ◌+◌, List, [], ◌∷◌, ◌++◌, Result, Ok, Err, refl, sym, ap, subst, ◌∙◌, append_assoc}
+use Rattle.std.specs.List.{AllByRecursion}
+use Rattle.std.proofs.lemmas.List.{append-nil}
+use Rattle.byte_encoding.specs.Encoding.{Encoding, Fits, ◌⊕◌, raw}
+use Rattle.byte_encoding.specs.Written.{Writes, Refused}
+use Rattle.byte_encoding.specs.declared.fault.BuildFault.{BuildFault}
+use Rattle.byte_encoding.proofs.Pieces.{fits_append, refused_left, refused_right}
+
+pub record Remains (old new : List ℕ) (rest all : Encoding) : Type 0 where
+  pub bytes : new ++ rest.bytes ≡ old ++ all.bytes
+  pub fits : Fits rest.counts → Fits all.counts
+  pub refused : (e : BuildFault) → Refused rest.counts e → Refused all.counts e
+
+pub all_remains : (old : List ℕ) (all : Encoding) → Remains old old all all
+all_remains old all = record { bytes = refl; fits = λ f. f; refused = λ e r. r }
+
+-- a piece of the rest was written
+pub one_written : (old mid new : List ℕ) (piece rest all : Encoding) → Remains old mid (piece ⊕ rest) all → new ≡ mid ++ piece.bytes → Fits piece.counts → Remains old new rest all
+one_written old mid new piece rest all r e f = record {
+  bytes = ap (λ m. m ++ rest.bytes) e ∙ append_assoc mid piece.bytes rest.bytes ∙ r.bytes;
+  fits = λ g. r.fits (fits_append piece.counts rest.counts f g);
+  refused = λ d q. r.refused d (refused_right d piece.counts rest.counts q);
+}
+
+-- a piece of the rest was refused
+pub one_refused : (old mid new : List ℕ) (piece rest all : Encoding) (e : BuildFault) → Remains old mid (piece ⊕ rest) all → Refused piece.counts e → Refused all.counts e
+one_refused old mid new piece rest all e r q = r.refused e (refused_left e piece.counts rest.counts q)
+
+-- nothing is left
+pub all_written : (old new : List ℕ) (all : Encoding) → Remains old new (raw []) all → (new ≡ old ++ all.bytes) × Fits all.counts
+all_written old new all r = (sym (append-nil new) ∙ r.bytes, r.fits tt)
