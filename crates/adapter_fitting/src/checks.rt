@@ -78,10 +78,7 @@ fn has_bodies(
     }
 }
 
-fn exports_in(
-    alloc: Global,
-    exports: Option<PlacedSection<'_>>,
-) -> Result<Vec<ExportedIndex>, Stop>
+fn exports_in(alloc: Global, exports: Option<PlacedSection<'_>>) -> Result<Vec<ExportedIndex>, Stop>
     ensures { Gives (λ v. v.items) result (exports_in (option_map placed_view exports)) }
 {
     let Some(section) = exports else {

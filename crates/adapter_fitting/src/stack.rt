@@ -49,10 +49,7 @@ fn names_in<'a>(alloc: Global, section: PlacedSection<'a>) -> Result<Vec<GlobalN
 }
 
 /// The names of globals that these sections hold.
-fn names_of<'a>(
-    alloc: Global,
-    sections: &[PlacedSection<'a>],
-) -> Result<Vec<GlobalName<'a>>, Stop>
+fn names_of<'a>(alloc: Global, sections: &[PlacedSection<'a>]) -> Result<Vec<GlobalName<'a>>, Stop>
     ensures { Gives (λ v. map name_view v.items) result
         (names_of (map placed_view sections.now)) }
 {
@@ -69,10 +66,12 @@ fn is_variable(entity: Option<&EntityType>) -> bool
     ensures { result ≡ is_variable (option_map (λ e. e.now) entity) }
 {
     match entity {
-        Some(EntityType::Global {
-            val_type: ValType::I32,
-            mutable,
-        }) => *mutable,
+        Some(
+            EntityType::Global {
+                val_type: ValType::I32,
+                mutable,
+            },
+        ) => *mutable,
         _ => false,
     }
 }

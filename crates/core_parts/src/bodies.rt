@@ -15,7 +15,8 @@ fn read_bodies(
     count: u32,
     bytes: &[u8],
 ) -> Result<Option<(Vec<&[u8]>, &[u8])>, AllocError>
-    ensures { IfOk result (λ o. option_map (λ x. (map (λ b. b.now) x.0.items, x.1.now)) o ≡ items_at bytes_at count bytes.now) }
+    ensures { IfOk result (λ o. option_map (λ x. (map (λ b. b.now) x.0.items, x.1.now)) o
+        ≡ items_at bytes_at count bytes.now) }
 {
     let mut bodies = Vec::new(alloc);
     let mut rest = bytes;
@@ -32,7 +33,8 @@ fn read_bodies(
 /// The bodies of the functions in a section of code with these contents, without their sizes, if it can be read.
 #[tactic(auto, unfolding(core_sections::specs::Reading::all_of, core_sections::specs::Reading::vec_at))]
 pub fn function_bodies(alloc: Global, contents: &[u8]) -> Result<Option<Vec<&[u8]>>, AllocError>
-    ensures { IfOk result (λ o. option_map (λ v. map (λ b. b.now) v.items) o ≡ bodies_of contents.now) }
+    ensures { IfOk result (λ o. option_map (λ v. map (λ b. b.now) v.items) o
+        ≡ bodies_of contents.now) }
 {
     let Some((count, rest)) = read_number(contents) else {
         return Ok(None);

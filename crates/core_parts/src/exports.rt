@@ -31,7 +31,8 @@ fn read_indices(
     count: u32,
     bytes: &[u8],
 ) -> Result<Option<(Vec<ExportedIndex>, &[u8])>, AllocError>
-    ensures { IfOk result (λ o. option_map (λ x. (x.0.items, x.1.now)) o ≡ items_at index_at count bytes.now) }
+    ensures { IfOk result (λ o. option_map (λ x. (x.0.items, x.1.now)) o
+        ≡ items_at index_at count bytes.now) }
 {
     let mut indices = Vec::new(alloc);
     let mut rest = bytes;

@@ -30,7 +30,8 @@ fn read_names(
     count: u32,
     bytes: &[u8],
 ) -> Result<Option<(Vec<GlobalName<'_>>, &[u8])>, AllocError>
-    ensures { IfOk result (λ o. option_map (λ x. (map name_view x.0.items, x.1.now)) o ≡ items_at named_at count bytes.now) }
+    ensures { IfOk result (λ o. option_map (λ x. (map name_view x.0.items, x.1.now)) o
+        ≡ items_at named_at count bytes.now) }
 {
     let mut names = Vec::new(alloc);
     let mut rest = bytes;
@@ -47,7 +48,8 @@ fn read_names(
 /// A map of names, and nothing after it.
 #[tactic(auto, unfolding(core_sections::specs::Reading::all_of, core_sections::specs::Reading::vec_at))]
 fn read_map(alloc: Global, contents: &[u8]) -> Result<Option<Vec<GlobalName<'_>>>, AllocError>
-    ensures { IfOk result (λ o. option_map (λ v. map name_view v.items) o ≡ all_of named_at contents.now) }
+    ensures { IfOk result (λ o. option_map (λ v. map name_view v.items) o
+        ≡ all_of named_at contents.now) }
 {
     let Some((count, rest)) = read_number(contents) else {
         return Ok(None);
@@ -68,7 +70,8 @@ fn names_in(
     id: u8,
     contents: &[u8],
 ) -> Result<Option<Vec<GlobalName<'_>>>, AllocError>
-    ensures { IfOk result (λ o. option_map (λ v. map name_view v.items) o ≡ names_in id contents.now) }
+    ensures { IfOk result (λ o. option_map (λ v. map name_view v.items) o
+        ≡ names_in id contents.now) }
 {
     if id == 7 {
         read_map(alloc, contents)
@@ -79,7 +82,8 @@ fn names_in(
 
 /// The names of globals in a section of names, if it can be read.
 pub fn global_names(alloc: Global, bytes: &[u8]) -> Result<Option<Vec<GlobalName<'_>>>, AllocError>
-    ensures { IfOk result (λ o. option_map (λ v. map name_view v.items) o ≡ global_names_of bytes.now) }
+    ensures { IfOk result (λ o. option_map (λ v. map name_view v.items) o
+        ≡ global_names_of bytes.now) }
 {
     let mut names = Vec::new(alloc);
     let mut rest = bytes;

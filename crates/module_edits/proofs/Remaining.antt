@@ -2,7 +2,8 @@
 use Rattle.std.proofs.Common.{◌≡◌, ℕ, ◌<◌, ◌+◌, List, [], ◌∷◌, ◌++◌, Result, Ok, Err, refl, sym, ap, subst, ◌∙◌, append_assoc}
 use Rattle.std.specs.List.{AllByRecursion}
 use Rattle.std.proofs.lemmas.List.{append-nil}
-use Rattle.byte_encoding.specs.Encoding.{Encoding, Fits, ◌⊕◌, raw}
+use Rattle.std.proofs.lemmas.List.Concat.{flat_map-cons}
+use Rattle.byte_encoding.specs.Encoding.{Encoding, Fits, ◌⊕◌, raw, each}
 use Rattle.byte_encoding.specs.Written.{Writes, Refused}
 use Rattle.byte_encoding.specs.declared.fault.BuildFault.{BuildFault}
 use Rattle.byte_encoding.proofs.Pieces.{fits_append, refused_left, refused_right}
@@ -30,3 +31,22 @@ one_refused old mid new piece rest all e r q = r.refused e (refused_left e piece
 -- nothing is left
 pub all_written : (old new : List ℕ) (all : Encoding) → Remains old new (raw []) all → (new ≡ old ++ all.bytes) × Fits all.counts
 all_written old new all r = (sym (append-nil new) ∙ r.bytes, r.fits tt)
+
+each_cons : {A : Type 0} (f : A → Encoding) (x : A) (xs : List A) → each f (x ∷ xs) ≡ f x ⊕ each f xs
+each_cons f x xs = rw (flat_map-cons (λ y. (f y).bytes) x xs, flat_map-cons (λ y. (f y).counts) x xs) refl
+
+-- the next of several pieces was written
+pub next_written : {A : Type 0} (f : A → Encoding) (old mid new : List ℕ) (x : A) (rest xs : List A) (all : Encoding) → rest ≡ x ∷ xs → Remains old mid (each f rest) all
+    → new ≡ mid ++ (f x).bytes → Fits (f x).counts → Remains old new (each f xs) all
+next_written f old mid new x rest xs all e r written fits =
+    one_written old mid new (f x) (each f xs) all (subst (λ (s : Encoding). Remains old mid s all) (ap (each f) e ∙ each_cons f x xs) r) written fits
+
+-- the next of several pieces was refused
+pub next_refused : {A : Type 0} (f : A → Encoding) (old mid : List ℕ) (x : A) (rest xs : List A) (all : Encoding) (e : BuildFault) → rest ≡ x ∷ xs → Remains old mid (each f rest) all
+    → Refused (f x).counts e → Refused all.counts e
+next_refused f old mid x rest xs all e q r refused =
+    one_refused old mid mid (f x) (each f xs) all e (subst (λ (s : Encoding). Remains old mid s all) (ap (each f) q ∙ each_cons f x xs) r) refused
+
+-- no pieces are left
+pub none_left : {A : Type 0} (f : A → Encoding) (old new : List ℕ) (rest : List A) (all : Encoding) → rest ≡ [] → Remains old new (each f rest) all → (new ≡ old ++ all.bytes) × Fits all.counts
+none_left f old new rest all e r = all_written old new all (subst (λ (xs : List A). Remains old new (each f xs) all) e r)

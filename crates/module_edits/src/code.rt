@@ -2,14 +2,14 @@
 #![tactic(auto, using(byte_encoding::proofs::Pieces::writing))]
 
 ghost use Rattle.std.specs.Prelude.{◌≡◌, ◌≤◌, ◌+◌, ◌-◌, ◌++◌, ◌^◌, ℕ, Bool, length, map, take};
-ghost use Rattle.std.specs.Prelude.{IfOk};
+ghost use Rattle.std.specs.Prelude.{◌||◌, IfOk, OnOk};
 ghost use Rattle.std.specs.BTreeSet.{contains};
 ghost use Rattle.std.specs.Ordering.{nat_cmp};
 ghost use Rattle.byte_encoding.specs.Encoding.{raw, octet, number, quantity, each, named, sized};
 ghost use Rattle.byte_encoding.specs.Encoding.{Encoding, ◌⊕◌};
 ghost use Rattle.byte_encoding.specs.Written.{Writes};
 ghost use Rattle.core_bytes.specs.Modules.{with_id};
-ghost use Rattle.core_parts.specs.Functions.{is_exported, bodies_of};
+ghost use Rattle.core_parts.specs.Functions.{is_of, is_exported, bodies_of};
 ghost use Rattle.module_edits.specs.Additions.{added_view, call_of, entered, entered_if, bodies_from};
 ghost use Rattle.module_edits.specs.Additions.{code_of};
 
@@ -22,12 +22,7 @@ use std::alloc::{AllocError, Global};
 use std::collections::BTreeSet;
 
 /// A body with this instruction in front of its code.
-fn entered_at(
-    alloc: Global,
-    call: &[u8],
-    body: &[u8],
-    code: &[u8],
-) -> Result<Vec<u8>, AllocError>
+fn entered_at(alloc: Global, call: &[u8], body: &[u8], code: &[u8]) -> Result<Vec<u8>, AllocError>
     requires { length code.now ≤ length body.now }
     ensures { IfOk result
         (λ v. v.items ≡ take (length body.now - length code.now) body.now ++ call.now ++ code.now) }
@@ -64,17 +59,38 @@ fn put_body(out: &mut Vec<u8>, calls: bool, call: &[u8], body: &[u8]) -> Result<
     }
 }
 
+/// Adds what this export is of, if it is a function.
+fn add_exported(functions: &mut BTreeSet<u128>, export: ExportedIndex) -> Result<(), AllocError>
+    ensures { OnOk result ((q : ℕ) →
+        contains nat_cmp functions.new q ≡ (contains nat_cmp functions.old q || is_of q export)) }
+{
+    if export.kind == 0 {
+        functions.insert(export.index as u128)?;
+    }
+    Ok(())
+}
+
+/// Adds the functions that are exported.
+fn add_all_exported(
+    functions: &mut BTreeSet<u128>,
+    exports: &[ExportedIndex],
+) -> Result<(), AllocError>
+    ensures { OnOk result ((q : ℕ) → contains nat_cmp functions.new q
+        ≡ (contains nat_cmp functions.old q || is_exported exports.now q)) }
+{
+    for export in exports {
+        add_exported(functions, *export)?;
+    }
+    Ok(())
+}
+
 /// The functions that are exported.
 fn exported(alloc: Global, exports: &[ExportedIndex]) -> Result<BTreeSet<u128>, AllocError>
     ensures { IfOk result
         (λ set. (q : ℕ) → contains nat_cmp set q ≡ is_exported exports.now q) }
 {
     let mut functions = BTreeSet::new(alloc);
-    for export in exports {
-        if export.kind == 0 {
-            functions.insert(export.index as u128)?;
-        }
-    }
+    add_all_exported(&mut functions, exports)?;
     Ok(functions)
 }
 
@@ -108,7 +124,7 @@ fn put_all(
 ) -> Result<(), BuildFault>
     ensures { Writes out.old.items out.new.items result (quantity (length bodies.now + 1)
         ⊕ each named (bodies_from exports.now (call_of new.index) first
-            (map (λ b. b.now) bodies.now))
+        (map (λ b. b.now) bodies.now))
         ⊕ named new.body.now) }
 {
     let functions = exported(*out.allocator(), exports)?;
@@ -146,7 +162,7 @@ pub(crate) fn put_code_section(
 ) -> Result<(), BuildFault>
     ensures { Writes out.old.items out.new.items result (with_id 10
         (code_of exports.now first (added_view new) contents.now
-            (bodies_of contents.now))) }
+        (bodies_of contents.now))) }
 {
     let mut buffer = Vec::new(*out.allocator());
     put_code(&mut buffer, exports, first, new, contents)?;

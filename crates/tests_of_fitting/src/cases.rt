@@ -13,10 +13,7 @@ fn refused(alloc: Global, fault: FitFault) -> Result<String, AllocError> {
 }
 
 /// The digits of a module that was changed, or that it is as it was, or the fault.
-fn changed(
-    alloc: Global,
-    bytes: Result<Option<Vec<u8>>, FitFault>,
-) -> Result<String, AllocError> {
+fn changed(alloc: Global, bytes: Result<Option<Vec<u8>>, FitFault>) -> Result<String, AllocError> {
     match bytes {
         Ok(Some(bytes)) => hex::encode(alloc, &bytes),
         Ok(None) => String::from_str(alloc, "as it was"),

@@ -1,0 +1,25 @@
+-- Names of several sections, one after the other.
+use Rattle.std.proofs.Common.{◌≡◌, ◌∙◌, List, [], ◌∷◌, ◌++◌, Result, Ok, Err, refl, sym, ap, append_assoc}
+use Rattle.core_parts.specs.Names.{Named}
+use Rattle.adapter_fitting.specs.declared.fault.Refusal.{Refusal}
+use Rattle.adapter_fitting.specs.Faults.{◌>>=◌}
+use Rattle.adapter_fitting.specs.Places.{Placed}
+use Rattle.adapter_fitting.specs.Stack.{names_in, names_of}
+
+-- what was read before, and what is still read
+abbrev pub behind : List Named → Result (List Named) Refusal → Result (List Named) Refusal
+behind front read = read >>= λ more. Ok (front ++ more)
+
+regroup : (front here : List Named) (read : Result (List Named) Refusal) → behind front (read >>= λ more. Ok (here ++ more)) ≡ behind (front ++ here) read
+regroup front here (Err e) = refl
+regroup front here (Ok more) = ap (λ (x : List Named). Ok x) (sym (append_assoc front here more))
+
+-- the names of the next section were read
+pub names_next : (front here : List Named) (s : Placed) (rest ss : List Placed) (total : Result (List Named) Refusal) → rest ≡ s ∷ ss → names_in s ≡ Ok here → behind front (names_of rest) ≡ total
+    → behind (front ++ here) (names_of ss) ≡ total
+names_next front here s rest ss total e h so_far =
+    sym (regroup front here (names_of ss)) ∙ ap (λ r. behind front (r >>= λ hs. names_of ss >>= λ more. Ok (hs ++ more))) (sym h) ∙ ap (λ r. behind front (names_of r)) (sym e) ∙ so_far
+
+-- the names of the next section can't be read
+pub names_stop : (front : List Named) (s : Placed) (rest ss : List Placed) (total : Result (List Named) Refusal) (r : Refusal) → rest ≡ s ∷ ss → names_in s ≡ Err r → behind front (names_of rest) ≡ total → total ≡ Err r
+names_stop front s rest ss total r e h so_far = sym so_far ∙ ap (λ t. behind front (names_of t)) e ∙ ap (λ x. behind front (x >>= λ hs. names_of ss >>= λ more. Ok (hs ++ more))) h
