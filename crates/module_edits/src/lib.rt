@@ -5,13 +5,16 @@
 //! in front of its instructions, behind its locals; one that is imported has no body, and stays as it is. All else is kept, byte for byte (`specs/Additions.antt`); the counts and sizes
 //! of what is changed are written the shortest way.
 //!
-//! In reading order: `additions` (the function), `entries` (lists with one more entry), `code` (bodies), `sections`.
+//! In reading order: `additions` (the function), `entries` (lists with one more entry), `code` (bodies),
+//! `sections`, `laws` (what holds of all modules that get one).
 #![tactic(auto)]
 
 mod additions;
 mod code;
 mod entries;
+mod laws;
 mod sections;
 
 pub use additions::NewFunction;
+pub use laws::sections_are_edited;
 pub use sections::put_with_function;
