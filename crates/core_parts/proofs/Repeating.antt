@@ -1,8 +1,10 @@
 -- Reading one part after the other, as loops do.
-use Rattle.std.proofs.Common.{◌≡◌, ℕ, zero, suc, ◌-◌, ◌+◌, ◌≤◌, ◌<◌, List, [], ◌∷◌, ◌++◌, length, true, false, Option, Some, None, refl, sym, ap, ◌∙◌, append_assoc, arith}
-use Rattle.std.specs.Prelude.{◌==◌, option_map}
+use Rattle.std.proofs.Common.{◌≡◌, ℕ, zero, suc, ◌-◌, ◌+◌, ◌^◌, ◌≤◌, ◌<◌, List, [], ◌∷◌, ◌++◌, length, true, false, Option, Some, None, refl, sym, ap, ◌∙◌, append_assoc, arith}
+use Rattle.std.specs.Prelude.{◌==◌, ◌||◌, Bool, if◌then◌else◌, option_map}
 use Rattle.std.proofs.lemmas.List.{append-nil}
-use Rattle.core_sections.specs.Numbers.{bytes_at}
+use Rattle.core_sections.specs.Numbers.{leb_at, bytes_at}
+use Rattle.core_parts.specs.Functions.{after_run, after_runs}
+use Rattle.core_parts.specs.Segments.{one_is_active}
 use Rattle.core_sections.specs.Reading.{◌>>=◌, items_at}
 use Rattle.core_sections.proofs.Repeated.{with_front}
 use Rattle.core_parts.specs.Names.{Named, names_in, names_from, global_names_of}
@@ -81,3 +83,30 @@ all_read front n = ap (λ (x : List Named). Some x) (append-nil front)
 
 pub names_end : (bytes : List ℕ) (front : List Named) → NamesLeft bytes [] front → Some front ≡ global_names_of bytes
 names_end bytes front r = sym (all_read front r.most) ∙ r.same
+
+-- ---- locals
+
+pub runs_step : (count i : ℕ) (rest : List ℕ) (total : Option (List ℕ)) → i < count → after_runs (count - i) rest ≡ total → (after_run rest >>= after_runs (count - (i + 1))) ≡ total
+unfolding after_runs
+runs_step count i rest total lt so_far = ap (λ n. after_runs n rest) (sym (one_less count i lt)) ∙ so_far
+
+pub no_run : (count i : ℕ) (rest : List ℕ) (total : Option (List ℕ)) → i < count → after_run rest ≡ None → after_runs (count - i) rest ≡ total → None ≡ total
+no_run count i rest total lt e so_far = ap (λ o. o >>= after_runs (count - (i + 1))) (sym e) ∙ runs_step count i rest total lt so_far
+
+pub one_run : (count i : ℕ) (rest after_it : List ℕ) (total : Option (List ℕ)) → i < count → after_run rest ≡ Some after_it → after_runs (count - i) rest ≡ total → after_runs (count - (i + 1)) after_it ≡ total
+one_run count i rest after_it total lt e so_far = ap (λ o. o >>= after_runs (count - (i + 1))) (sym e) ∙ runs_step count i rest total lt so_far
+
+pub no_runs : (count i : ℕ) (rest : List ℕ) (total : Option (List ℕ)) → count ≤ i → after_runs (count - i) rest ≡ total → Some rest ≡ total
+unfolding after_runs
+no_runs count i rest total le so_far = let none : count - i ≡ 0 = omega arith in sym (ap (λ n. after_runs n rest) none) ∙ so_far
+
+-- ---- segments
+
+pub segments_step : (count i : ℕ) (rest : List ℕ) (total : Option Bool) → i < count → one_is_active (count - i) rest ≡ total
+    → (leb_at (2 ^ 32) rest >>= λ flag. if flag.0 == 1 then (bytes_at flag.1 >>= λ c. one_is_active (count - (i + 1)) c.1) else if flag.0 == 0 || (flag.0 == 2) then Some true else None) ≡ total
+unfolding one_is_active
+segments_step count i rest total lt so_far = ap (λ n. one_is_active n rest) (sym (one_less count i lt)) ∙ so_far
+
+pub no_segments : (count i : ℕ) (rest : List ℕ) (total : Option Bool) → count ≤ i → one_is_active (count - i) rest ≡ total → (if length rest == 0 then Some false else None) ≡ total
+unfolding one_is_active
+no_segments count i rest total le so_far = let none : count - i ≡ 0 = omega arith in sym (ap (λ n. one_is_active n rest) none) ∙ so_far

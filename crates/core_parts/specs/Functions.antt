@@ -41,12 +41,17 @@ after_type bytes = do
   b ← byte_at bytes
   if b.0 == 0x63 || (b.0 == 0x64) then (leb_at (2 ^ 35) b.1 >>= λ h. Some h.1) else if is_short_type b.0 then Some b.1 else None
 
--- after so many entries of locals, each of which is a number and a type
+-- after an entry of locals, which is a number and a type
+unfoldable pub after_run : List ℕ → Option (List ℕ)
+after_run bytes = do
+  c ← leb_at (2 ^ 32) bytes
+  after_type c.1
+
+-- after so many of them
 unfoldable pub after_runs : ℕ → List ℕ → Option (List ℕ)
 after_runs zero bytes = Some bytes
 after_runs (suc n) bytes = do
-  c ← leb_at (2 ^ 32) bytes
-  rest ← after_type c.1
+  rest ← after_run bytes
   after_runs n rest
 
 -- The instructions of a body, which follow its locals.

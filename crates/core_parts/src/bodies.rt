@@ -3,7 +3,8 @@
 ghost use Rattle.std.specs.Prelude.{◌≡◌, ◌≤◌, length, map, IfOk, IfSome, option_map};
 ghost use Rattle.core_sections.specs.Numbers.{bytes_at};
 ghost use Rattle.core_sections.specs.Reading.{items_at};
-ghost use Rattle.core_parts.specs.Functions.{is_short_type, after_type, after_runs, bodies_of, instructions_of};
+ghost use Rattle.core_parts.specs.Functions.{is_short_type, after_type, after_run, after_runs};
+ghost use Rattle.core_parts.specs.Functions.{bodies_of, instructions_of};
 
 use crate::numbers::{read_below, read_byte, read_number};
 use core_sections::read_bytes;
@@ -72,6 +73,16 @@ fn skip_type(bytes: &[u8]) -> Option<&[u8]>
     }
 }
 
+/// What follows an entry of locals.
+#[tactic(auto, unfolding(crate::specs::Functions::after_run))]
+fn skip_run(bytes: &[u8]) -> Option<&[u8]>
+    ensures value { option_map (λ x. x.now) result ≡ after_run bytes.now }
+    ensures shorter { IfSome result (λ x. length x.now ≤ length bytes.now) }
+{
+    let (_, rest) = read_number(bytes)?;
+    skip_type(rest)
+}
+
 /// What follows so many entries of locals.
 fn skip_runs(count: u32, bytes: &[u8]) -> Option<&[u8]>
     ensures value { option_map (λ x. x.now) result ≡ after_runs count bytes.now }
@@ -79,8 +90,7 @@ fn skip_runs(count: u32, bytes: &[u8]) -> Option<&[u8]>
 {
     let mut rest = bytes;
     for _ in 0..count {
-        let (_, after) = read_number(rest)?;
-        rest = skip_type(after)?;
+        rest = skip_run(rest)?;
     }
     Some(rest)
 }

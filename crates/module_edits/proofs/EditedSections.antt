@@ -68,15 +68,15 @@ by_id es first f whole contents id h fits =
     elim (decided (id == 1)) [
       | inl one ↦ at_one id (eqb-true id 1 one) h fits
       | inr a ↦ elim (decided (id == 3)) [
-          | inl three ↦ at_three id (eqb-true id 3 three) h fits
-          | inr b ↦ elim (decided (id == 7)) [
-              | inl seven ↦ at_seven id (eqb-true id 7 seven) h fits
-              | inr c ↦ elim (decided (id == 10)) [
-                  | inl ten ↦ at_ten id (eqb-true id 10 ten) h fits
-                  | inr d ↦ subst IsSection (sym (another es first f whole contents id a b c d)) h
-                ]
-            ]
+        | inl three ↦ at_three id (eqb-true id 3 three) h fits
+        | inr b ↦ elim (decided (id == 7)) [
+          | inl seven ↦ at_seven id (eqb-true id 7 seven) h fits
+          | inr c ↦ elim (decided (id == 10)) [
+            | inl ten ↦ at_ten id (eqb-true id 10 ten) h fits
+            | inr d ↦ subst IsSection (sym (another es first f whole contents id a b c d)) h
+          ]
         ]
+      ]
     ]
   where
     at_one : (i : ℕ) → i ≡ 1 → IsSection (old whole i contents) → Fits (edited_section es first f whole i contents).counts → IsSection (edit es first f whole i contents)

@@ -1,2 +1,3 @@
 pub mod Remaining
 pub mod EditedSections
+pub mod Chosen

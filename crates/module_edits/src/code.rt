@@ -2,7 +2,7 @@
 #![tactic(auto, using(byte_encoding::proofs::Pieces::writing))]
 
 ghost use Rattle.std.specs.Prelude.{◌≡◌, ◌≤◌, ◌+◌, ◌-◌, ◌++◌, ◌^◌, ℕ, Bool, length, map, take};
-ghost use Rattle.std.specs.Prelude.{◌||◌, IfOk, OnOk};
+ghost use Rattle.std.specs.Prelude.{◌||◌, IfOk, OnOk, Some, []};
 ghost use Rattle.std.specs.BTreeSet.{contains};
 ghost use Rattle.std.specs.Ordering.{nat_cmp};
 ghost use Rattle.byte_encoding.specs.Encoding.{raw, octet, number, quantity, each, named, sized};
@@ -122,10 +122,8 @@ fn put_all(
     new: NewFunction<'_>,
     bodies: &[&[u8]],
 ) -> Result<(), BuildFault>
-    ensures { Writes out.old.items out.new.items result (quantity (length bodies.now + 1)
-        ⊕ each named (bodies_from exports.now (call_of new.index) first
-        (map (λ b. b.now) bodies.now))
-        ⊕ named new.body.now) }
+    ensures { Writes out.old.items out.new.items result (code_of exports.now first
+        (added_view new) [] (Some (map (λ b. b.now) bodies.now))) }
 {
     let functions = exported(*out.allocator(), exports)?;
     let call = encoded(*out.allocator(), &Instruction::Call(new.index))?;
