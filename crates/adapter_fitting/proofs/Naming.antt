@@ -2,7 +2,10 @@
 use Rattle.std.proofs.Common.{◌≡◌, ◌∙◌, List, [], ◌∷◌, ◌++◌, Result, Ok, Err, refl, sym, ap, append_assoc}
 use Rattle.core_parts.specs.Names.{Named}
 use Rattle.adapter_fitting.specs.declared.fault.Refusal.{Refusal}
-use Rattle.adapter_fitting.specs.Faults.{◌>>=◌}
+use Rattle.std.proofs.lemmas.List.{append-nil}
+use Rattle.adapter_fitting.specs.declared.fault.Stop.{Stop}
+use Rattle.adapter_fitting.specs.declared.fault.Stop.TheVariants as stops
+use Rattle.adapter_fitting.specs.Faults.{◌>>=◌, Gives}
 use Rattle.adapter_fitting.specs.Places.{Placed}
 use Rattle.adapter_fitting.specs.Stack.{names_in, names_of}
 
@@ -23,3 +26,15 @@ names_next front here s rest ss total e h so_far =
 -- the names of the next section can't be read
 pub names_stop : (front : List Named) (s : Placed) (rest ss : List Placed) (total : Result (List Named) Refusal) (r : Refusal) → rest ≡ s ∷ ss → names_in s ≡ Err r → behind front (names_of rest) ≡ total → total ≡ Err r
 names_stop front s rest ss total r e h so_far = sym so_far ∙ ap (λ t. behind front (names_of t)) e ∙ ap (λ x. behind front (x >>= λ hs. names_of ss >>= λ more. Ok (hs ++ more))) h
+
+pub behind_nothing : (read : Result (List Named) Refusal) → behind [] read ≡ read
+behind_nothing (Err e) = refl
+behind_nothing (Ok ns) = refl
+
+pub names_fail : {X : Type 0} (view : X → List Named) (e : Stop) (front : List Named) (s : Placed) (rest ss : List Placed) (total : Result (List Named) Refusal) → rest ≡ s ∷ ss → Gives view (Err e) (names_in s)
+    → behind front (names_of rest) ≡ total → Gives view (Err e) total
+names_fail view stops.Memory front s rest ss total e h so_far = tt
+names_fail view (stops.Refused r) front s rest ss total e h so_far = names_stop front s rest ss total r e h so_far
+
+pub names_end : (front : List Named) (rest : List Placed) (total : Result (List Named) Refusal) → rest ≡ [] → behind front (names_of rest) ≡ total → total ≡ Ok front
+names_end front rest total e so_far = sym so_far ∙ ap (λ r. behind front (names_of r)) e ∙ ap (λ (x : List Named). Ok x) (append-nil front)

@@ -1,5 +1,5 @@
 -- Writing one value after another, as loops do: what is written, and what is still to be written, is the whole.
-use Rattle.std.proofs.Common.{◌≡◌, ℕ, ◌<◌, ◌+◌, List, [], ◌∷◌, ◌++◌, Result, Ok, Err, refl, sym, ap, subst, ◌∙◌, append_assoc}
+use Rattle.std.proofs.Common.{◌≡◌, ℕ, zero, suc, ◌<◌, ◌≤◌, ◌+◌, List, [], ◌∷◌, ◌++◌, length, map, drop, drop-cons, get_or, add-one, Result, Ok, Err, refl, sym, ap, subst, ◌∙◌, append_assoc, arith}
 use Rattle.std.specs.List.{AllByRecursion}
 use Rattle.std.proofs.lemmas.List.{append-nil}
 use Rattle.std.proofs.lemmas.List.Concat.{flat_map-cons}
@@ -50,3 +50,16 @@ next_refused f old mid x rest xs all e q r refused =
 -- no pieces are left
 pub none_left : {A : Type 0} (f : A → Encoding) (old new : List ℕ) (rest : List A) (all : Encoding) → rest ≡ [] → Remains old new (each f rest) all → (new ≡ old ++ all.bytes) × Fits all.counts
 none_left f old new rest all e r = all_written old new all (subst (λ (xs : List A). Remains old new (each f xs) all) e r)
+
+-- ---- what is left of a list, seen by view
+
+pub next_of : {A B : Type 0} (view : A → B) (xs : List A) (k : ℕ) (x : A) → k < length xs → x ≡ get_or xs k x → map view (drop k xs) ≡ view x ∷ map view (drop (k + 1) xs)
+next_of view xs k x lt e =
+    let next : drop (k + 1) xs ≡ drop (suc k) xs = rw add-one refl in
+    ap (map view) (drop-cons xs k x lt) ∙ ap (λ y. view y ∷ map view (drop (suc k) xs)) (sym e) ∙ ap (λ ys. view x ∷ map view ys) (sym next)
+
+pub none_of : {A B : Type 0} (view : A → B) (xs : List A) (k : ℕ) → length xs ≤ k → map view (drop k xs) ≡ []
+none_of view [] zero le = refl
+none_of view [] (suc k) le = refl
+none_of view (x ∷ xs) zero le = absurd (omega (arith, le))
+none_of view (x ∷ xs) (suc k) le = none_of view xs k (omega (arith, le))

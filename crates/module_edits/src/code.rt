@@ -115,6 +115,7 @@ fn put_bodies(
 }
 
 /// Writes the bodies of a module, and that of the new function.
+#[tactic(auto, using(byte_encoding::proofs::Pieces::writing, crate::proofs::Bodies::held_length))]
 fn put_all(
     out: &mut Vec<u8>,
     exports: &[ExportedIndex],
