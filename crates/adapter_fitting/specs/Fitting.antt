@@ -6,7 +6,6 @@ use Rattle.core_sections.specs.Sections.{Piece, pieces_of}
 use Rattle.core_sections.specs.Entries.{module_of}
 use Rattle.core_sections.specs.declared.core_module.CoreModule.{CoreModule}
 use Rattle.core_types.specs.Grammar.{function_type}
-use Rattle.core_bytes.specs.Renaming.{bytes_in}
 use Rattle.core_parts.specs.Functions.{indices_of, bodies_of, instructions_of}
 use Rattle.core_parts.specs.declared.exports.ExportedIndex.{ExportedIndex}
 use Rattle.module_edits.specs.Additions.{with_function}
@@ -17,7 +16,7 @@ use Rattle.adapter_fitting.specs.declared.realloc.ReallocImport.{ReallocImport}
 use Rattle.adapter_fitting.specs.declared.indices.Indices.{Indices}
 use Rattle.adapter_fitting.specs.declared.indices.StackIndices.{StackIndices}
 use Rattle.adapter_fitting.specs.Faults.{◌>>=◌, or_refused, of_sections}
-use Rattle.adapter_fitting.specs.Places.{Placed, placed, first, misplaced}
+use Rattle.adapter_fitting.specs.Places.{Placed, placed, bytes_in, first, misplaced}
 use Rattle.adapter_fitting.specs.Stack.{stack_in, realloc_from, imported_from, is_realloc_type}
 use Rattle.adapter_fitting.specs.Allocation.{allocation_type, allocation}
 

@@ -17,6 +17,11 @@ abbrev pub placed : ℕ → List Piece → List Placed
 placed offset [] = []
 placed offset (p ∷ ps) = record { place = offset; piece = p } ∷ placed (offset + length p.whole) ps
 
+-- what a section holds: of a custom one what follows its name
+abbrev pub bytes_in : Body → List ℕ
+bytes_in (custom name bytes) = bytes
+bytes_in (coded id bytes) = bytes
+
 abbrev pub has_id : ℕ → Body → Bool
 has_id id (custom name bytes) = false
 has_id id (coded i bytes) = i == id

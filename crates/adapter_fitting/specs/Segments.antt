@@ -1,12 +1,11 @@
 -- Whether a module has active data segments (WebAssembly core specification, binary format, "Data section").
 use Rattle.std.specs.Prelude.{ℕ, Bool, true, false, List, [], ◌∷◌, Result, Ok, Err, if◌then◌else◌}
 use Rattle.core_sections.specs.Sections.{pieces_of}
-use Rattle.core_bytes.specs.Renaming.{bytes_in}
 use Rattle.core_parts.specs.Segments.{is_active}
 use Rattle.adapter_fitting.specs.declared.fault.Refusal.{Refusal}
 use Rattle.adapter_fitting.specs.declared.fault.Refusal.TheVariants as refusals
 use Rattle.adapter_fitting.specs.Faults.{◌>>=◌, or_refused, of_sections}
-use Rattle.adapter_fitting.specs.Places.{Placed, placed, has_id}
+use Rattle.adapter_fitting.specs.Places.{Placed, placed, bytes_in, has_id}
 
 -- whether a section has one: only one of data can
 abbrev pub has_active : Placed → Result Bool Refusal

@@ -10,16 +10,21 @@ use Rattle.core_sections.specs.declared.entries.FuncType.{FuncType}
 use Rattle.core_sections.specs.declared.entries.EntityType.{EntityType}
 use Rattle.core_sections.specs.declared.entries.EntityType.TheVariants as entities
 use Rattle.core_sections.specs.declared.entries.CoreImport.{CoreImport}
-use Rattle.core_bytes.specs.Renaming.{has_names, bytes_in}
+use Rattle.core_sections.specs.Sections.{Body, custom, coded}
 use Rattle.core_parts.specs.Names.{Named, global_names_of}
 use Rattle.adapter_fitting.specs.declared.fault.Refusal.{Refusal}
 use Rattle.adapter_fitting.specs.declared.fault.Refusal.TheVariants as refusals
 use Rattle.adapter_fitting.specs.declared.stack.StackGlobals.{StackGlobals}
 use Rattle.adapter_fitting.specs.declared.realloc.ReallocImport.{ReallocImport}
 use Rattle.adapter_fitting.specs.Faults.{◌>>=◌, or_refused}
-use Rattle.adapter_fitting.specs.Places.{Placed}
+use Rattle.adapter_fitting.specs.Places.{Placed, bytes_in}
 
 -- ---- globals
+
+-- whether a section is one of names
+abbrev pub has_names : Body → Bool
+has_names (custom name bytes) = bytes_eq name (codes "name")
+has_names (coded id bytes) = false
 
 -- the names of globals that a section holds
 abbrev pub names_in : Placed → Result (List Named) Refusal

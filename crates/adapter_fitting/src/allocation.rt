@@ -1,22 +1,17 @@
 //! The functions that are added to modules: their types, bodies and exports.
 #![tactic(auto, using(byte_encoding::proofs::Pieces::writing))]
 
-ghost use Rattle.std.specs.Prelude.{◌≡◌, ◌++◌, List, pos, negsuc};
+ghost use Rattle.std.specs.Prelude.{◌≡◌, ◌++◌, List};
 ghost use Rattle.byte_encoding.specs.Encoding.{raw, octet, number, quantity, each, named};
 ghost use Rattle.byte_encoding.specs.Encoding.{Encoding, ◌⊕◌};
 ghost use Rattle.byte_encoding.specs.Written.{Writes};
 ghost use Rattle.core_types.specs.Grammar.{function_type};
-ghost use Rattle.core_bytes.specs.Grammar.{instruction};
-ghost use Rattle.adapter_fitting.specs.Allocation.{state_code, stack_code, allocation};
+ghost use Rattle.adapter_fitting.specs.Allocation.{if_absent, set_state, stack_end, allocation};
 ghost use Rattle.adapter_fitting.specs.Allocation.{allocation_type, realloc_type, page_realloc};
 ghost use Rattle.adapter_fitting.specs.MainRealloc.{function_export, realloc_name};
 
 use crate::stack::StackGlobals;
-use byte_encoding::{BuildFault, put_bytes, put_count, put_each, put_index};
-use core_bytes::Instruction;
-
-/// The size of a stack, and of a page of memory.
-const PAGE: i32 = 65_536;
+use byte_encoding::{BuildFault, put_bytes, put_count, put_index, put_tagged};
 
 /// The type without parameters and results.
 pub(crate) fn allocation_type() -> &'static [u8]
@@ -33,36 +28,36 @@ pub(crate) fn realloc_type() -> &'static [u8]
 }
 
 /// Writes the test of the state.
-fn put_test(out: &mut Vec<u8>, globals: StackGlobals) -> Result<(), BuildFault>
-    ensures { Writes out.old.items out.new.items result (each instruction (state_code globals)) }
+fn put_test(out: &mut Vec<u8>, state: u32) -> Result<(), BuildFault>
+    ensures { Writes out.old.items out.new.items result (if_absent state) }
 {
-    let code = [
-        Instruction::GlobalGet(globals.state),
-        Instruction::I32Const(0),
-    ];
-    put_each(out, &code)
+    put_tagged(out, 0x23, &state)?;
+    put_bytes(out, &[0x41, 0x00])?;
+    put_bytes(out, &[0x46])?;
+    put_bytes(out, &[0x04, 0x40])?;
+    Ok(())
 }
 
-/// Writes what is done where the stack isn't there yet.
-fn put_stack(out: &mut Vec<u8>, realloc: u32, globals: StackGlobals) -> Result<(), BuildFault>
-    ensures { Writes out.old.items out.new.items result
-        (each instruction (stack_code realloc globals)) }
+/// Writes that the state becomes this value.
+fn put_state(out: &mut Vec<u8>, value: u8, state: u32) -> Result<(), BuildFault>
+    ensures { Writes out.old.items out.new.items result (set_state value state) }
 {
-    let code = [
-        Instruction::I32Const(1),
-        Instruction::GlobalSet(globals.state),
-        Instruction::I32Const(0),
-        Instruction::I32Const(0),
-        Instruction::I32Const(8),
-        Instruction::I32Const(PAGE),
-        Instruction::Call(realloc),
-        Instruction::I32Const(PAGE),
-        Instruction::I32Add,
-        Instruction::GlobalSet(globals.pointer),
-        Instruction::I32Const(2),
-        Instruction::GlobalSet(globals.state),
-    ];
-    put_each(out, &code)
+    put_bytes(out, &[0x41, value])?;
+    put_tagged(out, 0x24, &state)?;
+    Ok(())
+}
+
+/// Writes the end of what main's realloc answers with.
+fn put_stack_end(out: &mut Vec<u8>, realloc: u32) -> Result<(), BuildFault>
+    ensures { Writes out.old.items out.new.items result (stack_end realloc) }
+{
+    put_bytes(
+        out,
+        &[0x41, 0x00, 0x41, 0x00, 0x41, 0x08, 0x41, 0x80, 0x80, 0x04],
+    )?;
+    put_tagged(out, 0x10, &realloc)?;
+    put_bytes(out, &[0x41, 0x80, 0x80, 0x04, 0x6a])?;
+    Ok(())
 }
 
 /// Writes the body of the function that allocates a stack, where that isn't there yet.
@@ -74,12 +69,12 @@ pub(crate) fn put_allocation(
     ensures { Writes out.old.items out.new.items result (allocation realloc globals) }
 {
     put_bytes(out, &[0x00])?;
-    put_test(out, globals)?;
-    put_bytes(out, &[0x46])?;
-    put_bytes(out, &[0x04, 0x40])?;
-    put_stack(out, realloc, globals)?;
-    put_bytes(out, &[0x0b])?;
-    put_bytes(out, &[0x0b])?;
+    put_test(out, globals.state)?;
+    put_state(out, 1, globals.state)?;
+    put_stack_end(out, realloc)?;
+    put_tagged(out, 0x24, &globals.pointer)?;
+    put_state(out, 2, globals.state)?;
+    put_bytes(out, &[0x0b, 0x0b])?;
     Ok(())
 }
 

@@ -2,9 +2,8 @@
 
 ghost use Rattle.std.specs.Prelude.{◌≡◌, Ok, map, IfOk, option_map};
 ghost use Rattle.core_sections.specs.Sections.{view, body_view, pieces_of};
-ghost use Rattle.core_bytes.specs.Renaming.{bytes_in};
-ghost use Rattle.adapter_fitting.specs.Places.{placed_view, placed, has_id, first, rank, next_rank};
-ghost use Rattle.adapter_fitting.specs.Places.{misplaced};
+ghost use Rattle.adapter_fitting.specs.Places.{placed_view, placed, bytes_in, has_id, first, rank};
+ghost use Rattle.adapter_fitting.specs.Places.{next_rank, misplaced};
 
 use core_sections::{Content, Section};
 use std::alloc::{AllocError, Global};

@@ -2,11 +2,10 @@
 
 ghost use Rattle.std.specs.Prelude.{◌≡◌, List, map, codes, IfOk, option_map};
 ghost use Rattle.core_sections.specs.Sections.{body_view};
-ghost use Rattle.core_bytes.specs.Renaming.{has_names};
 ghost use Rattle.core_parts.specs.Names.{name_view};
 ghost use Rattle.adapter_fitting.specs.Faults.{Gives};
 ghost use Rattle.adapter_fitting.specs.Places.{placed_view};
-ghost use Rattle.adapter_fitting.specs.Stack.{names_in, names_of, is_variable, is_variable_of};
+ghost use Rattle.adapter_fitting.specs.Stack.{has_names, names_in, names_of, is_variable, is_variable_of};
 ghost use Rattle.adapter_fitting.specs.Stack.{variables, the_one, both, stack_of, stack_in};
 
 use crate::fault::{Refusal, Stop};

@@ -4,6 +4,7 @@ use Rattle.std.proofs.lemmas.List.{length-map}
 use Rattle.byte_encoding.specs.Encoding.{Encoding, Fits, each, named}
 use Rattle.byte_encoding.specs.Written.{Refused}
 use Rattle.byte_encoding.specs.declared.fault.BuildFault.{BuildFault}
+use Rattle.byte_encoding.specs.declared.fault.BuildFault.TheVariants as builds
 use Rattle.core_parts.specs.Functions.{is_exported}
 use Rattle.core_parts.specs.declared.exports.ExportedIndex.{ExportedIndex}
 use Rattle.module_edits.specs.Additions.{entered_if, bodies_from}
@@ -46,3 +47,7 @@ bodies_end es call first bs place old new le r = none_left named old new (left e
 
 pub held_length : (bs : List (Bor (List ℕ))) → length (map (λ b. b.now) bs) ≡ length bs
 held_length bs = length-map bs (λ b. b.now)
+
+pub no_counts : (counts : List ℕ) (e : BuildFault) → Refused [] e → Refused counts e
+no_counts counts builds.Memory r = tt
+no_counts counts (builds.TooMany n) r = absurd (omega (arith, r.1.1))

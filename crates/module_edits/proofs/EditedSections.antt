@@ -10,10 +10,9 @@ use Rattle.byte_encoding.specs.Encoding.{Encoding, Fits, ◌⊕◌, raw, number,
 use Rattle.byte_encoding.proofs.Numbers.{groups_end}
 use Rattle.core_sections.specs.Sections.{Body, custom, coded, Piece, preamble}
 use Rattle.core_sections.specs.Grammar.{IsNumber, IsSection, IsModule, holds_coded, holds_custom}
-use Rattle.core_bytes.specs.Modules.{with_id}
 use Rattle.core_parts.specs.Functions.{bodies_of}
 use Rattle.core_parts.specs.declared.exports.ExportedIndex.{ExportedIndex}
-use Rattle.module_edits.specs.Additions.{Added, one_more, code_of, with_export, edited_section, edited, with_function}
+use Rattle.module_edits.specs.Additions.{Added, one_more, code_of, with_id, with_export, edited_section, edited, with_function}
 use Rattle.module_edits.specs.Laws.{exports_after, contents_after, body_after, piece_after, SectionsEdited}
 
 -- ---- numbers that are written are numbers that are read

@@ -1,12 +1,9 @@
 -- A core module with one more function, its last, which each exported function calls before all that it does.
 -- Core standard, binary format: modules, type section, function section, export section, code section, instructions.
 use Rattle.std.specs.Prelude.{ℕ, ◌+◌, ◌-◌, ◌^◌, ◌==◌, Bool, List, [], ◌∷◌, ◌++◌, length, take, Option, Some, None, option_map, if◌then◌else◌}
-use Rattle.byte_encoding.specs.Encoding.{Encoding, ◌⊕◌, raw, number, quantity, each, named}
+use Rattle.byte_encoding.specs.Encoding.{Encoding, ◌⊕◌, raw, octet, number, quantity, each, named, sized}
 use Rattle.core_sections.specs.Numbers.{leb_at}
 use Rattle.core_sections.specs.Sections.{Body, custom, coded, Piece, preamble}
-use Rattle.core_bytes.specs.Grammar.{instruction}
-use Rattle.core_bytes.specs.Modules.{with_id}
-use Rattle.core_bytes.specs.declared.code.Instruction.TheVariants.{Call}
 use Rattle.core_parts.specs.Functions.{is_exported, bodies_of, instructions_of}
 use Rattle.core_parts.specs.declared.exports.ExportedIndex.{ExportedIndex}
 use Rattle.module_edits.specs.declared.additions.NewFunction.{NewFunction}
@@ -50,8 +47,9 @@ abbrev pub bodies_from : List ExportedIndex → List ℕ → ℕ → List (List 
 bodies_from es call index [] = []
 bodies_from es call index (b ∷ bs) = entered_if (is_exported es index) call b ∷ bodies_from es call (index + 1) bs
 
+-- `call`
 abbrev pub call_of : ℕ → List ℕ
-call_of function = (instruction (Call function)).bytes
+call_of function = (octet 0x10 ⊕ number function).bytes
 
 -- the contents of the section of code
 abbrev pub code_of : List ExportedIndex → ℕ → Added → List ℕ → Option (List (List ℕ)) → Encoding
@@ -59,6 +57,10 @@ code_of es first f contents None = raw contents
 code_of es first f contents (Some bs) = quantity (length bs + 1) ⊕ each named (bodies_from es (call_of f.index) first bs) ⊕ named f.body
 
 -- ---- sections
+
+-- what a section of this id holds, after its size
+abbrev pub with_id : ℕ → Encoding → Encoding
+with_id id s = octet id ⊕ sized s
 
 -- the section of exports, where the function is exported
 abbrev pub with_export : Option (List ℕ) → List ℕ → List ℕ → Encoding

@@ -2,24 +2,32 @@
 #![tactic(auto, using(byte_encoding::proofs::Pieces::writing))]
 
 ghost use Rattle.std.specs.Prelude.{◌≡◌, ◌≤◌, ◌+◌, ◌-◌, ◌++◌, ◌^◌, ℕ, Bool, length, map, take};
-ghost use Rattle.std.specs.Prelude.{◌||◌, IfOk, OnOk, Some, []};
+ghost use Rattle.std.specs.Prelude.{◌||◌, IfOk, IfErr, OnOk, Some, []};
 ghost use Rattle.std.specs.BTreeSet.{contains};
 ghost use Rattle.std.specs.Ordering.{nat_cmp};
 ghost use Rattle.byte_encoding.specs.Encoding.{raw, octet, number, quantity, each, named, sized};
 ghost use Rattle.byte_encoding.specs.Encoding.{Encoding, ◌⊕◌};
-ghost use Rattle.byte_encoding.specs.Written.{Writes};
-ghost use Rattle.core_bytes.specs.Modules.{with_id};
+ghost use Rattle.byte_encoding.specs.Written.{Writes, Refused};
 ghost use Rattle.core_parts.specs.Functions.{is_of, is_exported, bodies_of};
-ghost use Rattle.module_edits.specs.Additions.{added_view, call_of, entered, entered_if, bodies_from};
-ghost use Rattle.module_edits.specs.Additions.{code_of};
+ghost use Rattle.module_edits.specs.Additions.{added_view, with_id, call_of, entered, entered_if};
+ghost use Rattle.module_edits.specs.Additions.{bodies_from, code_of};
 
 use crate::additions::NewFunction;
 use crate::entries::put_blob;
-use byte_encoding::{BuildFault, encoded, put_bytes, put_count};
-use core_bytes::Instruction;
+use byte_encoding::{BuildFault, put_bytes, put_count, put_tagged};
 use core_parts::{ExportedIndex, function_bodies, instructions_of};
 use std::alloc::{AllocError, Global};
 use std::collections::BTreeSet;
+
+/// A call of a function, as an instruction.
+fn call_of(alloc: Global, function: u32) -> Result<Vec<u8>, BuildFault>
+    ensures ok { IfOk result (λ v. v.items ≡ call_of function) }
+    ensures refused { IfErr result (Refused []) }
+{
+    let mut call = Vec::new(alloc);
+    put_tagged(&mut call, 0x10, &function)?;
+    Ok(call)
+}
 
 /// A body with this instruction in front of its code.
 fn entered_at(alloc: Global, call: &[u8], body: &[u8], code: &[u8]) -> Result<Vec<u8>, AllocError>
@@ -115,7 +123,7 @@ fn put_bodies(
 }
 
 /// Writes the bodies of a module, and that of the new function.
-#[tactic(auto, using(byte_encoding::proofs::Pieces::writing, crate::proofs::Bodies::held_length))]
+#[tactic(auto, using(byte_encoding::proofs::Pieces::writing, crate::proofs::Bodies::held_length, crate::proofs::Bodies::no_counts))]
 fn put_all(
     out: &mut Vec<u8>,
     exports: &[ExportedIndex],
@@ -127,7 +135,7 @@ fn put_all(
         (added_view new) [] (Some (map (λ b. b.now) bodies.now))) }
 {
     let functions = exported(*out.allocator(), exports)?;
-    let call = encoded(*out.allocator(), &Instruction::Call(new.index))?;
+    let call = call_of(*out.allocator(), new.index)?;
     put_count(out, bodies.len() + 1)?;
     put_bodies(out, exports, &functions, call.as_slice(), first, bodies)?;
     put_blob(out, new.body)?;

@@ -5,8 +5,7 @@ ghost use Rattle.std.specs.Prelude.{◌≡◌, ◌+◌, length};
 ghost use Rattle.byte_encoding.specs.Encoding.{raw, octet, number, quantity, named, sized};
 ghost use Rattle.byte_encoding.specs.Encoding.{Encoding, ◌⊕◌};
 ghost use Rattle.byte_encoding.specs.Written.{Writes};
-ghost use Rattle.core_bytes.specs.Modules.{with_id};
-ghost use Rattle.module_edits.specs.Additions.{one_more, one_more_of};
+ghost use Rattle.module_edits.specs.Additions.{one_more, one_more_of, with_id};
 
 use byte_encoding::{BuildFault, put_bytes, put_count, put_index};
 use core_parts::read_number;
