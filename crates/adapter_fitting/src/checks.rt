@@ -64,7 +64,7 @@ fn has_bodies(
     count: usize,
     code: Option<PlacedSection<'_>>,
 ) -> Result<(), Stop>
-    ensures { Gives (λ u. u) result (has_bodies end count (option_map placed_view code)) }
+    ensures { Gives (λ u. u) result (has_bodies end count (option_map placed_view code.entry)) }
 {
     let Some(section) = code else {
         return Err(Stop::Refused(Refusal::Code { place: end }));
@@ -79,7 +79,7 @@ fn has_bodies(
 }
 
 fn exports_in(alloc: Global, exports: Option<PlacedSection<'_>>) -> Result<Vec<ExportedIndex>, Stop>
-    ensures { Gives (λ v. v.items) result (exports_in (option_map placed_view exports)) }
+    ensures { Gives (λ v. v.items) result (exports_in (option_map placed_view exports.entry)) }
 {
     let Some(section) = exports else {
         return Ok(Vec::new(alloc));

@@ -14,7 +14,7 @@ use std::alloc::Global;
 
 /// Whether a section has one.
 fn has_active(section: PlacedSection<'_>) -> Result<bool, Stop>
-    ensures { Gives (λ b. b) result (has_active (placed_view section)) }
+    ensures { Gives (λ b. b) result (has_active (placed_view section.entry)) }
 {
     let content = section.section.content;
     if !has_id(11, content) {

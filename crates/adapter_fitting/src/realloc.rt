@@ -91,7 +91,7 @@ fn are_i32(count: usize, types: &[ValType]) -> bool
 
 /// Whether this is the type of a realloc: four numbers of 32 bits, and one as the result.
 pub(crate) fn is_realloc_type(ty: Option<&FuncType>) -> bool
-    ensures { result ≡ is_realloc_type (option_map (λ t. t.now) ty) }
+    ensures { result ≡ is_realloc_type (option_map (λ t. t.now) ty.entry) }
 {
     match ty {
         None => false,

@@ -33,7 +33,7 @@ fn has_names(content: Content<'_>) -> bool
 
 /// The names of globals that a section holds.
 fn names_in<'a>(alloc: Global, section: PlacedSection<'a>) -> Result<Vec<GlobalName<'a>>, Stop>
-    ensures { Gives (λ v. map name_view v.items) result (names_in (placed_view section)) }
+    ensures { Gives (λ v. map name_view v.items) result (names_in (placed_view section.entry)) }
 {
     let content = section.section.content;
     if !has_names(content) {
@@ -62,7 +62,7 @@ fn names_of<'a>(alloc: Global, sections: &[PlacedSection<'a>]) -> Result<Vec<Glo
 
 /// Whether this is a global of 32 bits that may be set.
 fn is_variable(entity: Option<&EntityType>) -> bool
-    ensures { result ≡ is_variable (option_map (λ e. e.now) entity) }
+    ensures { result ≡ is_variable (option_map (λ e. e.now) entity.entry) }
 {
     match entity {
         Some(
@@ -76,7 +76,7 @@ fn is_variable(entity: Option<&EntityType>) -> bool
 }
 
 fn is_variable_of(globals: &[EntityType], name: &[u8], given: GlobalName<'_>) -> bool
-    ensures { result ≡ is_variable_of globals.now name.now (name_view given) }
+    ensures { result ≡ is_variable_of globals.now name.now (name_view given.entry) }
 {
     given.name == name && is_variable(globals.get(given.index as usize))
 }

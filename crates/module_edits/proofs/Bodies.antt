@@ -8,7 +8,7 @@ use Rattle.byte_encoding.specs.declared.fault.BuildFault.TheVariants as builds
 use Rattle.core_parts.specs.Functions.{is_exported}
 use Rattle.core_parts.specs.declared.exports.ExportedIndex.{ExportedIndex}
 use Rattle.module_edits.specs.Additions.{entered_if, bodies_from}
-use Rattle.module_edits.proofs.Remaining.{Remains, all_remains, next_of, none_of, next_written, next_refused, none_left}
+use Rattle.module_edits.proofs.Remaining.{Remains, all_remains, next_at, none_of, next_written, none_left}
 
 -- what the slices hold
 abbrev pub held : List (Bor (List ℕ)) → List (List ℕ)
@@ -21,29 +21,22 @@ left es call first bs place = bodies_from es call (first + place) (held (drop pl
 pub bodies_start : (es : List ExportedIndex) (call : List ℕ) (first : ℕ) (bs : List (Bor (List ℕ))) (old : List ℕ) → Remains old old (each named (left es call first bs 0)) (each named (bodies_from es call first (held bs)))
 bodies_start es call first bs old = let same : first + 0 ≡ first = omega arith in subst (λ (k : ℕ). Remains old old (each named (bodies_from es call k (held bs))) (each named (bodies_from es call first (held bs)))) (sym same) (all_remains old _)
 
-next_left : (es : List ExportedIndex) (call : List ℕ) (first : ℕ) (bs : List (Bor (List ℕ))) (place : ℕ) (b : Bor (List ℕ)) → place < length bs → b ≡ get_or bs place b
-    → left es call first bs place ≡ entered_if (is_exported es (first + place)) call b.now ∷ left es call first bs (place + 1)
-next_left es call first bs place b lt e =
+next_left : (es : List ExportedIndex) (call : List ℕ) (first : ℕ) (bs : List (Bor (List ℕ))) (place : ℕ) (d : Bor (List ℕ)) → place < length bs
+    → left es call first bs place ≡ entered_if (is_exported es (first + place)) call (get_or bs place d).now ∷ left es call first bs (place + 1)
+next_left es call first bs place d lt =
     let same : first + place + 1 ≡ first + (place + 1) = omega arith in
-    ap (bodies_from es call (first + place)) (next_of (λ x. x.now) bs place b lt e) ∙ ap (λ k. entered_if (is_exported es (first + place)) call b.now ∷ bodies_from es call k (held (drop (place + 1) bs))) same
+    ap (bodies_from es call (first + place)) (next_at (λ (x : Bor (List ℕ)). x.now) bs place d lt) ∙ ap (λ k. entered_if (is_exported es (first + place)) call (get_or bs place d).now ∷ bodies_from es call k (held (drop (place + 1) bs))) same
 
-pub body_written : (es : List ExportedIndex) (call : List ℕ) (first : ℕ) (bs : List (Bor (List ℕ))) (place : ℕ) (b : Bor (List ℕ)) (calls : Bool) (old mid new : List ℕ) → place < length bs → b ≡ get_or bs place b → calls ≡ is_exported es (first + place)
-    → Remains old mid (each named (left es call first bs place)) (each named (bodies_from es call first (held bs))) → (new ≡ mid ++ (named (entered_if calls call b.now)).bytes) × Fits (named (entered_if calls call b.now)).counts
+pub body_written : (es : List ExportedIndex) (call : List ℕ) (first : ℕ) (bs : List (Bor (List ℕ))) (place : ℕ) (d : Bor (List ℕ)) (calls : Bool) (old mid new : List ℕ) → place < length bs → calls ≡ is_exported es (first + place)
+    → Remains old mid (each named (left es call first bs place)) (each named (bodies_from es call first (held bs))) → (new ≡ mid ++ (named (entered_if calls call (get_or bs place d).now)).bytes) × Fits (named (entered_if calls call (get_or bs place d).now)).counts
     → Remains old new (each named (left es call first bs (place + 1))) (each named (bodies_from es call first (held bs)))
-body_written es call first bs place b calls old mid new lt e same r w =
-    let given = subst (λ (t : Bool). (new ≡ mid ++ (named (entered_if t call b.now)).bytes) × Fits (named (entered_if t call b.now)).counts) same w in
-    next_written named old mid new (entered_if (is_exported es (first + place)) call b.now) (left es call first bs place) (left es call first bs (place + 1)) _ (next_left es call first bs place b lt e) r given.0 given.1
-
-pub body_refused : (es : List ExportedIndex) (call : List ℕ) (first : ℕ) (bs : List (Bor (List ℕ))) (place : ℕ) (b : Bor (List ℕ)) (calls : Bool) (old mid : List ℕ) (f : BuildFault) → place < length bs → b ≡ get_or bs place b → calls ≡ is_exported es (first + place)
-    → Remains old mid (each named (left es call first bs place)) (each named (bodies_from es call first (held bs))) → Refused (named (entered_if calls call b.now)).counts f
-    → Refused (each named (bodies_from es call first (held bs))).counts f
-body_refused es call first bs place b calls old mid f lt e same r w =
-    next_refused named old mid (entered_if (is_exported es (first + place)) call b.now) (left es call first bs place) (left es call first bs (place + 1)) _ f (next_left es call first bs place b lt e) r
-    (subst (λ (t : Bool). Refused (named (entered_if t call b.now)).counts f) same w)
+body_written es call first bs place d calls old mid new lt same r w =
+    let given = subst (λ (t : Bool). (new ≡ mid ++ (named (entered_if t call (get_or bs place d).now)).bytes) × Fits (named (entered_if t call (get_or bs place d).now)).counts) same w in
+    next_written named old mid new (entered_if (is_exported es (first + place)) call (get_or bs place d).now) (left es call first bs place) (left es call first bs (place + 1)) _ (next_left es call first bs place d lt) r given.0 given.1
 
 pub bodies_end : (es : List ExportedIndex) (call : List ℕ) (first : ℕ) (bs : List (Bor (List ℕ))) (place : ℕ) (old new : List ℕ) → length bs ≤ place
     → Remains old new (each named (left es call first bs place)) (each named (bodies_from es call first (held bs))) → (new ≡ old ++ (each named (bodies_from es call first (held bs))).bytes) × Fits (each named (bodies_from es call first (held bs))).counts
-bodies_end es call first bs place old new le r = none_left named old new (left es call first bs place) _ (ap (bodies_from es call (first + place)) (none_of (λ x. x.now) bs place le)) r
+bodies_end es call first bs place old new le r = none_left named old new (left es call first bs place) _ (ap (bodies_from es call (first + place)) (none_of (λ (x : Bor (List ℕ)). x.now) bs place le)) r
 
 pub held_length : (bs : List (Bor (List ℕ))) → length (map (λ b. b.now) bs) ≡ length bs
 held_length bs = length-map bs (λ b. b.now)

@@ -49,7 +49,7 @@ next_refused f old mid x rest xs all e q r refused =
 
 -- no pieces are left
 pub none_left : {A : Type 0} (f : A → Encoding) (old new : List ℕ) (rest : List A) (all : Encoding) → rest ≡ [] → Remains old new (each f rest) all → (new ≡ old ++ all.bytes) × Fits all.counts
-none_left f old new rest all e r = all_written old new all (subst (λ (xs : List A). Remains old new (each f xs) all) e r)
+none_left {A = A} f old new rest all e r = all_written old new all (subst (λ (xs : List A). Remains old new (each f xs) all) e r)
 
 -- ---- what is left of a list, seen by view
 
@@ -63,3 +63,11 @@ none_of view [] zero le = refl
 none_of view [] (suc k) le = refl
 none_of view (x ∷ xs) zero le = absurd (omega (arith, le))
 none_of view (x ∷ xs) (suc k) le = none_of view xs k (omega (arith, le))
+
+pub next_at : {A B : Type 0} (view : A → B) (xs : List A) (k : ℕ) (d : A) → k < length xs → map view (drop k xs) ≡ view (get_or xs k d) ∷ map view (drop (k + 1) xs)
+next_at view xs k d lt = let next : drop (k + 1) xs ≡ drop (suc k) xs = rw add-one refl in ap (map view) (drop-cons xs k d lt) ∙ ap (λ ys. view (get_or xs k d) ∷ map view ys) (sym next)
+
+-- the next of several items, seen by view, was written
+pub section_written : {A B : Type 0} (view : A → B) (f : B → Encoding) (xs : List A) (k : ℕ) (d : A) (old mid new : List ℕ) (all : Encoding) → k < length xs → Remains old mid (each f (map view (drop k xs))) all
+    → (new ≡ mid ++ (f (view (get_or xs k d))).bytes) × Fits (f (view (get_or xs k d))).counts → Remains old new (each f (map view (drop (k + 1) xs))) all
+section_written view f xs k d old mid new all lt r w = next_written f old mid new (view (get_or xs k d)) (map view (drop k xs)) (map view (drop (k + 1) xs)) all (next_at view xs k d lt) r w.0 w.1

@@ -115,9 +115,10 @@ fn put_bodies(
     ensures { Writes out.old.items out.new.items result
         (each named (bodies_from exports.now call.now first (map (λ b. b.now) bodies.now))) }
 {
-    for (place, body) in bodies.iter().enumerate() {
-        let index = first as u128 + place as u128;
+    let mut index = first as u128;
+    for body in bodies {
         put_body(out, functions.contains(&index), call, body)?;
+        index += 1;
     }
     Ok(())
 }
@@ -132,7 +133,7 @@ fn put_all(
     bodies: &[&[u8]],
 ) -> Result<(), BuildFault>
     ensures { Writes out.old.items out.new.items result (code_of exports.now first
-        (added_view new) [] (Some (map (λ b. b.now) bodies.now))) }
+        (added_view new.entry) [] (Some (map (λ b. b.now) bodies.now))) }
 {
     let functions = exported(*out.allocator(), exports)?;
     let call = call_of(*out.allocator(), new.index)?;
@@ -151,7 +152,7 @@ fn put_code(
     contents: &[u8],
 ) -> Result<(), BuildFault>
     ensures { Writes out.old.items out.new.items result (code_of exports.now
-        first (added_view new) contents.now (bodies_of contents.now)) }
+        first (added_view new.entry) contents.now (bodies_of contents.now)) }
 {
     match function_bodies(*out.allocator(), contents)? {
         None => put_bytes(out, contents),
@@ -168,7 +169,7 @@ pub(crate) fn put_code_section(
     contents: &[u8],
 ) -> Result<(), BuildFault>
     ensures { Writes out.old.items out.new.items result (with_id 10
-        (code_of exports.now first (added_view new) contents.now
+        (code_of exports.now first (added_view new.entry) contents.now
         (bodies_of contents.now))) }
 {
     let mut buffer = Vec::new(*out.allocator());

@@ -24,7 +24,7 @@ fn put_exports(
     contents: &[u8],
 ) -> Result<(), BuildFault>
     ensures { Writes out.old.items out.new.items result
-        (with_export (added_view new).export whole.now contents.now) }
+        (with_export (added_view new.entry).export whole.now contents.now) }
 {
     match new.export {
         None => put_bytes(out, whole),
@@ -43,7 +43,7 @@ fn put_coded(
     contents: &[u8],
 ) -> Result<(), BuildFault>
     ensures { Writes out.old.items out.new.items result (edited_section
-        exports.now first (added_view new) whole.now id contents.now) }
+        exports.now first (added_view new.entry) whole.now id contents.now) }
 {
     match id {
         1 => put_longer_section(out, 1, contents, new.func_type),
@@ -63,7 +63,7 @@ fn put_section(
     section: Section<'_>,
 ) -> Result<(), BuildFault>
     ensures { Writes out.old.items out.new.items result
-        (edited exports.now first (added_view new) (view section)) }
+        (edited exports.now first (added_view new.entry) (view section.entry)) }
 {
     let Section { whole, content } = section;
     match content {
@@ -81,7 +81,7 @@ fn put_sections(
     sections: &[Section<'_>],
 ) -> Result<(), BuildFault>
     ensures { Writes out.old.items out.new.items result (each
-        (edited exports.now first (added_view new)) (map view sections.now)) }
+        (edited exports.now first (added_view new.entry)) (map view sections.now)) }
 {
     for section in sections {
         put_section(out, exports, first, new, *section)?;
@@ -101,7 +101,7 @@ pub fn put_with_function(
     sections: &[Section<'_>],
 ) -> Result<(), BuildFault>
     ensures { Writes out.old.items out.new.items result (with_function
-        exports.now first (added_view new) (map view sections.now)) }
+        exports.now first (added_view new.entry) (map view sections.now)) }
 {
     put_bytes(out, &[0x00, 0x61, 0x73, 0x6d, 0x01, 0x00, 0x00, 0x00])?;
     put_sections(out, exports, first, new, sections)?;
