@@ -71,3 +71,8 @@ next_at view xs k d lt = let next : drop (k + 1) xs ≡ drop (suc k) xs = rw add
 pub section_written : {A B : Type 0} (view : A → B) (f : B → Encoding) (xs : List A) (k : ℕ) (d : A) (old mid new : List ℕ) (all : Encoding) → k < length xs → Remains old mid (each f (map view (drop k xs))) all
     → (new ≡ mid ++ (f (view (get_or xs k d))).bytes) × Fits (f (view (get_or xs k d))).counts → Remains old new (each f (map view (drop (k + 1) xs))) all
 section_written view f xs k d old mid new all lt r w = next_written f old mid new (view (get_or xs k d)) (map view (drop k xs)) (map view (drop (k + 1) xs)) all (next_at view xs k d lt) r w.0 w.1
+
+-- the next of several items, seen by view, was refused
+pub section_refused : {A B : Type 0} (view : A → B) (f : B → Encoding) (xs : List A) (k : ℕ) (d : A) (old mid : List ℕ) (all : Encoding) (e : BuildFault) → k < length xs → Remains old mid (each f (map view (drop k xs))) all → Refused (f (view (get_or xs k d))).counts e
+    → Refused all.counts e
+section_refused view f xs k d old mid all e lt r w = next_refused f old mid (view (get_or xs k d)) (map view (drop k xs)) (map view (drop (k + 1) xs)) all e (next_at view xs k d lt) r w
