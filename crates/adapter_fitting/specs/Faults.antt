@@ -1,5 +1,5 @@
 -- Why a module isn't fitted, and what a call that reads it returns. (This project's own.)
-use Rattle.std.specs.Prelude.{◌≡◌, ◌≤◌, ◌^◌, ⊤, ⊥, List, ℕ, Bool, Contains, Option, Some, None, Result, Ok, Err}
+use Rattle.std.specs.Prelude.{◌≡◌, ◌≤◌, ◌^◌, ⊤, List, ℕ, Bool, Contains, Option, Some, None, Result, Ok, Err}
 use Rattle.byte_encoding.specs.Encoding.{Encoding, Fits}
 use Rattle.byte_encoding.specs.declared.fault.BuildFault.{BuildFault}
 use Rattle.byte_encoding.specs.declared.fault.BuildFault.TheVariants as builds

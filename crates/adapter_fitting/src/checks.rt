@@ -6,7 +6,7 @@ ghost use Rattle.std.specs.List.{list_all};
 ghost use Rattle.byte_encoding.specs.Encoding.{Fits};
 ghost use Rattle.byte_encoding.specs.Written.{Refused};
 ghost use Rattle.core_parts.specs.Functions.{instructions_of, bodies_of};
-ghost use Rattle.adapter_fitting.specs.Faults.{◌>>=◌, Gives};
+ghost use Rattle.adapter_fitting.specs.Faults.{Gives};
 ghost use Rattle.adapter_fitting.specs.Places.{placed_view, first};
 ghost use Rattle.adapter_fitting.specs.Fitting.{in_order, are_bodies, has_bodies, exports_in, exports_of};
 

@@ -2,7 +2,7 @@
 
 ghost use Rattle.std.specs.Prelude.{◌≡◌, Ok, map};
 ghost use Rattle.core_sections.specs.Sections.{view, pieces_of};
-ghost use Rattle.adapter_fitting.specs.Faults.{◌>>=◌, Gives, Told};
+ghost use Rattle.adapter_fitting.specs.Faults.{Gives, Told};
 ghost use Rattle.adapter_fitting.specs.Places.{placed_view, placed};
 ghost use Rattle.adapter_fitting.specs.Segments.{has_active, one_has_active, active_data};
 

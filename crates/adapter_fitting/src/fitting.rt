@@ -5,7 +5,7 @@ ghost use Rattle.std.specs.Prelude.{◌≡◌, ◌++◌, Ok, List, map, length};
 ghost use Rattle.byte_encoding.specs.Encoding.{Encoding, Fits, ◌⊕◌};
 ghost use Rattle.byte_encoding.specs.Written.{Writes, Refused};
 ghost use Rattle.core_sections.specs.Sections.{view, pieces_of};
-ghost use Rattle.adapter_fitting.specs.Faults.{◌>>=◌, Fitted};
+ghost use Rattle.adapter_fitting.specs.Faults.{Fitted};
 ghost use Rattle.adapter_fitting.specs.Places.{placed_view, placed};
 ghost use Rattle.adapter_fitting.specs.Fitting.{stacked, needed_in, fit_needed, fit};
 

@@ -2,7 +2,7 @@
 
 ghost use Rattle.std.specs.Prelude.{◌≡◌, map};
 ghost use Rattle.core_sections.specs.Entries.{module_of};
-ghost use Rattle.adapter_fitting.specs.Faults.{◌>>=◌, Gives, of_sections};
+ghost use Rattle.adapter_fitting.specs.Faults.{Gives, of_sections};
 ghost use Rattle.adapter_fitting.specs.Places.{placed_view};
 ghost use Rattle.adapter_fitting.specs.Fitting.{indices_of_module, with_type, realloc_of};
 ghost use Rattle.adapter_fitting.specs.Fitting.{needed_by, needed_of, needed_in};

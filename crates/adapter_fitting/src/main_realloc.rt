@@ -5,7 +5,7 @@ ghost use Rattle.std.specs.Prelude.{◌≡◌, ◌++◌, Ok, List, [], map, leng
 ghost use Rattle.byte_encoding.specs.Encoding.{Encoding, Fits, ◌⊕◌};
 ghost use Rattle.byte_encoding.specs.Written.{Writes, Refused};
 ghost use Rattle.core_sections.specs.Sections.{view, pieces_of};
-ghost use Rattle.adapter_fitting.specs.Faults.{◌>>=◌, Gives, Fitted};
+ghost use Rattle.adapter_fitting.specs.Faults.{Gives, Fitted};
 ghost use Rattle.adapter_fitting.specs.Places.{placed_view, placed};
 ghost use Rattle.adapter_fitting.specs.MainRealloc.{with_realloc, has_lists, can_get_realloc};
 ghost use Rattle.adapter_fitting.specs.MainRealloc.{lacking, give_lacking, main_with_realloc};

@@ -1,6 +1,6 @@
 //! The import of main's realloc.
 
-ghost use Rattle.std.specs.Prelude.{◌≡◌, ◌≤◌, ◌+◌, length};
+ghost use Rattle.std.specs.Prelude.{◌≡◌, ◌≤◌, ◌<◌, ◌+◌, ◌^◌, length, option_map};
 ghost use Rattle.adapter_fitting.specs.Stack.{is_realloc, functions_after, function_type_of};
 ghost use Rattle.adapter_fitting.specs.Stack.{realloc_import, realloc_from, imported_from};
 ghost use Rattle.adapter_fitting.specs.Stack.{is_i32, are_i32, is_realloc_type};
@@ -22,7 +22,7 @@ fn is_realloc(import: &CoreImport) -> bool
 
 /// How many functions there are after this item.
 fn functions_after(index: usize, entity: EntityType) -> usize
-    requires { index + 1 ≤ 2 ^ 63 }
+    requires { index + 1 < 2 ^ 64 }
     ensures { result ≡ functions_after index entity }
 {
     match entity {
