@@ -51,13 +51,13 @@ fn fit_needed(
     alloc: Global,
     end: usize,
     sections: &[Section<'_>],
-    placed: &[PlacedSection<'_>],
+    located: &[PlacedSection<'_>],
     needed: StackIndices,
 ) -> Result<Option<Vec<u8>>, FitFault>
-    requires { map placed_view placed.now ≡ placed 8 (map view sections.now) }
+    requires { map placed_view located.now ≡ placed 8 (map view sections.now) }
     ensures { Fitted (λ v. v.items) result (fit_needed end (map view sections.now) (Some needed)) }
 {
-    let exports = exports_of(alloc, end, needed.indices, placed)?;
+    let exports = exports_of(alloc, end, needed.indices, located)?;
     let mut out = Vec::new(alloc);
     put_stacked(&mut out, &exports, needed, sections)?;
     Ok(Some(out))

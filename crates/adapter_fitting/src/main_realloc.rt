@@ -88,14 +88,14 @@ fn give_lacking(
     alloc: Global,
     end: usize,
     sections: &[Section<'_>],
-    placed: &[PlacedSection<'_>],
+    located: &[PlacedSection<'_>],
     indices: Indices,
 ) -> Result<Option<Vec<u8>>, FitFault>
-    requires { map placed_view placed.now ≡ placed 8 (map view sections.now) }
+    requires { map placed_view located.now ≡ placed 8 (map view sections.now) }
     ensures { Fitted (λ v. v.items) result
         (give_lacking end (map view sections.now) (Some indices)) }
 {
-    exports_of(alloc, end, indices, placed)?;
+    exports_of(alloc, end, indices, located)?;
     let mut out = Vec::new(alloc);
     put_with_realloc(&mut out, indices, sections)?;
     Ok(Some(out))
