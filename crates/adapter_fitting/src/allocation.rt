@@ -14,6 +14,7 @@ use crate::stack::StackGlobals;
 use byte_encoding::{BuildFault, put_bytes, put_count, put_index, put_tagged};
 
 /// The type without parameters and results.
+#[tactic(auto, unfolding(byte_encoding::specs::Encoding::leb128))]
 pub(crate) fn allocation_type() -> &'static [u8]
     ensures { result.now ≡ (function_type allocation_type).bytes }
 {
@@ -21,6 +22,7 @@ pub(crate) fn allocation_type() -> &'static [u8]
 }
 
 /// The type of a realloc.
+#[tactic(auto, unfolding(byte_encoding::specs::Encoding::leb128))]
 pub(crate) fn realloc_type() -> &'static [u8]
     ensures { result.now ≡ (function_type realloc_type).bytes }
 {

@@ -20,7 +20,7 @@ loop-section-preserved c =
 pub returns-in_err-more : goal.returns-in_err-more
 returns-in_err-more c =
     read_exits (λ v. map name_view v.items) _ _ _ c.from_residual.ensures.1
-    (names_fail_at _ _ c.args.sections.now c.loop-section.section-index _ _ _ c.loop-section-test.true c.in_err-more.ensures c.loop-section.invariant)
+    (names_fail_at (λ v. map name_view v.items) _ c.args.sections.now c.loop-section.section-index _ _ _ c.loop-section-test.true c.in_err-more.ensures c.loop-section.invariant)
 
 pub returns : goal.returns
 returns c = names_end (map name_view c.loop-section.names.items) _ _ (none_of placed_view c.args.sections.now c.loop-section.section-index (omega (arith, c.loop-section-test.false))) c.loop-section.invariant
