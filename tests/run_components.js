@@ -53,6 +53,14 @@ const runStrings = (name, file) => {
   holds(`${name}: what is logged`, lines, wanted);
 };
 
+const runSquares = (name, file) => {
+  const lines = [];
+  const { square } = withShim(name, file, { log: line => { lines.push(line); } }, '$root', 'log');
+  holds(`${name}: what is logged before a call`, lines, ['ready']);
+  holds(`${name}: squares`, [0, 3, 7, 8].map(n => square(n)), [0, 9, 49, 0]);
+  holds(`${name}: it is initialized once`, lines.length, 1);
+};
+
 const runLog = (name, file) => {
   const lines = [];
   const { run } = withShim(name, file, { log: line => { lines.push(line); } }, '$root', 'log');
@@ -134,7 +142,7 @@ const runLines = (name, file) => {
   holds(`${name}: how many calls of main's function it made`, counted(), 4);
 };
 
-const RUNS = { main: runMain, strings: runStrings, log: runLog, people: runPeople, search: runSearch, counters: runCounters, lines: runLines };
+const RUNS = { main: runMain, strings: runStrings, log: runLog, squares: runSquares, people: runPeople, search: runSearch, counters: runCounters, lines: runLines };
 for (const argument of process.argv.slice(2)) {
   const [name, file] = argument.split('=');
   try {

@@ -1,7 +1,7 @@
 -- The names in a component that was built for a world: those of its imports and exports are the stated ones, those of its
 -- types of instances and of its nested components are as the world says, and all other names are distinct in their lists.
 use Rattle.comp_links.specs.Naming.{Naming}
-use Rattle.std.proofs.Common.{◌≡◌, ℕ, zero, suc, ◌⊎◌, Some, Bool, false, IsTrue, List, [], ◌∷◌, ◌++◌, refl, sym, ap₂, subst, map, inl, inr, arith}
+use Rattle.std.proofs.Common.{◌≡◌, ℕ, zero, suc, ◌⊎◌, Option, Some, None, Bool, false, IsTrue, List, [], ◌∷◌, ◌++◌, refl, sym, ap₂, subst, map, inl, inr, arith}
 use Rattle.std.specs.Prelude.{Contains, codes}
 use Rattle.std.specs.List.{AllByRecursion, AllZip, IsDistinct, flat_map}
 use Rattle.std.specs.Str.{bytes_eq}
@@ -29,7 +29,10 @@ use Rattle.comp_terms.specs.Planned.{IsArgumentFor}
 use Rattle.comp_trees.specs.DefinedTrees.{TypeTree}
 use Rattle.nested_terms.specs.Nested.{NestedScope, function_import, type_import, empty_scope, with_item, AreItemsRight}
 use Rattle.comp_terms.specs.Exports.{IsNestedFor}
-use Rattle.comp_terms.specs.Rules.{IsItemRight, IsRight, RightAfter, IsBuilt}
+use Rattle.comp_terms.specs.Rules.{IsFixupArgument, IsItemRight, IsRight, RightAfter, IsBuilt}
+use Rattle.fixup_modules.specs.declared.instances.ImportedInstance.{ImportedInstance}
+use Rattle.shim_plan.specs.declared.shims.Shim.{Shim}
+use Rattle.world_shims.specs.WorldShims.{shims_of, initialize_of, fixup_instances}
 use Rattle.comp_bytes.specs.Scopes.{Scoped}
 use Rattle.comp_check.proofs.Faults.{fault_no}
 use Rattle.comp_check.specs.Faults.{IsUnchecked}
@@ -70,9 +73,30 @@ none_apart : IsDistinct {K = List ℕ} bytes_eq []
 unfolding IsDistinct
 none_apart = tt
 
+one_apart : (name : List ℕ) → IsDistinct bytes_eq (name ∷ [])
+unfolding IsDistinct
+one_apart name = (tt, tt)
+
 two_apart : IsDistinct bytes_eq (codes "actual" ∷ codes "shim" ∷ [])
 unfolding IsDistinct
 two_apart = ((refl, tt), (tt, tt))
+
+three_apart : IsDistinct bytes_eq (codes "actual" ∷ codes "main" ∷ codes "shim" ∷ [])
+unfolding IsDistinct
+three_apart = ((refl, (refl, tt)), ((refl, tt), (tt, tt)))
+
+-- so have those of the fixup
+fixup_apart : (shims : List Shim) (initialize : Option (List ℕ)) → IsDistinct bytes_eq (map (λ i. i.0) (fixup_instances shims initialize))
+fixup_apart [] None = none_apart
+fixup_apart [] (Some name) = one_apart (codes "main")
+fixup_apart (s ∷ ss) None = two_apart
+fixup_apart (s ∷ ss) (Some name) = three_apart
+
+fixup_names : (w : ComponentWorld) (earlier : List Def) (arguments : List CoreArgument) (sources : List (List ℕ × ImportedInstance)) → AllZip (IsFixupArgument w earlier) arguments sources → map (λ (a : CoreArgument). a.name) arguments ≡ map (λ i. i.0) sources
+fixup_names w earlier [] [] h = refl
+fixup_names w earlier (a ∷ arguments) (i ∷ sources) h = ap₂ (λ x xs. x ∷ xs) h.0.named (fixup_names w earlier arguments sources h.1)
+fixup_names w earlier [] (i ∷ sources) h = absurd h
+fixup_names w earlier (a ∷ arguments) [] h = absurd h
 
 module _ (w : ComponentWorld) (valid : IsWorld w) where
   user_module_apart : (number : ℕ) (of : WorldModule) → slice_get (user_modules w) number ≡ Some of → ImportsApart of
@@ -88,7 +112,8 @@ module _ (w : ComponentWorld) (valid : IsWorld w) where
         (apart (map (λ a. a.name) arguments) (subst (λ (ns : Names). IsDistinct bytes_eq ns) (sym names) (user_module_apart number h.of h.listed)), tt)
     item_lists earlier (items.CoreInstantiate number arguments) (inr (inl h)) k = (apart (map (λ a. a.name) arguments) (subst (λ (as' : List CoreArgument). IsDistinct bytes_eq (map (λ a. a.name) as')) (sym h.closed) none_apart), tt)
     item_lists earlier (items.CoreInstantiate number arguments) (inr (inr h)) k =
-        (apart (map (λ a. a.name) arguments) (subst (λ (as' : List CoreArgument). IsDistinct bytes_eq (map (λ a. a.name) as')) (sym h.given) two_apart), tt)
+        let sources : List (List ℕ × ImportedInstance) = fixup_instances (shims_of w) (initialize_of w) in
+        (apart (map (λ a. a.name) arguments) (subst (λ (ns : Names). IsDistinct bytes_eq ns) (sym (fixup_names w earlier arguments sources h.given)) (fixup_apart (shims_of w) (initialize_of w))), tt)
     item_lists earlier (items.CoreExports entries) h k = (apart (map (λ e. e.name) entries) h.apart, tt)
     item_lists earlier (items.Instantiate component arguments) h k = (apart (map (λ a. a.name) arguments) h.apart, tt)
     item_lists earlier (items.InstanceType t) h k = k

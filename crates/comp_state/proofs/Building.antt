@@ -25,7 +25,7 @@ use Rattle.std.specs.Map.{keys_of}
 use Rattle.core_options.specs.MainOptions.{HasLowerOptions, HasLiftOptions}
 use Rattle.comp_links.specs.Lists.{required_functions}
 use Rattle.comp_links.specs.Links.{lower_realloc, lift_realloc}
-use Rattle.comp_terms.specs.Generated.{GeneratedBytes, MayBeGenerated}
+use Rattle.comp_terms.specs.Generated.{GeneratedBytes, AreGenerated}
 use Rattle.comp_links.specs.Roles.{import_encoding, export_encoding}
 use Rattle.comp_links.specs.Supplied.{IsSuppliedImport}
 use Rattle.comp_inventories.specs.Inventories.{inventory}
@@ -34,20 +34,19 @@ use Rattle.comp_terms.specs.Rules.{Grows, RightAfter, Landmark, bytes_marked, la
 use Rattle.root_imports.specs.Growing.{Grows-then}
 
 -- a list that grew from the empty one
-pub built_from : (n : Naming) (w : ComponentWorld) (o : Option GeneratedBytes) → MayBeGenerated w n.debug_names o → (old new : List Def) → old ≡ [] → Grows w old new (expected n w o) → IsUnnamed n w new
-built_from n w o generated old new empty g =
+pub built_from : (n : Naming) (w : ComponentWorld) (b : GeneratedBytes) → AreGenerated w n.debug_names b → (old new : List Def) → old ≡ [] → Grows w old new (expected n w b) → IsUnnamed n w new
+built_from n w b generated old new empty g =
     let same : new ≡ g.more = g.extended ∙ ap (λ l. l ++ g.more) empty in
     let right : RightAfter w [] g.more = subst (λ l. RightAfter w l g.more) empty g.right in
-    record { generated = o; are_generated = generated; right = subst (λ l. RightAfter w [] l) (sym same) right; marked = ap landmarks same ∙ g.marked }
+    record { generated = b; are_generated = generated; right = subst (λ l. RightAfter w [] l) (sym same) right; marked = ap landmarks same ∙ g.marked }
 
 pub built_by_steps : (n : Naming) (w : ComponentWorld) (a b c d e : List Def) → a ≡ [] → Grows w a b (imports_marked n w) → Grows w b c (bytes_marked n.debug_names w) → AddsInstances w n.debug_names c d → Grows w d e (exports_marked n w) → IsUnnamed n w e
 built_by_steps n w a b c d e empty imports main added exports =
     built_from n w added.generated added.are_generated a e empty
     (subst (λ m. Grows w a e m) (modules_are added.generated) (Grows-then imports (Grows-then main (Grows-then added.grows exports))))
   where
-    modules_are : (o : Option GeneratedBytes) → imports_marked n w ++ (bytes_marked n.debug_names w ++ (instances_marked w o ++ exports_marked n w)) ≡ expected n w o
-    modules_are None = ap (λ m. imports_marked n w ++ m) (sym (append_assoc (bytes_marked n.debug_names w) (instances_marked w None) (exports_marked n w)))
-    modules_are (Some g) = ap (λ m. imports_marked n w ++ m) (sym (append_assoc (bytes_marked n.debug_names w) (instances_marked w (Some g)) (exports_marked n w)))
+    modules_are : (b : GeneratedBytes) → imports_marked n w ++ (bytes_marked n.debug_names w ++ (instances_marked w b ++ exports_marked n w)) ≡ expected n w b
+    modules_are b = ap (λ m. imports_marked n w ++ m) (sym (append_assoc (bytes_marked n.debug_names w) (instances_marked w b) (exports_marked n w)))
 
 -- the landmarks of a list that grew from the empty one
 pub marked_from : (w : ComponentWorld) (old new : List Def) (m : List Landmark) → old ≡ [] → Grows w old new m → landmarks new ≡ m

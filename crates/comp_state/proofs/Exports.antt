@@ -9,7 +9,7 @@ use Rattle.comp_links.specs.Naming.{Naming}
 use Rattle.comp_terms.specs.Exports.{exports_in}
 use Rattle.comp_terms.specs.Generated.{GeneratedBytes}
 use Rattle.comp_terms.specs.UserBytes.{user_bytes}
-use Rattle.comp_terms.specs.Rules.{fixup_marked, Grows, Landmark, ModuleIs, InstanceOf, ResourceDefined, bytes_marked, users_marked, import_marked, imports_marked}
+use Rattle.comp_terms.specs.Rules.{shims_marked, resources_marked, fixup_marked, Grows, Landmark, ModuleIs, InstanceOf, ResourceDefined, bytes_marked, users_marked, import_marked, imports_marked}
 use Rattle.core_instances.specs.Instances.{instances_marked, AddsInstances}
 use Rattle.main_exports.proofs.Exporting.{exported_marks, exports_grow}
 
@@ -37,11 +37,17 @@ no_fixup : (w : ComponentWorld) (o : Option (List ℕ)) → exported_marks (fixu
 no_fixup w None = refl
 no_fixup w (Some bytes) = refl
 
-none_instantiated : (w : ComponentWorld) (o : Option GeneratedBytes) → exported_marks (instances_marked w o) ≡ 0
-none_instantiated w None = none_defined (provided_resources w) (users_marked w) ∙ (ap exported_marks (sym (append-nil (users_marked w))) ∙ none_made (range_with_len 0 (length (user_modules w))) [])
-none_instantiated w (Some g) =
-    none_defined (provided_resources w) (users_marked w ++ fixup_marked w g.fixup)
-    ∙ (none_made (range_with_len 0 (length (user_modules w))) (fixup_marked w g.fixup) ∙ no_fixup w g.fixup)
+none_instantiated : (w : ComponentWorld) (g : GeneratedBytes) → exported_marks (instances_marked w g) ≡ 0
+none_instantiated w g = by g.shims
+  where
+    behind : exported_marks (resources_marked w ++ (users_marked w ++ fixup_marked w g.fixup)) ≡ 0
+    behind =
+        none_defined (provided_resources w) (users_marked w ++ fixup_marked w g.fixup)
+        ∙ (none_made (range_with_len 0 (length (user_modules w))) (fixup_marked w g.fixup) ∙ no_fixup w g.fixup)
+
+    by : (shims : Option (List ℕ)) → exported_marks (shims_marked w shims ++ (resources_marked w ++ (users_marked w ++ fixup_marked w g.fixup))) ≡ 0
+    by None = behind
+    by (Some bytes) = behind
 
 pub none_exported : (n : Naming) (w : ComponentWorld) (a b c d : List Def) → a ≡ [] → Grows w a b (imports_marked n w) → Grows w b c (bytes_marked n.debug_names w) → AddsInstances w n.debug_names c d → exports_in d ≡ 0
 none_exported n w a b c d empty imports main added =

@@ -44,7 +44,9 @@ use Rattle.comp_trees.proofs.MemberScopes.{members_scoped}
 use Rattle.comp_items.proofs.Kept.{function_in_range}
 use Rattle.comp_state.proofs.Nesting.{nested_scoped}
 use Rattle.comp_terms.specs.Instances.{ImportsInterface}
-use Rattle.comp_terms.specs.Rules.{AliasesImported, AliasesType, InstantiatesModule, IsOptionRight, IsLowerOptionRight, IsTypeRight, IsDestructorRight, IsIntrinsicRight, IsRight, RightAfter, IsEntry, IsBuilt}
+use Rattle.comp_terms.specs.Rules.{AliasesImported, AliasesType, InstantiatesModule, IsOptionRight, IsLowerOptionRight, IsTypeRight, IsDestructorRight, IsIntrinsicRight, IsRight, RightAfter, IsEntry, IsFixupSource, IsFixupArgument, IsBuilt}
+use Rattle.fixup_modules.specs.declared.instances.ImportedInstance.{ImportedInstance as FixupInstance}
+use Rattle.fixup_modules.specs.declared.instances.ImportedInstance.TheVariants as sources
 
 abbrev Within : List Def → Reference → Type 0
 Within earlier = InScope (scope_of space_of earlier ∷ [])
@@ -91,13 +93,25 @@ lower_right earlier o h = h
 lower_within : (earlier : List Def) (os : List CanonicalOption) → AllByRecursion (IsLowerOptionRight earlier) os → AllByRecursion (Within earlier) (options_references os)
 lower_within earlier os h = subst (AllByRecursion (Within earlier)) (append-nil (options_references os)) (options_within earlier os [] (AllByRecursion-weaker (lower_right earlier) os h) tt)
 
+-- what the fixup imports from is there
+source_within : (w : ComponentWorld) (earlier : List Def) (index : ℕ) (source : FixupInstance) → IsFixupSource w earlier index source → Within earlier (own spaces.CoreInstance index)
+source_within w earlier index sources.Actual h = in_range h.made
+source_within w earlier index sources.Main h = in_range h.made
+source_within w earlier index sources.Shim h = in_range h.made
+source_within w earlier index (sources.Adapter name) h = absurd h
+
+fixup_within : (w : ComponentWorld) (earlier : List Def) (as' : List CoreArgument) (ss : List (List ℕ × FixupInstance)) → AllZip (IsFixupArgument w earlier) as' ss → AllByRecursion (Within earlier) (flat_map (λ a. own spaces.CoreInstance a.instance ∷ []) as')
+fixup_within w earlier [] [] h = tt
+fixup_within w earlier (a ∷ as') (s ∷ ss) h = (source_within w earlier a.instance s.1 h.0.serves, fixup_within w earlier as' ss h.1)
+fixup_within w earlier [] (s ∷ ss) h = absurd h
+fixup_within w earlier (a ∷ as') [] h = absurd h
+
 -- the module that is instantiated and its arguments are there
 module_within : (w : ComponentWorld) (earlier : List Def) (number : ℕ) (arguments : List CoreArgument) → InstantiatesModule w earlier number arguments →
     AllByRecursion (Within earlier) (own spaces.CoreModule number ∷ flat_map (λ a. own spaces.CoreInstance a.instance ∷ []) arguments)
 module_within w earlier number arguments (inl h) = (h.scoped, arguments_within w h.of.of earlier arguments h.of.found.imports.modules h.each)
 module_within w earlier number arguments (inr (inl h)) = (h.scoped, subst (λ (as' : List CoreArgument). AllByRecursion (Within earlier) (flat_map (λ a. own spaces.CoreInstance a.instance ∷ []) as')) (sym h.closed) tt)
-module_within w earlier number arguments (inr (inr h)) =
-    (h.scoped, subst (λ (as' : List CoreArgument). AllByRecursion (Within earlier) (flat_map (λ a. own spaces.CoreInstance a.instance ∷ []) as')) (sym h.given) (in_range h.fills.made, (in_range h.of_shims.made, tt)))
+module_within w earlier number arguments (inr (inr h)) = (h.scoped, fixup_within w earlier arguments _ h.given)
 
 type_named : (earlier : List Def) (index : ℕ) → index < length (inventories.scope_of earlier) → Within earlier (own spaces.Type index)
 type_named earlier index l = subst (λ n. index < n) (scope_counted earlier) l

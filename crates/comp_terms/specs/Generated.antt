@@ -1,10 +1,11 @@
 -- The core modules that are generated for a component: their numbers, their bytes, and what each shim stands for (this
 -- project's own; component model, explainer: core instances).
-use Rattle.std.specs.Prelude.{◌≡◌, ◌<◌, ◌^◌, ℕ, suc, Bool, List, length, Option, Some, None, IsSome, Contains, []}
+use Rattle.std.specs.Prelude.{◌≡◌, ◌<◌, ◌^◌, ℕ, suc, Bool, true, false, List, [], ◌∷◌, length, Option, Some, None, Contains}
 use Rattle.std.specs.Map.{lookup}
 use Rattle.std.specs.Option.{option_map, option_and_then}
 use Rattle.comp_lists.specs.Found.{found}
 use Rattle.core_bytes.specs.Modules.{Encodes}
+use Rattle.core_types.specs.declared.types.MemoryType.{MemoryType}
 use Rattle.wit_data.specs.Keys.{is_same_key}
 use Rattle.wit_data.specs.declared.ids.InterfaceId.{InterfaceId}
 use Rattle.wit_data.specs.declared.worlds.WorldItem.{WorldItem}
@@ -25,39 +26,57 @@ use Rattle.comp_links.specs.Targets.{UserModule, Adapter, ExportRef, Target, Exp
 use Rattle.shim_plan.specs.declared.kinds.ShimKind.{ShimKind}
 use Rattle.shim_plan.specs.declared.kinds.ShimKind.TheVariants as kinds
 use Rattle.shim_plan.specs.declared.shims.Shim.{Shim}
-use Rattle.world_shims.specs.WorldShims.{shims_of, type_of_shim, sections_of_shims, sections_of_fixup}
+use Rattle.world_shims.specs.WorldShims.{shims_of, initialize_of, type_of_shim, sections_of_shims, sections_of_fixup}
 
 -- ---- the modules
 
--- the user modules come first, then the module of shims, then the fixup
+-- there is a module of shims where there are shims, or main imports its memory
+abbrev pub has_shims_in : List Shim → Option MemoryType → Bool
+has_shims_in [] None = false
+has_shims_in [] (Some memory) = true
+has_shims_in (s ∷ ss) memory = true
+
+abbrev pub has_shim_module : ComponentWorld → Bool
+has_shim_module w = has_shims_in (shims_of w) (shared_memory w)
+
+-- and a fixup where there is a shim to fill, or main is to be initialized
+abbrev pub has_tasks_in : List Shim → Option (List ℕ) → Bool
+has_tasks_in [] None = false
+has_tasks_in [] (Some name) = true
+has_tasks_in (s ∷ ss) initialize = true
+
+abbrev pub has_fixup : ComponentWorld → Bool
+has_fixup w = has_tasks_in (shims_of w) (initialize_of w)
+
+-- the user modules come first, then the module of shims, where there is one, and then the fixup
 abbrev pub shims_number : ComponentWorld → ℕ
 shims_number w = length (user_modules w)
 
-abbrev pub fixup_number : ComponentWorld → ℕ
-fixup_number w = suc (shims_number w)
+abbrev pub number_behind : Bool → ℕ → ℕ
+number_behind true number = suc number
+number_behind false number = number
 
--- the bytes of the module of shims, and of the fixup, where there is one
+abbrev pub fixup_number : ComponentWorld → ℕ
+fixup_number w = number_behind (has_shim_module w) (shims_number w)
+
+-- the bytes of the module of shims, and of the fixup, where there are these
 pub record GeneratedBytes : Type 0 where
-  pub shims : List ℕ
+  pub shims : Option (List ℕ)
   pub fixup : Option (List ℕ)
 
--- there is a fixup where there are shims
+abbrev pub IsShimModule : ComponentWorld → Bool → Option (List ℕ) → Type 0
+IsShimModule w debug_names None = has_shim_module w ≡ false
+IsShimModule w debug_names (Some bytes) = Encodes bytes (sections_of_shims (shared_memory w) (shims_of w) debug_names) × (has_shim_module w ≡ true)
+
 abbrev pub IsFixup : ComponentWorld → Bool → Option (List ℕ) → Type 0
-IsFixup w debug_names None = shims_of w ≡ []
-IsFixup w debug_names (Some bytes) = Encodes bytes (sections_of_fixup (shims_of w) debug_names) × (shims_of w ≡ [] → ⊥)
+IsFixup w debug_names None = has_fixup w ≡ false
+IsFixup w debug_names (Some bytes) = Encodes bytes (sections_of_fixup (shims_of w) (initialize_of w) debug_names) × (has_fixup w ≡ true)
 
--- they encode the modules that are generated for the shims of the world and the memory that main imports, with debug names or without: it has
--- shims or such a memory
+-- they encode the modules that are generated for the world, with debug names or without
 pub record AreGenerated (w : ComponentWorld) (debug_names : Bool) (g : GeneratedBytes) : Type 0 where
-  pub shims : Encodes g.shims (sections_of_shims (shared_memory w) (shims_of w) debug_names)
+  pub shims : IsShimModule w debug_names g.shims
   pub fixup : IsFixup w debug_names g.fixup
-  pub any : shims_of w ≡ [] → IsSome (shared_memory w)
   pub room : length (shims_of w) < 2 ^ 32
-
--- the same, where there are any
-abbrev pub MayBeGenerated : ComponentWorld → Bool → Option GeneratedBytes → Type 0
-MayBeGenerated w debug_names None = Unit {0}
-MayBeGenerated w debug_names (Some g) = AreGenerated w debug_names g
 
 -- ---- what shims stand for
 

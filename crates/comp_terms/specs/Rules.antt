@@ -1,7 +1,7 @@
 -- Rules that each definition keeps at its index, and the landmarks of the whole list (component model,
 -- explainer: component definitions). They are what the steps guarantee to the proof that the list runs; no rule is
 -- part of a public guarantee.
-use Rattle.std.specs.Prelude.{◌≡◌, ◌<◌, ◌⊎◌, ℕ, Bool, codes, List, [], ◌∷◌, ◌++◌, Option, Some, None, IsSome, true, length, map, filter, get_or, slice_get}
+use Rattle.std.specs.Prelude.{◌≡◌, ◌<◌, ◌⊎◌, ℕ, Bool, codes, List, [], ◌∷◌, ◌++◌, Option, Some, None, IsSome, true, false, length, map, filter, get_or, slice_get}
 use Rattle.std.specs.Fmt.{decimal}
 use Rattle.std.specs.List.{AllByRecursion, AllZip, IsDistinct, flat_map, filter_map, list_any, range_with_len}
 use Rattle.std.specs.Str.{bytes_eq}
@@ -52,9 +52,11 @@ use Rattle.comp_links.specs.Naming.{Naming}
 use Rattle.comp_links.specs.Lists.{ImportEntry, ImportedInterface, WorldType, RootFunction, import_entries, names_of_interface, type_of_world, Stated, root_function, root_type, described_sort, stated_import, stated_export, functions_of_interface, nested_export_names, RequiredKey, required_keys, ProvidedType, provided_resources, AreNames}
 use Rattle.comp_links.specs.Links.{destructor_of}
 use Rattle.comp_terms.specs.Terms.{InstanceOf as InstanceTerm, imports_in, IsFunctionType, IsResource, IsImportedFunction, Is}
-use Rattle.world_shims.specs.WorldShims.{shims_of}
+use Rattle.fixup_modules.specs.declared.instances.ImportedInstance.{ImportedInstance as FixupInstance}
+use Rattle.fixup_modules.specs.declared.instances.ImportedInstance.TheVariants as sources
+use Rattle.world_shims.specs.WorldShims.{shims_of, initialize_of, fixup_instances}
 use Rattle.comp_terms.specs.UserBytes.{user_bytes}
-use Rattle.comp_terms.specs.Generated.{shims_number, fixup_number, GeneratedBytes, MayBeGenerated}
+use Rattle.comp_terms.specs.Generated.{has_shim_module, has_fixup, shims_number, fixup_number, GeneratedBytes, AreGenerated}
 use Rattle.comp_worlds.specs.Offered.{shared_memory}
 use Rattle.comp_terms.specs.Planned.{IsArgumentFor, AreFillsFor, IsShimFor}
 use Rattle.comp_terms.specs.Instances.{ImportsInterface, IsNestedRight, InstantiatesNested}
@@ -114,21 +116,37 @@ pub record InstantiatesUser (w : ComponentWorld) (earlier : List Def) (number : 
 -- the module of shims is instantiated, before every other module
 pub record InstantiatesShims (w : ComponentWorld) (earlier : List Def) (number : ℕ) (arguments : List CoreArgument) : Type 0 where
   pub numbered : number ≡ shims_number w
+  pub any : has_shim_module w ≡ true
   pub scoped : number < items_in spaces.CoreModule earlier
   pub first : instances_in earlier ≡ []
   pub closed : arguments ≡ []
 
--- the fixup is instantiated, after the shims and the user modules: with what the shims stand for, and with the shims
+-- the instances before that of the fixup, by the numbers of their modules
+abbrev pub shims_if : ComponentWorld → Bool → List ℕ
+shims_if w true = shims_number w ∷ []
+shims_if w false = []
+
+abbrev pub made_before_fixup : ComponentWorld → List ℕ
+made_before_fixup w = shims_if w (has_shim_module w) ++ range_with_len 0 (length (user_modules w))
+
+-- what the fixup imports from: what the shims stand for, main, or the module of shims
+abbrev pub IsFixupSource : ComponentWorld → List Def → ℕ → FixupInstance → Type 0
+IsFixupSource w earlier index sources.Actual = AreFillsFor w earlier index
+IsFixupSource w earlier index sources.Main = Is earlier spaces.CoreInstance index (InstanceTerm 0)
+IsFixupSource w earlier index sources.Shim = Is earlier spaces.CoreInstance index (InstanceTerm (shims_number w))
+IsFixupSource w earlier index (sources.Adapter name) = ⊥
+
+pub record IsFixupArgument (w : ComponentWorld) (earlier : List Def) (a : CoreArgument) (source : List ℕ × FixupInstance) : Type 0 where
+  pub named : a.name ≡ source.0
+  pub serves : IsFixupSource w earlier a.instance source.1
+
+-- the fixup is instantiated, after the shims and the user modules, with an argument for each instance that it imports from, in order
 pub record InstantiatesFixup (w : ComponentWorld) (earlier : List Def) (number : ℕ) (arguments : List CoreArgument) : Type 0 where
   pub numbered : number ≡ fixup_number w
+  pub any : has_fixup w ≡ true
   pub scoped : number < items_in spaces.CoreModule earlier
-  pub any : shims_of w ≡ [] → ⊥
-  pub last : instances_in earlier ≡ shims_number w ∷ range_with_len 0 (length (user_modules w))
-  pub actual : ℕ
-  pub shims : ℕ
-  pub given : arguments ≡ record { name = codes "actual"; instance = actual } ∷ record { name = codes "shim"; instance = shims } ∷ []
-  pub of_shims : Is earlier spaces.CoreInstance shims (InstanceTerm (shims_number w))
-  pub fills : AreFillsFor w earlier actual
+  pub last : instances_in earlier ≡ made_before_fixup w
+  pub given : AllZip (IsFixupArgument w earlier) arguments (fixup_instances (shims_of w) (initialize_of w))
 
 abbrev pub InstantiatesModule : ComponentWorld → List Def → ℕ → List CoreArgument → Type 0
 InstantiatesModule w earlier number arguments = InstantiatesUser w earlier number arguments ⊎ InstantiatesShims w earlier number arguments ⊎ InstantiatesFixup w earlier number arguments
@@ -347,33 +365,36 @@ bytes_marked debug_names w = map ModuleIs (user_bytes debug_names w)
 abbrev pub users_marked : ComponentWorld → List Landmark
 users_marked w = map InstanceOf (range_with_len 0 (length (user_modules w)))
 
--- the landmarks of the fixup and its instance
+-- the landmarks of the module of shims and its instance, and of the fixup and its instance
+abbrev pub shims_marked : ComponentWorld → Option (List ℕ) → List Landmark
+shims_marked w None = []
+shims_marked w (Some bytes) = ModuleIs bytes ∷ InstanceOf (shims_number w) ∷ []
+
 abbrev pub fixup_marked : ComponentWorld → Option (List ℕ) → List Landmark
 fixup_marked w None = []
 fixup_marked w (Some bytes) = ModuleIs bytes ∷ InstanceOf (fixup_number w) ∷ []
 
 -- the landmarks of the core modules and their instances, where these modules are generated. The resources are defined before the user
 -- modules are instantiated, and after the shims
-abbrev pub modules_marked : Bool → ComponentWorld → Option GeneratedBytes → List Landmark
-modules_marked debug_names w None = bytes_marked debug_names w ++ (resources_marked w ++ users_marked w)
-modules_marked debug_names w (Some g) =
-    bytes_marked debug_names w ++ (ModuleIs g.shims ∷ InstanceOf (shims_number w) ∷ (resources_marked w ++ (users_marked w ++ fixup_marked w g.fixup)))
+abbrev pub modules_marked : Bool → ComponentWorld → GeneratedBytes → List Landmark
+modules_marked debug_names w g =
+    bytes_marked debug_names w ++ (shims_marked w g.shims ++ (resources_marked w ++ (users_marked w ++ fixup_marked w g.fixup)))
 
 -- the landmarks of a component without the names of its items
-abbrev pub expected : Naming → ComponentWorld → Option GeneratedBytes → List Landmark
+abbrev pub expected : Naming → ComponentWorld → GeneratedBytes → List Landmark
 expected n w g = imports_marked n w ++ (modules_marked n.debug_names w g ++ exports_marked n w)
 
 -- a component for the world, without the names of its items
 pub record IsUnnamed (n : Naming) (w : ComponentWorld) (ds : List Def) : Type 0 where
-  pub generated : Option GeneratedBytes
-  pub are_generated : MayBeGenerated w n.debug_names generated
+  pub generated : GeneratedBytes
+  pub are_generated : AreGenerated w n.debug_names generated
   pub right : RightAfter w [] ds
   pub marked : landmarks ds ≡ expected n w generated
 
 -- a whole component for the world
 pub record IsBuilt (n : Naming) (w : ComponentWorld) (ds : List Def) : Type 0 where
-  pub generated : Option GeneratedBytes
-  pub are_generated : MayBeGenerated w n.debug_names generated
+  pub generated : GeneratedBytes
+  pub are_generated : AreGenerated w n.debug_names generated
   pub front : List Def
   pub names : List Def
   pub whole : ds ≡ front ++ names

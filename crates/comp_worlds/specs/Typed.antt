@@ -43,6 +43,10 @@ realloc_type = externs.Func (function_type (I32 ∷ I32 ∷ I32 ∷ I32 ∷ []) 
 abbrev pub destructor_type : ExternType
 destructor_type = externs.Func (function_type (I32 ∷ []) [])
 
+-- the type of the function that initializes a module
+abbrev pub initialize_type : ExternType
+initialize_type = externs.Func (function_type [] [])
+
 -- the type of a post-return: it takes the core results of the function
 abbrev pub post_return_type : Resolve → Function → ExternType
 post_return_type r f = externs.Func (function_type (map value_type (signature GuestExport r.types f).results) [])
@@ -71,6 +75,7 @@ type_of_export r items exports.GeneralPurposeRealloc = Some realloc_type
 type_of_export r items exports.GeneralPurposeImportRealloc = Some realloc_type
 type_of_export r items exports.GeneralPurposeExportRealloc = Some realloc_type
 type_of_export r items exports.ReallocForAdapter = Some realloc_type
+type_of_export r items exports.Initialize = Some initialize_type
 type_of_export r items role = None
 
 -- an import of this type fits a role

@@ -142,6 +142,7 @@ IsExportRole w exports.GeneralPurposeRealloc = Unit {0}
 IsExportRole w exports.GeneralPurposeImportRealloc = Unit {0}
 IsExportRole w exports.GeneralPurposeExportRealloc = Unit {0}
 IsExportRole w exports.ReallocForAdapter = Unit {0}
+IsExportRole w exports.Initialize = Unit {0}
 IsExportRole w role = ⊥
 
 -- a required export is one of the world's, and the module has a core export for each of its functions

@@ -5,3 +5,4 @@ mod Ordering
 mod UserInstances
 mod AddedModules
 mod Unplanned
+mod EncodedFixups

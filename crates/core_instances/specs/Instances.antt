@@ -1,6 +1,6 @@
 -- What the core instances add to a component, and what is taken as given (component model, explainer: core instances; this
 -- project's own).
-use Rattle.std.specs.Prelude.{◌≡◌, ◌≤◌, ◌^◌, ◌⊎◌, ℕ, suc, Bool, List, [], ◌∷◌, ◌++◌, length, map, slice_get, Option, Some, None}
+use Rattle.std.specs.Prelude.{◌≡◌, ◌<◌, ◌≤◌, ◌^◌, ◌⊎◌, ℕ, suc, Bool, List, [], ◌∷◌, ◌++◌, length, map, slice_get, Option, Some, None, true, false}
 use Rattle.std.specs.List.{AllByRecursion, IsDistinct, range_with_len}
 use Rattle.std.specs.Map.{keys_of}
 use Rattle.std.specs.Str.{bytes_eq}
@@ -23,14 +23,15 @@ use Rattle.comp_worlds.specs.Lookups.{module_name}
 use Rattle.core_options.specs.declared.modules.UserModule.{UserModule}
 use Rattle.comp_worlds.specs.declared.world.ValidatedModule.{ValidatedModule}
 use Rattle.comp_worlds.specs.declared.world.WorldAdapter.{WorldAdapter}
-use Rattle.comp_terms.specs.Generated.{shims_number, fixup_number, GeneratedBytes, MayBeGenerated}
-use Rattle.comp_terms.specs.Rules.{Grows, Landmark, ModuleIs, InstanceOf, instances_in, resources_marked, users_marked, fixup_marked}
+use Rattle.comp_terms.specs.Generated.{has_fixup, fixup_number, GeneratedBytes, AreGenerated}
+use Rattle.comp_terms.specs.Rules.{Grows, Landmark, ModuleIs, InstanceOf, instances_in, made_before_fixup, resources_marked, users_marked, shims_marked, fixup_marked}
 use Rattle.comp_terms.specs.Terms.{IsInstanceOf}
 use Rattle.root_imports.specs.RootScopes.{AreTablesRight, ArePassed}
 use Rattle.root_imports.specs.Imports.{FindsImports, FindsUsed}
 use Rattle.shim_plan.specs.declared.fault.ShimFault.{ShimFault}
 use Rattle.shim_plan.specs.declared.fault.ShimFault.TheVariants as plan
-use Rattle.world_shims.specs.WorldShims.{shims_of, sections_of_fixup}
+use Rattle.world_shims.specs.WorldShims.{shims_of, initialize_of, sections_of_fixup}
+use Rattle.main_fixup.specs.Filling.{IsShimsAt}
 use Rattle.core_options.specs.declared.fault.StateFault.{StateFault}
 use Rattle.core_options.specs.declared.fault.StateFault.TheVariants as faults
 
@@ -98,37 +99,29 @@ pub record AllAdapters (w : ComponentWorld) (old new : List Def) (table : List (
 
 -- the landmarks of the core instances and of the modules that are generated for them, and of the resources that are defined before
 -- the user modules are instantiated
-abbrev pub instances_marked : ComponentWorld → Option GeneratedBytes → List Landmark
-instances_marked w None = resources_marked w ++ users_marked w
-instances_marked w (Some g) = ModuleIs g.shims ∷ InstanceOf (shims_number w) ∷ (resources_marked w ++ (users_marked w ++ fixup_marked w g.fixup))
+abbrev pub instances_marked : ComponentWorld → GeneratedBytes → List Landmark
+instances_marked w g = shims_marked w g.shims ++ (resources_marked w ++ (users_marked w ++ fixup_marked w g.fixup))
 
--- the instances of the user modules, between those of the shims and of the fixup, where there are any
+-- the instances of the user modules, between those of the shims and of the fixup, where there are these
 pub record AddsInstances (w : ComponentWorld) (debug_names : Bool) (old new : List Def) : Type 0 where
-  pub generated : Option GeneratedBytes
-  pub are_generated : MayBeGenerated w debug_names generated
+  pub generated : GeneratedBytes
+  pub are_generated : AreGenerated w debug_names generated
   pub grows : Grows w old new (instances_marked w generated)
 
--- the fixup's module is the next one, and its instance comes after those of the shims and of the user modules
-pub record IsFixupNext (w : ComponentWorld) (ds : List Def) (shim_instance : ℕ) : Type 0 where
-  pub any : shims_of w ≡ [] → ⊥
-  pub made : IsInstanceOf ds shim_instance (shims_number w)
-  pub last : instances_in ds ≡ shims_number w ∷ range_with_len 0 (length (user_modules w))
+-- the fixup's module is the next one, its instance comes after those of the shims and of the user modules, and the instance of the
+-- shims is there, where there are any, so few that they can be counted
+pub record IsFixupNext (w : ComponentWorld) (ds : List Def) (shim_instance : Option ℕ) : Type 0 where
+  pub room : length (shims_of w) < 2 ^ 32
+  pub made : (shims_of w ≡ [] → ⊥) → IsShimsAt w ds shim_instance
+  pub last : instances_in ds ≡ made_before_fixup w
   pub next : items_in spaces.CoreModule ds ≡ fixup_number w
-
--- the same, where there are shims
-abbrev pub IsFixupNextAt : ComponentWorld → List Def → Option ℕ → Type 0
-IsFixupNextAt w ds None = ⊥
-IsFixupNextAt w ds (Some shim_instance) = IsFixupNext w ds shim_instance
-
-abbrev pub IsFixupNextIf : ComponentWorld → List Def → Option ℕ → Type 0
-IsFixupNextIf w ds shim_instance = (shims_of w ≡ [] → ⊥) → IsFixupNextAt w ds shim_instance
 
 -- the fixup's module and its instance
 pub record AddsFixup (w : ComponentWorld) (debug_names : Bool) (old new : List Def) : Type 0 where
   pub bytes : List ℕ
-  pub encodes : Encodes bytes (sections_of_fixup (shims_of w) debug_names)
+  pub encodes : Encodes bytes (sections_of_fixup (shims_of w) (initialize_of w) debug_names)
   pub grows : Grows w old new (ModuleIs bytes ∷ InstanceOf (fixup_number w) ∷ [])
 
--- the same, where there are shims
+-- the same, where there is a fixup
 abbrev pub MayAddFixup : ComponentWorld → Bool → List Def → List Def → Type 0
-MayAddFixup w debug_names old new = ((shims_of w ≡ []) × (new ≡ old)) ⊎ ((shims_of w ≡ [] → ⊥) × AddsFixup w debug_names old new)
+MayAddFixup w debug_names old new = ((has_fixup w ≡ false) × (new ≡ old)) ⊎ ((has_fixup w ≡ true) × AddsFixup w debug_names old new)

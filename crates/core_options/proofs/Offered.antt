@@ -85,6 +85,10 @@ realloc_core = function_type (I32 ∷ I32 ∷ I32 ∷ I32 ∷ []) (I32 ∷ [])
 abbrev destructor_core : FuncType
 destructor_core = function_type (I32 ∷ []) []
 
+-- that of an initialization
+abbrev initialize_core : FuncType
+initialize_core = function_type [] []
+
 -- an export with a role, unless it is a memory, is a function
 role_offered : (w : ComponentWorld) (m : ValidatedModule) (name : List ℕ) (role : WorldExport) → memory_of (name, role) ≡ None → IsExportRole w role → FitsExport w.resolve (items_of w) m (name, role) → OffersFunction m name
 role_offered w m name (exports.WorldFunc (keys.Name text) function abi) none r h =
@@ -99,6 +103,7 @@ role_offered w m name exports.GeneralPurposeRealloc none r h = (realloc_core, h.
 role_offered w m name exports.GeneralPurposeImportRealloc none r h = (realloc_core, h.offered ∙ sym h.fits)
 role_offered w m name exports.GeneralPurposeExportRealloc none r h = (realloc_core, h.offered ∙ sym h.fits)
 role_offered w m name exports.ReallocForAdapter none r h = (realloc_core, h.offered ∙ sym h.fits)
+role_offered w m name exports.Initialize none r h = (initialize_core, h.offered ∙ sym h.fits)
 role_offered w m name (exports.Memory type) none r h = absurd (none-some (name, type) (sym none))
 role_offered w m name role none r h = absurd r
 

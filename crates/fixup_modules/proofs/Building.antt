@@ -9,12 +9,12 @@ use Rattle.interned_types.specs.Interning.{is_type, interned, type_index}
 use Rattle.interned_types.proofs.TypeIndices.{type_at}
 use Rattle.fixup_modules.specs.declared.instances.ImportedInstance.TheVariants as instances
 use Rattle.fixup_modules.specs.Imports.{entry_of, with_import}
-use Rattle.fixup_modules.specs.Fixups.{Fixup, with_type, with_shim, shim_target}
+use Rattle.fixup_modules.specs.Fixups.{Fixup, thunk, thunk_item, with_type, with_shim, with_initialize, shim_target}
 use Rattle.fixup_modules.specs.Laws.{NamedShim, IsTarget, AddedShimsAreFilled}
 use Rattle.fixup_modules.proofs.Named.{is_there, entries_grow}
 
 -- a type stays at its index
-type_kept : (types : List FuncType) (new type : FuncType) (i : ℕ) → slice_get types i ≡ Some type → slice_get (interned types new) i ≡ Some type
+pub type_kept : (types : List FuncType) (new type : FuncType) (i : ℕ) → slice_get types i ≡ Some type → slice_get (interned types new) i ≡ Some type
 type_kept types new type i h = by (list_any (is_type new) types)
   where
     by : (b : Bool) → slice_get (if b then types else types ++ new ∷ []) i ≡ Some type
@@ -44,6 +44,10 @@ added_shims_are_filled = record {
       AllZip-end (IsTarget g) shims f.fills (record { name = name; type = type }) _
       (AllZip-weaker (λ s function t. target_kept f g more.0 s function (λ i t' h. type_kept f.types type t' i h) more.1 t) shims f.fills filled)
       (record { type_index = type_index f.types type; before = there.before; after = there.after; typed = type_at f.types type; imported = there.whole; index = there.index });
+  more_calls = λ f shims name filled.
+      let item = thunk_item f.types in
+      let more = entries_grow f.imported instances.Main name item in
+      AllZip-weaker (λ s function t. target_kept f (with_initialize f name) more.0 s function (λ i t' h. type_kept f.types thunk t' i h) more.1 t) shims f.fills filled;
   more_types = λ f shims type filled.
       AllZip-weaker (λ s function t. target_kept f (with_type f type) [] s function (λ i t' h. type_kept f.types type t' i h) (sym (append-nil f.imported.entries)) t) shims f.fills filled;
   more_imports = λ f shims instance field item filled.

@@ -13,20 +13,23 @@ use Rattle.core_bytes.specs.declared.entity.EntityType.{EntityType}
 use Rattle.core_bytes.specs.declared.entity.EntityType.TheVariants as entities
 use Rattle.core_bytes.specs.declared.entry.ElementSegment.{ElementSegment}
 use Rattle.core_bytes.specs.declared.entry.Import.{Import}
-use Rattle.core_bytes.specs.declared.section.Section.TheVariants as sections
 use Rattle.core_runs.specs.Values.{same_value_type, same_value_types, same_signature}
-use Rattle.core_runs.specs.Store.{Frame, Func, signature_of, Store, Now, Returned}
+use Rattle.core_runs.specs.Store.{Frame, Func, signature_of, Store, Now}
 use Rattle.core_runs.specs.Bodies.{table_fill}
-use Rattle.core_runs.specs.Instances.{Parts, Given, FunctionAt, TableAt, MemoryAt, GlobalAt, Made, bind, cons_if, all_at, there_is, matches, matches_each, functions_given, tables_given, new_frame, slots_after, with_table as table_with, element_done, elements_done, data_done, made_of, instance_of, started}
-use Rattle.core_runs.specs.Sections.{parts_of, no_parts, with_section}
+use Rattle.core_runs.specs.Instances.{Parts, Given, FunctionAt, TableAt, MemoryAt, GlobalAt, Made, bind, cons_if, all_at, there_is, matches, matches_each, functions_given, tables_given, new_frame, own_functions, slots_after, with_table as table_with, element_done, elements_done, made_of, instance_of, started}
+use Rattle.core_runs.specs.Sections.{parts_of}
+use Rattle.core_runs.specs.Starts.{deeds_done}
 use Rattle.core_runs.specs.LawsOfInstances.{Slot}
 use Rattle.core_runs.proofs.Instances.{segments_fill, filled_shims_forward}
 use Rattle.fixup_modules.specs.declared.instances.ImportedInstance.TheVariants as instances
-use Rattle.fixup_modules.specs.Imports.{is_kind, of_kind, count_of, entry_of, MayImport}
-use Rattle.fixup_modules.specs.Fixups.{Fixup}
-use Rattle.fixup_modules.specs.Sections.{table_name, shim_table, with_table, table_index, fill_segment, names_of, fixup_sections}
-use Rattle.fixup_modules.specs.Laws.{NamedShim, IsTarget, IsSupplied, FixupsFillShims}
+use Rattle.interned_types.specs.Interning.{interned}
+use Rattle.fixup_modules.specs.Imports.{Imported, is_kind, of_kind, count_of, entry_of, MayImport}
+use Rattle.fixup_modules.specs.Fixups.{Fixup, thunk}
+use Rattle.fixup_modules.specs.Sections.{table_name, shim_table, with_table, table_index, fill_segment, if_none, all_imported, table_of, by_calls, own_type, types_of, fixup_sections}
+use Rattle.fixup_modules.specs.Laws.{NamedShim, IsTarget, IsSupplied, FixupsFillShims, FixupsCall, call_of}
 use Rattle.fixup_modules.proofs.Named.{both, is_there, entries_grow}
+use Rattle.fixup_modules.proofs.Building.{type_kept}
+use Rattle.fixup_modules.proofs.Making.{segments_if, entities_of, fixup_parts, parts_are, own_if, frame_of, made_with, instance_is, failed, starts}
 
 -- ---- types that are the same are one
 
@@ -50,12 +53,12 @@ one_signature x y e =
 -- ---- what is given, by kind
 
 -- what is given matches the imports
-abbrev Matching : List FuncType → Store → Now → List Import → List Given → Type 0
+abbrev pub Matching : List FuncType → Store → Now → List Import → List Given → Type 0
 Matching types store now entries given = matches_each types store now (map (λ (i : Import). i.entity) entries) given ≡ true
 
 module _ (types : List FuncType) (store : Store) (now : Now) where
   -- as many functions and tables are given as are imported
-  counts_given : (entries : List Import) (given : List Given) → Matching types store now entries given →
+  pub counts_given : (entries : List Import) (given : List Given) → Matching types store now entries given →
       (length (functions_given given) ≡ count_of kinds.Func entries) × (length (tables_given given) ≡ count_of kinds.Table entries)
   counts_given [] [] h = (refl, refl)
   counts_given [] (g ∷ gs) h = absurd (true≢false (sym h))
@@ -151,18 +154,43 @@ record TargetGiven (later : Store) (supply : Import → Option Given) (functions
   pub there : slice_get later.functions address ≡ Some function
   pub same : signature_of function ≡ s.type
 
-module _ (f : Fixup) (later : Store) (moment : Now) (supply : Import → Option Given) (given : List Given) (supplied : IsSupplied supply (with_table f).entries given) (matching : Matching f.types later moment (with_table f).entries given) where
+-- the last of two things, where there is an entry
+some_of : {A B : Type 0} (xs : List A) (none some : B) → (xs ≡ [] → ⊥) → if_none xs none some ≡ some
+some_of [] none some any = absurd (any refl)
+some_of (x ∷ xs) none some any = refl
+
+-- the first of them, where there is none
+none_of : {A B : Type 0} (xs : List A) (none some : B) → xs ≡ [] → if_none xs none some ≡ none
+none_of xs none some e = ap (λ l. if_none l none some) e
+
+-- the imports only grow at their end, and types stay where they are
+imports_grow : (f : Fixup) → (more : List Import) × ((all_imported f).entries ≡ f.imported.entries ++ more)
+imports_grow f = by f.fills
+  where
+    by : (fills : List ℕ) → (more : List Import) × ((if_none fills f.imported (with_table f)).entries ≡ f.imported.entries ++ more)
+    by [] = ([], sym (append-nil f.imported.entries))
+    by (x ∷ xs) = entries_grow f.imported instances.Shim table_name (shim_table f)
+
+types_stay : (f : Fixup) (i : ℕ) (type : FuncType) → slice_get f.types i ≡ Some type → slice_get (types_of f) i ≡ Some type
+types_stay f i type h = by f.calls
+  where
+    by : (calls : List ℕ) → slice_get (by_calls calls f.types (λ function. f.types) (interned f.types thunk)) i ≡ Some type
+    by [] = h
+    by (g ∷ []) = h
+    by (g ∷ k ∷ gs) = type_kept f.types thunk type i h
+
+module _ (f : Fixup) (later : Store) (moment : Now) (supply : Import → Option Given) (given : List Given) (supplied : IsSupplied supply (all_imported f).entries given) (matching : Matching (types_of f) later moment (all_imported f).entries given) where
   -- the import that is there
-  import_given : (before : List Import) (i : Import) (after : List Import) → (with_table f).entries ≡ before ++ i ∷ after → GivenAt f.types later moment supply before i given
+  import_given : (before : List Import) (i : Import) (after : List Import) → (all_imported f).entries ≡ before ++ i ∷ after → GivenAt (types_of f) later moment supply before i given
   import_given before i after whole =
-      given_at f.types later moment supply before i after given (subst (λ l. IsSupplied supply l given) whole supplied) (subst (λ l. Matching f.types later moment l given) whole matching)
+      given_at (types_of f) later moment supply before i after given (subst (λ l. IsSupplied supply l given) whole supplied) (subst (λ l. Matching (types_of f) later moment l given) whole matching)
 
   target_given : (s : NamedShim) (k : ℕ) → IsTarget f s k → TargetGiven later supply (functions_given given) s k
   target_given s k t =
       let entry = entry_of instances.Actual s.name (entities.Function t.type_index) in
-      let more = entries_grow f.imported instances.Shim table_name (shim_table f) in
+      let more = imports_grow f in
       let r = import_given t.before entry (t.after ++ more.0) (more.1 ∙ ap (λ l. l ++ more.0) t.imported ∙ append_assoc t.before (entry ∷ t.after) more.0) in
-      let g = function_given f.types later moment t.type_index s.type r.own t.typed r.matching in
+      let g = function_given (types_of f) later moment t.type_index s.type r.own (types_stay f t.type_index s.type t.typed) r.matching in
       let own : r.front ++ r.own ∷ r.back ≡ r.front ++ FunctionAt g.address ∷ r.back = ap (λ x. r.front ++ x ∷ r.back) g.is in
       record {
         address = g.address;
@@ -172,20 +200,20 @@ module _ (f : Fixup) (later : Store) (moment : Now) (supply : Import → Option 
         at =
             ap (λ l. slice_get (functions_given l) k) (r.whole ∙ own)
             ∙ ap (λ l. slice_get l k) (functions_append r.front (FunctionAt g.address ∷ r.back))
-            ∙ at_seam (functions_given r.front) g.address (functions_given r.back) k (t.index ∙ sym (counts_given f.types later moment t.before r.front r.front_matches).0);
+            ∙ at_seam (functions_given r.front) g.address (functions_given r.back) k (t.index ∙ sym (counts_given (types_of f) later moment t.before r.front r.front_matches).0);
         there = g.there;
         same = g.same;
       }
 
-  table_given : (a : ℕ) → MayImport f.imported instances.Shim table_name (shim_table f) → supply (entry_of instances.Shim table_name (shim_table f)) ≡ Some (TableAt a) → slice_get (tables_given given) (table_index f) ≡ Some a
-  table_given a may is =
+  table_given : (a : ℕ) → (f.fills ≡ [] → ⊥) → MayImport f.imported instances.Shim table_name (shim_table f) → supply (entry_of instances.Shim table_name (shim_table f)) ≡ Some (TableAt a) → slice_get (tables_given given) (table_index f) ≡ Some a
+  table_given a any may is =
       let t = is_there f.imported instances.Shim table_name (shim_table f) may in
       let entry = entry_of instances.Shim table_name (shim_table f) in
-      let r = import_given t.before entry t.after t.whole in
+      let r = import_given t.before entry t.after (ap (λ (m : Imported). m.entries) (some_of f.fills f.imported (with_table f) any) ∙ t.whole) in
       let own : r.own ≡ TableAt a = let e : Some r.own ≡ Some (TableAt a) = sym r.supplied ∙ is in cc in
       ap (λ l. slice_get (tables_given l) (table_index f)) (r.whole ∙ ap (λ x. r.front ++ x ∷ r.back) own)
       ∙ ap (λ l. slice_get l (table_index f)) (tables_append r.front (TableAt a ∷ r.back))
-      ∙ at_seam (tables_given r.front) a (tables_given r.back) (table_index f) (t.index ∙ sym (counts_given f.types later moment t.before r.front r.front_matches).1)
+      ∙ at_seam (tables_given r.front) a (tables_given r.back) (table_index f) (t.index ∙ sym (counts_given (types_of f) later moment t.before r.front r.front_matches).1)
 
 -- ---- all targets
 
@@ -215,26 +243,6 @@ all_given later supply functions (s ∷ ss) (k ∷ ks) h =
     signed_by zero t a hs g addresses ha more = (g.function, ap (λ n. slice_get later.functions n) (sym (same_Some g.address a ha)) ∙ g.there, g.same ∙ ap (λ (x : NamedShim). x.type) (same_Some s t hs))
     signed_by (suc i) t a hs g addresses ha more = more i t a hs ha
 
--- ---- the parts of a fixup
-
-names_alone : (entries : List Import) (debug_names : Bool) → parts_of (names_of debug_names entries) ≡ no_parts
-names_alone entries true = refl
-names_alone entries false = refl
-
-abbrev parts_with : List FuncType → List EntityType → ElementSegment → Parts
-parts_with types imports segment = record { types = types; imports = imports; functions = []; tables = []; memories = []; globals = []; start = None; elements = segment ∷ []; bodies = []; segments = [] }
-
-abbrev fixup_parts : Fixup → Parts
-fixup_parts f = parts_with f.types (map (λ (i : Import). i.entity) (with_table f).entries) (fill_segment (table_index f) f.fills)
-
-parts_are : (f : Fixup) (debug_names : Bool) → parts_of (fixup_sections f debug_names) ≡ fixup_parts f
-parts_are f debug_names =
-    let segment = fill_segment (table_index f) f.fills in
-    let entities_of = map (λ (i : Import). i.entity) (with_table f).entries in
-    ap (λ rest. with_section (sections.Types f.types) (with_section (sections.Imports (with_table f).entries) (with_section (sections.Elements (segment ∷ [])) rest))) (names_alone (with_table f).entries debug_names)
-    ∙ ap (λ l. parts_with l (entities_of ++ []) segment) (append-nil f.types)
-    ∙ ap (λ l. parts_with f.types l segment) (append-nil entities_of)
-
 -- ---- the instance
 
 if_split : {X : Type 0} (b : Bool) (x : Option X) (y : X) → (if b then x else None) ≡ Some y → (b ≡ true) × (x ≡ Some y)
@@ -246,29 +254,32 @@ fill_by : (t : ℕ) (frame : Frame) (fs : List ℕ) (tables : List (List (Option
 fill_by zero frame fs tables a named = ap (λ o. bind o (λ t. bind (slice_get tables t) (λ slots. bind (all_at frame.functions fs) (λ addresses. table_with t tables (slots_after (cast_unsigned w32 (pos 0)) addresses slots))))) named
 fill_by (suc t) frame fs tables a named = ap (λ o. bind o (λ t. bind (slice_get tables t) (λ slots. bind (all_at frame.functions fs) (λ addresses. table_with t tables (slots_after (cast_unsigned w32 (pos 0)) addresses slots))))) named
 
--- what is made, where the segment leaves these tables
-record MadeWith (m : Parts) (given : List Given) (later : Store) (moment : Now) (fixed : Made) (tables : List (List (Option ℕ))) : Type 0 where
-  pub functions : fixed.store.functions ≡ later.functions
-  pub tables_are : fixed.store.tables ≡ tables
-  pub now_is : fixed.now ≡ moment
+-- all functions are found among more
+pub all_among : (xs ys : List ℕ) (indices found : List ℕ) → all_at xs indices ≡ Some found → all_at (xs ++ ys) indices ≡ Some found
+all_among xs ys [] found e = e
+all_among xs ys (i ∷ is) found e = by (slice_get xs i) refl (all_at xs is) refl (λ rest others. all_among xs ys is rest others) e
+  where
+    by : (o : Option ℕ) → slice_get xs i ≡ o → (r : Option (List ℕ)) → all_at xs is ≡ r → ((rest : List ℕ) → all_at xs is ≡ Some rest → all_at (xs ++ ys) is ≡ Some rest) → cons_if o r ≡ Some found → all_at (xs ++ ys) (i ∷ is) ≡ Some found
+    by (Some x) at (Some rest) others more e =
+        ap (λ o. cons_if o (all_at (xs ++ ys) is)) (slice_get-append xs ys i x at)
+        ∙ ap (λ o. cons_if (Some x) o) (more rest others)
+        ∙ e
+    by (Some x) at None others more e = cc
+    by None at r others more e = cc
 
-made_with : (types : List FuncType) (imports : List EntityType) (segment : ElementSegment) (given : List Given) (later : Store) (moment : Now) (fixed : Made) (tables : List (List (Option ℕ))) →
-    element_done (new_frame (parts_with types imports segment) given later moment) segment later.tables ≡ Some tables →
-    made_of (parts_with types imports segment) (new_frame (parts_with types imports segment) given later moment) later moment (Some []) (Some []) ≡ Some fixed →
-    MadeWith (parts_with types imports segment) given later moment fixed tables
-made_with types imports segment given later moment fixed tables filled is =
-    let m = parts_with types imports segment in
+-- the instance, where its segment leaves these tables
+split_made : (f : Fixup) (debug_names : Bool) (given : List Given) (later : Store) (moment : Now) (fixed : Made) → instance_of (parts_of (fixup_sections f debug_names)) given later moment ≡ Some fixed → Matching (types_of f) later moment (all_imported f).entries given
+split_made f debug_names given later moment fixed is =
+    let m = fixup_parts f in
     let frame = new_frame m given later moment in
-    let done : elements_done frame (segment ∷ []) (later.tables ++ []) ≡ Some tables = ap (λ l. elements_done frame (segment ∷ []) l) (append-nil later.tables) ∙ ap (λ o. bind o (λ after. Some after)) filled in
-    let after : Made = record { frame = frame; store = record { functions = later.functions ++ []; tables = tables; memories = later.memories ++ [] }; now = record moment { globals = moment.globals ++ [] } } in
-    let same : Some after ≡ Some fixed =
-    sym (ap (λ o. bind o (λ ts. bind (data_done frame [] (record moment { globals = moment.globals ++ [] })) (λ now. Some (record { frame = frame; store = record { functions = later.functions ++ []; tables = ts; memories = later.memories ++ [] }; now = now })))) done) ∙ is in
-    let one : after ≡ fixed = same_Some after fixed same in
-    record {
-      functions = ap (λ (x : Made). x.store.functions) (sym one) ∙ append-nil later.functions;
-      tables_are = ap (λ (x : Made). x.store.tables) (sym one);
-      now_is = ap (λ (x : Made). x.now) (sym one) ∙ ap (λ l. record moment { globals = l }) (append-nil moment.globals);
-    }
+    (if_split (matches_each (types_of f) later moment (entities_of f) given) (made_of m frame later moment (own_functions frame m.functions m.bodies) (Some [])) fixed
+    (ap (λ p. instance_of p given later moment) (sym (parts_are f debug_names)) ∙ is)).0
+
+made_is : (f : Fixup) (debug_names : Bool) (given : List Given) (later : Store) (moment : Now) (fixed : Made) (tables : List (List (Option ℕ))) → instance_of (parts_of (fixup_sections f debug_names)) given later moment ≡ Some fixed →
+    elements_done (frame_of f given later moment) (segments_if (table_of f) f.fills) (later.tables ++ []) ≡ Some tables → made_with f given later moment tables ≡ fixed
+made_is f debug_names given later moment fixed tables is filled =
+    same_Some (made_with f given later moment tables) fixed
+    (sym (instance_is f given later moment tables (split_made f debug_names given later moment fixed is) filled) ∙ ap (λ p. instance_of p given later moment) (sym (parts_are f debug_names)) ∙ is)
 
 -- ---- the law
 
@@ -279,34 +290,91 @@ type_at_slot (x ∷ xs) (y ∷ ys) zero s same h = let e : x.type ≡ y.type = c
 type_at_slot (x ∷ xs) (y ∷ ys) (suc i) s same h = let e : map (λ (z : NamedShim). z.type) xs ≡ map (λ (z : Slot). z.type) ys = cc in type_at_slot xs ys i s e h
 
 pub fixups_fill_shims : FixupsFillShims
-fixups_fill_shims f shims debug_names types slots store now made later moment supply fixed h =
-    let m = fixup_parts f in
-    let frame = new_frame m h.given later moment in
-    let split = if_split (matches_each f.types later moment (map (λ (i : Import). i.entity) (with_table f).entries) h.given) (made_of m frame later moment (Some []) (Some [])) fixed (ap (λ p. instance_of p h.given later moment) (sym (parts_are f debug_names)) ∙ h.is_made) in
-    let all = all_given later supply (functions_given h.given) shims f.fills (AllZip-weaker (λ s k t. target_given f later moment supply h.given h.supplied split.0 s k t) shims f.fills h.fills) in
+fixups_fill_shims f shims debug_names types slots store now made later moment supply called fixed h k =
+    let frame = frame_of f k.given later moment in
+    let matching = split_made f debug_names k.given later moment fixed k.is_made in
+    let all = all_given later supply (functions_given k.given) shims f.fills (AllZip-weaker (λ s function t. target_given f later moment supply k.given k.supplied matching s function t) shims f.fills h.fills) in
     let new_address = length store.tables in
-    let functions_are : functions_given h.given ++ [] ≡ functions_given h.given = append-nil (functions_given h.given) in
-    let named : slice_get frame.tables (table_index f) ≡ Some new_address = ap (λ l. slice_get l (table_index f)) (append-nil (tables_given h.given)) ∙ table_given f later moment supply h.given h.supplied split.0 new_address h.may_import h.table in
-    let found : all_at frame.functions f.fills ≡ Some all.addresses = ap (λ l. all_at l f.fills) functions_are ∙ all.found in
+    let named : slice_get frame.tables (table_index f) ≡ Some new_address =
+    ap (λ l. slice_get l (table_index f)) (append-nil (tables_given k.given)) ∙ table_given f later moment supply k.given k.supplied matching new_address h.any h.may_import h.table in
+    let found : all_at frame.functions f.fills ≡ Some all.addresses = all_among (functions_given k.given) _ f.fills all.addresses all.found in
     let counted : length all.addresses ≡ length slots =
     sym (length-AllZip _ shims all.addresses all.targets) ∙ sym (length-map shims (λ s. s.type)) ∙ ap length h.same_types ∙ length-map slots (λ s. s.type) in
     let filled = fill_by (table_index f) frame f.fills later.tables new_address named ∙ segments_fill types slots store now made later (record frame { tables = new_address ∷ [] }) f.fills all.addresses h.shims_made h.extends refl found counted in
     let full = store.tables ++ map (λ a. Some a) all.addresses ∷ h.extends.more_tables in
-    let with_all = made_with f.types (map (λ (i : Import). i.entity) (with_table f).entries) (fill_segment (table_index f) f.fills) h.given later moment fixed full filled split.1 in
+    let done : elements_done frame (segments_if (table_of f) f.fills) (later.tables ++ []) ≡ Some full =
+    ap (λ o. elements_done frame (segments_if o f.fills) (later.tables ++ [])) (some_of f.fills None (Some (table_index f)) h.any)
+    ∙ ap (λ l. elements_done frame (fill_segment (table_index f) f.fills ∷ []) l) (append-nil later.tables)
+    ∙ ap (λ o. bind o (λ after. Some after)) filled in
+    let is = made_is f debug_names k.given later moment fixed full k.is_made done in
+    let tables_are : fixed.store.tables ≡ full = ap (λ (x : Made). x.store.tables) (sym is) in
+    let functions_are : fixed.store.functions ≡ later.functions ++ own_if frame (own_type f) f.calls = ap (λ (x : Made). x.store.functions) (sym is) in
+    let more = own_if frame (own_type f) f.calls in
     record {
       addresses = all.addresses;
       targets = all.targets;
       more_tables = h.extends.more_tables;
       later_tables = h.extends.tables;
-      tables = with_all.tables_are;
-      functions = with_all.functions;
-      quiet = ap (λ p. started p fixed) (parts_are f debug_names) ∙ ap (λ (n : Now). Returned [] n) with_all.now_is;
+      tables = tables_are;
       forward = λ final e i s address at_slot at_address n arguments now' fine.
           let t = type_at_slot shims slots i s h.same_types at_slot in
           let g = all.signed i t.0 address t.1 at_address in
-          let final_functions : final.functions ≡ later.functions ++ e.more_functions = e.functions ∙ ap (λ l. l ++ e.more_functions) with_all.functions in
-          filled_shims_forward types slots store now made final (h.extends.more_functions ++ e.more_functions) all.addresses (h.extends.more_tables ++ e.more_tables) h.shims_made
-          (final_functions ∙ ap (λ l. l ++ e.more_functions) h.extends.functions ∙ append_assoc made.store.functions h.extends.more_functions e.more_functions)
-          (e.tables ∙ ap (λ l. l ++ e.more_tables) with_all.tables_are ∙ append_assoc store.tables (map (λ a. Some a) all.addresses ∷ h.extends.more_tables) e.more_tables)
-          i s address g.0 at_slot at_address (ap (λ l. slice_get l address) final_functions ∙ slice_get-append later.functions e.more_functions address g.0 g.1) (g.2 ∙ t.2) n arguments now' fine;
+          let final_functions : final.functions ≡ later.functions ++ (more ++ e.more_functions) = e.functions ∙ ap (λ l. l ++ e.more_functions) functions_are ∙ append_assoc later.functions more e.more_functions in
+          filled_shims_forward types slots store now made final (h.extends.more_functions ++ (more ++ e.more_functions)) all.addresses (h.extends.more_tables ++ e.more_tables) h.shims_made
+          (final_functions ∙ ap (λ l. l ++ (more ++ e.more_functions)) h.extends.functions ∙ append_assoc made.store.functions h.extends.more_functions (more ++ e.more_functions))
+          (e.tables ∙ ap (λ l. l ++ e.more_tables) tables_are ∙ append_assoc store.tables (map (λ a. Some a) all.addresses ∷ h.extends.more_tables) e.more_tables)
+          i s address g.0 at_slot at_address (ap (λ l. slice_get l address) final_functions ∙ slice_get-append later.functions (more ++ e.more_functions) address g.0 g.1) (g.2 ∙ t.2) n arguments now' fine;
     }
+
+-- ---- what is called
+
+-- its segment leaves some tables, and its own where it has none
+tables_after : (f : Fixup) (debug_names : Bool) (given : List Given) (later : Store) (moment : Now) (fixed : Made) → instance_of (parts_of (fixup_sections f debug_names)) given later moment ≡ Some fixed →
+    (tables : List (List (Option ℕ))) × (elements_done (frame_of f given later moment) (segments_if (table_of f) f.fills) (later.tables ++ []) ≡ Some tables)
+tables_after f debug_names given later moment fixed is = by (elements_done frame segments (later.tables ++ [])) refl
+  where
+    m : Parts
+    m = fixup_parts f
+
+    frame : Frame
+    frame = frame_of f given later moment
+
+    segments : List ElementSegment
+    segments = segments_if (table_of f) f.fills
+
+    made : instance_of m given later moment ≡ Some fixed
+    made = ap (λ p. instance_of p given later moment) (sym (parts_are f debug_names)) ∙ is
+
+    split : (matches_each (types_of f) later moment (entities_of f) given ≡ true) × (made_of m frame later moment (own_functions frame m.functions m.bodies) (Some []) ≡ Some fixed)
+    split = if_split (matches_each (types_of f) later moment (entities_of f) given) (made_of m frame later moment (own_functions frame m.functions m.bodies) (Some [])) fixed made
+
+    by : (o : Option (List (List (Option ℕ)))) → elements_done frame segments (later.tables ++ []) ≡ o → (tables : List (List (Option ℕ))) × (elements_done frame segments (later.tables ++ []) ≡ Some tables)
+    by (Some tables) e = (tables, e)
+    by None e =
+        let fails : made_of m frame later moment (own_functions frame m.functions m.bodies) (Some []) ≡ None = failed f given later moment e in
+        let no : None ≡ Some fixed = sym fails ∙ split.1 in cc
+
+pub fixups_call : FixupsCall
+fixups_call f debug_names later moment supply called fixed h =
+    let frame = frame_of f h.given later moment in
+    let matching = split_made f debug_names h.given later moment fixed h.is_made in
+    let after = tables_after f debug_names h.given later moment fixed h.is_made in
+    let is = made_is f debug_names h.given later moment fixed after.0 h.is_made after.1 in
+    let same_now : (made_with f h.given later moment after.0).now ≡ moment = ap (λ l. record moment { globals = l }) (append-nil moment.globals) in
+    record {
+      more_functions = own_if frame (own_type f) f.calls;
+      functions = ap (λ (x : Made). x.store.functions) (sym is);
+      memories = ap (λ (x : Made). x.store.memories) (sym is) ∙ append-nil later.memories;
+      tables = λ none. ap (λ (x : Made). x.store.tables) (sym is) ∙ unfilled none after.1;
+      starts =
+          ap (λ p. started p fixed) (parts_are f debug_names)
+          ∙ ap (λ (x : Made). started (fixup_parts f) x) (sym is)
+          ∙ starts f h.given later moment after.0 called h.are_called (counts_given (types_of f) later moment (all_imported f).entries h.given matching).0
+          ∙ ap (λ (n : Now). deeds_done (map call_of called) n) same_now;
+    }
+  where
+    unfilled : {tables : List (List (Option ℕ))} → f.fills ≡ [] → elements_done (frame_of f h.given later moment) (segments_if (table_of f) f.fills) (later.tables ++ []) ≡ Some tables → tables ≡ later.tables
+    unfilled {tables} none e =
+        let empty : elements_done (frame_of f h.given later moment) (segments_if (table_of f) f.fills) (later.tables ++ []) ≡ Some (later.tables ++ []) =
+        ap (λ o. elements_done (frame_of f h.given later moment) (segments_if o f.fills) (later.tables ++ [])) (none_of f.fills None (Some (table_index f)) none) in
+        sym (same_Some (later.tables ++ []) tables (sym empty ∙ e)) ∙ append-nil later.tables

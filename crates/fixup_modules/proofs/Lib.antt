@@ -4,5 +4,6 @@ pub mod Listing
 pub mod Importing
 pub mod Building
 pub mod Arguments
+pub mod Making
 pub mod Filling
 pub mod Worked

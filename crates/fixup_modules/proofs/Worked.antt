@@ -1,19 +1,20 @@
 -- Worked examples: one shim of two parameters; twelve shims; types and imports of a new fixup module.
 use Rattle.std.proofs.Common.{◌≡◌, ℕ, Bool, true, false, List, [], ◌∷◌, drop, take, refl}
-use Rattle.std.specs.Prelude.{codes, None, zero, suc}
+use Rattle.std.specs.Prelude.{codes, map, None, Some, zero, suc}
 use Rattle.std.specs.Fmt.{digits, decimal}
 use Rattle.byte_encoding.specs.Encoding.{leb128}
 use Rattle.core_types.specs.declared.types.FuncType.{FuncType}
 use Rattle.core_types.specs.declared.types.ValType.TheVariants.{I32}
 use Rattle.core_bytes.specs.declared.entity.EntityType.TheVariants as entities
+use Rattle.core_bytes.specs.declared.entry.Import.{Import}
 use Rattle.core_bytes.specs.declared.section.Section.TheVariants as sections
 use Rattle.core_bytes.specs.Modules.{encoding_of, section}
 use Rattle.core_bytes.specs.Signed.{signed_within}
 use Rattle.interned_types.specs.Interning.{type_index}
 use Rattle.fixup_modules.specs.declared.instances.ImportedInstance.TheVariants as instances
 use Rattle.fixup_modules.specs.Imports.{with_import, import_index, has_other_type, is_taken, nothing_imported}
-use Rattle.fixup_modules.specs.Fixups.{Fixup, nothing_fixed, thunk, with_type, with_shim}
-use Rattle.fixup_modules.specs.Sections.{fixup_sections, encoded_fixup, fill_segment, table_index}
+use Rattle.fixup_modules.specs.Fixups.{Fixup, nothing_fixed, thunk, with_type, with_shim, with_initialize}
+use Rattle.fixup_modules.specs.Sections.{all_imported, start_function, fixup_sections, encoded_fixup, fill_segment, table_index}
 
 -- a function of two parameters and no result
 abbrev pair : FuncType
@@ -54,6 +55,28 @@ twelve = some_shims 0 12 nothing_fixed
 twelve_fill : (section (sections.Elements (fill_segment (table_index twelve) twelve.fills ∷ []))).bytes ≡ 0x09 ∷ 0x12 ∷ 0x01 ∷ 0x00 ∷ 0x41 ∷ 0x00 ∷ 0x0b ∷ 0x0c ∷ 0x00 ∷ 0x01 ∷ 0x02 ∷ 0x03 ∷ 0x04 ∷ 0x05 ∷ 0x06 ∷ 0x07 ∷ 0x08 ∷ 0x09 ∷ 0x0a ∷ 0x0b ∷ []
 unfolding leb128 signed_within digits
 twelve_fill = refl
+
+-- ---- calls
+
+-- one call, where there is no shim: the function that is imported is the start function
+one_call : (encoding_of (fixup_sections (with_initialize nothing_fixed (codes "_initialize")) false)).bytes ≡ 0x00 ∷ 0x61 ∷ 0x73 ∷ 0x6d ∷ 0x01 ∷ 0x00 ∷ 0x00 ∷ 0x00 ∷ 0x01 ∷ 0x04 ∷ 0x01 ∷ 0x60 ∷ 0x00 ∷ 0x00 ∷ 0x02 ∷ 0x14 ∷ 0x01 ∷ 0x04 ∷ 0x6d ∷ 0x61 ∷ 0x69 ∷ 0x6e ∷ 0x0b ∷ 0x5f ∷ 0x69 ∷ 0x6e ∷ 0x69 ∷ 0x74 ∷ 0x69 ∷ 0x61 ∷ 0x6c ∷ 0x69 ∷ 0x7a ∷ 0x65 ∷ 0x00 ∷ 0x00 ∷ 0x08 ∷ 0x01 ∷ 0x00 ∷ []
+unfolding leb128 signed_within digits
+one_call = refl
+
+-- two calls: the start function is the module's own
+two_calls : (encoding_of (fixup_sections (with_initialize (with_initialize nothing_fixed (codes "a")) (codes "b")) false)).bytes ≡ 0x00 ∷ 0x61 ∷ 0x73 ∷ 0x6d ∷ 0x01 ∷ 0x00 ∷ 0x00 ∷ 0x00 ∷ 0x01 ∷ 0x04 ∷ 0x01 ∷ 0x60 ∷ 0x00 ∷ 0x00 ∷ 0x02 ∷ 0x13 ∷ 0x02 ∷ 0x04 ∷ 0x6d ∷ 0x61 ∷ 0x69 ∷ 0x6e ∷ 0x01 ∷ 0x61 ∷ 0x00 ∷ 0x00 ∷ 0x04 ∷ 0x6d ∷ 0x61 ∷ 0x69 ∷ 0x6e ∷ 0x01 ∷ 0x62 ∷ 0x00 ∷ 0x00 ∷ 0x03 ∷ 0x02 ∷ 0x01 ∷ 0x00 ∷ 0x08 ∷ 0x01 ∷ 0x02 ∷ 0x0a ∷ 0x08 ∷ 0x01 ∷ 0x06 ∷ 0x00 ∷ 0x10 ∷ 0x00 ∷ 0x10 ∷ 0x01 ∷ 0x0b ∷ []
+unfolding leb128 signed_within digits
+two_calls = refl
+
+-- a shim and a call: the function of the shim is imported first, and the table last
+abbrev shim_and_call : Fixup
+shim_and_call = with_initialize (with_shim nothing_fixed (codes "0") pair) (codes "i")
+
+their_imports : map {B = List ℕ × List ℕ} (λ (i : Import). (i.module_name, i.field)) (all_imported shim_and_call).entries ≡ (codes "actual", codes "0") ∷ (codes "main", codes "i") ∷ (codes "shim", codes "$imports") ∷ []
+their_imports = refl
+
+their_start : start_function shim_and_call ≡ Some 1
+their_start = refl
 
 -- ---- types and imports of a new one
 

@@ -9,17 +9,19 @@ use Rattle.core_bytes.specs.declared.entity.EntityType.{EntityType}
 use Rattle.core_bytes.specs.declared.entity.EntityType.TheVariants as entities
 use Rattle.core_bytes.specs.declared.entry.Import.{Import}
 use Rattle.core_runs.specs.Values.{Value, fit}
-use Rattle.core_runs.specs.Store.{Store, Now, Returned}
+use Rattle.core_runs.specs.Store.{Func, Store, Now}
 use Rattle.core_runs.specs.Execution.{exec}
-use Rattle.core_runs.specs.Instances.{Given, FunctionAt, TableAt, Made, instance_of, started}
+use Rattle.core_runs.specs.Expected.{Known, Is}
+use Rattle.core_runs.specs.Instances.{Given, FunctionAt, TableAt, Made, functions_given, instance_of, started}
 use Rattle.core_runs.specs.Sections.{parts_of}
 use Rattle.core_runs.specs.LawsOfInstances.{Slot, Extends, ShimsMade}
+use Rattle.core_runs.specs.Starts.{Deed, Calls, deeds_done}
 use Rattle.fixup_modules.specs.declared.instances.ImportedInstance.{ImportedInstance}
 use Rattle.fixup_modules.specs.declared.instances.ImportedInstance.TheVariants as instances
 use Rattle.fixup_modules.specs.Instances.{instance_name}
 use Rattle.fixup_modules.specs.Imports.{Imported, nothing_imported, entry_of, count_of, with_import, MayImport}
-use Rattle.fixup_modules.specs.Fixups.{Fixup, nothing_fixed, with_type, with_shim, shim_target}
-use Rattle.fixup_modules.specs.Sections.{table_name, shim_table, with_table, fixup_sections}
+use Rattle.fixup_modules.specs.Fixups.{Fixup, nothing_fixed, thunk, with_type, with_shim, with_initialize, shim_target}
+use Rattle.fixup_modules.specs.Sections.{table_name, shim_table, all_imported, fixup_sections}
 
 -- ---- how a fixup is built
 
@@ -45,6 +47,7 @@ FillsShims f shims = AllZip (IsTarget f) shims f.fills
 pub record AddedShimsAreFilled : Type 0 where
   pub none : FillsShims nothing_fixed []
   pub one_more : (f : Fixup) (shims : List NamedShim) (name : List ℕ) (type : FuncType) → FillsShims f shims → MayImport f.imported instances.Actual name (shim_target f.types type) → FillsShims (with_shim f name type) (shims ++ record { name = name; type = type } ∷ [])
+  pub more_calls : (f : Fixup) (shims : List NamedShim) (name : List ℕ) → FillsShims f shims → FillsShims (with_initialize f name) shims
   pub more_types : (f : Fixup) (shims : List NamedShim) (type : FuncType) → FillsShims f shims → FillsShims (with_type f type) shims
   pub more_imports : (f : Fixup) (shims : List NamedShim) (instance : ImportedInstance) (field : List ℕ) (item : EntityType) → FillsShims f shims → FillsShims (record f { imported = with_import f.imported instance field item }) shims
 
@@ -54,40 +57,72 @@ pub record AddedShimsAreFilled : Type 0 where
 abbrev pub IsSupplied : (Import → Option Given) → List Import → List Given → Type 0
 IsSupplied supply entries given = AllZip (λ (i : Import) g. supply i ≡ Some g) entries given
 
--- An instance of the fixup, made after that of the shims: each import is given what is supplied for it, and for the table of
--- the shims that is theirs. The slots are for these shims, which have the types of those of the module.
-pub record FixupMade (f : Fixup) (shims : List NamedShim) (debug_names : Bool) (types : List FuncType) (slots : List Slot) (store : Store) (now : Now) (made : Made) (later : Store) (moment : Now) (supply : Import → Option Given) (fixed : Made) : Type 0 where
+-- a function of a user module without parameters and results, by its address
+abbrev pub thunk_at : ℕ → Known
+thunk_at address = record { address = address; signature = thunk }
+
+abbrev pub call_of : ℕ → Deed
+call_of address = Calls (thunk_at address) []
+
+-- The function of this index among those that are given has this address, and is one of a user module.
+pub record IsCalled (functions : List ℕ) (store : Store) (function address : ℕ) : Type 0 where
+  pub at : slice_get functions function ≡ Some address
+  pub what : ℕ
+  pub is : Is store (thunk_at address) what
+
+abbrev pub AreCalled : List ℕ → Store → List ℕ → List ℕ → Type 0
+AreCalled functions store calls addresses = AllZip (IsCalled functions store) calls addresses
+
+-- An instance of the fixup: each import is given what is supplied for it, and the functions at these addresses are to be called.
+pub record FixupMade (f : Fixup) (debug_names : Bool) (later : Store) (moment : Now) (supply : Import → Option Given) (called : List ℕ) (fixed : Made) : Type 0 where
+  pub given : List Given
+  pub supplied : IsSupplied supply (all_imported f).entries given
+  pub are_called : AreCalled (functions_given given) later f.calls called
+  pub is_made : instance_of (parts_of (fixup_sections f debug_names)) given later moment ≡ Some fixed
+
+-- It is made after the instance of the shims, and for the table of the shims it is given theirs. The slots are for these shims, which have the
+-- types of those of the module.
+pub record FixupAfter (f : Fixup) (shims : List NamedShim) (types : List FuncType) (slots : List Slot) (store : Store) (now : Now) (made : Made) (later : Store) (supply : Import → Option Given) : Type 0 where
+  pub any : f.fills ≡ [] → ⊥
   pub shims_made : ShimsMade types slots store now made
   pub extends : Extends made.store later
   pub same_types : map (λ (s : NamedShim). s.type) shims ≡ map (λ (s : Slot). s.type) slots
   pub fills : FillsShims f shims
   pub may_import : MayImport f.imported instances.Shim table_name (shim_table f)
-  pub given : List Given
-  pub supplied : IsSupplied supply (with_table f).entries given
   pub table : supply (entry_of instances.Shim table_name (shim_table f)) ≡ Some (TableAt (length store.tables))
-  pub is_made : instance_of (parts_of (fixup_sections f debug_names)) given later moment ≡ Some fixed
 
 -- The functions that are supplied as targets, by their addresses.
 abbrev pub AreTargets : Fixup → (Import → Option Given) → List NamedShim → List ℕ → Type 0
 AreTargets f supply shims addresses =
     AllZip (λ (s : NamedShim) address. (type_index : ℕ) × (supply (entry_of instances.Actual s.name (entities.Function type_index)) ≡ Some (FunctionAt address))) shims addresses
 
--- Once it is made, shim number i acts as the function that is supplied for it, whatever is instantiated later. It adds no
--- function, changes no other table, and makes no event: it has no start function.
-pub record ShimsAreFilled (f : Fixup) (shims : List NamedShim) (debug_names : Bool) (slots : List Slot) (store : Store) (made : Made) (later : Store) (moment : Now) (supply : Import → Option Given) (fixed : Made) : Type 0 where
+-- Once it is made, shim number i acts as the function that is supplied for it, whatever is instantiated later. It changes no other
+-- table.
+pub record ShimsAreFilled (f : Fixup) (shims : List NamedShim) (slots : List Slot) (store : Store) (made : Made) (later : Store) (supply : Import → Option Given) (fixed : Made) : Type 0 where
   pub addresses : List ℕ
   pub targets : AreTargets f supply shims addresses
   pub more_tables : List (List (Option ℕ))
   pub later_tables : later.tables ≡ made.store.tables ++ more_tables
   pub tables : fixed.store.tables ≡ store.tables ++ map (λ a. Some a) addresses ∷ more_tables
-  pub functions : fixed.store.functions ≡ later.functions
-  pub quiet : started (parts_of (fixup_sections f debug_names)) fixed ≡ Returned [] moment
   pub forward : (final : Store) → Extends fixed.store final → (i : ℕ) (s : Slot) (address : ℕ) → slice_get slots i ≡ Some s → slice_get addresses i ≡ Some address → (n : ℕ) (arguments : List Value) (at : Now) → fit s.type.params arguments ≡ true → exec (suc n) final (length store.functions + i) arguments at ≡ exec n final address arguments at
 
 -- Instances of fixups fill the shims.
 abbrev pub FixupsFillShims : Type 0
 FixupsFillShims =
-    (f : Fixup) (shims : List NamedShim) (debug_names : Bool) (types : List FuncType) (slots : List Slot) (store : Store) (now : Now) (made : Made) (later : Store) (moment : Now) (supply : Import → Option Given) (fixed : Made) → FixupMade f shims debug_names types slots store now made later moment supply fixed → ShimsAreFilled f shims debug_names slots store made later moment supply fixed
+    (f : Fixup) (shims : List NamedShim) (debug_names : Bool) (types : List FuncType) (slots : List Slot) (store : Store) (now : Now) (made : Made) (later : Store) (moment : Now) (supply : Import → Option Given) (called : List ℕ) (fixed : Made) → FixupAfter f shims types slots store now made later supply → FixupMade f debug_names later moment supply called fixed → ShimsAreFilled f shims slots store made later supply fixed
+
+-- It adds at most one function, changes nothing else but the slots that it fills, and what is seen of it are the calls of these functions,
+-- in order.
+pub record CallsAreMade (f : Fixup) (debug_names : Bool) (later : Store) (moment : Now) (called : List ℕ) (fixed : Made) : Type 0 where
+  pub more_functions : List Func
+  pub functions : fixed.store.functions ≡ later.functions ++ more_functions
+  pub memories : fixed.store.memories ≡ later.memories
+  pub tables : f.fills ≡ [] → fixed.store.tables ≡ later.tables
+  pub starts : started (parts_of (fixup_sections f debug_names)) fixed ≡ deeds_done (map call_of called) moment
+
+abbrev pub FixupsCall : Type 0
+FixupsCall =
+    (f : Fixup) (debug_names : Bool) (later : Store) (moment : Now) (supply : Import → Option Given) (called : List ℕ) (fixed : Made) → FixupMade f debug_names later moment supply called fixed → CallsAreMade f debug_names later moment called fixed
 
 -- ---- the arguments of its instance
 

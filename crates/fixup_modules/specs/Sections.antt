@@ -1,7 +1,10 @@
 -- A fixup module in the table form, as a list of sections.
--- Core standard, structure: modules, element segments; appendix, custom sections: name section.
-use Rattle.std.specs.Prelude.{ℕ, zero, suc, pos, Bool, true, false, ◌==◌, List, [], ◌∷◌, length, Option, Some, None, codes, if◌then◌else◌}
+-- Core standard, structure: modules, element segments, start function; appendix, custom sections: name section.
+use Rattle.std.specs.Prelude.{◌<◌, ◌⊎◌, ℕ, zero, suc, pos, Bool, true, false, List, [], ◌∷◌, ◌++◌, length, map, Option, Some, None, codes}
+use Rattle.std.specs.Option.{option_map}
 use Rattle.standard_kinds.specs.declared.kinds.ExportKind.TheVariants as kinds
+use Rattle.core_types.specs.declared.types.FuncType.{FuncType}
+use Rattle.core_bytes.specs.declared.code.Body.{Body}
 use Rattle.core_bytes.specs.declared.entity.EntityType.{EntityType}
 use Rattle.core_bytes.specs.declared.entity.EntityType.TheVariants as entities
 use Rattle.core_bytes.specs.declared.entry.ElementSegment.{ElementSegment}
@@ -10,11 +13,15 @@ use Rattle.core_bytes.specs.declared.entry.Import.{Import}
 use Rattle.core_bytes.specs.declared.entry.Naming.{Naming}
 use Rattle.core_bytes.specs.declared.section.Section.{Section}
 use Rattle.core_bytes.specs.declared.section.Section.TheVariants as sections
-use Rattle.core_runs.specs.Bodies.{table_of_shims, table_fill}
+use Rattle.core_runs.specs.declared.start.StartStep.TheVariants.{Thunk}
+use Rattle.core_runs.specs.Bodies.{table_of_shims, table_fill, start}
+use Rattle.interned_types.specs.Interning.{interned, type_index}
 use Rattle.fixup_modules.specs.declared.instances.ImportedInstance.TheVariants as instances
 use Rattle.fixup_modules.specs.declared.encoding.EncodedFixup.{EncodedFixup}
-use Rattle.fixup_modules.specs.Imports.{Imported, with_import, import_index, of_kind}
-use Rattle.fixup_modules.specs.Fixups.{Fixup}
+use Rattle.fixup_modules.specs.declared.fault.ShimFault.{ShimFault}
+use Rattle.fixup_modules.specs.declared.fault.ShimFault.TheVariants as faults
+use Rattle.fixup_modules.specs.Imports.{Imported, with_import, import_index, of_kind, count_of, MayImport, ImportCause}
+use Rattle.fixup_modules.specs.Fixups.{Fixup, thunk, TypeCause}
 
 -- ---- the table of the shims
 
@@ -37,6 +44,47 @@ abbrev pub fill_segment : ℕ → List ℕ → ElementSegment
 fill_segment zero functions = table_fill functions
 fill_segment (suc table) functions = segments.Active (Some (suc table)) (pos 0) functions
 
+-- one of two things: the first where there is no entry
+abbrev pub if_none : {A B : Type 0} → List A → B → B → B
+if_none [] none some = none
+if_none (x ∷ xs) none some = some
+
+-- the table is imported where there is a slot to fill
+abbrev pub all_imported : Fixup → Imported
+all_imported f = if_none f.fills f.imported (with_table f)
+
+abbrev pub table_of : Fixup → Option ℕ
+table_of f = if_none f.fills None (Some (table_index f))
+
+-- ---- the start function
+
+-- one of three things: by whether there is no call, one, or more
+abbrev pub by_calls : {A : Type 0} → List ℕ → A → (ℕ → A) → A → A
+by_calls [] none one more = none
+by_calls (f ∷ []) none one more = one f
+by_calls (f ∷ g ∷ fs) none one more = more
+
+-- The only function that is called is the start function itself. More are called by a function of the module, of this type; it comes
+-- after the imported ones.
+abbrev pub own_type : Fixup → Option ℕ
+own_type f = by_calls f.calls None (λ function. None) (Some (type_index f.types thunk))
+
+abbrev pub types_of : Fixup → List FuncType
+types_of f = by_calls f.calls f.types (λ function. f.types) (interned f.types thunk)
+
+abbrev pub imported_functions : Fixup → ℕ
+imported_functions f = count_of kinds.Func (all_imported f).entries
+
+abbrev pub own_function : Fixup → Option ℕ
+own_function f = option_map (λ type. imported_functions f) (own_type f)
+
+abbrev pub start_function : Fixup → Option ℕ
+start_function f = by_calls f.calls None (λ function. Some function) (Some (imported_functions f))
+
+-- the body of the function of the module
+abbrev pub calling : List ℕ → Body
+calling functions = start (map (λ function. Thunk function) functions)
+
 -- ---- names
 
 -- each item has the name by which it is imported, from this index on
@@ -44,35 +92,59 @@ abbrev pub names_from : ℕ → List Import → List Naming
 names_from index [] = []
 names_from index (i ∷ is) = record { index = index; name = i.field } ∷ names_from (suc index) is
 
+-- the function of the module, where there is one
+abbrev pub start_name : Option ℕ → List Naming
+start_name None = []
+start_name (Some index) = record { index = index; name = codes "start" } ∷ []
+
 -- a map of names is written where there is a name
 abbrev pub name_map : List Naming → Option (List Naming)
 name_map [] = None
 name_map (n ∷ ns) = Some (n ∷ ns)
 
--- the names of the module, of its functions and of its globals, where they are asked for
-abbrev pub names_of : Bool → List Import → List Section
-names_of false entries = []
-names_of true entries =
+-- the names of the module, of its functions and of its globals, where they are asked for; that of its own function comes last
+abbrev pub names_of : Bool → List Import → Option ℕ → List Section
+names_of false entries own = []
+names_of true entries own =
     sections.Names (record {
       module_name = codes "wit-component:fixups";
-      functions = name_map (names_from 0 (of_kind kinds.Func entries));
+      functions = name_map (names_from 0 (of_kind kinds.Func entries) ++ start_name own);
       globals = name_map (names_from 0 (of_kind kinds.Global entries));
     })
     ∷ []
 
 -- ---- the module
 
+-- a section of one entry, where there is one
+abbrev pub optional : {A : Type 0} → (A → Section) → Option A → List Section
+optional section None = []
+optional section (Some x) = section x ∷ []
+
 abbrev pub fixup_sections : Fixup → Bool → List Section
 fixup_sections f debug_names =
-    sections.Types f.types
-    ∷ sections.Imports (with_table f).entries
-    ∷ sections.Elements (fill_segment (table_index f) f.fills ∷ [])
-    ∷ names_of debug_names (with_table f).entries
+    sections.Types (types_of f)
+    ∷ sections.Imports (all_imported f).entries
+    ∷ (optional (λ type. sections.Functions (type ∷ [])) (own_type f)
+    ++ (optional (λ function. sections.Start function) (start_function f)
+    ++ (optional (λ table. sections.Elements (fill_segment table f.fills ∷ [])) (table_of f)
+    ++ (optional (λ type. sections.Code (calling f.calls ∷ [])) (own_type f)
+    ++ names_of debug_names (all_imported f).entries (own_function f)))))
 
 -- the module, and the instances that are its arguments, by name
 abbrev pub module_with_instances : Fixup → Bool → EncodedFixup
-module_with_instances f debug_names = record { «module» = fixup_sections f debug_names; instances = (with_table f).instances }
+module_with_instances f debug_names = record { «module» = fixup_sections f debug_names; instances = (all_imported f).instances }
 
--- where no slot is to be filled, there is none
+-- where no slot is to be filled, and nothing is to be called, there is none
 abbrev pub encoded_fixup : Fixup → Bool → Option EncodedFixup
-encoded_fixup f debug_names = if length f.fills == 0 then None else Some (module_with_instances f debug_names)
+encoded_fixup f debug_names = if_none (f.fills ++ f.calls) None (Some (module_with_instances f debug_names))
+
+-- ---- refusals
+
+-- nothing that is imported contradicts the table, where there is one
+abbrev pub MayEncode : Fixup → Type 0
+MayEncode f = 0 < length f.fills → MayImport f.imported instances.Shim table_name (shim_table f)
+
+-- Why a fixup can't be encoded: its table can't be imported, or the type of its start function can't be interned.
+abbrev pub EncodeCause : Fixup → ShimFault → Type 0
+EncodeCause f faults.Memory = Unit {0}
+EncodeCause f e = ((0 < length f.fills) × ImportCause f.imported instances.Shim table_name (shim_table f) e) ⊎ ((1 < length f.calls) × TypeCause f.types thunk e)

@@ -5,7 +5,7 @@ ghost use Rattle.core_bytes.specs.declared.entity.EntityType.TheVariants as enti
 ghost use Rattle.interned_types.specs.Interning.{type_index, interned};
 ghost use Rattle.fixup_modules.specs.declared.instances.ImportedInstance.TheVariants as instances;
 ghost use Rattle.fixup_modules.specs.Imports.{with_import, import_index, MayImport, HasRoom, ImportCause};
-ghost use Rattle.fixup_modules.specs.Fixups.{Fixup, nothing_fixed, thunk, with_type, with_shim, shim_target, TypeCause, ShimCause};
+ghost use Rattle.fixup_modules.specs.Fixups.{Fixup, nothing_fixed, thunk, thunk_item, with_type, with_shim, with_initialize, shim_target, TypeCause, FunctionCause, ShimCause, CallCause};
 
 use crate::fault::ShimFault;
 use crate::imports::ImportTable;
@@ -18,7 +18,7 @@ use interned_types::CoreTypes;
 use std::alloc::Global;
 use std::marker::Model;
 
-/// A fixup module under construction. Contracts see its types, its imports and its fills.
+/// A fixup module under construction. Contracts see its types, its imports, its fills and its calls.
 ///
 /// After a refusal it is as it was.
 #[derive(Drop)]
@@ -28,6 +28,8 @@ pub struct FixupModule {
     pub(crate) imports: ImportTable,
     /// The functions for the slots of the table of shims, in their order.
     pub(crate) fills: Vec<u32>,
+    /// The functions that the start function calls, in their order.
+    pub(crate) calls: Vec<u32>,
 }
 
 impl Model for FixupModule {
@@ -36,32 +38,39 @@ impl Model for FixupModule {
 
     ghost Value = { Fixup };
 
-    ghost view = { λ f. record { types = f.types; imported = f.imports; fills = f.fills.items } };
+    ghost view = { λ f. record { types = f.types; imported = f.imports; fills = f.fills.items; calls = f.calls.items } };
 
-    ghost invariant = { λ f. length f.fills.items < 2 ^ 32 };
+    ghost invariant = { λ f. (length f.fills.items < 2 ^ 32) × (length f.calls.items < 2 ^ 32) };
 }
 
-/// Imports the function that a shim is to forward to. After a refusal types and imports are as they were.
-fn import_target(
+/// The type of functions without parameters and results.
+pub(crate) fn thunk_type(alloc: Global) -> FuncType
+    ensures { result ≡ thunk }
+{
+    FuncType {
+        params: Seq::new(alloc),
+        results: Seq::new(alloc),
+    }
+}
+
+/// Imports a function of a type. After a refusal types and imports are as they were.
+fn import_function(
     types: &mut CoreTypes,
     imports: &mut ImportTable,
+    instance: &ImportedInstance,
     name: &str,
     ty: FuncType,
 ) -> Result<u32, ShimFault>
     ensures types { OnOk result (types.new ≡ interned types.old ty) }
-    ensures imports { OnOk result (imports.new ≡ with_import imports.old instances.Actual name.now (shim_target types.old ty)) }
-    ensures index { IfOk result (λ index. index ≡ import_index imports.old instances.Actual name.now (shim_target types.old ty)) }
-    ensures refused { OnOk result (MayImport imports.old instances.Actual name.now (shim_target types.old ty)) }
+    ensures imports { OnOk result (imports.new ≡ with_import imports.old instance.now name.now (shim_target types.old ty)) }
+    ensures index { IfOk result (λ index. index ≡ import_index imports.old instance.now name.now (shim_target types.old ty)) }
+    ensures refused { OnOk result (MayImport imports.old instance.now name.now (shim_target types.old ty)) }
     ensures err { OnErr result ((types.new ≡ types.old) × (imports.new ≡ imports.old)) }
-    ensures cause { IfErr result (λ e. TypeCause types.old ty e ⊎ ImportCause imports.old instances.Actual name.now (shim_target types.old ty) e) }
+    ensures cause { IfErr result (λ e. TypeCause types.old ty e ⊎ ImportCause imports.old instance.now name.now (shim_target types.old ty) e) }
 {
     let count = types.len();
     let type_index = types.intern(ty)?;
-    match imports.import(
-        &ImportedInstance::Actual,
-        name,
-        EntityType::Function(type_index),
-    ) {
+    match imports.import(instance, name, EntityType::Function(type_index)) {
         Ok(index) => Ok(index),
         Err(fault) => {
             types.truncate(count);
@@ -70,34 +79,36 @@ fn import_target(
     }
 }
 
-/// Imports the function that a shim is to forward to, and lets it be for the next slot. After a refusal all is as it was.
-fn add_fill(
+/// Imports a function of a type, and appends it to the functions for slots, or to those that are called. After a refusal all is as it
+/// was.
+fn append_function(
     types: &mut CoreTypes,
     imports: &mut ImportTable,
-    fills: &mut Vec<u32>,
+    functions: &mut Vec<u32>,
+    instance: &ImportedInstance,
     name: &str,
     ty: FuncType,
 ) -> Result<(), ShimFault>
-    requires { length fills.old.items < 2 ^ 32 }
+    requires { length functions.old.items < 2 ^ 32 }
     ensures types { OnOk result (types.new ≡ interned types.old ty) }
-    ensures imports { OnOk result (imports.new ≡ with_import imports.old instances.Actual name.now (shim_target types.old ty)) }
-    ensures fills { OnOk result (fills.new.items ≡ fills.old.items ++ import_index imports.old instances.Actual name.now (shim_target types.old ty) ∷ []) }
-    ensures room { OnOk result (length fills.new.items < 2 ^ 32) }
-    ensures refused { OnOk result (MayImport imports.old instances.Actual name.now (shim_target types.old ty)) }
-    ensures err { OnErr result ((types.new ≡ types.old) × (imports.new ≡ imports.old) × (fills.new.items ≡ fills.old.items)) }
-    ensures cause { let f : Fixup = record { types = types.old; imported = imports.old; fills = fills.old.items } in IfErr result (ShimCause f name.now ty) }
+    ensures imports { OnOk result (imports.new ≡ with_import imports.old instance.now name.now (shim_target types.old ty)) }
+    ensures functions { OnOk result (functions.new.items ≡ functions.old.items ++ import_index imports.old instance.now name.now (shim_target types.old ty) ∷ []) }
+    ensures room { OnOk result (length functions.new.items < 2 ^ 32) }
+    ensures refused { OnOk result (MayImport imports.old instance.now name.now (shim_target types.old ty)) }
+    ensures err { OnErr result ((types.new ≡ types.old) × (imports.new ≡ imports.old) × (functions.new.items ≡ functions.old.items)) }
+    ensures cause { IfErr result (FunctionCause types.old imports.old functions.old.items instance.now name.now ty) }
 {
-    next_count(fills.len() as u32)?;
-    fills.reserve(1)?;
-    let function = import_target(types, imports, name, ty)?;
-    match fills.push(function) {
+    next_count(functions.len() as u32)?;
+    functions.reserve(1)?;
+    let function = import_function(types, imports, instance, name, ty)?;
+    match functions.push(function) {
         Ok(()) => Ok(()),
         Err(_) => unreachable!(),
     }
 }
 
 impl FixupModule {
-    /// A module with no types, no imports and no fills. It takes no memory.
+    /// A module with no types, no imports, no fills and no calls. It takes no memory.
     pub fn new(alloc: Global) -> FixupModule
         ensures { result ≡ nothing_fixed }
     {
@@ -106,6 +117,7 @@ impl FixupModule {
             types: CoreTypes::new(alloc),
             imports: ImportTable::new(alloc),
             fills: Vec::new(alloc),
+            calls: Vec::new(alloc),
         }
     }
 
@@ -120,7 +132,8 @@ impl FixupModule {
         ensures err { OnErr result (self.new ≡ self.old) }
         ensures cause { IfErr result (TypeCause self.old.types thunk) }
     {
-        self.type_intern(Seq::new(self.alloc), Seq::new(self.alloc))
+        let FuncType { params, results } = thunk_type(self.alloc);
+        self.type_intern(params, results)
     }
 
     /// The index of the type of functions with these parameters and results. A type that wasn't there is appended.
@@ -217,12 +230,38 @@ impl FixupModule {
         ensures err { OnErr result (self.new ≡ self.old) }
         ensures cause { IfErr result (ShimCause self.old name.now ty) }
     {
-        add_fill(
+        append_function(
             &mut self.types,
             &mut self.imports,
             &mut self.fills,
+            &ImportedInstance::Actual,
             name,
             ty,
+        )?;
+        Ok(())
+    }
+
+    /// Lets the function that main exports under this name be called when the module is instantiated, after those that were added before.
+    /// It has no parameters and no results.
+    ///
+    /// It fails as [`FixupModule::type_thunk`] and [`FixupModule::import`] do, and with [`ShimFault::TooMany`] where there would be more
+    /// than 2^32 - 1 calls.
+    ///
+    /// Core standard, structure: start function.
+    pub fn add_initialize(&mut self, name: &str) -> Result<(), ShimFault>
+        ensures ok { OnOk result (self.new ≡ with_initialize self.old name.now) }
+        ensures refused { OnOk result (MayImport self.old.imported instances.Main name.now (thunk_item self.old.types)) }
+        ensures room { OnOk result (length self.new.calls < 2 ^ 32) }
+        ensures err { OnErr result (self.new ≡ self.old) }
+        ensures cause { IfErr result (CallCause self.old name.now) }
+    {
+        append_function(
+            &mut self.types,
+            &mut self.imports,
+            &mut self.calls,
+            &ImportedInstance::Main,
+            name,
+            thunk_type(self.alloc),
         )?;
         Ok(())
     }

@@ -5,11 +5,12 @@ ghost use Rattle.std.specs.Map.{lookup};
 ghost use Rattle.std.specs.Str.{bytes_eq};
 ghost use Rattle.comp_lists.specs.Tables.{with_first};
 ghost use Rattle.standard_kinds.specs.declared.kinds.ExportKind.{ExportKind};
+ghost use Rattle.standard_kinds.specs.declared.kinds.ExportKind.TheVariants as kinds;
 ghost use Rattle.core_bytes.specs.declared.entry.Import.{Import};
 ghost use Rattle.fixup_modules.specs.declared.fault.ShimFault.TheVariants as faults;
 ghost use Rattle.fixup_modules.specs.Instances.{instance_name};
 ghost use Rattle.fixup_modules.specs.ImportNames.{is_same_name};
-ghost use Rattle.fixup_modules.specs.Imports.{nothing_imported, is_item, kind_of, is_kind, is_taken as is_taken_name};
+ghost use Rattle.fixup_modules.specs.Imports.{nothing_imported, is_item, kind_of, is_kind, count_of, is_taken as is_taken_name};
 ghost use Rattle.fixup_modules.specs.Counts.{counted, AreCounted, imported_by, Imports};
 ghost use Rattle.fixup_modules.specs.Faults.{IsFull};
 ghost use Rattle.fixup_modules.specs.Sections.{names_of};
@@ -23,6 +24,7 @@ use crate::tables::InstanceTable;
 use byte_encoding::next_count;
 use comp_lists::{Keyed, Text, TryClone};
 use core_bytes::{EntityType, ImportSection, Section};
+use standard_kinds::ExportKind;
 use std::alloc::{AllocError, Global};
 use std::marker::Model;
 
@@ -222,11 +224,18 @@ impl ImportTable {
         import_section(alloc, &self.items)
     }
 
-    /// The section with the names of the module and of what is imported.
-    pub(crate) fn names(&self, alloc: Global) -> Result<Section, AllocError>
-        ensures { IfOk result (λ section. section ∷ [] ≡ names_of true self.now.entries) }
+    /// How many functions are imported.
+    pub(crate) fn functions(&self) -> u32
+        ensures { result ≡ count_of kinds.Func self.now.entries }
     {
-        name_section(alloc, &self.items)
+        self.counts.of(ExportKind::Func)
+    }
+
+    /// The section with the names of the module, of what is imported, and of its own function, by its index, where it has one.
+    pub(crate) fn names(&self, alloc: Global, own: Option<u32>) -> Result<Section, AllocError>
+        ensures { IfOk result (λ section. section ∷ [] ≡ names_of true self.now.entries own) }
+    {
+        name_section(alloc, &self.items, own)
     }
 
     /// The instances from which is imported.

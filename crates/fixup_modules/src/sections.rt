@@ -6,14 +6,18 @@ ghost use Rattle.std.specs.Prelude.{◌≡◌, ◌∷◌, ◌++◌, [], true, ma
 ghost use Rattle.core_bytes.specs.declared.section.Section.TheVariants as sections;
 ghost use Rattle.fixup_modules.specs.Imports.{is_kind, of_kind};
 ghost use Rattle.fixup_modules.specs.Counts.{entry_at, AreIndexed};
-ghost use Rattle.fixup_modules.specs.Sections.{fill_segment, names_from, name_map, names_of};
+ghost use Rattle.fixup_modules.specs.Sections.{fill_segment, calling, names_from, start_name, name_map, names_of};
+ghost use Rattle.standard_kinds.specs.declared.kinds.ExportKind.TheVariants as kinds;
+ghost use Rattle.core_runs.specs.declared.start.StartStep.TheVariants.{Thunk};
 
 use crate::import_name::ImportName;
 use crate::imports::ImportedItem;
 use comp_lists::{Keyed, Seq, Text};
 use core_bytes::{
-    ElementSection, ElementSegment, EntityType, ImportSection, ModuleNames, NameMap, Section,
+    Code, ElementSection, ElementSegment, EntityType, FunctionSection, ImportSection, ModuleNames,
+    NameMap, Section,
 };
+use core_runs::{StartStep, start_body};
 use standard_kinds::ExportKind;
 use std::alloc::{AllocError, Global};
 
@@ -29,6 +33,37 @@ pub(crate) fn import_section(
         section.import(name.instance.as_str(), name.field.as_str(), item.entity)?;
     }
     Ok(section)
+}
+
+/// The one function of the module, by the index of its type.
+pub(crate) fn function_section(alloc: Global, type_index: u32) -> Result<Section, AllocError>
+    ensures { IfOk result (λ made. made ≡ sections.Functions (type_index ∷ [])) }
+{
+    let mut section = FunctionSection::new(alloc);
+    section.function(type_index)?;
+    Ok(Section::Functions(section))
+}
+
+/// The body that calls functions in order.
+pub(crate) fn calling_section(alloc: Global, functions: &[u32]) -> Result<Section, AllocError>
+    ensures { IfOk result (λ made. made ≡ sections.Code (calling functions.now ∷ [])) }
+{
+    let steps = thunk_steps(alloc, functions)?;
+    let body = start_body(alloc, &[], steps.as_slice())?;
+    let mut code = Code::new(alloc);
+    code.body(body.locals.as_slice(), body.instructions.as_slice())?;
+    Ok(Section::Code(code))
+}
+
+/// The calls of functions, as steps.
+fn thunk_steps(alloc: Global, functions: &[u32]) -> Result<Vec<StartStep>, AllocError>
+    ensures { IfOk result (λ steps. steps.items ≡ map (λ function. Thunk function) functions.now) }
+{
+    let mut steps = Vec::new(alloc);
+    for function in functions {
+        steps.push(StartStep::Thunk(*function))?;
+    }
+    Ok(steps)
 }
 
 /// The segment that fills a table with functions from slot 0 on.
@@ -83,15 +118,32 @@ fn if_any(names: NameMap) -> Option<NameMap>
     if names.is_empty() { None } else { Some(names) }
 }
 
-/// The names of the module and of what it imports.
+/// The names of the functions: those of the imported ones, and last that of the module's own, where it has one.
+fn function_names(
+    alloc: Global,
+    items: &Keyed<ImportName, ImportedItem>,
+    own: Option<u32>,
+) -> Result<NameMap, AllocError>
+    requires { AreIndexed [] items.now }
+    ensures { IfOk result (λ made. made ≡ names_from 0 (of_kind kinds.Func (map entry_at items.now)) ++ start_name own) }
+{
+    let mut names = kind_names(alloc, items, ExportKind::Func)?;
+    if let Some(index) = own {
+        names.append(index, "start")?;
+    }
+    Ok(names)
+}
+
+/// The names of the module, of what it imports, and of its own function, where it has one.
 pub(crate) fn name_section(
     alloc: Global,
     items: &Keyed<ImportName, ImportedItem>,
+    own: Option<u32>,
 ) -> Result<Section, AllocError>
     requires { AreIndexed [] items.now }
-    ensures { IfOk result (λ made. made ∷ [] ≡ names_of true (map entry_at items.now)) }
+    ensures { IfOk result (λ made. made ∷ [] ≡ names_of true (map entry_at items.now) own) }
 {
-    let functions = if_any(kind_names(alloc, items, ExportKind::Func)?);
+    let functions = if_any(function_names(alloc, items, own)?);
     let globals = if_any(kind_names(alloc, items, ExportKind::Global)?);
     let module_name = Text::from_str(alloc, "wit-component:fixups")?;
     Ok(Section::Names(ModuleNames {

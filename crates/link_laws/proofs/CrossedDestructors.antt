@@ -240,7 +240,7 @@ pub shims_made : sections_of_shims None (shims_of world) false ≡ shim_module
 unfolding values_from digits
 shims_made = refl
 
-pub fixup_made : sections_of_fixup (shims_of world) false ≡ fixup_module
+pub fixup_made : sections_of_fixup (shims_of world) None false ≡ fixup_module
 unfolding values_from digits
 fixup_made = refl
 
@@ -250,10 +250,13 @@ generated = record { shims = Some shim_module; fixup = Some fixup_module }
 abbrev fixup_bytes : List ℕ
 fixup_bytes = (encoding_of fixup_module).bytes
 
-abbrev bytes : GeneratedBytes
-bytes = record { shims = (encoding_of shim_module).bytes; fixup = Some fixup_bytes }
+abbrev shims_bytes : List ℕ
+shims_bytes = (encoding_of shim_module).bytes
 
-shims_encoded : Encodes bytes.shims shim_module
+abbrev bytes : GeneratedBytes
+bytes = record { shims = Some shims_bytes; fixup = Some fixup_bytes }
+
+shims_encoded : Encodes shims_bytes shim_module
 unfolding leb128 signed_within
 shims_encoded = (all_below (encoding_of shim_module).counts refl, refl)
 
@@ -263,7 +266,7 @@ fixup_encoded = (all_below (encoding_of fixup_module).counts refl, refl)
 
 unfoldable are_generated : AreGenerated world false bytes
 unfolding values_from digits
-are_generated = record { shims = shims_encoded; fixup = (fixup_encoded, λ e. cc); any = λ e. cc; room = omega arith }
+are_generated = record { shims = (shims_encoded, refl); fixup = (fixup_encoded, refl); room = omega arith }
 
 -- ---- a list for it, where r and s have these destructors, and the nested component is given these types for them
 
@@ -294,7 +297,7 @@ abbrev list_with : ℕ → ℕ → List Argument → List Def
 list_with of_r of_s arguments =
     map defs.Item (
     items.CoreModule core
-    ∷ items.CoreModule bytes.shims
+    ∷ items.CoreModule shims_bytes
     ∷ items.CoreInstantiate 1 []
     ∷ items.Alias (aliases.CoreExport kinds.Func 0 zero_text)
     ∷ items.Alias (aliases.CoreExport kinds.Func 0 one_text)
@@ -394,7 +397,8 @@ unfolding values_from digits
 both_filled = record { entries = fills; made = record { made = refl }; each = (fill_d, (fill_e, tt)) }
 
 fixup_right : InstantiatesFixup world (ds 12) 2 fixup_arguments
-fixup_right = record { numbered = refl; scoped = omega arith; any = λ e. cc; last = refl; actual = 2; shims = 0; given = refl; of_shims = shims_are 12 refl; fills = both_filled }
+unfolding digits
+fixup_right = record { numbered = refl; scoped = omega arith; any = refl; last = refl; given = (record { named = refl; serves = both_filled }, (record { named = refl; serves = shims_are 12 refl }, tt)) }
 
 -- what the nested component imports are the resources
 abbrev pub resources_given : List ℕ → TypeTree
@@ -453,7 +457,7 @@ numbers_apart = ((refl, tt), (tt, tt))
 
 keeps_the_rules : IsBuilt own_names world straight
 keeps_the_rules = record {
-  generated = Some bytes;
+  generated = bytes;
   are_generated = are_generated;
   front = straight;
   names = [];
@@ -463,7 +467,7 @@ keeps_the_rules = record {
     (
       tt,
       (
-        inr (inl (record { numbered = refl; scoped = omega arith; first = refl; closed = refl })),
+        inr (inl (record { numbered = refl; any = refl; scoped = omega arith; first = refl; closed = refl })),
         (
           inr (inl shim_aliased_0),
           (

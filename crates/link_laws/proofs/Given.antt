@@ -3,6 +3,7 @@ use Rattle.std.proofs.Common.{◌≡◌, ◌∙◌, ◌⊎◌, inl, inr, ◌+◌
 use Rattle.std.proofs.lemmas.List.{length-map}
 use Rattle.std.proofs.lemmas.List.Sums.{length-filter}
 use Rattle.std.proofs.lemmas.Option.{same_Some, none-some, get_or_from_slice_get, slice_get_within}
+use Rattle.std.specs.Prelude.{IsSome}
 use Rattle.std.specs.Fmt.{decimal}
 use Rattle.std.specs.List.{slice_get, flat_map, AllZip, AllByRecursion}
 use Rattle.std.specs.Option.{option_map, option_and_then}
@@ -47,7 +48,7 @@ use Rattle.shim_runs.specs.ShimRuns.{IsShimAt, memory_name, memory_at}
 use Rattle.shim_runs.proofs.Placed.{shim_at}
 use Rattle.shim_runs.proofs.Exported.{shims_found}
 use Rattle.link_laws.specs.Composition.{at_root, item_instantiates}
-use Rattle.comp_terms.specs.Generated.{shims_number, fixup_number}
+use Rattle.comp_terms.specs.Generated.{has_shims_in, has_shim_module, shims_number, number_behind, fixup_number}
 use Rattle.comp_worlds.specs.Offered.{shared_memory}
 use Rattle.comp_terms.specs.Terms.{CoreExport, TermOption, Term, Is, IsFunctionType, IsImportedFunction, IsInstanceOf, IsExported, IsOption, IsLowering, IsOfResource, intrinsic_of, IsLifting}
 use Rattle.comp_terms.specs.Terms as terms
@@ -182,7 +183,40 @@ pub not_shims : (w : ComponentWorld) (number : ℕ) → number < shims_number w 
 not_shims w number l e = apart number (shims_number w) l e
 
 pub not_fixup : (w : ComponentWorld) (number : ℕ) → number < shims_number w → number ≡ fixup_number w → ⊥
-not_fixup w number l e = apart_after number (shims_number w) l e
+not_fixup w number l e = by (has_shim_module w) e
+  where
+    by : (b : Bool) → number ≡ number_behind b (shims_number w) → ⊥
+    by true e = apart_after number (shims_number w) l e
+    by false e = apart number (shims_number w) l e
+
+-- there is a module of shims where there is a shim, or a memory that main imports
+pub has_by_shims : (w : ComponentWorld) → (shims_of w ≡ [] → ⊥) → has_shim_module w ≡ true
+has_by_shims w any = by (shims_of w) any (shared_memory w)
+  where
+    by : (ss : List Shim) → (ss ≡ [] → ⊥) → (memory : Option MemoryType) → has_shims_in ss memory ≡ true
+    by [] any memory = absurd (any refl)
+    by (s ∷ ss) any memory = refl
+
+pub has_by_place : (w : ComponentWorld) (place : ℕ) → place < length (shims_of w) → has_shim_module w ≡ true
+has_by_place w place listed = has_by_shims w (λ none. let count = ap (λ (l : List Shim). length l) none in omega (arith, listed, count))
+
+pub has_by_memory : (w : ComponentWorld) (type : MemoryType) → shared_memory w ≡ Some type → has_shim_module w ≡ true
+has_by_memory w type imported = ap (has_shims_in (shims_of w)) imported ∙ by (shims_of w)
+  where
+    by : (ss : List Shim) → has_shims_in ss (Some type) ≡ true
+    by [] = refl
+    by (s ∷ ss) = refl
+
+pub has_by_shared : (w : ComponentWorld) → IsSome (shared_memory w) → has_shim_module w ≡ true
+has_by_shared w imported = by (shared_memory w) imported refl
+  where
+    by : (o : Option MemoryType) → IsSome o → shared_memory w ≡ o → has_shim_module w ≡ true
+    by None some none = cc
+    by (Some type) some is = has_by_memory w type is
+
+-- then the fixup comes behind it
+pub fixup_behind : (w : ComponentWorld) → has_shim_module w ≡ true → fixup_number w ≡ suc (shims_number w)
+fixup_behind w has = ap (λ b. number_behind b (shims_number w)) has
 
 -- an instance of the module with the number of a user module is one of that
 of_user : (w : ComponentWorld) (shims : Option ShimsAt) (s : Store) (number address : ℕ) (of : WorldModule) → slice_get (user_modules w) number ≡ Some of → IsModuleInstance w shims s number address → IsUserInstance s number of address
@@ -202,12 +236,12 @@ names_user w number kind name below (inl h) = h
 names_user w number kind name below (inr e) = absurd (not_shims w number below e)
 
 -- the instance of the shims exports them
-pub of_shims : (w : ComponentWorld) (s : Store) (numbers : List ℕ) (user : ℕ) (exports : List Export) (shims : Option ShimsAt) → MayHaveShims w s numbers shims → AreModuleExports w shims s user (shims_number w) exports →
+pub of_shims : (w : ComponentWorld) (s : Store) (numbers : List ℕ) (user : ℕ) (exports : List Export) (shims : Option ShimsAt) → has_shim_module w ≡ true → MayHaveShims w s numbers shims → AreModuleExports w shims s user (shims_number w) exports →
     (at : ShimsAt) × (shims ≡ Some at) × (exports ≡ exports_of_shims w at) × (length (shims_of w) < 2 ^ 32)
-of_shims w s numbers user exports shims there (inl k) = absurd (not_shims w (shims_number w) (user_below w (shims_number w) k.of k.listed) refl)
-of_shims w s numbers user exports None there (inr (inl k)) = absurd k
-of_shims w s numbers user exports (Some at) there (inr (inl k)) = (at, refl, k.1, there.room)
-of_shims w s numbers user exports shims there (inr (inr e)) = let no : shims_number w ≡ suc (shims_number w) = e in absurd (omega (arith, no))
+of_shims w s numbers user exports shims has there (inl k) = absurd (not_shims w (shims_number w) (user_below w (shims_number w) k.of k.listed) refl)
+of_shims w s numbers user exports None has there (inr (inl k)) = absurd k
+of_shims w s numbers user exports (Some at) has there (inr (inl k)) = (at, refl, k.1, there.room)
+of_shims w s numbers user exports shims has there (inr (inr e)) = let no : shims_number w ≡ suc (shims_number w) = e ∙ fixup_behind w has in absurd (omega (arith, no))
 
 -- the core function has this core type
 pub record IsFunctionTyped (s : Store) (address : ℕ) (type : FuncType) : Type 0 where
@@ -407,15 +441,15 @@ module _ {w : ComponentWorld} {earlier : List Def} {c : Scope} {s : Store} {g : 
     pub found : export_named name (exports_of_shims w at) ≡ Some export
     pub is : export.address ≡ address
 
-  shims_aliased : {index : ℕ} (kind : ExportKind) (name : List ℕ) → IsExported earlier index (record { of = shims_number w; kind = kind; name = name }) →
+  shims_aliased : {index : ℕ} → has_shim_module w ≡ true → (kind : ExportKind) (name : List ℕ) → IsExported earlier index (record { of = shims_number w; kind = kind; name = name }) →
       (x : ℕ) × (address_at (kind_space kind) index c.items ≡ Some x) × IsOfShims name x
-  shims_aliased {index} kind name h =
+  shims_aliased {index} has kind name h =
       let l : (x : ℕ) × (address_at (kind_space kind) index c.items ≡ Some x) × IsAliasedItem w earlier c.items s kind h.instance name x = thing_there h.made in
       let m : (x : ℕ) × (address_at spaces.CoreInstance h.instance c.items ≡ Some x) × IsModuleInstance w a.shims s (shims_number w) x = module_there h.of in
       let same : m.0 ≡ l.2.from = same_Some m.0 l.2.from (sym m.1 ∙ l.2.at) in
       let exports : m.2.exports ≡ l.2.exports = same_Some m.2.exports l.2.exports (sym m.2.present ∙ (ap (slice_get s.core_instances) same ∙ l.2.present)) in
       let at : (at : ShimsAt) × (a.shims ≡ Some at) × (m.2.exports ≡ exports_of_shims w at) × (length (shims_of w) < 2 ^ 32) =
-      of_shims w s (flat_map (at_root item_instantiates) earlier) m.2.user m.2.exports a.shims a.with_shims m.2.each in (
+      of_shims w s (flat_map (at_root item_instantiates) earlier) m.2.user m.2.exports a.shims has a.with_shims m.2.each in (
         l.0,
         l.1,
         record {
@@ -447,14 +481,14 @@ module _ {w : ComponentWorld} {earlier : List Def} {c : Scope} {s : Store} {g : 
   shim_exported : {index place : ℕ} → place < length (shims_of w) → IsExported earlier index (shim_export w place) →
       (x : ℕ) × (address_at spaces.CoreFunc index c.items ≡ Some x) × (at : ShimsAt) × (a.shims ≡ Some at) × (x ≡ at.address + place)
   shim_exported {index} {place} listed h =
-      let x : (x : ℕ) × (address_at spaces.CoreFunc index c.items ≡ Some x) × IsOfShims (decimal place) x = shims_aliased kinds.Func (decimal place) h in
+      let x : (x : ℕ) × (address_at spaces.CoreFunc index c.items ≡ Some x) × IsOfShims (decimal place) x = shims_aliased (has_by_place w place listed) kinds.Func (decimal place) h in
       (x.0, x.1, x.2.at, x.2.made, (shim_found place x.0 listed x.2).1)
 
   shim_held : {index place : ℕ} {target : Target} → IsShimPlace w place target → IsExported earlier index (shim_export w place) →
       (x : ℕ) × (address_at spaces.CoreFunc index c.items ≡ Some x) × IsShimExported w s x target
   shim_held {index} {place} {target} stands h =
-      let x : (x : ℕ) × (address_at spaces.CoreFunc index c.items ≡ Some x) × IsOfShims (decimal place) x = shims_aliased kinds.Func (decimal place) h in
-      let listed : place < length (shims_of w) = slice_get_within (shims_of w) place stands.shim stands.listed in (
+      let listed : place < length (shims_of w) = slice_get_within (shims_of w) place stands.shim stands.listed in
+      let x : (x : ℕ) × (address_at spaces.CoreFunc index c.items ≡ Some x) × IsOfShims (decimal place) x = shims_aliased (has_by_place w place listed) kinds.Func (decimal place) h in (
         x.0,
         x.1,
         record {
@@ -550,7 +584,7 @@ module _ {w : ComponentWorld} {earlier : List Def} {c : Scope} {s : Store} {g : 
   shared_there : {index : ℕ} (type : MemoryType) → shared_memory w ≡ Some type → IsExported earlier index (record { of = shims_number w; kind = kinds.Memory; name = memory_name }) →
       (x : ℕ) × (address_at spaces.CoreMemory index c.items ≡ Some x) × IsMemoryExported s x (record { of = shims_number w; kind = kinds.Memory; name = memory_name }) × (slice_get s.code.memories x ≡ Some type)
   shared_there {index} type imported h =
-      let x : (x : ℕ) × (address_at spaces.CoreMemory index c.items ≡ Some x) × IsOfShims memory_name x = shims_aliased kinds.Memory memory_name h in
+      let x : (x : ℕ) × (address_at spaces.CoreMemory index c.items ≡ Some x) × IsOfShims memory_name x = shims_aliased (has_by_memory w type imported) kinds.Memory memory_name h in
       let own : IsOfShims memory_name x.0 = x.2 in
       let there : AreShims w s (flat_map (at_root item_instantiates) earlier) own.at = subst (MayHaveShims w s (flat_map (at_root item_instantiates) earlier)) own.made a.with_shims in
       let made : (y : ℕ) × (own.at.memory ≡ Some y) × (slice_get s.code.memories y ≡ Some type) = by own.at.memory (subst (λ o. HasSharedMemory s o own.at.memory) imported there.memory) in

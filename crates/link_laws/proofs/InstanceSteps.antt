@@ -1,9 +1,9 @@
 -- An instance of a core module runs, and the store agrees with the longer list: of a user module, of the shims, and of the fixup.
-use Rattle.std.proofs.Common.{arith, ◌≤◌, ◌+◌, ◌^◌, inl, inr, ◌≡◌, ◌∙◌, ℕ, zero, suc, ◌<◌, Bool, false, List, [], ◌∷◌, ◌++◌, length, map, filter, refl, sym, ap, ap₂, subst, append-nil, append_assoc, Option, Some, None, cond}
+use Rattle.std.proofs.Common.{arith, ◌≤◌, ◌+◌, ◌^◌, inl, inr, ◌≡◌, ◌∙◌, ℕ, zero, suc, ◌<◌, Bool, false, List, [], ◌∷◌, ◌++◌, length, map, filter, refl, sym, ap, ap₂, subst, append-nil, append_assoc, Option, Some, None, cond, true}
 use Rattle.std.proofs.lemmas.List.{map-append, length-map, length-replicate}
 use Rattle.std.proofs.lemmas.Option.{none-some, same_Some, slice_get-map, slice_get_within}
 use Rattle.std.specs.Option.{option_map}
-use Rattle.std.specs.Prelude.{Contains, codes}
+use Rattle.std.specs.Prelude.{Contains, nat_eq, codes}
 use Rattle.std.specs.List.{slice_get, flat_map, AllZip, AllByRecursion, filter_map, slice_set, range_with_len}
 use Rattle.comp_lists.proofs.Lists.{length-AllZip, slice_get-append, slice_get-end, AllZip-weaker, AllByRecursion-weaker, AllByRecursion-push, AllByRecursion-contains}
 use Rattle.comp_bytes.specs.Spaces.{kind_space, items_in}
@@ -17,25 +17,29 @@ use Rattle.comp_bytes.specs.declared.def.Def.TheVariants as defs
 use Rattle.comp_worlds.specs.Worlds.{IsWorld}
 use Rattle.comp_inventories.specs.Inventories.{inventory}
 use Rattle.core_types.specs.declared.types.MemoryType.{MemoryType}
-use Rattle.comp_terms.specs.Generated.{shims_number, fixup_number, IsFixup, target_of}
+use Rattle.comp_terms.specs.Generated.{shims_number, fixup_number, IsFixup, has_shim_module, has_fixup, number_behind, GeneratedBytes, IsShimModule, AreGenerated}
 use Rattle.comp_worlds.specs.Offered.{shared_memory}
-use Rattle.world_shims.specs.WorldShims.{shims_of, type_of_shim, sections_of_shims, sections_of_fixup}
-use Rattle.shim_runs.specs.ShimRuns.{with_shims, with_memory, memory_address, ShimsRun, IsActual, CanFix, with_slots, fixup_arguments, FixupRun}
+use Rattle.world_shims.specs.WorldShims.{shims_of, type_of_shim, sections_of_shims, sections_of_fixup, initialize_of}
+use Rattle.shim_runs.specs.ShimRuns.{with_shims, with_memory, memory_address, ShimsRun, with_slots, FixupRun, HasSlots, AreCalls}
 use Rattle.comp_roles.specs.declared.imports.ImportInstance.{ImportInstance}
 use Rattle.comp_worlds.specs.declared.world.ComponentWorld.{ComponentWorld}
-use Rattle.core_runs.specs.Store.{Opaque, Instantiated, Now}
+use Rattle.core_runs.specs.Store.{Event, Instantiated, Called, Now}
+use Rattle.core_runs.specs.Starts.{deeds_done}
+use Rattle.core_runs.specs.Values.{Value}
+use Rattle.fixup_modules.specs.Laws.{call_of}
+use Rattle.core_runs.specs.Store as core
 use Rattle.core_runs.specs.Execution.{seen}
-use Rattle.comp_runs.specs.Store.{Thing, Export, CoreItem, ModuleInstance, Store}
+use Rattle.comp_runs.specs.Store.{Thing, Export, ModuleInstance, Store}
 use Rattle.comp_links.specs.Modules.{WorldModule, user_modules}
 use Rattle.comp_links.specs.Lists.{required_keys}
 use Rattle.comp_roles.specs.declared.offered.ImportType.{ImportType}
-use Rattle.comp_terms.specs.Planned.{IsFillFor}
-use Rattle.comp_terms.specs.Rules.{InstantiatesUser, InstantiatesShims, InstantiatesFixup, InstantiatesModule, instance_number, instances_in, landmark}
-use Rattle.comp_runs.specs.Machine.{Scope, Machine, address_at, is_of, all_some}
+use Rattle.comp_terms.specs.Rules.{InstantiatesUser, InstantiatesShims, InstantiatesFixup, InstantiatesModule, instance_number, instances_in, landmark, shims_if, made_before_fixup}
+use Rattle.comp_runs.specs.Machine.{Scope, Machine, Outcome, address_at, is_of, all_some, resumed}
 use Rattle.comp_runs.specs.Instances.{ExportTypes, exported_by, with_exports, with_module_instance, given_to, new_user, ModuleMeaning, OfUser, OfGenerated}
 use Rattle.comp_runs.specs.Running.{core_argument, run}
 use Rattle.instance_laws.proofs.Held.{KeepsEntries, keeps_same, keeps_more, keeps_grown}
-use Rattle.link_laws.proofs.Outcomes.{machine, no_answers, IsNow, IsGood, good_answered, Continues, quiet, users_among, seen_by, Steps, few, one_event, cells, types-cells}
+use Rattle.link_laws.proofs.Outcomes.{machine, no_answers, IsNow, IsGood, good_answered, last_call, stopped_at, Continues, quiet_continues, quiet, Steps, one_event, cells, types-cells}
+use Rattle.link_laws.proofs.FixupArguments.{IsFilling, HoldsArguments, arguments_held}
 use Rattle.link_laws.proofs.Steps.{filter-push, with_thing, numbered_at, given_same, export_beside, not_last, agrees_with}
 use Rattle.shim_runs.proofs.Placed.{shims_kept}
 use Rattle.shim_runs.proofs.ShimInstance.{shims_run, shim_table_there, shim_tables_kept, shim_memories_kept}
@@ -45,30 +49,33 @@ use Rattle.shim_plan.specs.declared.shims.Shim.{Shim}
 use Rattle.core_types.specs.declared.types.ValType.{ValType}
 use Rattle.core_runs.specs.Instances.{empty_table, type_of}
 use Rattle.std.proofs.lemmas.Bool.{lt-ltb, le-ltb}
+use Rattle.std.proofs.lemmas.Bool.Decides.{nat_tests}
 use Rattle.std.proofs.lemmas.List.Elements.{filter_map-append, Contains-append_left, Contains-append_right}
 use Rattle.link_laws.specs.Composition.{GeneratedModules, generated_sections, at_root, item_instantiates}
-use Rattle.link_laws.specs.Linking.{module_meanings}
+use Rattle.link_laws.specs.Linking.{module_meanings, initialization, start_calls}
 use Rattle.link_laws.proofs.Zips.{all_some-each}
-use Rattle.link_laws.proofs.Stores.{IsOpaqueOf, ShimsAt, exports_of_shims, HasSharedMemory, IsModuleInstance, IsInlineInstance, IsFilledWith, AreFilled, AreShims, IsServedAs, IsNamedEntry, ExportsShims, MayHaveShims, IsPlanned, IsPlannedUser, NumberedFrom, AreResources, HasGlobalType, HasGlobals, HasTable, IsOwnTable, IsOwnIfTable, HasOwnTables, Agrees}
-use Rattle.link_laws.proofs.Given.{thing_there, target_there, user_below, apart, not_shims, not_fixup, of_shims, module_there, address_there}
-use Rattle.link_laws.proofs.GivenImports.{purpose_opaque, IsOffered, arguments_there, given_there}
-use Rattle.link_laws.proofs.Plain.{only, nothing_in, IsRightModule, module_right, IsGivenImport, given_imports}
+use Rattle.link_laws.proofs.Stores.{ShimsAt, exports_of_shims, HasSharedMemory, IsFilledWith, AreFilled, AreShimsFilled, IsReady, AreShims, ExportsShims, MayHaveShims, IsPlanned, IsPlannedUser, NumberedFrom, AreResources, HasGlobalType, HasGlobals, HasTable, IsOwnTable, IsOwnIfTable, HasOwnTables, Agrees, Made, Calls, calls_if, expected_of, expects, IsSeen}
+use Rattle.link_laws.proofs.Given.{user_below, apart, not_shims, not_fixup, address_there, fixup_behind}
+use Rattle.link_laws.proofs.GivenImports.{IsOffered, arguments_there, given_there}
+use Rattle.link_laws.proofs.Plain.{only, nothing_in, IsRightModule, module_right, IsGivenImport, given_imports, no_hook}
 use Rattle.link_laws.proofs.UserExports.{Exports, Alike, IsFreshTable, IsFreshIfTable, each_table, all_exports, all_alike, same_exports, each_export, all_globals, each_global}
-use Rattle.link_laws.proofs.Kept.{sizes_kept, sizes_set, HasGlobals-kept, HasOwnTables-kept, HasSharedMemory-kept, IsFilledWith-kept, ShimsKept, shims_same, MayHaveShims-kept, Keeps, things_kept, IsPlannedUser-kept, AreKeyExports-kept, AreResources-kept}
+use Rattle.link_laws.proofs.Kept.{sizes_kept, sizes_set, HasGlobals-kept, HasOwnTables-kept, HasSharedMemory-kept, IsFilledWith-kept, ShimsKept, shims_same, MayHaveShims-kept, Keeps, things_kept, IsPlannedUser-kept, AreKeyExports-kept, AreResources-kept, AreSeen-kept, KeepsSizes}
 
 -- ---- generated modules
 
--- the modules that are generated for the shims of a world
-abbrev pub generated_for : ComponentWorld → Bool → Option (List ℕ) → GeneratedModules
-generated_for w debug_names fixup = record { shims = Some (sections_of_shims (shared_memory w) (shims_of w) debug_names); fixup = option_map (λ bytes. sections_of_fixup (shims_of w) debug_names) fixup }
+-- the modules that are generated for a world, where there are these bytes of them
+abbrev pub generated_for : ComponentWorld → Bool → GeneratedBytes → GeneratedModules
+generated_for w debug_names b = record {
+  shims = option_map (λ bytes. sections_of_shims (shared_memory w) (shims_of w) debug_names) b.shims;
+  fixup = option_map (λ bytes. sections_of_fixup (shims_of w) (initialize_of w) debug_names) b.fixup;
+}
 
 -- they are those of the list
 pub record IsGenerated (w : ComponentWorld) (gen : GeneratedModules) : Type 0 where
   pub debug_names : Bool
-  pub fixup : Option (List ℕ)
-  pub is : gen ≡ generated_for w debug_names fixup
-  pub fixes : IsFixup w debug_names fixup
-  pub room : length (shims_of w) < 2 ^ 32
+  pub bytes : GeneratedBytes
+  pub is : gen ≡ generated_for w debug_names bytes
+  pub are : AreGenerated w debug_names bytes
 
 abbrev meaning_of_user : WorldModule → ModuleMeaning
 meaning_of_user m = OfUser m.found.imported m.found.offered
@@ -90,44 +97,76 @@ user_meaning w gen number of listed =
     slice_get-append (map meaning_of_user (user_modules w)) (map (λ ss. OfGenerated ss) (generated_sections gen)) number (OfUser of.found.imported of.found.offered)
     (slice_get-map meaning_of_user (user_modules w) number ∙ ap (option_map meaning_of_user) listed)
 
-shims_meaning : (w : ComponentWorld) (gen : GeneratedModules) (h : IsGenerated w gen) → slice_get (module_meanings w gen) (shims_number w) ≡ Some (OfGenerated (sections_of_shims (shared_memory w) (shims_of w) h.debug_names))
-shims_meaning w gen h =
+shims_meaning : (w : ComponentWorld) (gen : GeneratedModules) (h : IsGenerated w gen) → has_shim_module w ≡ true → slice_get (module_meanings w gen) (shims_number w) ≡ Some (OfGenerated (sections_of_shims (shared_memory w) (shims_of w) h.debug_names))
+shims_meaning w gen h has =
     ap (λ x. meaning_at (user_modules w) x (shims_number w)) h.is
-    ∙ first_behind meaning_of_user (user_modules w) (map (λ ss. OfGenerated ss) (generated_sections (generated_for w h.debug_names h.fixup)))
-
-fixup_meaning : (w : ComponentWorld) (gen : GeneratedModules) (h : IsGenerated w gen) → (shims_of w ≡ [] → ⊥) → slice_get (module_meanings w gen) (fixup_number w) ≡ Some (OfGenerated (sections_of_fixup (shims_of w) h.debug_names))
-fixup_meaning w gen h any =
-    ap (λ x. meaning_at (user_modules w) x (fixup_number w)) h.is
-    ∙ (second_behind meaning_of_user (user_modules w) (map (λ ss. OfGenerated ss) (generated_sections (generated_for w h.debug_names h.fixup)))
-    ∙ by h.fixup h.fixes)
+    ∙ (first_behind meaning_of_user (user_modules w) (map (λ ss. OfGenerated ss) (generated_sections (generated_for w h.debug_names h.bytes)))
+    ∙ by h.bytes.shims has h.are.shims)
   where
-    by : (fixup : Option (List ℕ)) → IsFixup w h.debug_names fixup → slice_get (map (λ ss. OfGenerated ss) (generated_sections (generated_for w h.debug_names fixup))) 1 ≡ Some (OfGenerated (sections_of_fixup (shims_of w) h.debug_names))
-    by None none = absurd (any none)
-    by (Some bytes) fixes = refl
+    by : (shims : Option (List ℕ)) → has_shim_module w ≡ true → IsShimModule w h.debug_names shims →
+        slice_get (map (λ ss. OfGenerated ss) (generated_sections (generated_for w h.debug_names (record { shims = shims; fixup = h.bytes.fixup })))) 0 ≡ Some (OfGenerated (sections_of_shims (shared_memory w) (shims_of w) h.debug_names))
+    by None has none = cc
+    by (Some bytes) has is = refl
 
--- a user module is one, and none of the generated modules is
-one_among : (w : ComponentWorld) (n : ℕ) → n < length (user_modules w) → users_among w (n ∷ []) ≡ n ∷ []
-one_among w n below = ap (λ b. cond b (n ∷ []) []) (lt-ltb n (length (user_modules w)) below)
+abbrev meanings : ComponentWorld → Bool → Option (List ℕ) → Option (List ℕ) → List ModuleMeaning
+meanings w debug_names shims fixup = map (λ ss. OfGenerated ss) (generated_sections (generated_for w debug_names (record { shims = shims; fixup = fixup })))
 
-pub none_among : (w : ComponentWorld) (n : ℕ) → length (user_modules w) ≤ n → users_among w (n ∷ []) ≡ []
-none_among w n above = ap (λ b. cond b (n ∷ []) []) (le-ltb n (length (user_modules w)) above)
+fixup_meaning : (w : ComponentWorld) (gen : GeneratedModules) (h : IsGenerated w gen) → has_fixup w ≡ true → slice_get (module_meanings w gen) (fixup_number w) ≡ Some (OfGenerated (sections_of_fixup (shims_of w) (initialize_of w) h.debug_names))
+fixup_meaning w gen h any = ap (λ x. meaning_at (user_modules w) x (fixup_number w)) h.is ∙ by (has_shim_module w) h.bytes.shims h.bytes.fixup refl any h.are.shims h.are.fixup
+  where
+    by : (has : Bool) (shims behind : Option (List ℕ)) → has_shim_module w ≡ has → has_fixup w ≡ true → IsShimModule w h.debug_names shims → IsFixup w h.debug_names behind →
+        meaning_at (user_modules w) (generated_for w h.debug_names (record { shims = shims; fixup = behind })) (number_behind has (shims_number w)) ≡ Some (OfGenerated (sections_of_fixup (shims_of w) (initialize_of w) h.debug_names))
+    by true (Some bytes) (Some behind) is any s f = second_behind meaning_of_user (user_modules w) (meanings w h.debug_names (Some bytes) (Some behind))
+    by false None (Some behind) is any s f = first_behind meaning_of_user (user_modules w) (meanings w h.debug_names None (Some behind))
+    by true None (Some behind) is any s f = cc
+    by false (Some bytes) (Some behind) is any s f = let has : has_shim_module w ≡ true = s.1 in cc
+    by has shims None is any s f = cc
 
 pub at_least : (n : ℕ) → n ≤ n
 at_least n = omega arith
 
-pub before_next : (n : ℕ) → n ≤ suc n
-before_next n = omega arith
-
 under : (n : ℕ) → n < suc n
 under n = omega arith
-
-from_zero : (n : ℕ) → 0 + n ≤ suc n
-from_zero n = omega arith
 
 -- the numbers of a range are below its end
 range_below : (start count end : ℕ) → start + count ≤ end → AllByRecursion (λ n. n < end) (range_with_len start count)
 range_below start zero end l = tt
 range_below start (suc count) end l = (omega (arith, l), range_below (start + 1) count end (omega (arith, l)))
+
+-- the instances before that of the fixup are of modules of other numbers
+before_fixup : (w : ComponentWorld) → AllByRecursion (λ n. n < fixup_number w) (made_before_fixup w)
+before_fixup w = by (has_shim_module w)
+  where
+    by : (has : Bool) → AllByRecursion (λ n. n < number_behind has (shims_number w)) (shims_if w has ++ range_with_len 0 (length (user_modules w)))
+    by true = (under (length (user_modules w)), range_below 0 (length (user_modules w)) (suc (length (user_modules w))) (omega arith))
+    by false = range_below 0 (length (user_modules w)) (length (user_modules w)) (omega arith)
+
+above_users : (w : ComponentWorld) → length (user_modules w) ≤ fixup_number w
+above_users w = by (has_shim_module w)
+  where
+    by : (has : Bool) → length (user_modules w) ≤ number_behind has (length (user_modules w))
+    by true = omega arith
+    by false = omega arith
+
+-- what is expected of an instance of each module
+pub expected_user : (w : ComponentWorld) (number : ℕ) → number < length (user_modules w) → expected_of w number ≡ Made number ∷ []
+expected_user w number below = ap (λ b. cond b (Made number ∷ []) (calls_if w (nat_eq number (fixup_number w)))) (lt-ltb number (length (user_modules w)) below)
+
+pub expected_shims : (w : ComponentWorld) → has_shim_module w ≡ true → expected_of w (shims_number w) ≡ []
+expected_shims w has =
+    ap (λ b. cond b (Made (shims_number w) ∷ []) (calls_if w (nat_eq (shims_number w) (fixup_number w)))) (le-ltb (shims_number w) (length (user_modules w)) (at_least (shims_number w)))
+    ∙ (ap (λ n. calls_if w (nat_eq (shims_number w) n)) (fixup_behind w has) ∙ ap (calls_if w) (other (shims_number w)))
+  where
+    other : (n : ℕ) → nat_eq n (suc n) ≡ false
+    other n = grind (arith, nat_tests)
+
+pub expected_fixup : (w : ComponentWorld) → expected_of w (fixup_number w) ≡ map (λ call. Calls call) (start_calls w)
+expected_fixup w =
+    ap (λ b. cond b (Made (fixup_number w) ∷ []) (calls_if w (nat_eq (fixup_number w) (fixup_number w)))) (le-ltb (fixup_number w) (length (user_modules w)) (above_users w))
+    ∙ ap (calls_if w) (same (fixup_number w))
+  where
+    same : (n : ℕ) → nat_eq n n ≡ true
+    same n = grind (arith, nat_tests)
 
 -- the numbers of instances, by the landmarks and by the definitions
 number_of_one : (d : Def) → filter_map instance_number (filter_map landmark (d ∷ [])) ≡ at_root item_instantiates d
@@ -169,14 +208,38 @@ mapped_twice : (es : List Export) → map (λ (e : Export). Some e.address) es �
 mapped_twice [] = refl
 mapped_twice (e ∷ es) = ap (λ l. Some e.address ∷ l) (mapped_twice es)
 
+-- filling the slots changes the table of the shims, where there are some, and nothing else
+module _ (table : ℕ) (actual : List Export) (code : core.Store) where
+  functions_left : (shims : List Shim) → (with_slots shims table actual code).functions ≡ code.functions
+  functions_left [] = refl
+  functions_left (s ∷ ss) = refl
+
+  memories_left : (shims : List Shim) → (with_slots shims table actual code).memories ≡ code.memories
+  memories_left [] = refl
+  memories_left (s ∷ ss) = refl
+
+  sizes_left : (shims : List Shim) → length actual ≡ length shims → ((shims ≡ [] → ⊥) → HasSlots code table shims) → KeepsSizes code.tables (with_slots shims table actual code).tables
+  sizes_left [] same slotted = sizes_kept (keeps_same refl)
+  sizes_left (s ∷ ss) same slotted =
+      let h : HasSlots code table (s ∷ ss) = slotted (λ e. cc) in
+      sizes_set code.tables table h.slots (map (λ (e : Export). Some e.address) actual) h.present (length-map actual (λ (e : Export). Some e.address) ∙ (same ∙ sym h.size))
+
+  slots_there : (shims : List Shim) (old : List (Option ℕ)) → (shims ≡ [] → ⊥) → slice_get code.tables table ≡ Some old → slice_get (with_slots shims table actual code).tables table ≡ Some (map (λ (e : Export). Some e.address) actual)
+  slots_there [] old any h = absurd (any refl)
+  slots_there (s ∷ ss) old any h = set_there code.tables table (map (λ (e : Export). Some e.address) actual) old h
+
+  tables_elsewhere : (shims : List Shim) (other : ℕ) → ((shims ≡ [] → ⊥) → table ≡ other → ⊥) → slice_get (with_slots shims table actual code).tables other ≡ slice_get code.tables other
+  tables_elsewhere [] other apart = refl
+  tables_elsewhere (s ∷ ss) other apart = set_elsewhere code.tables table other (map (λ (e : Export). Some e.address) actual) (apart (λ e. cc))
+
 -- the memory that is made with the shims is there
 memory_made : (type : Option MemoryType) (s t : Store) → t.code.memories ≡ with_memory type s.code.memories → HasSharedMemory t type (memory_address type s.code)
 memory_made None s t same = tt
 memory_made (Some type) s t same = ap (λ l. slice_get l (length s.code.memories)) same ∙ slice_get-end s.code.memories type
 
--- what is given for a shim: a function of its type that is what the shim stands for
-abbrev IsFilling : ComponentWorld → Store → Shim → Export → Type 0
-IsFilling w s shim e = IsActual s.code shim e × IsFilledWith w s shim e.address
+-- the events of calls of these functions
+abbrev calls_seen : List ℕ → List Event
+calls_seen called = map (λ address. Called address []) called
 
 module _ {w : ComponentWorld} {earlier : List Def} {c : Scope} {s : Store} {g : List ValType} (a : Agrees w earlier c s g) (gen : GeneratedModules) where
   -- a core module has the address of its number
@@ -202,7 +265,7 @@ module _ {w : ComponentWorld} {earlier : List Def} {c : Scope} {s : Store} {g : 
           record { size = t.size; empty = t.empty; apart = λ at there any same. let below : at.table < length s.code.tables = before at there any in omega (arith, below, new, same) }
 
   -- any user module: what it imports is given, and its instance exports what the module offers
-  pub step_user : IsWorld w → (number : ℕ) (arguments : List CoreArgument) (h : InstantiatesUser w earlier number arguments) → IsRightModule w h.of → Steps w gen earlier c s g (defs.Item (items.CoreInstantiate number arguments))
+  pub step_user : IsWorld w → (number : ℕ) (arguments : List CoreArgument) (h : InstantiatesUser w earlier number arguments) → IsRightModule w h.of → Steps w gen earlier c s g a.events (defs.Item (items.CoreInstantiate number arguments))
   step_user ok number arguments h right =
       let d : Def = defs.Item (items.CoreInstantiate number arguments) in
       let of : WorldModule = h.of in
@@ -248,10 +311,10 @@ module _ {w : ComponentWorld} {earlier : List Def} {c : Scope} {s : Store} {g : 
       AllByRecursion-push (IsPlannedUser w a.shims s') m1.store.module_instances instance
       (subst (AllByRecursion (IsPlannedUser w a.shims s')) (sym users) (AllByRecursion-weaker (IsPlannedUser-kept w k a.shims a.shims here) s.module_instances a.served))
       (IsPlannedUser-kept w k a.shims a.shims here instance own_planned) in
-      let exporting : (at : ShimsAt) → AllByRecursion (ExportsShims w at) s.module_instances → AllByRecursion (ExportsShims w at) (m1.store.module_instances ++ instance ∷ []) =
+      let exporting : (at : Option ShimsAt) → AllByRecursion (ExportsShims w at) s.module_instances → AllByRecursion (ExportsShims w at) (m1.store.module_instances ++ instance ∷ []) =
       λ at e. AllByRecursion-push (ExportsShims w at) m1.store.module_instances instance (subst (AllByRecursion (ExportsShims w at)) (sym users) e) (λ is_shims. absurd (not_shims w number below is_shims)) in
       let there : MayHaveShims w s' (numbers ++ number ∷ []) a.shims =
-      MayHaveShims-kept k w numbers (number ∷ []) a.shims more.tables (λ yes. not_last numbers number (shims_number w) (not_shims w number below) yes) (λ yes. not_last numbers number (fixup_number w) (not_fixup w number below) yes) exporting a.with_shims in
+      MayHaveShims-kept k w numbers (number ∷ []) a.shims more.tables (λ yes. not_last numbers number (fixup_number w) (not_fixup w number below) yes) exporting a.with_shims in
       let types : List ValType = map type_of m1.now.globals in
       let grown : KeepsEntries g types = subst (λ ts. KeepsEntries ts types) (types-cells g) (all_globals user es m0) in
       let own_globals : HasGlobals w types instance =
@@ -268,24 +331,25 @@ module _ {w : ComponentWorld} {earlier : List Def} {c : Scope} {s : Store} {g : 
       ap₂ (λ l m. with_module_instance (record { module_number = number; given = found.0; exports = l }) m)
       (same_exports user es (machine c s after) m0 (alike after count))
       (ap₂ (λ x y. machine x y (with_exports user es (machine c s after)).now) (ap (λ (m : Machine). m.scope) (all_exports user es (machine c s after)).same) (all_alike user es (machine c s after) m0 (alike after count)).store) in
-      let continues : Continues w gen d c s g (with_thing c t c.imports) s' types (number ∷ []) =
-      λ e u n events questions rest go now at. rw (module_address number h.scoped, user_meaning w gen number of h.listed, args.1, given now at.globals) (
-      good_answered e u n (events ++ (Instantiated number ∷ seen_by w rest)) questions now.answers (seen now (Instantiated number)) (machine c s now) _
-      (few w number events g rest now at)
+      let seen_here : AllZip (IsSeen w s') (Instantiated number ∷ []) (expects w d) = subst (λ l. AllZip (IsSeen w s') (Instantiated number ∷ []) (l ++ [])) (sym (expected_user w number below)) (refl, tt) in
+      let continues : Continues w gen d c s g (with_thing c t c.imports) s' types (Instantiated number ∷ []) =
+      λ e u n events later questions rest go now at. rw (module_address number h.scoped, user_meaning w gen number of h.listed, args.1, given now at.globals) (
+      good_answered w e u n (events ++ (Instantiated number ∷ later)) questions now.answers (seen now (Instantiated number)) (machine c s now) _
+      (λ after same_moments. stopped_at w (Instantiated number) events later g now after c s at same_moments (inl tt))
       (λ values after same_events same_moments same_globals.
       let count : map type_of after.globals ≡ g = same_globals ∙ at.globals in
       let b : Machine = with_exports user es (machine c s after) in
       let added : Exports (machine c s after) b = all_exports user es (machine c s after) in
       let is_now : IsNow (events ++ Instantiated number ∷ []) types b.now =
-      one_event number events g types now b.now at (ap (λ (m : Machine). m.now.events) added.same ∙ same_events) (ap (λ (m : Machine). m.now.moments) added.same ∙ same_moments) (all_alike user es (machine c s after) m0 (alike after count)).globals in
-      subst (λ (m : Machine). IsGood e u n (events ++ (Instantiated number ∷ seen_by w rest)) questions after.answers (run (module_meanings w gen) rest m)) (sym (new after count))
-      (subst (λ l. IsGood e u n (events ++ (Instantiated number ∷ seen_by w rest)) questions l (run (module_meanings w gen) rest (machine (with_thing c t c.imports) s' b.now))) (ap (λ (m : Machine). m.now.answers) added.same)
-      (subst (λ l. IsGood e u n l questions b.now.answers (run (module_meanings w gen) rest (machine (with_thing c t c.imports) s' b.now))) (append_assoc events (Instantiated number ∷ []) (seen_by w rest))
+      one_event (Instantiated number) events g types now b.now at (ap (λ (m : Machine). m.now.events) added.same ∙ same_events) (ap (λ (m : Machine). m.now.moments) added.same ∙ same_moments) (all_alike user es (machine c s after) m0 (alike after count)).globals in
+      subst (λ (m : Machine). IsGood w e u n (events ++ (Instantiated number ∷ later)) questions after.answers (run (module_meanings w gen) rest m)) (sym (new after count))
+      (subst (λ l. IsGood w e u n (events ++ (Instantiated number ∷ later)) questions l (run (module_meanings w gen) rest (machine (with_thing c t c.imports) s' b.now))) (ap (λ (m : Machine). m.now.answers) added.same)
+      (subst (λ l. IsGood w e u n l questions b.now.answers (run (module_meanings w gen) rest (machine (with_thing c t c.imports) s' b.now))) (append_assoc events (Instantiated number ∷ []) (later))
       (go b.now is_now))))) in (
         with_thing c t c.imports,
         s',
         types,
-        record { continues = subst (Continues w gen d c s g (with_thing c t c.imports) s' types) (sym (one_among w number below)) continues },
+        record { seen = Instantiated number ∷ []; continues = continues },
         agrees_with a gen d (with_thing c t c.imports) s' types t a.shims here refl k
             (record {
               space = refl;
@@ -312,12 +376,14 @@ module _ {w : ComponentWorld} {earlier : List Def} {c : Scope} {s : Store} {g : 
             (sym (append-nil (map (λ (e : Export). e.name) c.exports)))
             (AreKeyExports-kept w k (required_keys w) c.exports a.lifted)
             a.imports
-            (subst (λ l. AreResources w a.shims l (inventory earlier).resources) (sym (ap (λ (m : Machine). m.store.types) more.same)) a.resources),
+            (subst (λ l. AreResources w a.shims l (inventory earlier).resources) (sym (ap (λ (m : Machine). m.store.types) more.same)) a.resources)
+            (Instantiated number ∷ [])
+            seen_here,
       )
 
   -- ---- the shims
 
-  pub step_shims : IsGenerated w gen → InstantiatesShims w earlier (shims_number w) [] → Steps w gen earlier c s g (defs.Item (items.CoreInstantiate (shims_number w) []))
+  pub step_shims : IsGenerated w gen → InstantiatesShims w earlier (shims_number w) [] → Steps w gen earlier c s g a.events (defs.Item (items.CoreInstantiate (shims_number w) []))
   step_shims there h =
       let number : ℕ = shims_number w in
       let d : Def = defs.Item (items.CoreInstantiate number []) in
@@ -347,21 +413,22 @@ module _ {w : ComponentWorld} {earlier : List Def} {c : Scope} {s : Store} {g : 
       } in
       let new : ShimsKept a.shims (Some at) = no_shims_yet w s numbers a.shims (Some at) none a.with_shims in
       let no_fixup : Contains (numbers ++ number ∷ []) (fixup_number w) → ⊥ =
-      λ yes. let same : number ≡ suc number = only number (fixup_number w) (subst (λ l. Contains l (fixup_number w)) (ap (λ l. l ++ number ∷ []) none) yes) in absurd (omega (arith, same)) in
+      λ yes. let same : number ≡ suc number = only number (fixup_number w) (subst (λ l. Contains l (fixup_number w)) (ap (λ l. l ++ number ∷ []) none) yes) ∙ fixup_behind w h.any in absurd (omega (arith, same)) in
       let are : AreShims w s' (numbers ++ number ∷ []) at = record {
         there = Contains-append_right numbers (number ∷ []) number (zero, omega arith, refl);
-        room = there.room;
+        any = h.any;
+        room = there.are.room;
         made = r.are;
-        exported = AllByRecursion-push (ExportsShims w at) s.module_instances instance (subst (AllByRecursion (ExportsShims w at)) (sym no_instance) tt) (λ e. refl);
+        exported = AllByRecursion-push (ExportsShims w (Some at)) s.module_instances instance (subst (AllByRecursion (ExportsShims w (Some at))) (sym no_instance) tt) (λ e. refl);
         memory = memory_made memory s s' refl;
         slotted = λ any. record { slots = empty_table (length shims); present = shim_table_there memory shims r.functions s.code any };
         unfilled = λ any no. shim_table_there memory shims r.functions s.code any;
-        filled = λ yes. absurd (no_fixup yes);
+        filled = λ any yes. absurd (no_fixup yes);
       } in (
         with_thing c t c.imports,
         s',
         g,
-        quiet w gen d c s g (with_thing c t c.imports) s' (none_among w number (at_least number)) (λ rest now. rw (module_address number h.scoped, shims_meaning w gen there) (r.runs now [] (run (module_meanings w gen) rest))),
+        quiet w gen d c s g (with_thing c t c.imports) s' (λ rest now. rw (module_address number h.scoped, shims_meaning w gen there h.any) (r.runs now [] (run (module_meanings w gen) rest))),
         agrees_with a gen d (with_thing c t c.imports) s' g t (Some at) new refl k
             (record {
               space = refl;
@@ -386,38 +453,18 @@ module _ {w : ComponentWorld} {earlier : List Def} {c : Scope} {s : Store} {g : 
             (sym (append-nil (map (λ (e : Export). e.name) c.exports)))
             (AreKeyExports-kept w k (required_keys w) c.exports a.lifted)
             a.imports
-            (AreResources-kept w a.shims (Some at) new s.types (inventory earlier).resources a.resources),
+            (AreResources-kept w a.shims (Some at) new s.types (inventory earlier).resources a.resources)
+            []
+            (subst (λ l. AllZip (IsSeen w s') [] (l ++ [])) (sym (expected_shims w h.any)) tt),
       )
 
   -- ---- the fixup
 
-  -- what the shims stand for, among the entries of an inline instance
-  fill_there : IsWorld w → (e : CoreInlineExport) (shim : Shim) (x : Export) → IsFillFor w earlier e shim → IsNamedEntry c.items e x → IsFilling w s shim x
-  fill_there ok e shim x h n =
-      let kind : kind_space e.kind ≡ spaces.CoreFunc = ap kind_space h.function in
-      let i : (y : ℕ) × (address_at spaces.CoreFunc e.index c.items ≡ Some y) × IsServedAs w s y (target_of w h.purpose) = target_there a e.index (target_of w h.purpose) h.serves in
-      let at : address_at spaces.CoreFunc e.index c.items ≡ Some x.address = subst (λ space. address_at space e.index c.items ≡ Some x.address) kind n.at in
-      let serves : IsServedAs w s x.address (target_of w h.purpose) = subst (λ y. IsServedAs w s y (target_of w h.purpose)) (same_Some i.0 x.address (sym i.1 ∙ at)) i.2 in
-      let o : (item : CoreItem) × IsOpaqueOf s x.address (type_of_shim shim) item = purpose_opaque w ok s x.address shim h.purpose h.stands_for serves in (
-        record { named = n.named ∙ h.named; space = n.space ∙ kind; function = Opaque o.1.what (type_of_shim shim); present = o.1.present; typed = refl },
-        record { purpose = h.purpose; stands_for = h.stands_for; serves = serves },
-      )
-
-  fills_there : IsWorld w → (es : List CoreInlineExport) (shims : List Shim) (xs : List Export) → AllZip (IsFillFor w earlier) es shims → AllZip (IsNamedEntry c.items) es xs → AllZip (IsFilling w s) shims xs
-  fills_there ok [] [] [] h n = tt
-  fills_there ok (e ∷ es) (shim ∷ shims) (x ∷ xs) h n = (fill_there ok e shim x h.0 n.0, fills_there ok es shims xs h.1 n.1)
-  fills_there ok [] (shim ∷ shims) xs h n = absurd h
-  fills_there ok (e ∷ es) [] xs h n = absurd h
-  fills_there ok [] [] (x ∷ xs) h n = absurd n
-  fills_there ok (e ∷ es) (shim ∷ shims) [] h n = absurd n
-
-  pub step_fixup : IsWorld w → IsGenerated w gen → (number : ℕ) (arguments : List CoreArgument) → InstantiatesFixup w earlier number arguments → Steps w gen earlier c s g (defs.Item (items.CoreInstantiate number arguments))
-  step_fixup ok there number arguments h =
-      subst (λ n. Steps w gen earlier c s g (defs.Item (items.CoreInstantiate n arguments))) (sym h.numbered)
-      (subst (λ l. Steps w gen earlier c s g (defs.Item (items.CoreInstantiate (fixup_number w) l))) (sym h.given) steps)
+  pub step_fixup : IsWorld w → IsGenerated w gen → (number : ℕ) (arguments : List CoreArgument) → InstantiatesFixup w earlier number arguments → Steps w gen earlier c s g a.events (defs.Item (items.CoreInstantiate number arguments))
+  step_fixup ok there number arguments h = subst (λ n. Steps w gen earlier c s g a.events (defs.Item (items.CoreInstantiate n arguments))) (sym h.numbered) steps
     where
       d : Def
-      d = defs.Item (items.CoreInstantiate (fixup_number w) (record { name = codes "actual"; instance = h.actual } ∷ record { name = codes "shim"; instance = h.shims } ∷ []))
+      d = defs.Item (items.CoreInstantiate (fixup_number w) arguments)
 
       shims : List Shim
       shims = shims_of w
@@ -425,65 +472,79 @@ module _ {w : ComponentWorld} {earlier : List Def} {c : Scope} {s : Store} {g : 
       numbers : List ℕ
       numbers = flat_map (at_root item_instantiates) earlier
 
-      inline : (x : ℕ) × (address_at spaces.CoreInstance h.actual c.items ≡ Some x) × IsInlineInstance c.items s h.fills.entries x
-      inline = thing_there a h.fills.made
-
-      of : (x : ℕ) × (address_at spaces.CoreInstance h.shims c.items ≡ Some x) × IsModuleInstance w a.shims s (shims_number w) x
-      of = module_there a h.of_shims
-
-      found : (at : ShimsAt) × (a.shims ≡ Some at) × (of.2.exports ≡ exports_of_shims w at) × (length shims < 2 ^ 32)
-      found = of_shims w s numbers of.2.user of.2.exports a.shims a.with_shims of.2.each
+      those : HoldsArguments a shims (initialize_of w) arguments
+      those = arguments_held a ok shims (initialize_of w) refl refl arguments h.given
 
       at : ShimsAt
-      at = found.0
+      at = those.at
 
-      before : AreShims w s numbers at
-      before = subst (MayHaveShims w s numbers) found.1 a.with_shims
+      before : (shims ≡ [] → ⊥) → AreShims w s numbers at
+      before any = subst (MayHaveShims w s numbers) (those.made any) a.with_shims
 
       actual : List Export
-      actual = inline.2.exports
-
-      filling : AllZip (IsFilling w s) shims actual
-      filling = fills_there ok h.fills.entries shims actual h.fills.each inline.2.each
+      actual = those.actual
 
       -- it is the first fixup: the numbers of the others are below its own
       first : Contains numbers (fixup_number w) → ⊥
       first contains =
-          let others : Contains (shims_number w ∷ range_with_len 0 (length (user_modules w))) (fixup_number w) = subst (λ l. Contains l (fixup_number w)) (sym (numbers_of earlier) ∙ h.last) contains in
-          let below : fixup_number w < fixup_number w =
-          AllByRecursion-contains (λ n. n < fixup_number w) (shims_number w ∷ range_with_len 0 (length (user_modules w))) (fixup_number w)
-          (under (shims_number w), range_below 0 (length (user_modules w)) (fixup_number w) (from_zero (shims_number w))) others in
-          apart (fixup_number w) (fixup_number w) below refl
+          let others : Contains (made_before_fixup w) (fixup_number w) = subst (λ l. Contains l (fixup_number w)) (sym (numbers_of earlier) ∙ h.last) contains in
+          apart (fixup_number w) (fixup_number w) (AllByRecursion-contains (λ n. n < fixup_number w) (made_before_fixup w) (fixup_number w) (before_fixup w) others) refl
 
-      can : CanFix shims actual at.table s.code
-      can = record {
-        any = h.any;
+      slotted : (shims ≡ [] → ⊥) → HasSlots s.code at.table shims
+      slotted any = record { slots = empty_table (length shims); present = (before any).unfilled any first; size = length-replicate (length shims) None }
+
+      r : (called : List ℕ) → AreCalls s.code those.main (initialize_of w) called → FixupRun shims (initialize_of w) there.debug_names actual those.main at.address at.table at.memory called (fixup_number w) c s
+      r called calls = fixup_run shims (initialize_of w) there.debug_names actual those.main at.address at.table at.memory called (fixup_number w) c s (record {
         numbered = shims_numbered w;
-        room = found.3;
-        each = AllZip-weaker (λ shim e f. f.0) shims actual filling;
-        slots = empty_table (length shims);
-        present = before.unfilled h.any first;
-        size = length-replicate (length shims) None;
-      }
+        room = there.are.room;
+        each = AllZip-weaker (λ shim e f. f.0) shims actual those.filling;
+        slotted = slotted;
+        calls = calls;
+      })
 
-      r : FixupRun shims there.debug_names actual at.address at.table at.memory (fixup_number w) c s
-      r = fixup_run shims there.debug_names actual at.address at.table at.memory (fixup_number w) c s can
+      instance_with : (called : List ℕ) → AreCalls s.code those.main (initialize_of w) called → ModuleInstance
+      instance_with called calls = record { module_number = fixup_number w; given = (r called calls).given; exports = [] }
 
       instance : ModuleInstance
-      instance = record { module_number = fixup_number w; given = r.given; exports = [] }
+      instance = instance_with those.called those.calls
 
       t : Thing
       t = record { space = spaces.CoreInstance; address = length s.core_instances }
 
+      -- the store when its start function is called, and after it
+      filled : Store
+      filled = record s { code = with_slots shims at.table actual s.code }
+
+      after : (called : List ℕ) → AreCalls s.code those.main (initialize_of w) called → Store
+      after called calls = record filled { core_instances = s.core_instances ++ [] ∷ []; module_instances = s.module_instances ++ instance_with called calls ∷ [] }
+
       s' : Store
-      s' = record s { code = with_slots at.table actual s.code; core_instances = s.core_instances ++ [] ∷ []; module_instances = s.module_instances ++ instance ∷ [] }
+      s' = after those.called those.calls
+
+      tables_kept : KeepsSizes s.code.tables filled.code.tables
+      tables_kept = sizes_left at.table actual s.code shims (sym (length-AllZip (IsFilling w s) shims actual those.filling)) slotted
+
+      k_filled : Keeps c.items c.items s filled
+      k_filled = record {
+        things = λ space i x e. e;
+        code = keeps_same (functions_left at.table actual s.code shims);
+        tables = tables_kept;
+        memories = keeps_same (memories_left at.table actual s.code shims);
+        known = keeps_same refl;
+        core_instances = keeps_same refl;
+        functions = keeps_same refl;
+        types = keeps_same refl;
+        components = keeps_same refl;
+        instances = keeps_same refl;
+        users = keeps_same refl;
+      }
 
       k : Keeps c.items (c.items ++ t ∷ []) s s'
       k = record {
         things = things_kept c.items t s;
-        code = keeps_same refl;
-        tables = sizes_set s.code.tables at.table (empty_table (length shims)) (map (λ (e : Export). Some e.address) actual) can.present (length-map actual (λ (e : Export). Some e.address) ∙ (sym (length-AllZip (IsFilling w s) shims actual filling) ∙ sym can.size));
-        memories = keeps_same refl;
+        code = keeps_same (functions_left at.table actual s.code shims);
+        tables = tables_kept;
+        memories = keeps_same (memories_left at.table actual s.code shims);
         known = keeps_same refl;
         core_instances = keeps_more s.core_instances ([] ∷ []);
         functions = keeps_same refl;
@@ -496,33 +557,55 @@ module _ {w : ComponentWorld} {earlier : List Def} {c : Scope} {s : Store} {g : 
       here : ShimsKept a.shims a.shims
       here = shims_same a.shims
 
-      is_filled : AreFilled w s' at.table
-      is_filled = record {
+      slots_filled : (shims ≡ [] → ⊥) → slice_get filled.code.tables at.table ≡ Some (map (λ (e : Export). Some e.address) actual)
+      slots_filled any = slots_there at.table actual s.code shims (empty_table (length shims)) any ((before any).unfilled any first)
+
+      is_filled : (b : List Thing) (u : Store) → Keeps c.items b s u → u.code ≡ filled.code → (shims ≡ [] → ⊥) → AreFilled w u at.table
+      is_filled b u kept same any = record {
         functions = map (λ (e : Export). e.address) actual;
-        slots = set_there s.code.tables at.table (map (λ (e : Export). Some e.address) actual) (empty_table (length shims)) can.present ∙ ap (λ l. Some l) (mapped_twice actual);
-        each = addresses shims actual filling;
+        slots = ap (λ code. slice_get code.tables at.table) same ∙ (slots_filled any ∙ ap (λ l. Some l) (mapped_twice actual));
+        each = addresses shims actual those.filling;
       }
         where
-          addresses : (those : List Shim) (xs : List Export) → AllZip (IsFilling w s) those xs → AllZip (IsFilledWith w s') those (map (λ (e : Export). e.address) xs)
+          addresses : (those : List Shim) (xs : List Export) → AllZip (IsFilling w s) those xs → AllZip (IsFilledWith w u) those (map (λ (e : Export). e.address) xs)
           addresses [] [] f = tt
-          addresses (shim ∷ those) (x ∷ xs) f = (IsFilledWith-kept k w shim x.address f.0.1, addresses those xs f.1)
+          addresses (shim ∷ those) (x ∷ xs) f = (IsFilledWith-kept kept w shim x.address f.0.1, addresses those xs f.1)
           addresses [] (x ∷ xs) f = absurd f
           addresses (shim ∷ those) [] f = absurd f
 
-      are : AreShims w s' (numbers ++ fixup_number w ∷ []) at
-      are = record {
-        there = Contains-append_left numbers (fixup_number w ∷ []) (shims_number w) before.there;
-        room = found.3;
-        made = shims_kept s.code s'.code (λ i f e. e) at.table 0 at.address shims before.made;
-        exported = AllByRecursion-push (ExportsShims w at) s.module_instances instance before.exported (λ e. let same : suc (shims_number w) ≡ shims_number w = e in absurd (omega (arith, same)));
-        memory = HasSharedMemory-kept k (shared_memory w) at.memory before.memory;
-        slotted = λ any. record {
-          slots = map (λ (e : Export). Some e.address) actual;
-          present = set_there s.code.tables at.table (map (λ (e : Export). Some e.address) actual) (empty_table (length shims)) can.present;
-        };
-        unfilled = λ any no. absurd (no (Contains-append_right numbers (fixup_number w ∷ []) (fixup_number w) (zero, omega arith, refl)));
-        filled = λ yes. is_filled;
+      -- the shims forward when the start function is called
+      forwards : (o : Option ShimsAt) → a.shims ≡ o → MayHaveShims w s numbers o → AreShimsFilled w filled o
+      forwards None is with_none = with_none
+      forwards (Some now) is with_shims = (
+        shims_kept s.code filled.code (λ i f e. ap (λ l. slice_get l i) (functions_left at.table actual s.code shims) ∙ e) now.table 0 now.address shims with_shims.made,
+        λ any. subst (λ (x : ShimsAt). AreFilled w filled x.table) (same_Some at now (sym (those.made any) ∙ is)) (is_filled c.items filled k_filled refl any),
+        with_shims.room,
+        with_shims.exported,
+      )
+
+      ready : IsReady w filled
+      ready = record {
+        shims = a.shims;
+        filled = forwards a.shims refl a.with_shims;
+        planned = AllByRecursion-weaker (IsPlannedUser-kept w k_filled a.shims a.shims here) s.module_instances a.served;
       }
+
+      shims_after : (o : Option ShimsAt) → a.shims ≡ o → MayHaveShims w s numbers o → MayHaveShims w s' (numbers ++ fixup_number w ∷ []) o
+      shims_after None is with_none = AllByRecursion-push (ExportsShims w None) s.module_instances instance with_none (λ e. refl)
+      shims_after (Some now) is with_shims =
+          let same : (shims ≡ [] → ⊥) → at ≡ now = λ any. same_Some at now (sym (those.made any) ∙ is) in
+          record {
+            there = Contains-append_left numbers (fixup_number w ∷ []) (shims_number w) with_shims.there;
+            any = with_shims.any;
+            room = with_shims.room;
+            made = shims_kept s.code s'.code (λ i f e. ap (λ l. slice_get l i) (functions_left at.table actual s.code shims) ∙ e) now.table 0 now.address shims with_shims.made;
+            exported = AllByRecursion-push (ExportsShims w (Some now)) s.module_instances instance with_shims.exported
+                (λ e. let same : suc (shims_number w) ≡ shims_number w = sym (fixup_behind w with_shims.any) ∙ e in absurd (omega (arith, same)));
+            memory = HasSharedMemory-kept k (shared_memory w) now.memory with_shims.memory;
+            slotted = λ any. record { slots = map (λ (e : Export). Some e.address) actual; present = subst (λ (x : ShimsAt). slice_get s'.code.tables x.table ≡ Some (map (λ (e : Export). Some e.address) actual)) (same any) (slots_filled any) };
+            unfilled = λ any no. absurd (no (Contains-append_right numbers (fixup_number w ∷ []) (fixup_number w) (zero, omega arith, refl)));
+            filled = λ any yes. subst (λ (x : ShimsAt). AreFilled w s' x.table) (same any) (is_filled (c.items ++ t ∷ []) s' k refl any);
+          }
 
       -- the tables of user modules are left as they are
       tables_left : (u : ModuleInstance) → HasOwnTables w a.shims s.code.tables u → HasOwnTables w a.shims s'.code.tables u
@@ -533,19 +616,49 @@ module _ {w : ComponentWorld} {earlier : List Def} {c : Scope} {s : Store} {g : 
               let t : IsOwnTable w a.shims s.code.tables e.address = own_table space in
               record {
                 size = t.size;
-                empty = set_elsewhere s.code.tables at.table e.address (map (λ (x : Export). Some x.address) actual) (t.apart at found.1 h.any) ∙ t.empty;
+                empty = tables_elsewhere at.table actual s.code shims e.address (λ any. t.apart at (those.made any) any) ∙ t.empty;
                 apart = t.apart;
               }
 
-      arguments_held : (now : Now) → all_some (map (core_argument (machine c s now)) (record { name = codes "actual"; instance = h.actual } ∷ record { name = codes "shim"; instance = h.shims } ∷ [])) ≡ Some (fixup_arguments shims actual at.address at.table at.memory)
-      arguments_held now = rw (inline.1, inline.2.present, of.1, of.2.present, found.2) refl
+      -- main is initialized, and nothing else is called
+      runs_to : (called : List ℕ) (calls : AreCalls s.code those.main (initialize_of w) called) (rest : List Def) (now : Now) →
+          run (module_meanings w gen) (d ∷ rest) (machine c s now) ≡ resumed (deeds_done (map call_of called) now) (machine c filled now) (λ values m. run (module_meanings w gen) rest (with_module_instance (instance_with called calls) m))
+      runs_to called calls rest now =
+          rw (module_address (fixup_number w) (subst (λ n. n < items_in spaces.CoreModule earlier) h.numbered h.scoped), fixup_meaning w gen there h.any, those.held now) ((r called calls).runs now (run (module_meanings w gen) rest))
 
-      steps : Steps w gen earlier c s g d
+      goes_on : (called : List ℕ) (calls : AreCalls s.code those.main (initialize_of w) called) → Continues w gen d c s g (with_thing c t c.imports) (after called calls) g (calls_seen called)
+      goes_on [] calls = quiet_continues w gen d c s g (with_thing c t c.imports) (after [] calls) (λ rest now. runs_to [] calls rest now)
+      goes_on (address ∷ []) calls =
+          λ e u n events later questions rest go now at_now.
+          let event : Event = Called address [] in
+          let next : List Value → Machine → Outcome = λ values m. run (module_meanings w gen) rest (with_module_instance (instance_with (address ∷ []) calls) m) in
+          subst (IsGood w e u n (events ++ (event ∷ later)) ([] ∷ questions) now.answers) (sym (runs_to (address ∷ []) calls rest now ∙ last_call now.answers (seen now event) (machine c filled now) next))
+          (good_answered w e u n (events ++ (event ∷ later)) questions now.answers (seen now event) (machine c filled now) (λ values m. next [] m)
+          (λ stopped same. stopped_at w event events later g now stopped c filled at_now same (inr ready))
+          (λ values later_now same_events same_moments same_globals.
+          let is_now : IsNow (events ++ event ∷ []) g later_now = one_event event events g g now later_now at_now same_events same_moments (same_globals ∙ at_now.globals) in
+          subst (λ l. IsGood w e u n l questions later_now.answers (run (module_meanings w gen) rest (machine (with_thing c t c.imports) (after (address ∷ []) calls) later_now))) (append_assoc events (event ∷ []) later)
+          (go later_now is_now)))
+      goes_on (x ∷ y ∷ more) calls = absurd (at_most_one (initialize_of w) calls)
+        where
+          at_most_one : (o : Option (List ℕ)) → AreCalls s.code those.main o (x ∷ y ∷ more) → ⊥
+          at_most_one None none = cc
+          at_most_one (Some name) two = two
+
+      is_expected : expects w d ≡ map (λ call. Calls call) (initialization None (initialize_of w))
+      is_expected =
+          append-nil (expected_of w (fixup_number w))
+          ∙ (expected_fixup w ∙ ap (λ hook. map (λ call. Calls call) (initialization hook (initialize_of w))) (no_hook w w.main.exports.exports ok.main.export_roles))
+
+      seen_here : AllZip (IsSeen w s') (calls_seen those.called) (expects w d)
+      seen_here = subst (AllZip (IsSeen w s') (calls_seen those.called)) (sym is_expected) (AreSeen-kept k w (calls_seen those.called) (map (λ call. Calls call) (initialization None (initialize_of w))) those.seen)
+
+      steps : Steps w gen earlier c s g a.events d
       steps = (
         with_thing c t c.imports,
         s',
         g,
-        quiet w gen d c s g (with_thing c t c.imports) s' (none_among w (fixup_number w) (before_next (shims_number w))) (λ rest now. rw (module_address (fixup_number w) (subst (λ n. n < items_in spaces.CoreModule earlier) h.numbered h.scoped), fixup_meaning w gen there h.any, arguments_held now) (r.runs now (run (module_meanings w gen) rest))),
+        record { seen = calls_seen those.called; continues = goes_on those.called those.calls },
         agrees_with a gen d (with_thing c t c.imports) s' g t a.shims here refl k
             (record {
               space = refl;
@@ -566,21 +679,23 @@ module _ {w : ComponentWorld} {earlier : List Def} {c : Scope} {s : Store} {g : 
             (λ of listed. absurd (not_fixup w (fixup_number w) (user_below w (fixup_number w) of listed) refl)))
             (AllByRecursion-push (HasGlobals w g) s.module_instances instance a.with_globals (λ of listed. absurd (not_fixup w (fixup_number w) (user_below w (fixup_number w) of listed) refl)))
             (AllByRecursion-push (HasOwnTables w a.shims s'.code.tables) s.module_instances instance (AllByRecursion-weaker tables_left s.module_instances a.with_tables) (λ of listed. absurd (not_fixup w (fixup_number w) (user_below w (fixup_number w) of listed) refl)))
-            (subst (MayHaveShims w s' (numbers ++ fixup_number w ∷ [])) (sym found.1) are)
+            (shims_after a.shims refl a.with_shims)
             (sym (append-nil (map (λ (e : Export). e.name) c.exports)))
             (AreKeyExports-kept w k (required_keys w) c.exports a.lifted)
             a.imports
-            a.resources,
+            a.resources
+            (calls_seen those.called)
+            seen_here,
       )
 
   -- ---- any of these
 
   -- where a generated module is instantiated, it is one of the list
-  pub step_instantiate : IsWorld w → (number : ℕ) (arguments : List CoreArgument) → ((number < shims_number w → ⊥) → IsGenerated w gen) → InstantiatesModule w earlier number arguments → Steps w gen earlier c s g (defs.Item (items.CoreInstantiate number arguments))
+  pub step_instantiate : IsWorld w → (number : ℕ) (arguments : List CoreArgument) → ((number < shims_number w → ⊥) → IsGenerated w gen) → InstantiatesModule w earlier number arguments → Steps w gen earlier c s g a.events (defs.Item (items.CoreInstantiate number arguments))
   step_instantiate ok number arguments there (inl h) = step_user ok number arguments h (module_right w ok number h.of h.listed)
   step_instantiate ok number arguments there (inr (inl h)) =
       let generated : IsGenerated w gen = there (λ below. not_shims w number below h.numbered) in
       let own : InstantiatesShims w earlier (shims_number w) [] = subst (InstantiatesShims w earlier (shims_number w)) h.closed (subst (λ n. InstantiatesShims w earlier n arguments) h.numbered h) in
-      subst (λ n. Steps w gen earlier c s g (defs.Item (items.CoreInstantiate n arguments))) (sym h.numbered)
-      (subst (λ l. Steps w gen earlier c s g (defs.Item (items.CoreInstantiate (shims_number w) l))) (sym h.closed) (step_shims generated own))
+      subst (λ n. Steps w gen earlier c s g a.events (defs.Item (items.CoreInstantiate n arguments))) (sym h.numbered)
+      (subst (λ l. Steps w gen earlier c s g a.events (defs.Item (items.CoreInstantiate (shims_number w) l))) (sym h.closed) (step_shims generated own))
   step_instantiate ok number arguments there (inr (inr h)) = step_fixup ok (there (λ below. not_fixup w number below h.numbered)) number arguments h

@@ -4,7 +4,7 @@ use Rattle.std.proofs.lemmas.List.Elements.{filter-append, Contains-append_left}
 use Rattle.std.proofs.lemmas.Option.{none-some, same_Some}
 use Rattle.std.proofs.lemmas.Bool.Decides.{Decides-eqb}
 use Rattle.std.specs.Prelude.{Contains}
-use Rattle.std.specs.List.{slice_get, slice_set, AllByRecursion}
+use Rattle.std.specs.List.{slice_get, slice_set, AllZip, AllByRecursion}
 use Rattle.comp_lists.proofs.Lists.{slice_get-append, slice_get-end, AllZip-weaker, AllByRecursion-weaker}
 use Rattle.comp_lists.specs.Found.{found}
 use Rattle.comp_bytes.specs.Spaces.{kind_space, sort_space}
@@ -41,7 +41,7 @@ use Rattle.shim_plan.specs.declared.shims.Shim.{Shim}
 use Rattle.world_shims.specs.WorldShims.{shims_of}
 use Rattle.comp_terms.specs.Generated.{shims_number, fixup_number, target_of}
 use Rattle.comp_worlds.specs.Offered.{shared_memory}
-use Rattle.core_runs.specs.Store.{Opaque}
+use Rattle.core_runs.specs.Store.{Opaque, Event, Instantiated, Called}
 use Rattle.core_runs.specs.Instances.{empty_table}
 use Rattle.comp_runs.specs.Store.{Thing, Export, HeldOption, HeldMemory, HeldRealloc, HeldPostReturn, HeldCallback, CoreItem, Function, Imported, Lifting, TypeItem, TreeOf, OwnResource, own_resources as resources_among, ModuleInstance, Store, ComponentItem}
 use Rattle.comp_runs.specs.Machine.{address_at, is_of, with_opaque}
@@ -53,7 +53,7 @@ use Rattle.nested_laws.proofs.Kept.{AreGiven-kept, AreNestedExports-kept}
 use Rattle.wit_data.specs.declared.worlds.WorldItem.{WorldItem}
 use Rattle.wit_data.specs.declared.worlds.WorldItem.TheVariants as world_items
 use Rattle.link_laws.proofs.Zips.{mapped_some, AllByRecursion-join}
-use Rattle.link_laws.proofs.Stores.{IsOpaqueOf, HasSlots, IsItemTyped, IsUserItem, IsUserExport, IsInstance, ShimsAt, AreShimExports, AreModuleExports, IsModuleInstance, IsNamedEntry, IsTypeAt, IsHeldOption, IsArgumentHeld, ItemIs, DefIs, Means, IsEntryItem, IsTypeEntry, IsFunctionEntry, IsInstanceThing, IsFunctionExported, IsItemExported, HasGlobalType, HasGlobals, IsGlobalTyped, HasTable, IsOwnTable, IsOwnIfTable, HasOwnTables, IsMemoryOfMain, IsShimExported, IsReallocHeld, HasSharedMemory, IsOptionHeld, IsLoweringOf, IsServedAs, IsShimGiven, IsServedIn, Serves, IsPlanned, IsPlannedUser, IsFilledWith, AreFilled, ExportsShims, AreShims, MayHaveShims, IsLiftedFrom, function_at_key, IsRequiredAt, IsAmong, IsTypeAmong, IsItemExport, IsKeyExport, AreKeyExports, IsDestroyedBy, IsOwnResource, IsOwnIfDefined, AreResources, HasNumber}
+use Rattle.link_laws.proofs.Stores.{IsOpaqueOf, HasSlots, IsItemTyped, IsUserItem, IsUserExport, IsInstance, ShimsAt, AreShimExports, AreModuleExports, IsModuleInstance, IsNamedEntry, IsTypeAt, IsHeldOption, IsArgumentHeld, ItemIs, DefIs, Means, IsEntryItem, IsTypeEntry, IsFunctionEntry, IsInstanceThing, IsFunctionExported, IsItemExported, HasGlobalType, HasGlobals, IsGlobalTyped, HasTable, IsOwnTable, IsOwnIfTable, HasOwnTables, IsMemoryOfMain, IsShimExported, IsReallocHeld, HasSharedMemory, IsOptionHeld, IsLoweringOf, IsServedAs, IsShimGiven, IsServedIn, Serves, IsPlanned, IsPlannedUser, IsFilledWith, AreFilled, ExportsShims, AreShims, MayHaveShims, Expected, Made, Calls, IsSeen, IsLiftedFrom, function_at_key, IsRequiredAt, IsAmong, IsTypeAmong, IsItemExport, IsKeyExport, AreKeyExports, IsDestroyedBy, IsOwnResource, IsOwnIfDefined, AreResources, HasNumber}
 
 -- a table that is kept has as many slots as before
 pub record KeepsSizes (old new : List (List (Option ℕ))) : Type 0 where
@@ -412,25 +412,35 @@ module _ {a b : List Thing} {s t : Store} (k : Keeps a b s t) where
 
   -- the shims, where the tables are kept too, and no instance is new but those of modules of other numbers
   pub AreShims-kept : (w : ComponentWorld) (numbers more : List ℕ) (at : ShimsAt) → KeepsEntries s.code.tables t.code.tables → (Contains (numbers ++ more) (fixup_number w) → Contains numbers (fixup_number w)) →
-      AllByRecursion (ExportsShims w at) t.module_instances → AreShims w s numbers at → AreShims w t (numbers ++ more) at
+      AllByRecursion (ExportsShims w (Some at)) t.module_instances → AreShims w s numbers at → AreShims w t (numbers ++ more) at
   AreShims-kept w numbers more at tables no_fixup exported h = record {
     there = Contains-append_left numbers more (shims_number w) h.there;
+    any = h.any;
     room = h.room;
     made = shims_kept s.code t.code k.code.at at.table 0 at.address (shims_of w) h.made;
     exported = exported;
     memory = HasSharedMemory-kept (shared_memory w) at.memory h.memory;
     slotted = λ any. let t : HasTable s.code.tables at.table = h.slotted any in record { slots = t.slots; present = tables.at at.table t.slots t.present };
     unfilled = λ any no. tables.at at.table (empty_table (length (shims_of w))) (h.unfilled any (λ yes. no (Contains-append_left numbers more (fixup_number w) yes)));
-    filled = λ yes.
-        let f : AreFilled w s at.table = h.filled (no_fixup yes) in
+    filled = λ any yes.
+        let f : AreFilled w s at.table = h.filled any (no_fixup yes) in
         record { functions = f.functions; slots = tables.at at.table (map (λ f. Some f) f.functions) f.slots; each = AllZip-weaker (IsFilledWith-kept w) (shims_of w) f.functions f.each };
   }
 
   pub MayHaveShims-kept : (w : ComponentWorld) (numbers more : List ℕ) (shims : Option ShimsAt) → KeepsEntries s.code.tables t.code.tables →
-      (Contains (numbers ++ more) (shims_number w) → Contains numbers (shims_number w)) → (Contains (numbers ++ more) (fixup_number w) → Contains numbers (fixup_number w)) →
-      ((at : ShimsAt) → AllByRecursion (ExportsShims w at) s.module_instances → AllByRecursion (ExportsShims w at) t.module_instances) → MayHaveShims w s numbers shims → MayHaveShims w t (numbers ++ more) shims
-  MayHaveShims-kept w numbers more None tables no_shims no_fixup exported h = λ yes. h (no_shims yes)
-  MayHaveShims-kept w numbers more (Some at) tables no_shims no_fixup exported h = AreShims-kept w numbers more at tables no_fixup (exported at h.exported) h
+      (Contains (numbers ++ more) (fixup_number w) → Contains numbers (fixup_number w)) →
+      ((at : Option ShimsAt) → AllByRecursion (ExportsShims w at) s.module_instances → AllByRecursion (ExportsShims w at) t.module_instances) → MayHaveShims w s numbers shims → MayHaveShims w t (numbers ++ more) shims
+  MayHaveShims-kept w numbers more None tables no_fixup exported h = exported None h
+  MayHaveShims-kept w numbers more (Some at) tables no_fixup exported h = AreShims-kept w numbers more at tables no_fixup (exported (Some at) h.exported) h
+
+  -- what was seen is what it was
+  IsSeen-kept : (w : ComponentWorld) (event : Event) (expected : Expected) → IsSeen w s event expected → IsSeen w t event expected
+  IsSeen-kept w (Instantiated n) (Made number) h = h
+  IsSeen-kept w (Called address arguments) (Calls call) h = (IsFunctionExported-kept h.0, h.1)
+  IsSeen-kept w event expected h = absurd h
+
+  pub AreSeen-kept : (w : ComponentWorld) (events : List Event) (expected : List Expected) → AllZip (IsSeen w s) events expected → AllZip (IsSeen w t) events expected
+  AreSeen-kept w events expected h = AllZip-weaker (IsSeen-kept w) events expected h
 
   pub IsLiftedFrom-kept : {w : ComponentWorld} {address : ℕ} {entry : ExportRef} {options : List TargetOption} {type : FunctionTree} → IsLiftedFrom w s address entry options type → IsLiftedFrom w t address entry options type
   IsLiftedFrom-kept {w} {address} {entry} {options} {type} h = record {

@@ -9,6 +9,7 @@ mod GivenImports
 mod GivenTypes
 mod UserExports
 mod Outcomes
+mod FixupArguments
 pub mod Steps
 pub mod InstanceSteps
 mod NestedSteps
@@ -51,3 +52,4 @@ mod WorkedGiven
 mod CrossedMemories
 mod OtherLists
 mod OtherRuns
+mod WorkedInitialize

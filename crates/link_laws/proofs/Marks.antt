@@ -14,7 +14,7 @@ use Rattle.comp_worlds.specs.WorldContents.{exported_item}
 use Rattle.comp_links.specs.Naming.{Naming, name_of}
 use Rattle.comp_links.specs.Lists.{ImportEntry, ImportedInterface, WorldType, RootFunction, Stated, root_function, root_type, import_entries, names_of_interface, stated_import, stated_imports, names_in, instance_type_names, AreNames, stated_export, stated_exports, functions_of_interface, nested_export_names, nested_lists, nested_names, RequiredKey, required_keys, ProvidedType, provided_resources, own_resources}
 use Rattle.comp_terms.specs.UserBytes.{user_bytes}
-use Rattle.comp_terms.specs.Rules.{Landmark, Imported, ModuleIs, InstanceOf, Exported, CustomNamed, InstanceTypeOf, landmark, import_marked, imports_marked, resources_marked, bytes_marked, users_marked, fixup_marked, modules_marked, exports_marked, IsBuilt, NestedOf, ResourceDefined, nested_marked, export_marked}
+use Rattle.comp_terms.specs.Rules.{Landmark, Imported, ModuleIs, InstanceOf, Exported, CustomNamed, InstanceTypeOf, landmark, import_marked, imports_marked, resources_marked, bytes_marked, users_marked, shims_marked, fixup_marked, modules_marked, exports_marked, IsBuilt, NestedOf, ResourceDefined, nested_marked, export_marked}
 use Rattle.comp_terms.specs.Generated.{shims_number, fixup_number, GeneratedBytes}
 use Rattle.comp_inventories.specs.Inventories.{Inventory, resources_made, with_def, inventory_after, inventory, empty_inventory}
 use Rattle.wit_data.specs.declared.worlds.WorldItem.{WorldItem}
@@ -23,7 +23,7 @@ use Rattle.nested_terms.specs.Naming.{import_names}
 use Rattle.nested_terms.specs.Nested.{NestedScope, with_item, IsItemRight, AreItemsRight}
 use Rattle.comp_trees.specs.DefinedTrees.{TypeTree}
 use Rattle.link_laws.specs.Composition.{at_root, item_module, item_instantiates, item_imports, item_exports, item_customs, item_type_names, names_of_nested}
-use Rattle.link_laws.proofs.ModuleMarks.{fixup_listed, number_listed, bytes_listed, user_range, numbers_listed, mapped_nothing, mapped_each, read_of, reads_users}
+use Rattle.link_laws.proofs.ModuleMarks.{bytes_if, number_if, bytes_listed, user_range, numbers_listed, mapped_nothing, mapped_each, reads_users}
 use Rattle.link_laws.proofs.Zips.{flat_map-marked}
 
 abbrev import_mark : Landmark → List Stated
@@ -209,22 +209,38 @@ numbers_read : (ns : List ℕ) → flat_map instance_mark (map InstanceOf ns) �
 numbers_read [] = refl
 numbers_read (n ∷ ns) = ap (λ l. n ∷ l) (numbers_read ns)
 
-all_nothing : {A : Type 0} (bytes shims shim_instance instances fixup : List A) → bytes ≡ [] → shims ≡ [] → shim_instance ≡ [] → instances ≡ [] → fixup ≡ [] →
-    bytes ++ (shims ++ (shim_instance ++ (instances ++ fixup))) ≡ []
-all_nothing bytes shims shim_instance instances fixup a b c d e = rw (a, b, c, d, e) refl
+all_nothing : {A : Type 0} (bytes shims instances fixup : List A) → bytes ≡ [] → shims ≡ [] → instances ≡ [] → fixup ≡ [] → bytes ++ (shims ++ (instances ++ fixup)) ≡ []
+all_nothing bytes shims instances fixup a b c d = rw (a, b, c, d) refl
 
--- what is read of the fixup and its instance
-fixup_nothing : {A : Type 0} (g : Landmark → List A) → ((bytes : List ℕ) → g (ModuleIs bytes) ≡ []) → ((number : ℕ) → g (InstanceOf number) ≡ []) → (w : ComponentWorld) (o : Option (List ℕ)) → flat_map g (fixup_marked w o) ≡ []
-fixup_nothing g m i w None = refl
-fixup_nothing g m i w (Some bytes) = rw (m bytes, i (fixup_number w)) refl
+-- what is read of a generated module and its instance
+module _ {A : Type 0} (g : Landmark → List A) (m : (bytes : List ℕ) → g (ModuleIs bytes) ≡ []) (i : (number : ℕ) → g (InstanceOf number) ≡ []) (w : ComponentWorld) where
+  shims_nothing : (o : Option (List ℕ)) → flat_map g (shims_marked w o) ≡ []
+  shims_nothing None = refl
+  shims_nothing (Some bytes) = rw (m bytes, i (shims_number w)) refl
 
-fixup_module : (w : ComponentWorld) (o : Option (List ℕ)) → flat_map module_mark (fixup_marked w o) ≡ fixup_listed o
+  fixup_nothing : (o : Option (List ℕ)) → flat_map g (fixup_marked w o) ≡ []
+  fixup_nothing None = refl
+  fixup_nothing (Some bytes) = rw (m bytes, i (fixup_number w)) refl
+
+shims_module : (w : ComponentWorld) (o : Option (List ℕ)) → flat_map module_mark (shims_marked w o) ≡ bytes_if o
+shims_module w None = refl
+shims_module w (Some bytes) = refl
+
+fixup_module : (w : ComponentWorld) (o : Option (List ℕ)) → flat_map module_mark (fixup_marked w o) ≡ bytes_if o
 fixup_module w None = refl
 fixup_module w (Some bytes) = refl
 
-fixup_instance : (w : ComponentWorld) (o : Option (List ℕ)) → flat_map instance_mark (fixup_marked w o) ≡ number_listed w o
+shims_instance : (w : ComponentWorld) (o : Option (List ℕ)) → flat_map instance_mark (shims_marked w o) ≡ number_if (shims_number w) o
+shims_instance w None = refl
+shims_instance w (Some bytes) = refl
+
+fixup_instance : (w : ComponentWorld) (o : Option (List ℕ)) → flat_map instance_mark (fixup_marked w o) ≡ number_if (fixup_number w) o
 fixup_instance w None = refl
 fixup_instance w (Some bytes) = refl
+
+-- lists that are joined are those that they equal, joined
+joined_four : {A : Type 0} {a a' b b' c c' d d' : List A} → a ≡ a' → b ≡ b' → c ≡ c' → d ≡ d' → a ++ (b ++ (c ++ d)) ≡ a' ++ (b' ++ (c' ++ d'))
+joined_four a b c d = ap₂ (λ xs ys. xs ++ ys) a (ap₂ (λ xs ys. xs ++ ys) b (ap₂ (λ xs ys. xs ++ ys) c d))
 
 same_bytes : (bytes : List (List ℕ)) → map (λ (b : List ℕ). b) bytes ≡ bytes
 same_bytes [] = refl
@@ -232,68 +248,38 @@ same_bytes (b ∷ bytes) = ap (λ l. b ∷ l) (same_bytes bytes)
 
 module _ (named : Bool) (w : ComponentWorld) where
   -- nothing
-  users_nothing : {A : Type 0} (g : Landmark → List A) → g ResourceDefined ≡ [] → ((bytes : List ℕ) → g (ModuleIs bytes) ≡ []) → ((number : ℕ) → g (InstanceOf number) ≡ []) → (o : Option GeneratedBytes) → flat_map g (modules_marked named w o) ≡ []
-  users_nothing {A} g none m i o = reads_users g none named w o ∙ by o
-    where
-      no_bytes : flat_map g (bytes_marked named w) ≡ []
-      no_bytes = mapped_nothing g ModuleIs m (user_bytes named w)
-
-      no_numbers : flat_map g (users_marked w) ≡ []
-      no_numbers = mapped_nothing g InstanceOf i (user_range w)
-
-      by : (o : Option GeneratedBytes) → read_of g named w o ≡ []
-      by None = ap₂ (λ xs ys. xs ++ ys) no_bytes no_numbers
-      by (Some b) =
-          all_nothing (flat_map g (bytes_marked named w)) (g (ModuleIs b.shims)) (g (InstanceOf (shims_number w))) (flat_map g (users_marked w)) (flat_map g (fixup_marked w b.fixup))
-          no_bytes (m b.shims) (i (shims_number w)) no_numbers (fixup_nothing g m i w b.fixup)
+  users_nothing : {A : Type 0} (g : Landmark → List A) → g ResourceDefined ≡ [] → ((bytes : List ℕ) → g (ModuleIs bytes) ≡ []) → ((number : ℕ) → g (InstanceOf number) ≡ []) → (b : GeneratedBytes) → flat_map g (modules_marked named w b) ≡ []
+  users_nothing {A} g none m i b =
+      reads_users g none named w b
+      ∙ all_nothing (flat_map g (bytes_marked named w)) (flat_map g (shims_marked w b.shims)) (flat_map g (users_marked w)) (flat_map g (fixup_marked w b.fixup))
+      (mapped_nothing g ModuleIs m (user_bytes named w)) (shims_nothing g m i w b.shims) (mapped_nothing g InstanceOf i (user_range w)) (fixup_nothing g m i w b.fixup)
 
   -- the modules
-  users_modules : (o : Option GeneratedBytes) → flat_map module_mark (modules_marked named w o) ≡ user_bytes named w ++ bytes_listed o
-  users_modules o = reads_users module_mark refl named w o ∙ by o
-    where
-      own : flat_map module_mark (bytes_marked named w) ≡ user_bytes named w
-      own = mapped_each module_mark ModuleIs (λ (b : List ℕ). b) (λ b. refl) (user_bytes named w) ∙ same_bytes (user_bytes named w)
-
-      no_numbers : flat_map module_mark (users_marked w) ≡ []
-      no_numbers = mapped_nothing module_mark InstanceOf (λ n. refl) (user_range w)
-
-      by : (o : Option GeneratedBytes) → read_of module_mark named w o ≡ user_bytes named w ++ bytes_listed o
-      by None = ap₂ (λ xs ys. xs ++ ys) own no_numbers
-      by (Some b) = ap₂ (λ xs ys. xs ++ (b.shims ∷ (ys ++ flat_map module_mark (fixup_marked w b.fixup)))) own no_numbers ∙ ap (λ l. user_bytes named w ++ (b.shims ∷ l)) (fixup_module w b.fixup)
+  users_modules : (b : GeneratedBytes) → flat_map module_mark (modules_marked named w b) ≡ user_bytes named w ++ bytes_listed b
+  users_modules b =
+      let own : flat_map module_mark (bytes_marked named w) ≡ user_bytes named w = mapped_each module_mark ModuleIs (λ (x : List ℕ). x) (λ x. refl) (user_bytes named w) ∙ same_bytes (user_bytes named w) in
+      let no_numbers : flat_map module_mark (users_marked w) ≡ [] = mapped_nothing module_mark InstanceOf (λ n. refl) (user_range w) in
+      reads_users module_mark refl named w b ∙ joined_four own (shims_module w b.shims) no_numbers (fixup_module w b.fixup)
 
   -- the instances
-  users_instances : (o : Option GeneratedBytes) → flat_map instance_mark (modules_marked named w o) ≡ numbers_listed w o
-  users_instances o = reads_users instance_mark refl named w o ∙ by o
-    where
-      no_bytes : flat_map instance_mark (bytes_marked named w) ≡ []
-      no_bytes = mapped_nothing instance_mark ModuleIs (λ b. refl) (user_bytes named w)
-
-      by : (o : Option GeneratedBytes) → read_of instance_mark named w o ≡ numbers_listed w o
-      by None = ap₂ (λ xs ys. xs ++ ys) no_bytes (numbers_read (user_range w))
-      by (Some b) =
-          ap₂ (λ xs ys. xs ++ (shims_number w ∷ (ys ++ flat_map instance_mark (fixup_marked w b.fixup)))) no_bytes (numbers_read (user_range w))
-          ∙ ap (λ l. shims_number w ∷ (user_range w ++ l)) (fixup_instance w b.fixup)
+  users_instances : (b : GeneratedBytes) → flat_map instance_mark (modules_marked named w b) ≡ numbers_listed w b
+  users_instances b =
+      let no_bytes : flat_map instance_mark (bytes_marked named w) ≡ [] = mapped_nothing instance_mark ModuleIs (λ x. refl) (user_bytes named w) in
+      reads_users instance_mark refl named w b ∙ joined_four no_bytes (shims_instance w b.shims) (numbers_read (user_range w)) (fixup_instance w b.fixup)
 
   -- the resources
-  users_resources : (o : Option GeneratedBytes) → flat_map resource_mark (modules_marked named w o) ≡ map (λ id. 0) (provided_resources w)
-  users_resources o = by o
-    where
-      no_bytes : flat_map resource_mark (bytes_marked named w) ≡ []
-      no_bytes = mapped_nothing resource_mark ModuleIs (λ b. refl) (user_bytes named w)
-
-      no_numbers : flat_map resource_mark (users_marked w) ≡ []
-      no_numbers = mapped_nothing resource_mark InstanceOf (λ n. refl) (user_range w)
-
-      by : (o : Option GeneratedBytes) → flat_map resource_mark (modules_marked named w o) ≡ map (λ id. 0) (provided_resources w)
-      by None =
-          flat_map-append resource_mark (bytes_marked named w) (resources_marked w ++ users_marked w)
-          ∙ ap₂ (λ xs ys. xs ++ ys) no_bytes (each_resource (provided_resources w) (users_marked w) no_numbers)
-      by (Some b) =
-          let fixup : List Landmark = fixup_marked w b.fixup in
-          let behind : flat_map resource_mark (users_marked w ++ fixup) ≡ [] =
-          flat_map-append resource_mark (users_marked w) fixup ∙ ap₂ (λ xs ys. xs ++ ys) no_numbers (fixup_nothing resource_mark (λ b. refl) (λ n. refl) w b.fixup) in
-          flat_map-append resource_mark (bytes_marked named w) (ModuleIs b.shims ∷ InstanceOf (shims_number w) ∷ (resources_marked w ++ (users_marked w ++ fixup)))
-          ∙ ap₂ (λ xs ys. xs ++ ys) no_bytes (each_resource (provided_resources w) (users_marked w ++ fixup) behind)
+  users_resources : (b : GeneratedBytes) → flat_map resource_mark (modules_marked named w b) ≡ map (λ id. 0) (provided_resources w)
+  users_resources b =
+      let shims : List Landmark = shims_marked w b.shims in
+      let fixup : List Landmark = fixup_marked w b.fixup in
+      let no_bytes : flat_map resource_mark (bytes_marked named w) ≡ [] = mapped_nothing resource_mark ModuleIs (λ x. refl) (user_bytes named w) in
+      let no_numbers : flat_map resource_mark (users_marked w) ≡ [] = mapped_nothing resource_mark InstanceOf (λ n. refl) (user_range w) in
+      let behind : flat_map resource_mark (users_marked w ++ fixup) ≡ [] =
+      flat_map-append resource_mark (users_marked w) fixup ∙ ap₂ (λ xs ys. xs ++ ys) no_numbers (fixup_nothing resource_mark (λ x. refl) (λ n. refl) w b.fixup) in
+      flat_map-append resource_mark (bytes_marked named w) (shims ++ (resources_marked w ++ (users_marked w ++ fixup)))
+      ∙ ap₂ (λ xs ys. xs ++ ys) no_bytes
+      (flat_map-append resource_mark shims (resources_marked w ++ (users_marked w ++ fixup))
+      ∙ ap₂ (λ xs ys. xs ++ ys) (shims_nothing resource_mark (λ x. refl) (λ n. refl) w b.shims) (each_resource (provided_resources w) (users_marked w ++ fixup) behind))
 
 -- ---- the names of nested components
 

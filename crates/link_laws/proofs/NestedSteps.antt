@@ -96,7 +96,7 @@ module _ (things : List Thing) (sort : Sort) (known : (space : Space) → is_spa
 module _ {w : ComponentWorld} {earlier : List Def} {c : Scope} {s : Store} {g : List ValType} (a : Agrees w earlier c s g) (gen : GeneratedModules) where
   -- ---- a nested component
 
-  pub step_component : (inner : List Item) → Steps w gen earlier c s g (defs.Component inner)
+  pub step_component : (inner : List Item) → Steps w gen earlier c s g a.events (defs.Component inner)
   step_component inner =
       let d : Def = defs.Component inner in
       let t : Thing = record { space = spaces.Component; address = length s.components } in
@@ -136,7 +136,7 @@ module _ {w : ComponentWorld} {earlier : List Def} {c : Scope} {s : Store} {g : 
         (ap (type_named name) (sym (exports_given earlier component written h)) ∙ named);
   }
 
-  pub step_nested : (component : ℕ) (written : List Argument) → InstantiatesNested earlier component written → Steps w gen earlier c s g (defs.Item (items.Instantiate component written))
+  pub step_nested : (component : ℕ) (written : List Argument) → InstantiatesNested earlier component written → Steps w gen earlier c s g a.events (defs.Item (items.Instantiate component written))
   step_nested component written h =
       let d : Def = defs.Item (items.Instantiate component written) in
       let x : (x : ℕ) × (address_at spaces.Component component c.items ≡ Some x) × IsComponentHeld s h.definitions x = thing_there a h.made in
@@ -191,7 +191,7 @@ module _ {w : ComponentWorld} {earlier : List Def} {c : Scope} {s : Store} {g : 
   -- the step of an export: it is that of the next required key
   export_step : (name : ExternName) (sort : Sort) (index address : ℕ) (r : RequiredKey) → address_at (sort_space sort) index c.items ≡ Some address → slice_get (required_keys w) (exports_in earlier) ≡ Some r →
       IsKeyExport w s r (record { space = sort_space sort; name = name.name; address = address }) → Makes a gen (defs.Item (items.Export name sort index None)) s (record { space = sort_space sort; address = address }) →
-      is_space spaces.CoreModule (Some (sort_space sort)) ≡ false → Steps w gen earlier c s g (defs.Item (items.Export name sort index None))
+      is_space spaces.CoreModule (Some (sort_space sort)) ≡ false → Steps w gen earlier c s g a.events (defs.Item (items.Export name sort index None))
   export_step name sort index address r at next is makes other =
       let d : Def = defs.Item (items.Export name sort index None) in
       let t : Thing = record { space = sort_space sort; address = address } in
@@ -201,7 +201,7 @@ module _ {w : ComponentWorld} {earlier : List Def} {c : Scope} {s : Store} {g : 
         c',
         s,
         g,
-        quiet w gen d c s g c' s refl (λ rest now. rw at refl),
+        quiet w gen d c s g c' s (λ rest now. rw at refl),
         agrees_with a gen d c' s g t a.shims (shims_same a.shims) refl k (record { space = refl; is = tt }) makes
             (rw (filter-push (is_of spaces.CoreModule) false c.items t other) a.modules)
             (sym (append-nil (map (λ (u : ModuleInstance). u.module_number) s.module_instances)))
@@ -212,7 +212,9 @@ module _ {w : ComponentWorld} {earlier : List Def} {c : Scope} {s : Store} {g : 
             (map-append (λ (e : Export). e.name) c.exports (x ∷ []))
             (AreKeyExports-push w s (required_keys w) c.exports r x a.lifted (ap (slice_get (required_keys w)) counted ∙ next) is)
             a.imports
-            a.resources,
+            a.resources
+            []
+            tt,
       )
 
   -- the lift of a required function
@@ -227,7 +229,7 @@ module _ {w : ComponentWorld} {earlier : List Def} {c : Scope} {s : Store} {g : 
       let f : (x : ℕ) × (address_at spaces.Func index c.items ≡ Some x) × IsLiftedFrom w s x entry options type = lift_there a entry options type lifting in
       (f.0, f.1, record { name = core.0; wit = h.wit; role = core.1; exported = h.exported; is = f.2 })
 
-  pub step_export_function : (name : ExternName) (index : ℕ) → ExportsFunction w earlier index → Steps w gen earlier c s g (defs.Item (items.Export name sorts.Func index None))
+  pub step_export_function : (name : ExternName) (index : ℕ) → ExportsFunction w earlier index → Steps w gen earlier c s g a.events (defs.Item (items.Export name sorts.Func index None))
   step_export_function name index h =
       let f : (x : ℕ) × (address_at spaces.Func index c.items ≡ Some x) × IsRequiredAt w s (function_at_key h.required h.function.name) x = required_there (function_at_key h.required h.function.name) index h.lifted in
       let t : Thing = record { space = spaces.Func; address = f.0 } in
@@ -283,7 +285,7 @@ module _ {w : ComponentWorld} {earlier : List Def} {c : Scope} {s : Store} {g : 
           types_there ts h.1,
         )
 
-  pub step_export_instance : (name : ExternName) (index : ℕ) → ExportsInterface w earlier index → Steps w gen earlier c s g (defs.Item (items.Export name sorts.Instance index None))
+  pub step_export_instance : (name : ExternName) (index : ℕ) → ExportsInterface w earlier index → Steps w gen earlier c s g a.events (defs.Item (items.Export name sorts.Instance index None))
   step_export_instance name index h =
       let x : (x : ℕ) × (address_at spaces.Instance index c.items ≡ Some x) × IsNestedInstance earlier c.items s h.component h.arguments x = thing_there a h.instance in
       let n : IsNestedInstance earlier c.items s h.component h.arguments x.0 = x.2 in

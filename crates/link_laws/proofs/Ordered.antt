@@ -10,11 +10,12 @@ use Rattle.std.specs.Str.{bytes_eq}
 use Rattle.std.specs.Str.Parse.{IsNumeral}
 use Rattle.std.proofs.lemmas.Option.{none-some, same_Some}
 use Rattle.std.specs.List.{slice_get, flat_map, AllByRecursion, AllZip, IsDistinct}
-use Rattle.std.specs.Option.{option_map}
 use Rattle.core_types.specs.declared.types.FuncType.{FuncType}
 use Rattle.core_types.specs.declared.types.MemoryType.{MemoryType}
 use Rattle.core_bytes.specs.declared.entry.Export.{Export}
 use Rattle.core_bytes.specs.declared.entry.Import.{Import}
+use Rattle.core_bytes.specs.declared.section.Section.{Section}
+use Rattle.core_bytes.specs.declared.section.Section.TheVariants as sections
 use Rattle.comp_bytes.specs.declared.space.Sort.{Sort}
 use Rattle.comp_bytes.specs.declared.space.Sort.TheVariants as sorts
 use Rattle.comp_bytes.specs.declared.types.Description.{Description}
@@ -28,27 +29,26 @@ use Rattle.comp_worlds.specs.Offered.{shared_memory}
 use Rattle.comp_worlds.specs.declared.world.ComponentWorld.{ComponentWorld}
 use Rattle.shim_modules.specs.Shims as shims
 use Rattle.shim_modules.specs.declared.shims.ShimFunction.{ShimFunction}
-use Rattle.fixup_modules.specs.Fixups.{Fixup, nothing_fixed}
+use Rattle.fixup_modules.specs.Fixups.{Fixup}
 use Rattle.fixup_modules.specs.Sections as fixups
 use Rattle.interned_types.specs.Interning.{interned}
 use Rattle.shim_plan.specs.declared.shims.Shim.{Shim}
-use Rattle.world_shims.specs.WorldShims.{shims_of, type_of_shim, types_with, functions_of, sections_of_shims, fixup_with, sections_of_fixup}
-use Rattle.shim_runs.proofs.Exported.{other_digits}
+use Rattle.world_shims.specs.WorldShims.{shims_of, initialize_of, type_of_shim, types_with, functions_of, sections_of_shims, fixup_of}
+use Rattle.shim_runs.proofs.FixupInstance.{no_exports}
+use Rattle.world_shims.proofs.Digits.{other_digits}
 use Rattle.comp_runs.specs.Instances.{section_exports}
-use Rattle.comp_terms.specs.Generated.{GeneratedBytes, MayBeGenerated}
+use Rattle.comp_terms.specs.Generated.{GeneratedBytes, AreGenerated}
 use Rattle.comp_links.specs.Targets.{UserModule}
 use Rattle.comp_links.specs.Modules.{WorldModule, user_modules}
 use Rattle.comp_terms.specs.Planned.{IsArgumentFor}
 use Rattle.comp_terms.specs.Rules.{InstantiatesModule, IsExportRight, IsRight, RightAfter}
 use Rattle.link_laws.specs.Composition.{GeneratedModules, generated_sections, AreSectionsAfter, AreSections, AreArgumentsNamed, IsExportSound, IsSound, AreSound}
 use Rattle.link_laws.proofs.Given.{user_below, not_shims, not_fixup}
-use Rattle.link_laws.proofs.Steps.{no_modules}
 use Rattle.link_laws.proofs.InstanceSteps.{generated_for}
 
 -- the generated modules of what was built
-abbrev pub modules_of : ComponentWorld → Bool → Option GeneratedBytes → GeneratedModules
-modules_of w named None = no_modules
-modules_of w named (Some b) = generated_for w named b.fixup
+abbrev pub modules_of : ComponentWorld → Bool → GeneratedBytes → GeneratedModules
+modules_of w named b = generated_for w named b
 
 -- ---- sections
 
@@ -62,12 +62,35 @@ shims_in_order (Some type) types [] debug_names = (omega arith, (omega arith, (o
 shims_in_order None types (f ∷ fs) debug_names = (omega arith, (omega arith, (omega arith, (omega arith, (omega arith, shim_names_last 10 debug_names (f ∷ fs))))))
 shims_in_order (Some type) types (f ∷ fs) debug_names = (omega arith, (omega arith, (omega arith, (omega arith, (omega arith, (omega arith, shim_names_last 10 debug_names (f ∷ fs)))))))
 
-fixup_names_last : (id : ℕ) (debug_names : Bool) (entries : List Import) → AreSectionsAfter id debug_names (fixups.names_of debug_names entries)
-fixup_names_last id false entries = refl
-fixup_names_last id true entries = (refl, refl)
+fixup_names_last : (id : ℕ) (debug_names : Bool) (entries : List Import) (own : Option ℕ) → AreSectionsAfter id debug_names (fixups.names_of debug_names entries own)
+fixup_names_last id false entries own = refl
+fixup_names_last id true entries own = (refl, refl)
+
+module _ (types : List FuncType) (entries : List Import) (fills calls : List ℕ) (debug_names : Bool) (named : Option ℕ) where
+  fixup_with_parts : Option ℕ → Option ℕ → Option ℕ → List Section
+  fixup_with_parts own first table =
+      sections.Types types
+      ∷ sections.Imports entries
+      ∷ (fixups.optional (λ type. sections.Functions (type ∷ [])) own
+      ++ (fixups.optional (λ function. sections.Start function) first
+      ++ (fixups.optional (λ t. sections.Elements (fixups.fill_segment t fills ∷ [])) table
+      ++ (fixups.optional (λ type. sections.Code (fixups.calling calls ∷ [])) own
+      ++ fixups.names_of debug_names entries named))))
+
+  parts_in_order : (own first table : Option ℕ) → AreSectionsAfter 0 debug_names (fixup_with_parts own first table)
+  unfolding fixup_with_parts
+  parts_in_order None None None = (omega arith, (omega arith, fixup_names_last 2 debug_names entries named))
+  parts_in_order None None (Some table) = (omega arith, (omega arith, (omega arith, fixup_names_last 9 debug_names entries named)))
+  parts_in_order None (Some first) None = (omega arith, (omega arith, (omega arith, fixup_names_last 8 debug_names entries named)))
+  parts_in_order None (Some first) (Some table) = (omega arith, (omega arith, (omega arith, (omega arith, fixup_names_last 9 debug_names entries named))))
+  parts_in_order (Some own) None None = (omega arith, (omega arith, (omega arith, (omega arith, fixup_names_last 10 debug_names entries named))))
+  parts_in_order (Some own) None (Some table) = (omega arith, (omega arith, (omega arith, (omega arith, (omega arith, fixup_names_last 10 debug_names entries named)))))
+  parts_in_order (Some own) (Some first) None = (omega arith, (omega arith, (omega arith, (omega arith, (omega arith, fixup_names_last 10 debug_names entries named)))))
+  parts_in_order (Some own) (Some first) (Some table) = (omega arith, (omega arith, (omega arith, (omega arith, (omega arith, (omega arith, fixup_names_last 10 debug_names entries named))))))
 
 fixup_in_order : (f : Fixup) (debug_names : Bool) → AreSectionsAfter 0 debug_names (fixups.fixup_sections f debug_names)
-fixup_in_order f debug_names = (omega arith, (omega arith, (omega arith, fixup_names_last 9 debug_names (fixups.with_table f).entries)))
+unfolding fixup_with_parts
+fixup_in_order f debug_names = parts_in_order (fixups.types_of f) (fixups.all_imported f).entries f.fills f.calls debug_names (fixups.own_function f) (fixups.own_type f) (fixups.start_function f) (fixups.table_of f)
 
 -- ---- exports
 
@@ -139,10 +162,6 @@ exported_by_shims None types (f ∷ fs) false = append-nil (shims.exports_of Non
 exported_by_shims (Some type) types (f ∷ fs) true = append-nil (shims.exports_of (Some type) (f ∷ fs))
 exported_by_shims (Some type) types (f ∷ fs) false = append-nil (shims.exports_of (Some type) (f ∷ fs))
 
-exported_by_fixup : (f : Fixup) (debug_names : Bool) → flat_map section_exports (fixups.fixup_sections f debug_names) ≡ []
-exported_by_fixup f true = refl
-exported_by_fixup f false = refl
-
 none_apart : IsDistinct {K = List ℕ} bytes_eq []
 unfolding IsDistinct
 none_apart = tt
@@ -165,15 +184,18 @@ are_shims memory ss debug_names room =
     }
 
 are_fixup : (f : Fixup) (debug_names : Bool) → AreSections debug_names (fixups.fixup_sections f debug_names)
-are_fixup f debug_names = record { ordered = fixup_in_order f debug_names; once = subst (λ es. IsDistinct bytes_eq (names_in es)) (sym (exported_by_fixup f debug_names)) none_apart }
+are_fixup f debug_names = record { ordered = fixup_in_order f debug_names; once = subst (λ es. IsDistinct bytes_eq (names_in es)) (sym (no_exports f debug_names)) none_apart }
 
-pub sections_in_order : (w : ComponentWorld) (debug_names : Bool) (o : Option GeneratedBytes) → MayBeGenerated w debug_names o → AllByRecursion (AreSections debug_names) (generated_sections (modules_of w debug_names o))
-sections_in_order w debug_names None h = tt
-sections_in_order w debug_names (Some b) h = (are_shims (shared_memory w) (shims_of w) debug_names h.room, by b.fixup)
+pub sections_in_order : (w : ComponentWorld) (debug_names : Bool) (g : GeneratedBytes) → AreGenerated w debug_names g → AllByRecursion (AreSections debug_names) (generated_sections (modules_of w debug_names g))
+sections_in_order w debug_names g h = by g.shims g.fixup
   where
-    by : (o : Option (List ℕ)) → AllByRecursion (AreSections debug_names) (generated_sections (record { shims = None; fixup = option_map (λ bytes. sections_of_fixup (shims_of w) debug_names) o }))
-    by None = tt
-    by (Some bytes) = (are_fixup (fixup_with nothing_fixed (shims_of w)) debug_names, tt)
+    fixup : (o : Option (List ℕ)) → AllByRecursion (AreSections debug_names) (generated_sections (generated_for w debug_names (record { shims = None; fixup = o })))
+    fixup None = tt
+    fixup (Some bytes) = (are_fixup (fixup_of (shims_of w) (initialize_of w)) debug_names, tt)
+
+    by : (o p : Option (List ℕ)) → AllByRecursion (AreSections debug_names) (generated_sections (generated_for w debug_names (record { shims = o; fixup = p })))
+    by None p = fixup p
+    by (Some bytes) p = (are_shims (shared_memory w) (shims_of w) debug_names h.room, fixup p)
 
 -- ---- definitions
 

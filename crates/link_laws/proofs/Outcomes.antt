@@ -1,7 +1,6 @@
 -- How a definition goes on from one state of a run to the next, whatever is answered, and what is seen of it.
-use Rattle.std.proofs.Common.{arith, ◌≤◌, ◌+◌, ◌≡◌, ◌∙◌, ℕ, suc, false, List, [], ◌∷◌, ◌++◌, length, map, filter, refl, sym, ap, ap₂, subst, append-nil, length-append, IsTrue}
+use Rattle.std.proofs.Common.{◌⊎◌, ◌+◌, ◌≡◌, ◌∙◌, ℕ, suc, false, List, [], ◌∷◌, ◌++◌, length, map, filter, refl, sym, ap, ap₂, subst, append-nil, length-append, add-one, IsTrue}
 use Rattle.std.proofs.Math.Dec.{ltb}
-use Rattle.std.specs.List.{flat_map}
 use Rattle.comp_bytes.specs.declared.def.Def.{Def}
 use Rattle.comp_worlds.specs.declared.world.ComponentWorld.{ComponentWorld}
 use Rattle.comp_links.specs.Modules.{user_modules}
@@ -9,13 +8,14 @@ use Rattle.core_types.specs.declared.types.ValType.{ValType}
 use Rattle.core_runs.specs.Values.{Value, I32Value, I64Value}
 use Rattle.core_runs.specs.Instances.{type_of}
 use Rattle.core_runs.specs.Store.{Answer, Gives, Traps, Event, Instantiated, Now, Cell, Kept, Foreign}
-use Rattle.core_runs.specs.Execution.{answered, seen, renewed}
+use Rattle.core_runs.specs.Store as core
+use Rattle.core_runs.specs.Execution.{and_then, answered, seen, renewed}
 use Rattle.comp_runs.specs.Store.{Store}
 use Rattle.comp_runs.specs.Machine.{Scope, Machine, Outcome, Done, Trapped, Open, Stuck, resumed}
 use Rattle.comp_runs.specs.Running.{run}
-use Rattle.link_laws.specs.Composition.{GeneratedModules, at_root, item_instantiates}
+use Rattle.link_laws.specs.Composition.{GeneratedModules}
 use Rattle.link_laws.specs.Linking.{module_meanings, LetsRun}
-use Rattle.link_laws.proofs.Stores.{Agrees}
+use Rattle.link_laws.proofs.Stores.{Agrees, IsReady}
 
 -- the machine of a scope, a store, and the changing state
 abbrev pub machine : Scope → Store → Now → Machine
@@ -31,39 +31,43 @@ pub record IsNow (es : List Event) (types : List ValType) (now : Now) : Type 0 w
   pub moments : length now.moments ≡ length es
   pub globals : map type_of now.globals ≡ types
 
--- a run ends with this scope, this store, globals of these types and these events, or with an answer that doesn't let it go to
+-- the event is the instantiation of a user module
+abbrev pub IsInstantiation : Event → Type 0
+IsInstantiation (Instantiated number) = Unit {0}
+IsInstantiation event = ⊥
+
+-- a run stops early at one of these events: at the instantiation of a user module, or where all is ready by then
+pub record IsStopped (w : ComponentWorld) (es : List Event) (m : Machine) : Type 0 where
+  pub before : List Event
+  pub last : Event
+  pub after : List Event
+  pub among : es ≡ before ++ (last ∷ after)
+  pub moments : length m.now.moments ≡ suc (length before)
+  pub by_then : IsInstantiation last ⊎ IsReady w m.store
+
+-- a run ends with this scope, this store, globals of these types and these events, or it stops with an answer that doesn't let it go to
 -- its end
-abbrev pub IsGood : Scope → Store → List ValType → List Event → List (List ValType) → List Answer → Outcome → Type 0
-IsGood c s g es questions answers (Done m) = (m.scope ≡ c) × (m.store ≡ s) × IsNow es g m.now
-IsGood c s g es questions answers (Trapped m) = (LetsRun questions answers → ⊥) × (length m.now.moments ≤ length es)
-IsGood c s g es questions answers (Open m) = (LetsRun questions answers → ⊥) × (length m.now.moments ≤ length es)
-IsGood c s g es questions answers Stuck = ⊥
+abbrev pub IsGood : ComponentWorld → Scope → Store → List ValType → List Event → List (List ValType) → List Answer → Outcome → Type 0
+IsGood w c s g es questions answers (Done m) = (m.scope ≡ c) × (m.store ≡ s) × IsNow es g m.now
+IsGood w c s g es questions answers (Trapped m) = (LetsRun questions answers → ⊥) × IsStopped w es m
+IsGood w c s g es questions answers (Open m) = (LetsRun questions answers → ⊥) × IsStopped w es m
+IsGood w c s g es questions answers Stuck = ⊥
 
 -- the user modules among these numbers of modules: they come first
 abbrev pub users_among : ComponentWorld → List ℕ → List ℕ
 users_among w numbers = filter (λ n. ltb n (length (user_modules w))) numbers
 
--- those that a definition instantiates
-abbrev pub users_in : ComponentWorld → Def → List ℕ
-users_in w d = users_among w (at_root item_instantiates d)
-
--- the calls of the outside that are made for these, by their result types, and what is seen of them
-abbrev pub asks : List ℕ → List (List ValType)
-asks users = map (λ n. []) users
-
-abbrev pub events_of : List ℕ → List Event
-events_of users = map (λ n. Instantiated n) users
-
-abbrev pub seen_by : ComponentWorld → List Def → List Event
-seen_by w ds = flat_map (λ d. events_of (users_in w d)) ds
+-- the calls of the outside that are seen, by their result types: none returns a value
+abbrev pub asks : List Event → List (List ValType)
+asks events = map (λ e. []) events
 
 -- one call more
-one_more : (c : Scope) (s : Store) (g : List ValType) (es : List Event) (questions : List (List ValType)) (cell : ℕ) (answers : List Answer) (o : Outcome) →
-    IsGood c s g es questions answers o → IsGood c s g es ([] ∷ questions) (Gives [] cell ∷ answers) o
-one_more c s g es questions cell answers (Done m) h = h
-one_more c s g es questions cell answers (Trapped m) h = (λ l. h.0 l.1, h.1)
-one_more c s g es questions cell answers (Open m) h = (λ l. h.0 l.1, h.1)
-one_more c s g es questions cell answers Stuck h = h
+one_more : (w : ComponentWorld) (c : Scope) (s : Store) (g : List ValType) (es : List Event) (questions : List (List ValType)) (cell : ℕ) (answers : List Answer) (o : Outcome) →
+    IsGood w c s g es questions answers o → IsGood w c s g es ([] ∷ questions) (Gives [] cell ∷ answers) o
+one_more w c s g es questions cell answers (Done m) h = h
+one_more w c s g es questions cell answers (Trapped m) h = (λ l. h.0 l.1, h.1)
+one_more w c s g es questions cell answers (Open m) h = (λ l. h.0 l.1, h.1)
+one_more w c s g es questions cell answers Stuck h = h
 
 -- a call of the outside changes no type of a global
 type_renewed : (number : ℕ) (cell : Cell) → type_of (renewed number cell) ≡ type_of cell
@@ -76,57 +80,77 @@ types_renewed : (number : ℕ) (cells : List Cell) → map type_of (map (renewed
 types_renewed number [] = refl
 types_renewed number (cell ∷ cells) = ap₂ (λ t ts. t ∷ ts) (type_renewed number cell) (types_renewed number cells)
 
-pub good_answered : (c : Scope) (s : Store) (g : List ValType) (es : List Event) (questions : List (List ValType)) (answers : List Answer) (now : Now) (m : Machine) (next : List Value → Machine → Outcome) →
-    length now.moments ≤ length es →
+-- a call of the outside is made, which returns nothing: the run stops there, or goes on
+pub good_answered : (w : ComponentWorld) (c : Scope) (s : Store) (g : List ValType) (es : List Event) (questions : List (List ValType)) (answers : List Answer) (now : Now) (m : Machine) (next : List Value → Machine → Outcome) →
+    ((after : Now) → after.moments ≡ now.moments → IsStopped w es (record m { now = after })) →
     ((values : List Value) (after : Now) → after.events ≡ now.events → after.moments ≡ now.moments → map type_of after.globals ≡ map type_of now.globals →
-    IsGood c s g es questions after.answers (next values (record m { now = after }))) →
-    IsGood c s g es ([] ∷ questions) answers (resumed (answered [] answers now) m next)
-good_answered c s g es questions [] now m next few h = (λ l. l, few)
-good_answered c s g es questions (Traps ∷ answers) now m next few h = (λ l. l, few)
-good_answered c s g es questions (Gives [] number ∷ answers) now m next few h = one_more c s g es questions number answers _ (h [] _ refl refl (types_renewed number now.globals))
-good_answered c s g es questions (Gives (v ∷ values) number ∷ answers) now m next few h = (λ l. absurd (no l.0), few)
+    IsGood w c s g es questions after.answers (next values (record m { now = after }))) →
+    IsGood w c s g es ([] ∷ questions) answers (resumed (answered [] answers now) m next)
+good_answered w c s g es questions [] now m next stopped h = (λ l. l, stopped now refl)
+good_answered w c s g es questions (Traps ∷ answers) now m next stopped h = (λ l. l, stopped (record now { answers = answers }) refl)
+good_answered w c s g es questions (Gives [] number ∷ answers) now m next stopped h = one_more w c s g es questions number answers _ (h [] _ refl refl (types_renewed number now.globals))
+good_answered w c s g es questions (Gives (v ∷ values) number ∷ answers) now m next stopped h = (λ l. absurd (no l.0), stopped now refl)
   where
     no : IsTrue false → ⊥
     no e = cc
 
--- A definition that instantiates these user modules runs, and the rest is run from this scope, this store and globals of these types.
-abbrev pub Continues : (w : ComponentWorld) (gen : GeneratedModules) (d : Def) (c : Scope) (s : Store) (g : List ValType) (c' : Scope) (s' : Store) (g' : List ValType) → List ℕ → Type 0
-Continues w gen d c s g c' s' g' users =
-    (e : Scope) (t : Store) (k : List ValType) (es : List Event) (questions : List (List ValType)) (rest : List Def) →
-    ((now : Now) → IsNow (es ++ events_of users) g' now → IsGood e t k ((es ++ events_of users) ++ seen_by w rest) questions now.answers (run (module_meanings w gen) rest (machine c' s' now))) →
-    (now : Now) → IsNow es g now → IsGood e t k (es ++ (events_of users ++ seen_by w rest)) (asks users ++ questions) now.answers (run (module_meanings w gen) (d ∷ rest) (machine c s now))
+-- where such a call is the last of a start function, that function returns nothing
+pub last_call : (answers : List Answer) (now : Now) (m : Machine) (next : List Value → Machine → Outcome) →
+    resumed (and_then (answered [] answers now) (λ results after. core.Returned [] after)) m next ≡ resumed (answered [] answers now) m (λ values after. next [] after)
+last_call [] now m next = refl
+last_call (Traps ∷ answers) now m next = refl
+last_call (Gives [] number ∷ answers) now m next = refl
+last_call (Gives (v ∷ values) number ∷ answers) now m next = refl
+
+-- A definition runs with these events, and the rest is run from this scope, this store and globals of these types.
+abbrev pub Continues : (w : ComponentWorld) (gen : GeneratedModules) (d : Def) (c : Scope) (s : Store) (g : List ValType) (c' : Scope) (s' : Store) (g' : List ValType) → List Event → Type 0
+Continues w gen d c s g c' s' g' seen =
+    (e : Scope) (t : Store) (k : List ValType) (es later : List Event) (questions : List (List ValType)) (rest : List Def) →
+    ((now : Now) → IsNow (es ++ seen) g' now → IsGood w e t k ((es ++ seen) ++ later) questions now.answers (run (module_meanings w gen) rest (machine c' s' now))) →
+    (now : Now) → IsNow es g now → IsGood w e t k (es ++ (seen ++ later)) (asks seen ++ questions) now.answers (run (module_meanings w gen) (d ∷ rest) (machine c s now))
 
 pub record Runs (w : ComponentWorld) (gen : GeneratedModules) (d : Def) (c : Scope) (s : Store) (g : List ValType) (c' : Scope) (s' : Store) (g' : List ValType) : Type 0 where
-  pub continues : Continues w gen d c s g c' s' g' (users_in w d)
+  pub seen : List Event
+  pub continues : Continues w gen d c s g c' s' g' seen
 
 -- a definition that calls nothing outside
-pub quiet : (w : ComponentWorld) (gen : GeneratedModules) (d : Def) (c : Scope) (s : Store) (g : List ValType) (c' : Scope) (s' : Store) → users_in w d ≡ [] →
+pub quiet_continues : (w : ComponentWorld) (gen : GeneratedModules) (d : Def) (c : Scope) (s : Store) (g : List ValType) (c' : Scope) (s' : Store) →
+    ((rest : List Def) (now : Now) → run (module_meanings w gen) (d ∷ rest) (machine c s now) ≡ run (module_meanings w gen) rest (machine c' s' now)) → Continues w gen d c s g c' s' g []
+quiet_continues w gen d c s g c' s' same e t k es later questions rest go now at =
+    let after : List Event → Type 0 =
+    λ l. (n : Now) → IsNow l g n → IsGood w e t k (l ++ later) questions n.answers (run (module_meanings w gen) rest (machine c' s' n)) in
+    let plain : after es = subst after (append-nil es) go in
+    subst (IsGood w e t k (es ++ later) questions now.answers) (sym (same rest now)) (plain now at)
+
+abbrev pub quiet : (w : ComponentWorld) (gen : GeneratedModules) (d : Def) (c : Scope) (s : Store) (g : List ValType) (c' : Scope) (s' : Store) →
     ((rest : List Def) (now : Now) → run (module_meanings w gen) (d ∷ rest) (machine c s now) ≡ run (module_meanings w gen) rest (machine c' s' now)) → Runs w gen d c s g c' s' g
-quiet w gen d c s g c' s' none same = record { continues = subst (Continues w gen d c s g c' s' g) (sym none) none_seen }
-  where
-    none_seen : Continues w gen d c s g c' s' g []
-    none_seen e t k es questions rest go now at =
-        let after : List Event → Type 0 =
-        λ l. (n : Now) → IsNow l g n → IsGood e t k (l ++ seen_by w rest) questions n.answers (run (module_meanings w gen) rest (machine c' s' n)) in
-        let plain : after es = subst after (append-nil es) go in
-        subst (IsGood e t k (es ++ seen_by w rest) questions now.answers) (sym (same rest now)) (plain now at)
+quiet w gen d c s g c' s' same = record { seen = []; continues = quiet_continues w gen d c s g c' s' same }
 
-abbrev pub Steps : ComponentWorld → GeneratedModules → List Def → Scope → Store → List ValType → Def → Type 0
-Steps w gen earlier c s g d = (c' : Scope) × (s' : Store) × (g' : List ValType) × Runs w gen d c s g c' s' g' × Agrees w (earlier ++ d ∷ []) c' s' g'
+-- the scope and the store agree with one more definition, of which this was seen
+pub record AgreesWith (w : ComponentWorld) (ds : List Def) (c : Scope) (s : Store) (g : List ValType) (before seen : List Event) : Type 0 where
+  pub agrees : Agrees w ds c s g
+  pub events : agrees.events ≡ before ++ seen
 
--- the event of one more instance is among all of them
-pub few : (w : ComponentWorld) (number : ℕ) (es : List Event) (g : List ValType) (rest : List Def) (now : Now) → IsNow es g now → length (seen now (Instantiated number)).moments ≤ length (es ++ (Instantiated number ∷ seen_by w rest))
-few w number es g rest now at =
-    let before : length now.moments ≡ length es = at.moments in
-    let more : length (now.moments ++ now.globals ∷ []) ≡ length now.moments + 1 = length-append now.moments (now.globals ∷ []) in
-    let all : length (es ++ (Instantiated number ∷ seen_by w rest)) ≡ length es + suc (length (seen_by w rest)) = length-append es (Instantiated number ∷ seen_by w rest) in
-    omega (arith, before, more, all)
+abbrev pub Steps : ComponentWorld → GeneratedModules → List Def → Scope → Store → List ValType → List Event → Def → Type 0
+Steps w gen earlier c s g before d = (c' : Scope) × (s' : Store) × (g' : List ValType) × (r : Runs w gen d c s g c' s' g') × AgreesWith w (earlier ++ d ∷ []) c' s' g' before r.seen
 
-pub one_event : (number : ℕ) (es : List Event) (g k : List ValType) (now after : Now) → IsNow es g now → after.events ≡ (seen now (Instantiated number)).events → after.moments ≡ (seen now (Instantiated number)).moments → map type_of after.globals ≡ k →
-    IsNow (es ++ Instantiated number ∷ []) k after
-one_event number es g k now after at events moments count = record {
-  events = events ∙ ap (λ l. l ++ Instantiated number ∷ []) at.events;
-  moments = ap (λ (l : List (List Cell)). length l) moments ∙ (length-append now.moments (now.globals ∷ []) ∙ (ap (λ n. n + 1) at.moments ∙ sym (length-append es (Instantiated number ∷ []))));
+-- a run that stops at its next event
+pub stopped_at : (w : ComponentWorld) (event : Event) (es later : List Event) (g : List ValType) (now after : Now) (c : Scope) (s : Store) → IsNow es g now → after.moments ≡ (seen now event).moments → IsInstantiation event ⊎ IsReady w s →
+    IsStopped w (es ++ (event ∷ later)) (machine c s after)
+stopped_at w event es later g now after c s at same by_then = record {
+  before = es;
+  last = event;
+  after = later;
+  among = refl;
+  moments = ap (λ (l : List (List Cell)). length l) same ∙ (length-append now.moments (now.globals ∷ []) ∙ (ap (λ n. n + 1) at.moments ∙ add-one (length es)));
+  by_then = by_then;
+}
+
+pub one_event : (event : Event) (es : List Event) (g k : List ValType) (now after : Now) → IsNow es g now → after.events ≡ (seen now event).events → after.moments ≡ (seen now event).moments → map type_of after.globals ≡ k →
+    IsNow (es ++ event ∷ []) k after
+one_event event es g k now after at events moments count = record {
+  events = events ∙ ap (λ l. l ++ event ∷ []) at.events;
+  moments = ap (λ (l : List (List Cell)). length l) moments ∙ (length-append now.moments (now.globals ∷ []) ∙ (ap (λ n. n + 1) at.moments ∙ sym (length-append es (event ∷ []))));
   globals = count;
 }
 

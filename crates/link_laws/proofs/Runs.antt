@@ -1,22 +1,19 @@
 -- A list of right definitions runs, and the final state is linked.
-use Rattle.std.proofs.Common.{Bool, ◌≡◌, ◌∙◌, ◌≤◌, ◌<◌, ◌+◌, zero, suc, Option, is_some, ℕ, false, List, [], ◌∷◌, ◌++◌, length, map, filter, refl, sym, ap, ap₂, subst, append-nil, append_assoc, add-one, Some, None, arith, IsTrue}
+use Rattle.std.proofs.Common.{◌⊎◌, inl, inr, drop, false, Bool, ◌≡◌, ◌∙◌, ◌≤◌, ◌<◌, ◌+◌, zero, suc, Option, is_some, ℕ, List, [], ◌∷◌, ◌++◌, length, map, refl, sym, ap, ap₂, subst, append-nil, append_assoc, add-one, Some, None, arith, IsTrue, true}
 use Rattle.std.proofs.lemmas.List.{map-append, length-map}
-use Rattle.std.proofs.lemmas.Bool.{lt-ltb}
-use Rattle.std.proofs.Math.Dec.{ltb}
 use Rattle.std.proofs.lemmas.Option.{slice_get_within, none-some, same_Some}
-use Rattle.std.proofs.lemmas.List.Elements.{filter-append, Contains-append_right}
+use Rattle.std.proofs.lemmas.List.Elements.{Contains-append_right}
 use Rattle.std.proofs.lemmas.Grind.{flat_map-append}
 use Rattle.std.specs.Prelude.{Contains, ◌≢◌}
-use Rattle.std.specs.Option.{option_map}
-use Rattle.comp_lists.proofs.Lists.{there, AllByRecursion-weaker, AllByRecursion-front, AllByRecursion-back, AllByRecursion-contains, Contains-map}
+use Rattle.comp_lists.proofs.Lists.{there, AllByRecursion-front, AllByRecursion-back, AllByRecursion-contains}
 use Rattle.core_bytes.specs.Modules.{Encodes}
 use Rattle.shim_plan.specs.declared.shims.Shim.{Shim}
-use Rattle.world_shims.specs.WorldShims.{shims_of, type_of_shim, sections_of_fixup}
+use Rattle.world_shims.specs.WorldShims.{shims_of, type_of_shim, initialize_of}
 use Rattle.shim_runs.specs.ShimRuns.{IsShimAt}
 use Rattle.shim_runs.proofs.Acting.{empty_shims_trap}
 use Rattle.shim_runs.proofs.Placed.{shim_at}
 use Rattle.shim_runs.proofs.Exported.{shims_found}
-use Rattle.comp_terms.specs.Generated.{shims_number, fixup_number, GeneratedBytes, IsFixup, MayBeGenerated}
+use Rattle.comp_terms.specs.Generated.{shims_number, fixup_number, GeneratedBytes, IsFixup, has_tasks_in, has_fixup, number_behind, IsShimModule, AreGenerated}
 use Rattle.std.specs.List.{slice_get, flat_map, range_with_len, AllZip, AllByRecursion}
 use Rattle.comp_bytes.specs.ItemIndices.{in_space}
 use Rattle.comp_bytes.specs.declared.space.Space.TheVariants as spaces
@@ -32,31 +29,32 @@ use Rattle.comp_worlds.specs.Worlds.{IsWorld}
 use Rattle.comp_worlds.specs.declared.world.ComponentWorld.{ComponentWorld}
 use Rattle.comp_links.specs.Naming.{Naming}
 use Rattle.comp_links.specs.Modules.{WorldModule, user_modules}
+use Rattle.wit_data.specs.declared.ids.TypeId.{TypeId}
+use Rattle.comp_trees.specs.Trees.{Resource}
 use Rattle.comp_links.specs.Lists.{resource_of, AreExportsApart}
 use Rattle.comp_inventories.specs.Inventories.{Inventory, inventory}
 use Rattle.comp_inventories.proofs.Inventories.{inventory-empty}
 use Rattle.core_types.specs.declared.types.ValType.{ValType}
 use Rattle.core_runs.specs.Bodies.{table_shim}
-use Rattle.core_runs.specs.Store.{Generated, Answer, Now, Event, Instantiated}
-use Rattle.comp_runs.specs.Store.{ModuleInstance, Store}
+use Rattle.core_runs.specs.Store.{Generated, Answer, Now, Cell, Event, Instantiated, Called}
+use Rattle.comp_runs.specs.Store.{ExportedBy, ModuleInstance, Store}
 use Rattle.comp_runs.specs.Machine.{Scope, Machine, Outcome, Done, Trapped, Open, Stuck}
 use Rattle.comp_runs.specs.Running.{run, fresh_machine}
 use Rattle.comp_terms.specs.Rules.{IsRight, RightAfter, IsBuilt}
 use Rattle.link_laws.specs.Meeting.{task_hook}
-use Rattle.link_laws.specs.Composition.{GeneratedModules, generated_sections, IsComposed, numbers_from, instance_order, at_root, item_instantiates}
-use Rattle.link_laws.specs.Linking.{module_meanings, outcome, EndsAt, StartCall, start_calls, initialization, questions, LetsRun, IsLinked, imported_among, TypesServed, IsShim, TrapsAtOnce, BeforeFixup, Links}
-use Rattle.link_laws.proofs.Stores.{ShimsAt, exports_of_shims, ExportsShims, MayHaveShims, IsTypeEntry, IsFunctionEntry, IsInstanceThing, Agrees}
-use Rattle.link_laws.proofs.Given.{not_shims, scope_there}
-use Rattle.link_laws.proofs.Plain.{nothing_in, no_initialize}
-use Rattle.link_laws.proofs.ModuleMarks.{fixup_listed, number_listed, bytes_listed, user_range, numbers_listed}
-use Rattle.link_laws.proofs.Zips.{AllByRecursion-join}
-use Rattle.link_laws.proofs.InstanceSteps.{IsGenerated, generated_for, none_among, at_least, before_next, step_instantiate}
-use Rattle.link_laws.proofs.Outcomes.{machine, IsNow, IsGood, users_among, users_in, asks, events_of, seen_by, Steps}
-use Rattle.link_laws.proofs.Steps.{no_modules, step_type, step_instance_type, step_import, step_import_type, step_import_resource, step_import_instance, step_alias_function, step_alias_type, step_lower, step_new, step_rep, step_drop, step_lift, step_inline_instance, step_alias, step_module, step_custom}
+use Rattle.link_laws.specs.Composition.{GeneratedModules, generated_sections, IsComposed, numbers_from, instance_order, at_root, item_instantiates, number_after}
+use Rattle.link_laws.specs.Linking.{module_meanings, outcome, EndsAt, StartCall, start_calls, initialization, questions, LetsRun, UsersServed, ShimsFilled, MakesCall, IsLinked, imported_among, TypesServed, IsShim, TrapsAtOnce, BeforeFixup, Links}
+use Rattle.link_laws.proofs.Stores.{ShimsAt, exports_of_shims, IsReady, IsFunctionExported, ExportsShims, MayHaveShims, IsTypeEntry, IsFunctionEntry, IsInstanceThing, Agrees, Expected, Made, Calls, expected_of, expects, IsSeen}
+use Rattle.link_laws.proofs.Given.{scope_there, fixup_behind}
+use Rattle.link_laws.proofs.Plain.{nothing_in}
+use Rattle.link_laws.proofs.ModuleMarks.{bytes_listed, user_range, numbers_listed, bytes_if, number_if}
+use Rattle.link_laws.proofs.InstanceSteps.{IsGenerated, generated_for, step_instantiate, expected_user, expected_shims, expected_fixup}
+use Rattle.link_laws.proofs.Outcomes.{machine, IsInstantiation, IsStopped, IsNow, IsGood, asks, Steps, AgreesWith}
+use Rattle.link_laws.proofs.Steps.{step_type, step_instance_type, step_import, step_import_type, step_import_resource, step_import_instance, step_alias_function, step_alias_type, step_lower, step_new, step_rep, step_drop, step_lift, step_inline_instance, step_alias, step_module, step_custom}
 use Rattle.link_laws.proofs.Ordered.{modules_of, sections_in_order, all_sound}
 use Rattle.link_laws.proofs.Marks.{root_type_names, root_nested_names, root_imports, root_modules, root_instances, root_exports, root_export_names, all_resources, no_customs}
 use Rattle.link_laws.proofs.ImportedTypes.{types_served}
-use Rattle.link_laws.proofs.Served.{FilledAtEnd, shims_filled, tables_untouched, users_served, resource_defined, number_defined, each_provided, each_type_provided}
+use Rattle.link_laws.proofs.Served.{function_item, FilledAtEnd, shims_filled, tables_untouched, users_served, resource_defined, number_defined, each_provided, each_type_provided}
 use Rattle.link_laws.proofs.NestedSteps.{step_component, step_nested, step_export_function, step_export_instance}
 
 -- a generated module is instantiated only where it is one of these
@@ -64,7 +62,7 @@ abbrev pub MayMake : ComponentWorld → GeneratedModules → ℕ → Type 0
 MayMake w gen n = (n < shims_number w → ⊥) → IsGenerated w gen
 
 module _ {w : ComponentWorld} {earlier : List Def} {c : Scope} {s : Store} {g : List ValType} (a : Agrees w earlier c s g) (gen : GeneratedModules) where
-  step : IsWorld w → (d : Def) → AllByRecursion (MayMake w gen) (at_root item_instantiates d) → IsRight w earlier d → Steps w gen earlier c s g d
+  step : IsWorld w → (d : Def) → AllByRecursion (MayMake w gen) (at_root item_instantiates d) → IsRight w earlier d → Steps w gen earlier c s g a.events d
   step ok (defs.Item (items.CoreModule bytes)) may h = step_module a gen bytes
   step ok (defs.Item (items.CoreInstantiate number arguments)) may h = step_instantiate a gen ok number arguments may.0 h
   step ok (defs.Item (items.CoreExports entries)) may h = step_inline_instance a gen entries h
@@ -89,43 +87,39 @@ module _ {w : ComponentWorld} {earlier : List Def} {c : Scope} {s : Store} {g : 
   step ok (defs.Component inner) may h = step_component a gen inner
   step ok _ may h = absurd h
 
--- the calls of the outside that a list makes, in order, by their result types
-abbrev asked_by : ComponentWorld → List Def → List (List ValType)
-asked_by w ds = flat_map (λ d. asks (users_in w d)) ds
+-- the rest runs from here to this state, and this is seen
+abbrev Resolves : ComponentWorld → GeneratedModules → List Def → List Def → Scope → Store → List ValType → List Event → Type 0
+Resolves w gen earlier rest c s g before =
+    (e : Scope) × (t : Store) × (k : List ValType) × (seen : List Event)
+    × ((es : List Event) (now : Now) → IsNow es g now → IsGood w e t k (es ++ seen) (asks seen) now.answers (run (module_meanings w gen) rest (machine c s now)))
+    × AgreesWith w (earlier ++ rest) e t k before seen
 
-abbrev Resolves : ComponentWorld → GeneratedModules → List Def → List Def → Scope → Store → List ValType → Type 0
-Resolves w gen earlier rest c s g =
-    (e : Scope) × (t : Store) × (k : List ValType)
-    × ((es : List Event) (now : Now) → IsNow es g now → IsGood e t k (es ++ seen_by w rest) (asked_by w rest) now.answers (run (module_meanings w gen) rest (machine c s now)))
-    × Agrees w (earlier ++ rest) e t k
-
-resolves : (w : ComponentWorld) (gen : GeneratedModules) → IsWorld w → (earlier rest : List Def) (c : Scope) (s : Store) (g : List ValType) → Agrees w earlier c s g → AllByRecursion (MayMake w gen) (flat_map (at_root item_instantiates) rest) → RightAfter w earlier rest → Resolves w gen earlier rest c s g
-resolves w gen ok earlier [] c s g a may h = (c, s, g, λ es now at. (refl, refl, subst (λ l. IsNow l g now) (sym (append-nil es)) at), rw append-nil a)
+resolves : (w : ComponentWorld) (gen : GeneratedModules) → IsWorld w → (earlier rest : List Def) (c : Scope) (s : Store) (g : List ValType) (a : Agrees w earlier c s g) → AllByRecursion (MayMake w gen) (flat_map (at_root item_instantiates) rest) → RightAfter w earlier rest → Resolves w gen earlier rest c s g a.events
+resolves w gen ok earlier [] c s g a may h = (
+  c,
+  s,
+  g,
+  [],
+  λ es now at. (refl, refl, subst (λ l. IsNow l g now) (sym (append-nil es)) at),
+  subst (λ l. AgreesWith w l c s g a.events []) (sym (append-nil earlier)) (record { agrees = a; events = sym (append-nil a.events) }),
+)
 resolves w gen ok earlier (d ∷ ds) c s g a may h =
     let own : AllByRecursion (MayMake w gen) (at_root item_instantiates d) = AllByRecursion-front (MayMake w gen) (at_root item_instantiates d) (flat_map (at_root item_instantiates) ds) may in
     let later : AllByRecursion (MayMake w gen) (flat_map (at_root item_instantiates) ds) = AllByRecursion-back (MayMake w gen) (at_root item_instantiates d) (flat_map (at_root item_instantiates) ds) may in
-    let one : Steps w gen earlier c s g d = step a gen ok d own h.0 in
-    let all : Resolves w gen (earlier ++ d ∷ []) ds one.0 one.1 one.2 = resolves w gen ok (earlier ++ d ∷ []) ds one.0 one.1 one.2 one.4 later h.1 in
-    (all.0, all.1, all.2, λ es now at. one.3.continues all.0 all.1 all.2 es (asked_by w ds) ds (λ n k. all.3 (es ++ events_of (users_in w d)) n k) now at, subst (λ l. Agrees w l all.0 all.1 all.2) (append_assoc earlier (d ∷ []) ds) all.4)
-
--- such lists have one entry for each instance of a user module
-module _ (w : ComponentWorld) where
-  users-append : (d : Def) (ds : List Def) → users_among w (flat_map (at_root item_instantiates) (d ∷ ds)) ≡ users_in w d ++ users_among w (flat_map (at_root item_instantiates) ds)
-  users-append d ds = filter-append (λ n. ltb n (length (user_modules w))) (at_root item_instantiates d) (flat_map (at_root item_instantiates) ds)
-
-  asked-each : (ds : List Def) → asked_by w ds ≡ asks (users_among w (flat_map (at_root item_instantiates) ds))
-  asked-each [] = refl
-  asked-each (d ∷ ds) =
-      ap (λ l. asks (users_in w d) ++ l) (asked-each ds)
-      ∙ (sym (map-append (λ (n : ℕ). []) (users_in w d) (users_among w (flat_map (at_root item_instantiates) ds)))
-      ∙ ap asks (sym (users-append d ds)))
-
-  seen-each : (ds : List Def) → seen_by w ds ≡ events_of (users_among w (flat_map (at_root item_instantiates) ds))
-  seen-each [] = refl
-  seen-each (d ∷ ds) =
-      ap (λ l. events_of (users_in w d) ++ l) (seen-each ds)
-      ∙ (sym (map-append (λ (n : ℕ). Instantiated n) (users_in w d) (users_among w (flat_map (at_root item_instantiates) ds)))
-      ∙ ap events_of (sym (users-append d ds)))
+    let one : Steps w gen earlier c s g a.events d = step a gen ok d own h.0 in
+    let first : List Event = one.3.seen in
+    let all : Resolves w gen (earlier ++ d ∷ []) ds one.0 one.1 one.2 one.4.agrees.events = resolves w gen ok (earlier ++ d ∷ []) ds one.0 one.1 one.2 one.4.agrees later h.1 in
+    let rest : List Event = all.3 in (
+      all.0,
+      all.1,
+      all.2,
+      first ++ rest,
+      λ es now at.
+          subst (λ q. IsGood w all.0 all.1 all.2 (es ++ (first ++ rest)) q now.answers (run (module_meanings w gen) (d ∷ ds) (machine c s now))) (sym (map-append (λ (e : Event). []) first rest))
+          (one.3.continues all.0 all.1 all.2 es rest (asks rest) ds (λ n k. all.4 (es ++ first) n k) now at),
+      subst (λ l. AgreesWith w l all.0 all.1 all.2 a.events (first ++ rest)) (append_assoc earlier (d ∷ []) ds)
+          (record { agrees = all.5.agrees; events = all.5.events ∙ (ap (λ l. l ++ rest) one.4.events ∙ append_assoc a.events first rest) }),
+    )
 
 -- ---- the numbers of user modules
 
@@ -143,16 +137,15 @@ length-numbers : (k n : ℕ) → length (numbers_from k n) ≡ n
 length-numbers k zero = refl
 length-numbers k (suc n) = ap suc (length-numbers (suc k) n)
 
-all_among : (end : ℕ) (ns : List ℕ) → AllByRecursion (λ m. m < end) ns → filter (λ n. ltb n end) ns ≡ ns
-all_among end [] h = refl
-all_among end (n ∷ ns) h = rw (lt-ltb n end h.0) (ap (λ l. n ∷ l) (all_among end ns h.1))
-
 each_number : {P : ℕ → Type 0} → ((n : ℕ) → P n) → (ns : List ℕ) → AllByRecursion P ns
 each_number all [] = tt
 each_number all (n ∷ ns) = (all n, each_number all ns)
 
--- there is one for each user module
-asked_of_each : (us : List WorldModule) (k : ℕ) → asks (numbers_from k (length us)) ≡ map (λ m. []) us
+-- the events of instances of user modules, and what is asked with them
+abbrev events_of : List ℕ → List Event
+events_of numbers = map (λ n. Instantiated n) numbers
+
+asked_of_each : (us : List WorldModule) (k : ℕ) → asks (events_of (numbers_from k (length us))) ≡ map (λ m. []) us
 asked_of_each [] k = refl
 asked_of_each (u ∷ us) k = ap (λ l. [] ∷ l) (asked_of_each us (suc k))
 
@@ -172,51 +165,143 @@ users_below w = by (user_count w)
 -- ---- the generated modules of what was built
 
 -- their bytes encode them
-bytes_encode : (w : ComponentWorld) (named : Bool) (o : Option GeneratedBytes) → MayBeGenerated w named o → AllZip Encodes (bytes_listed o) (generated_sections (modules_of w named o))
-bytes_encode w named None h = tt
-bytes_encode w named (Some b) h = (h.shims, by b.fixup h.fixup)
+bytes_encode : (w : ComponentWorld) (named : Bool) (b : GeneratedBytes) → AreGenerated w named b → AllZip Encodes (bytes_listed b) (generated_sections (modules_of w named b))
+bytes_encode w named b are = by b.shims b.fixup are.shims are.fixup
   where
-    by : (o : Option (List ℕ)) → IsFixup w named o → AllZip Encodes (fixup_listed o) (generated_sections (record { shims = None; fixup = option_map (λ bytes. sections_of_fixup (shims_of w) named) o }))
-    by None none = tt
-    by (Some bytes) fixes = (fixes.0, tt)
+    by : (shims fixup : Option (List ℕ)) → IsShimModule w named shims → IsFixup w named fixup → AllZip Encodes (bytes_if shims ++ bytes_if fixup) (generated_sections (generated_for w named (record { shims = shims; fixup = fixup })))
+    by None None s f = tt
+    by (Some x) None s f = (s.0, tt)
+    by None (Some y) s f = (f.0, tt)
+    by (Some x) (Some y) s f = (s.0, (f.0, tt))
+
+-- the fixup has the number behind that of the shims, where there are shims
+fixup_after : (w : ComponentWorld) (named : Bool) (b : GeneratedBytes) → AreGenerated w named b → number_after (length (user_modules w)) (modules_of w named b).shims ≡ fixup_number w
+fixup_after w named b are = by b.shims are.shims
+  where
+    by : (shims : Option (List ℕ)) → IsShimModule w named shims → number_after (length (user_modules w)) (generated_for w named (record { shims = shims; fixup = b.fixup })).shims ≡ fixup_number w
+    by None none = ap (λ has. number_behind has (shims_number w)) (sym none)
+    by (Some bytes) is = sym (fixup_behind w is.1)
 
 -- the instances are in their order
-order_is : (w : ComponentWorld) (named : Bool) (o : Option GeneratedBytes) → numbers_listed w o ≡ instance_order (length (user_modules w)) (modules_of w named o)
-order_is w named None = range_numbers 0 (user_count w) ∙ sym (append-nil (user_numbers w))
-order_is w named (Some b) = by b.fixup
+order_is : (w : ComponentWorld) (named : Bool) (b : GeneratedBytes) → AreGenerated w named b → numbers_listed w b ≡ instance_order (length (user_modules w)) (modules_of w named b)
+order_is w named b are = by b.shims b.fixup are.shims
   where
-    by : (o : Option (List ℕ)) → shims_number w ∷ (user_range w ++ number_listed w o) ≡ instance_order (length (user_modules w)) (generated_for w named o)
-    by None = ap (λ ns. shims_number w ∷ (ns ++ [])) (range_numbers 0 (user_count w))
-    by (Some bytes) = ap (λ ns. shims_number w ∷ (ns ++ fixup_number w ∷ [])) (range_numbers 0 (user_count w))
+    by : (shims fixup : Option (List ℕ)) → IsShimModule w named shims →
+        number_if (shims_number w) shims ++ (user_range w ++ number_if (fixup_number w) fixup) ≡ instance_order (length (user_modules w)) (generated_for w named (record { shims = shims; fixup = fixup }))
+    by None None is = ap (λ ns. ns ++ []) (range_numbers 0 (user_count w))
+    by (Some x) None is = ap (λ ns. shims_number w ∷ (ns ++ [])) (range_numbers 0 (user_count w))
+    by None (Some y) is = ap₂ (λ ns n. ns ++ n ∷ []) (range_numbers 0 (user_count w)) (ap (λ has. number_behind has (shims_number w)) is)
+    by (Some x) (Some y) is = ap₂ (λ ns n. shims_number w ∷ (ns ++ n ∷ [])) (range_numbers 0 (user_count w)) (fixup_behind w is.1)
 
--- among them are the user modules
-users_in_order : (w : ComponentWorld) (named : Bool) (o : Option GeneratedBytes) → users_among w (instance_order (length (user_modules w)) (modules_of w named o)) ≡ numbers_from 0 (length (user_modules w))
-users_in_order w named None = ap (users_among w) (append-nil (user_numbers w)) ∙ all_among (user_count w) (user_numbers w) (users_below w)
-users_in_order w named (Some b) = by b.fixup
+may_make : (w : ComponentWorld) (named : Bool) (b : GeneratedBytes) → AreGenerated w named b → AllByRecursion (MayMake w (modules_of w named b)) (instance_order (length (user_modules w)) (modules_of w named b))
+may_make w named b are = each_number (λ n no. record { debug_names = named; bytes = b; is = refl; are = are }) (instance_order (length (user_modules w)) (modules_of w named b))
+
+-- ---- what is seen
+
+-- where there is no fixup, nothing is called
+no_calls : (w : ComponentWorld) → has_fixup w ≡ false → start_calls w ≡ []
+no_calls w none = ap (initialization (task_hook w)) (by (shims_of w) (initialize_of w) none)
   where
-    by : (o : Option (List ℕ)) → users_among w (instance_order (length (user_modules w)) (generated_for w named o)) ≡ numbers_from 0 (length (user_modules w))
-    by None =
-        filter-append (λ n. ltb n (user_count w)) (user_count w ∷ []) (user_numbers w ++ [])
-        ∙ ap₂ (λ xs ys. xs ++ ys) (none_among w (user_count w) (at_least (user_count w))) (ap (users_among w) (append-nil (user_numbers w)) ∙ all_among (user_count w) (user_numbers w) (users_below w))
-    by (Some bytes) =
-        filter-append (λ n. ltb n (user_count w)) (user_count w ∷ []) (user_numbers w ++ suc (user_count w) ∷ [])
-        ∙ (ap₂ (λ xs ys. xs ++ ys) (none_among w (user_count w) (at_least (user_count w)))
-        (filter-append (λ n. ltb n (user_count w)) (user_numbers w) (suc (user_count w) ∷ [])
-        ∙ ap₂ (λ xs ys. xs ++ ys) (all_among (user_count w) (user_numbers w) (users_below w)) (none_among w (suc (user_count w)) (before_next (user_count w))))
-        ∙ append-nil (user_numbers w))
+    by : (shims : List Shim) (initialize : Option (List ℕ)) → has_tasks_in shims initialize ≡ false → initialize ≡ None
+    by [] None h = refl
+    by [] (Some name) h = cc
+    by (s ∷ ss) initialize h = cc
 
-may_make : (w : ComponentWorld) (named : Bool) (o : Option GeneratedBytes) → MayBeGenerated w named o → AllByRecursion (MayMake w (modules_of w named o)) (instance_order (length (user_modules w)) (modules_of w named o))
-may_make w named None h =
-    AllByRecursion-join (MayMake w no_modules) (user_numbers w) [] (AllByRecursion-weaker (λ n below no. absurd (no below)) (user_numbers w) (users_below w)) tt
-may_make w named (Some b) h =
-    each_number (λ n no. record { debug_names = named; fixup = b.fixup; is = refl; fixes = h.fixup; room = h.room }) (instance_order (length (user_modules w)) (generated_for w named b.fixup))
+-- what is expected of definitions is expected of the instances that they make
+expected_of_each : (w : ComponentWorld) (ds : List Def) → flat_map (expects w) ds ≡ flat_map (expected_of w) (flat_map (at_root item_instantiates) ds)
+expected_of_each w [] = refl
+expected_of_each w (d ∷ ds) =
+    ap (λ l. expects w d ++ l) (expected_of_each w ds)
+    ∙ sym (flat_map-append (expected_of w) (at_root item_instantiates d) (flat_map (at_root item_instantiates) ds))
+
+-- the calls that the component makes itself
+abbrev calls_expected : ComponentWorld → List Expected
+calls_expected w = map (λ call. Calls call) (start_calls w)
+
+-- of all that are made, that is the instances of the user modules, and then these calls
+expected_in_order : (w : ComponentWorld) (named : Bool) (b : GeneratedBytes) → AreGenerated w named b → flat_map (expected_of w) (numbers_listed w b) ≡ map (λ n. Made n) (user_numbers w) ++ calls_expected w
+expected_in_order w named b are =
+    flat_map-append (expected_of w) (number_if (shims_number w) b.shims) (user_range w ++ number_if (fixup_number w) b.fixup)
+    ∙ ap₂ (λ xs ys. xs ++ ys) (of_shims b.shims are.shims)
+    (flat_map-append (expected_of w) (user_range w) (number_if (fixup_number w) b.fixup)
+    ∙ ap₂ (λ xs ys. xs ++ ys) (ap (flat_map (expected_of w)) (range_numbers 0 (user_count w)) ∙ of_users (user_numbers w) (users_below w)) (of_fixup b.fixup are.fixup))
+  where
+    of_shims : (shims : Option (List ℕ)) → IsShimModule w named shims → flat_map (expected_of w) (number_if (shims_number w) shims) ≡ []
+    of_shims None is = refl
+    of_shims (Some x) is = ap (λ l. l ++ []) (expected_shims w is.1)
+
+    of_fixup : (fixup : Option (List ℕ)) → IsFixup w named fixup → flat_map (expected_of w) (number_if (fixup_number w) fixup) ≡ calls_expected w
+    of_fixup None is = sym (ap (λ (cs : List StartCall). map (λ call. Calls call) cs) (no_calls w is))
+    of_fixup (Some x) is = append-nil (expected_of w (fixup_number w)) ∙ expected_fixup w
+
+    of_users : (ns : List ℕ) → AllByRecursion (λ n. n < user_count w) ns → flat_map (expected_of w) ns ≡ map (λ n. Made n) ns
+    of_users [] below = refl
+    of_users (n ∷ ns) below = ap₂ (λ xs ys. xs ++ ys) (expected_user w n below.0) (of_users ns below.1)
+
+-- where instances of these modules were expected, and then calls, their events were seen
+record AreSeen (w : ComponentWorld) (s : Store) (events : List Event) (ns : List ℕ) (calls : List StartCall) : Type 0 where
+  called : List Event
+  all : events ≡ events_of ns ++ called
+  each : AllZip (IsSeen w s) called (map (λ call. Calls call) calls)
+
+seen_of : (w : ComponentWorld) (s : Store) (events : List Event) (ns : List ℕ) (calls : List StartCall) → AllZip (IsSeen w s) events (map (λ n. Made n) ns ++ map (λ call. Calls call) calls) → AreSeen w s events ns calls
+seen_of w s events [] calls h = record { called = events; all = refl; each = h }
+seen_of w s [] (n ∷ ns) calls h = absurd h
+seen_of w s (Instantiated number ∷ es) (n ∷ ns) calls h =
+    let rest : AreSeen w s es ns calls = seen_of w s es ns calls h.1 in
+    record { called = rest.called; all = ap₂ (λ m l. Instantiated m ∷ l) h.0 rest.all; each = rest.each }
+seen_of w s (e ∷ es) (n ∷ ns) calls h = absurd h.0
+
+-- each of these is a call, and is made as it is to be
+asked_of_calls : (w : ComponentWorld) (s : Store) (events : List Event) (calls : List StartCall) → AllZip (IsSeen w s) events (map (λ call. Calls call) calls) → asks events ≡ map (λ c. []) calls
+asked_of_calls w s [] [] h = refl
+asked_of_calls w s (e ∷ es) (c ∷ cs) h = ap (λ l. [] ∷ l) (asked_of_calls w s es cs h.1)
+asked_of_calls w s [] (c ∷ cs) h = absurd h
+asked_of_calls w s (e ∷ es) [] h = absurd h
+
+call_made : (w : ComponentWorld) (ok : IsWorld w) (m : Machine) (e : Event) (call : StartCall) → IsSeen w m.store e (Calls call) → MakesCall w m e call
+call_made w ok m (Called address arguments) call h =
+    let f : IsFunctionExported w m.store address call.function = h.0 in
+    (record { address = address; signature = f.type }, f.is.what, ExportedBy f.user call.function.name, refl, f.is.present, f.is.known, function_item w ok m f, h.1)
+call_made w ok m e call h = absurd h
+
+calls_made : (w : ComponentWorld) (ok : IsWorld w) (m : Machine) (events : List Event) (calls : List StartCall) → AllZip (IsSeen w m.store) events (map (λ call. Calls call) calls) → AllZip (MakesCall w m) events calls
+calls_made w ok m [] [] h = tt
+calls_made w ok m (e ∷ es) (c ∷ cs) h = (call_made w ok m e c h.0, calls_made w ok m es cs h.1)
+calls_made w ok m [] (c ∷ cs) h = absurd h
+calls_made w ok m (e ∷ es) [] h = absurd h
+
+same_first : {X : Type 0} (x y : X) (xs ys : List X) → x ∷ xs ≡ y ∷ ys → x ≡ y
+same_first x y xs ys e = same_Some x y (ap (λ l. slice_get l 0) e)
+
+same_rest : {X : Type 0} (x y : X) (xs ys : List X) → x ∷ xs ≡ y ∷ ys → xs ≡ ys
+same_rest x y xs ys e = ap (λ l. drop 1 l) e
+
+-- none of them is the instantiation of a module, so such an event is among the first
+not_made : (w : ComponentWorld) (s : Store) (e : Event) (call : StartCall) → IsSeen w s e (Calls call) → IsInstantiation e → ⊥
+not_made w s (Instantiated number) call h is = h
+not_made w s e call h is = is
+
+none_made : (w : ComponentWorld) (s : Store) (events : List Event) (calls : List StartCall) → AllZip (IsSeen w s) events (map (λ call. Calls call) calls) → (before after : List Event) (last : Event) → events ≡ before ++ (last ∷ after) → IsInstantiation last → ⊥
+none_made w s [] calls h [] after last split is = cc
+none_made w s [] calls h (b ∷ before) after last split is = cc
+none_made w s (e ∷ es) [] h before after last split is = absurd h
+none_made w s (e ∷ es) (c ∷ cs) h [] after last split is = not_made w s e c h.0 (subst IsInstantiation (sym (same_first e last es after split)) is)
+none_made w s (e ∷ es) (c ∷ cs) h (b ∷ before) after last split is = none_made w s es cs h.1 before after last (same_rest e b es (before ++ (last ∷ after)) split) is
+
+instantiated_first : (w : ComponentWorld) (s : Store) (called : List Event) (calls : List StartCall) → AllZip (IsSeen w s) called (map (λ call. Calls call) calls) → (ns : List ℕ) (before after : List Event) (last : Event) → events_of ns ++ called ≡ before ++ (last ∷ after) →
+    IsInstantiation last → length before < length ns
+instantiated_first w s called calls h [] before after last split is = absurd (none_made w s called calls h before after last split is)
+instantiated_first w s called calls h (n ∷ ns) [] after last split is = omega arith
+instantiated_first w s called calls h (n ∷ ns) (b ∷ before) after last split is =
+    let less = instantiated_first w s called calls h ns before after last (same_rest (Instantiated n) b (events_of ns ++ called) (before ++ (last ∷ after)) split) is in omega (arith, less)
 
 -- ---- as a list
 
 -- the modules are instantiated in their order
 instances_in_order : (n : Naming) (w : ComponentWorld) (ds : List Def) (built : IsBuilt n w ds) →
     flat_map (at_root item_instantiates) ds ≡ instance_order (length (user_modules w)) (modules_of w n.debug_names built.generated)
-instances_in_order n w ds built = root_instances n w ds built ∙ order_is w n.debug_names built.generated
+instances_in_order n w ds built = root_instances n w ds built ∙ order_is w n.debug_names built.generated built.are_generated
 
 -- what was built is composed as the world says
 pub composed : (n : Naming) (w : ComponentWorld) (ds : List Def) (built : IsBuilt n w ds) → IsComposed n w (modules_of w n.debug_names built.generated) ds
@@ -236,45 +321,33 @@ composed n w ds built = record {
 
 -- ---- as a run
 
-no_calls : (w : ComponentWorld) → IsWorld w → start_calls w ≡ []
-no_calls w ok = ap (initialization (task_hook w)) (no_initialize w w.main.exports.exports ok.main.export_roles)
-
 start : (w : ComponentWorld) → Agrees w [] (fresh_machine []).scope (fresh_machine []).store []
 start w =
     let none : (inventory []).resources ≡ 0 = ap (λ (v : Inventory). v.resources) inventory-empty in
-    record { shims = None; with_shims = λ yes. nothing_in (shims_number w) yes; means = tt; types = subst (λ (v : Inventory). AllZip (IsTypeEntry (fresh_machine []).store) v.types []) (sym inventory-empty) tt; functions = subst (λ (v : Inventory). AllZip (IsFunctionEntry (fresh_machine []).store) v.functions []) (sym inventory-empty) tt; instances = subst (λ (v : Inventory). AllZip (IsInstanceThing (fresh_machine []).store) v.instances []) (sym inventory-empty) tt; resources = record { counted = sym none; each = tt; numbered = λ number less. let zero_is = none in absurd (omega (arith, less, zero_is)) }; modules = refl; instantiated = refl; served = tt; with_globals = tt; with_tables = tt; exports = refl; lifted = tt; imports = sym (ap (λ (v : Inventory). v.imports) inventory-empty) }
+    record { shims = None; with_shims = tt; events = []; seen = tt; means = tt; types = subst (λ (v : Inventory). AllZip (IsTypeEntry (fresh_machine []).store) v.types []) (sym inventory-empty) tt; functions = subst (λ (v : Inventory). AllZip (IsFunctionEntry (fresh_machine []).store) v.functions []) (sym inventory-empty) tt; instances = subst (λ (v : Inventory). AllZip (IsInstanceThing (fresh_machine []).store) v.instances []) (sym inventory-empty) tt; resources = record { counted = sym none; each = tt; numbered = λ number less. let zero_is = none in absurd (omega (arith, less, zero_is)) }; modules = refl; instantiated = refl; served = tt; with_globals = tt; with_tables = tt; exports = refl; lifted = tt; imports = sym (ap (λ (v : Inventory). v.imports) inventory-empty) }
 
 -- where the shims are made, they are filled at the end
-filled_at_end : (w : ComponentWorld) (m : Machine) (named : Bool) (o : Option GeneratedBytes) (g : MayBeGenerated w named o) (shims : Option ShimsAt) (made : List ℕ) → made ≡ instance_order (length (user_modules w)) (modules_of w named o) →
-    map (λ (u : ModuleInstance). u.module_number) m.store.module_instances ≡ made → MayHaveShims w m.store made shims → (ok : IsWorld w) → FilledAtEnd w ok m shims
-filled_at_end w m named o g None made same numbers h ok = none_of m.store.module_instances (λ c. h (subst (λ l. Contains l (shims_number w)) numbers c))
+filled_at_end : (w : ComponentWorld) (m : Machine) (named : Bool) (b : GeneratedBytes) → AreGenerated w named b → (shims : Option ShimsAt) (made : List ℕ) → made ≡ numbers_listed w b → MayHaveShims w m.store made shims → (ok : IsWorld w) → FilledAtEnd w ok m shims
+filled_at_end w m named b are None made same h ok = h
+filled_at_end w m named b are (Some at) made same h ok = (h.made, λ any. h.filled any (by b.fixup are.fixup same any), h.room, h.exported)
   where
-    none_of : (us : List ModuleInstance) → (Contains (map (λ (u : ModuleInstance). u.module_number) us) (shims_number w) → ⊥) → AllByRecursion (λ (u : ModuleInstance). u.module_number ≡ shims_number w → ⊥) us
-    none_of [] other = tt
-    none_of (u ∷ us) other = (
-      λ e. other (0, omega arith, e),
-      none_of us (λ c. other (Contains-append_right (u.module_number ∷ []) (map (λ (u : ModuleInstance). u.module_number) us) (shims_number w) c)),
-    )
-filled_at_end w m named None g (Some at) made same numbers h ok =
-    let own : Contains (user_numbers w) (shims_number w) = subst (λ l. Contains l (shims_number w)) (same ∙ append-nil (user_numbers w)) h.there in
-    let below : shims_number w < user_count w = AllByRecursion-contains (λ n. n < user_count w) (user_numbers w) (shims_number w) (users_below w) own in
-    absurd (not_shims w (shims_number w) below refl)
-filled_at_end w m named (Some b) g (Some at) made same numbers h ok = (h.made, λ any. h.filled (by b.fixup g.fixup same any), h.room, h.exported)
-  where
-    by : (o : Option (List ℕ)) → IsFixup w named o → made ≡ instance_order (length (user_modules w)) (generated_for w named o) → (shims_of w ≡ [] → ⊥) → Contains made (fixup_number w)
-    by None none same any = absurd (any none)
+    has_shims : (ss : List Shim) (initialize : Option (List ℕ)) → (ss ≡ [] → ⊥) → has_tasks_in ss initialize ≡ true
+    has_shims [] initialize any = absurd (any refl)
+    has_shims (s ∷ ss) initialize any = refl
+
+    by : (fixup : Option (List ℕ)) → IsFixup w named fixup → made ≡ number_if (shims_number w) b.shims ++ (user_range w ++ number_if (fixup_number w) fixup) → (shims_of w ≡ [] → ⊥) → Contains made (fixup_number w)
+    by None none same any = let has : has_fixup w ≡ true = has_shims (shims_of w) (initialize_of w) any in cc
     by (Some bytes) fixes same any =
-        let last : Contains (user_numbers w ++ fixup_number w ∷ []) (fixup_number w) = Contains-append_right (user_numbers w) (fixup_number w ∷ []) (fixup_number w) (0, omega arith, refl) in
-        let among : Contains (shims_number w ∷ (user_numbers w ++ fixup_number w ∷ [])) (fixup_number w) = Contains-append_right (shims_number w ∷ []) (user_numbers w ++ fixup_number w ∷ []) (fixup_number w) last in
-        subst (λ l. Contains l (fixup_number w)) (sym same) among
+        let last : Contains (user_range w ++ fixup_number w ∷ []) (fixup_number w) = Contains-append_right (user_range w) (fixup_number w ∷ []) (fixup_number w) (0, omega arith, refl) in
+        subst (λ l. Contains l (fixup_number w)) (sym same) (Contains-append_right (number_if (shims_number w) b.shims) (user_range w ++ fixup_number w ∷ []) (fixup_number w) last)
 
 -- the end of a run is linked
-linked_at_end : (n : Naming) (w : ComponentWorld) (ds : List Def) (m : Machine) → IsWorld w → AreExportsApart n w → (built : IsBuilt n w ds) → {globals : List ValType} → Agrees w ds m.scope m.store globals → m.now.events ≡ events_of (numbers_from 0 (length (user_modules w))) → IsLinked n w (modules_of w n.debug_names built.generated) m
-linked_at_end n w ds m ok apart built {globals} a events =
-    let filled : FilledAtEnd w ok m a.shims = filled_at_end w m n.debug_names built.generated built.are_generated a.shims (flat_map (at_root item_instantiates) ds) (instances_in_order n w ds built) a.instantiated a.with_shims ok in
+linked_at_end : (n : Naming) (w : ComponentWorld) (ds : List Def) (m : Machine) → IsWorld w → AreExportsApart n w → (built : IsBuilt n w ds) → {globals : List ValType} → Agrees w ds m.scope m.store globals → AreSeen w m.store m.now.events (user_numbers w) (start_calls w) → IsLinked n w (modules_of w n.debug_names built.generated) m
+linked_at_end n w ds m ok apart built {globals} a seen =
+    let filled : FilledAtEnd w ok m a.shims = filled_at_end w m n.debug_names built.generated built.are_generated a.shims (flat_map (at_root item_instantiates) ds) (root_instances n w ds built) a.with_shims ok in
     record {
       origins = resource_of w;
-      start_events = [];
+      start_events = seen.called;
       instances = a.instantiated ∙ instances_in_order n w ds built;
       imports = users_served w ok m a.shims filled a.served;
       exports = each_provided n w ok apart m a.shims filled (a.exports ∙ root_export_names n w ds built) a.lifted;
@@ -283,36 +356,59 @@ linked_at_end n w ds m ok apart built {globals} a events =
       defined = λ number less. number_defined w ok m a.shims filled number a.resources (subst (λ n. number < n) (sym (all_resources n w ds built)) less);
       filled = shims_filled w ok m a.shims filled;
       tables = λ instance i of present listed. tables_untouched w m a.shims a.with_tables instance i of present listed;
-      events = events ∙ sym (append-nil (events_of (user_numbers w)));
-      started = rw (no_calls w ok) tt;
+      events = seen.all;
+      started = calls_made w ok m seen.called (start_calls w) seen.each;
     }
 
 -- and the types that it imports are the world's
 types_at_end : (n : Naming) (w : ComponentWorld) (ds : List Def) (m : Machine) → IsBuilt n w ds → {globals : List ValType} → Agrees w ds m.scope m.store globals → TypesServed w ds m
 types_at_end n w ds m built {globals} a = ap (imported_among (in_space spaces.Type ds)) (scope_there a) ∙ types_served n w ds built.right (root_imports n w ds built)
 
-module _ (e : Scope) (t : Store) (g : List ValType) (es : List Event) (questions : List (List ValType)) (answers : List Answer) where
-  not_stuck : (o : Outcome) → IsGood e t g es questions answers o → o ≡ Stuck → ⊥
-  not_stuck o h same = subst (IsGood e t g es questions answers) same h
+-- all shims are filled and all imports are served, in a moment with these globals
+abbrev AllServed : ComponentWorld → Machine → Type 0
+AllServed w m = ShimsFilled w m × (origins : TypeId → Resource) × UsersServed w m origins
 
-  is_done : (o : Outcome) → IsGood e t g es questions answers o → LetsRun questions answers → (m : Machine) × (o ≡ Done m)
+abbrev with_moment : Machine → List Cell → Machine
+with_moment m globals = record m { now = record m.now { globals = globals } }
+
+ready_serves : (w : ComponentWorld) (ok : IsWorld w) (m : Machine) (globals : List Cell) → IsReady w m.store → AllServed w (with_moment m globals)
+ready_serves w ok m globals h =
+    let then : Machine = with_moment m globals in
+    (shims_filled w ok then h.shims h.filled, resource_of w, users_served w ok then h.shims h.filled h.planned)
+
+module _ (w : ComponentWorld) (e : Scope) (t : Store) (g : List ValType) (es : List Event) (questions : List (List ValType)) (answers : List Answer) where
+  not_stuck : (o : Outcome) → IsGood w e t g es questions answers o → o ≡ Stuck → ⊥
+  not_stuck o h same = subst (IsGood w e t g es questions answers) same h
+
+  is_done : (o : Outcome) → IsGood w e t g es questions answers o → LetsRun questions answers → (m : Machine) × (o ≡ Done m)
   is_done (Done m) h l = (m, refl)
   is_done (Trapped m) h l = absurd (h.0 l)
   is_done (Open m) h l = absurd (h.0 l)
   is_done Stuck h l = absurd h
 
-  done_with : (o : Outcome) (m : Machine) → IsGood e t g es questions answers o → o ≡ Done m → (m.scope ≡ e) × (m.store ≡ t) × IsNow es g m.now
-  done_with o m h same = subst (IsGood e t g es questions answers) same h
+  done_with : (o : Outcome) (m : Machine) → IsGood w e t g es questions answers o → o ≡ Done m → (m.scope ≡ e) × (m.store ≡ t) × IsNow es g m.now
+  done_with o m h same = subst (IsGood w e t g es questions answers) same h
 
-  -- nothing is seen after all events
-  few_moments : (o : Outcome) (m : Machine) → IsGood e t g es questions answers o → EndsAt m o → length m.now.moments ≤ length es
-  few_moments (Done n) m h same = let l : length n.now.moments ≡ length es = h.2.moments in subst (λ (x : Machine). length x.now.moments ≤ length es) same (omega (arith, l))
-  few_moments (Trapped n) m h same = subst (λ (x : Machine). length x.now.moments ≤ length es) same h.1
-  few_moments (Open n) m h same = subst (λ (x : Machine). length x.now.moments ≤ length es) same h.1
-  few_moments Stuck m h same = absurd h
+  module _ (seen : AreSeen w t es (user_numbers w) (start_calls w)) (event : ℕ) (late : user_count w ≤ event) where
+    -- where a run stops late, all is ready
+    ready_stopped : (m : Machine) → IsStopped w es m → event < length m.now.moments → IsReady w m.store
+    ready_stopped m h within = by h.by_then
+      where
+        by : IsInstantiation h.last ⊎ IsReady w m.store → IsReady w m.store
+        by (inl is) =
+            let less : length h.before < length (user_numbers w) = instantiated_first w t seen.called (start_calls w) seen.each (user_numbers w) h.before h.after h.last (sym seen.all ∙ h.among) is in
+            let counted : length (user_numbers w) ≡ user_count w = length-numbers 0 (user_count w) in
+            let moments = h.moments in
+            absurd (omega (arith, less, counted, moments, within, late))
+        by (inr ready) = ready
 
-no_later : {A : Type 0} (xs : List A) (end n : ℕ) (x : A) → length xs ≤ end → end ≤ n → slice_get xs n ≡ Some x → ⊥
-no_later xs end n x few late e = let within = slice_get_within xs n x e in omega (arith, few, late, within)
+    ready_late : (o : Outcome) (m : Machine) → IsGood w e t g es questions answers o → ((n : Machine) → o ≡ Done n → IsReady w n.store) → EndsAt m o → event < length m.now.moments → IsReady w m.store
+    ready_late (Done n) m h done same within = subst (λ (x : Machine). IsReady w x.store) same (done n refl)
+    ready_late (Trapped n) m h done same within =
+        subst (λ (x : Machine). IsReady w x.store) same (ready_stopped n h.1 (subst (λ (x : Machine). event < length x.now.moments) (sym same) within))
+    ready_late (Open n) m h done same within =
+        subst (λ (x : Machine). IsReady w x.store) same (ready_stopped n h.1 (subst (λ (x : Machine). event < length x.now.moments) (sym same) within))
+    ready_late Stuck m h done same within = absurd h
 
 first_part : (a b n : ℕ) → a + b ≤ n → a ≤ n
 first_part a b n l = omega (arith, l)
@@ -335,13 +431,12 @@ contained (y ∷ xs) (suc i) x e =
 quiet_shims : (w : ComponentWorld) (m : Machine) (numbers : List ℕ) (shims : Option ShimsAt) → map (λ (u : ModuleInstance). u.module_number) m.store.module_instances ≡ numbers → MayHaveShims w m.store numbers shims → (Contains numbers (fixup_number w) → ⊥) →
     (address : ℕ) → IsShim w m address → TrapsAtOnce m address
 quiet_shims w m numbers None same h unfixed address s =
-    let c : Contains m.store.module_instances s.made = contained m.store.module_instances s.instance s.made s.present in
-    let n : Contains (map (λ (u : ModuleInstance). u.module_number) m.store.module_instances) s.made.module_number = Contains-map (λ (u : ModuleInstance). u.module_number) m.store.module_instances s.made c in
-    absurd (h (subst (λ k. Contains numbers k) s.of (subst (λ l. Contains l s.made.module_number) same n)))
+    let none : s.made.exports ≡ [] = AllByRecursion-contains (ExportsShims w None) m.store.module_instances s.made h (contained m.store.module_instances s.instance s.made s.present) s.of in
+    nothing_in (record { space = spaces.CoreFunc; name = s.name; address = address }) (subst (λ es. Contains es (record { space = spaces.CoreFunc; name = s.name; address = address })) none s.exported)
 quiet_shims w m numbers (Some at) same h unfixed address s =
     let shims : List Shim = shims_of w in
     let exports : s.made.exports ≡ exports_of_shims w at =
-    AllByRecursion-contains (ExportsShims w at) m.store.module_instances s.made h.exported (contained m.store.module_instances s.instance s.made s.present) s.of in
+    AllByRecursion-contains (ExportsShims w (Some at)) m.store.module_instances s.made h.exported (contained m.store.module_instances s.instance s.made s.present) s.of in
     let place : (place : ℕ) × (place < length shims) × (address ≡ at.address + place) =
     (shims_found shims at.address at.table at.memory).listed s.name address (subst (λ es. Contains es (record { space = spaces.CoreFunc; name = s.name; address = address })) exports s.exported) in
     let shim : (shim : Shim) × (slice_get shims place.0 ≡ Some shim) = there shims place.0 place.1 in
@@ -359,22 +454,24 @@ quiet_shims w m numbers (Some at) same h unfixed address s =
     }
 
 -- where the definitions don't instantiate the fixup, its number is none of theirs
-no_fixup_before : (w : ComponentWorld) (named : Bool) (o : Option GeneratedBytes) (ds : List Def) → IsTrue (is_some (modules_of w named o).fixup) → BeforeFixup w (modules_of w named o) ds → Contains (flat_map (at_root item_instantiates) ds) (fixup_number w) → ⊥
-no_fixup_before w named None ds fixed before contains = let none : IsTrue false = fixed in cc
-no_fixup_before w named (Some b) ds fixed before contains = AllByRecursion-contains (λ n. n ≢ fixup_number w) (flat_map (at_root item_instantiates) ds) (fixup_number w) before contains refl
+no_fixup_before : (w : ComponentWorld) (named : Bool) (b : GeneratedBytes) → AreGenerated w named b → (ds : List Def) → BeforeFixup w (modules_of w named b) ds → Contains (flat_map (at_root item_instantiates) ds) (fixup_number w) → ⊥
+no_fixup_before w named b are ds before contains =
+    AllByRecursion-contains (λ n. n ≢ number_after (length (user_modules w)) (modules_of w named b).shims) (flat_map (at_root item_instantiates) ds) (fixup_number w) before contains (sym (fixup_after w named b are))
 
 -- what was built links, whatever the outside returns, where the exported interfaces have names of their own
 pub links : (n : Naming) (w : ComponentWorld) (ds : List Def) → IsWorld w → AreExportsApart n w → (built : IsBuilt n w ds) → Links n w (modules_of w n.debug_names built.generated) ds
+unfolding start
 links n w ds ok apart built = record {
-  never_stuck = λ answers. not_stuck all.0 all.1 all.2 made (questions w) answers (outcome w gen ds answers) (good answers);
-  ends = λ answers. is_done all.0 all.1 all.2 made (questions w) answers (outcome w gen ds answers) (good answers);
+  never_stuck = λ answers. not_stuck w all.0 all.1 all.2 all.3 (questions w) answers (outcome w gen ds answers) (good answers);
+  ends = λ answers. is_done w all.0 all.1 all.2 all.3 (questions w) answers (outcome w gen ds answers) (good answers);
   linked = λ answers m done. let is = at_end answers m done in linked_at_end n w ds m ok apart built is.0 is.1;
   types = λ answers m done. types_at_end n w ds m built (at_end answers m done).0;
   traps_before = record { each = traps };
   served_throughout = record {
     each = λ answers m ends event globals late at.
-        let few : length m.now.moments ≤ user_count w = subst (λ k. length m.now.moments ≤ k) counted (few_moments all.0 all.1 all.2 made (questions w) answers (outcome w gen ds answers) m (good answers) ends) in
-        absurd (no_later m.now.moments (user_count w) event globals few (first_part (user_count w) _ event late) at);
+        let behind : user_count w ≤ event = first_part (user_count w) _ event late in
+        ready_serves w ok m globals
+        (ready_late w all.0 all.1 all.2 all.3 (questions w) answers seen event behind (outcome w gen ds answers) m (good answers) (λ n done. ready_at_end answers n done) ends (slice_get_within m.now.moments event globals at));
   };
 }
   where
@@ -387,50 +484,52 @@ links n w ds ok apart built = record {
     may : AllByRecursion (MayMake w gen) (flat_map (at_root item_instantiates) ds)
     may = subst (AllByRecursion (MayMake w gen)) (sym in_order) (may_make w n.debug_names built.generated built.are_generated)
 
-    all : Resolves w gen [] ds (fresh_machine []).scope (fresh_machine []).store []
+    all : Resolves w gen [] ds (fresh_machine []).scope (fresh_machine []).store [] []
     all = resolves w gen ok [] ds (fresh_machine []).scope (fresh_machine []).store [] (start w) may built.right
 
-    -- each user module is instantiated, and nothing else is asked
-    made : List Event
-    made = events_of (numbers_from 0 (length (user_modules w)))
+    -- each user module is instantiated, and then the calls are made
+    expected : flat_map (expects w) ds ≡ map (λ n. Made n) (user_numbers w) ++ calls_expected w
+    expected = expected_of_each w ds ∙ (ap (flat_map (expected_of w)) (root_instances n w ds built) ∙ expected_in_order w n.debug_names built.generated built.are_generated)
 
-    counted : length made ≡ user_count w
-    counted = length-map (user_numbers w) (λ (n : ℕ). Instantiated n) ∙ length-numbers 0 (user_count w)
+    seen : AreSeen w all.1 all.3 (user_numbers w) (start_calls w)
+    seen = subst (λ es. AreSeen w all.1 es (user_numbers w) (start_calls w)) all.5.events (seen_of w all.1 all.5.agrees.events (user_numbers w) (start_calls w) (subst (AllZip (IsSeen w all.1) all.5.agrees.events) expected all.5.agrees.seen))
 
-    users : users_among w (flat_map (at_root item_instantiates) ds) ≡ numbers_from 0 (length (user_modules w))
-    users = ap (users_among w) in_order ∙ users_in_order w n.debug_names built.generated
-
-    asked : asked_by w ds ≡ questions w
+    asked : asks all.3 ≡ questions w
     asked =
-        asked-each w ds
-        ∙ (ap asks users
-        ∙ (asked_of_each (user_modules w) 0
-        ∙ sym (ap (λ (cs : List StartCall). map (λ m. []) (user_modules w) ++ map (λ c. []) cs) (no_calls w ok) ∙ append-nil (map (λ m. []) (user_modules w)))))
-
-    seen : seen_by w ds ≡ made
-    seen = seen-each w ds ∙ ap events_of users
+        ap asks seen.all
+        ∙ (map-append (λ (e : Event). []) (events_of (user_numbers w)) seen.called
+        ∙ ap₂ (λ xs ys. xs ++ ys) (asked_of_each (user_modules w) 0) (asked_of_calls w all.1 seen.called (start_calls w) seen.each))
 
     fresh : (answers : List Answer) → IsNow [] [] (fresh_machine answers).now
     fresh answers = record { events = refl; moments = refl; globals = refl }
 
-    good : (answers : List Answer) → IsGood all.0 all.1 all.2 made (questions w) answers (outcome w gen ds answers)
-    good answers =
-        subst (λ q. IsGood all.0 all.1 all.2 made q answers (outcome w gen ds answers)) asked
-        (subst (λ es. IsGood all.0 all.1 all.2 es (asked_by w ds) answers (outcome w gen ds answers)) seen (all.3 [] (fresh_machine answers).now (fresh answers)))
+    good : (answers : List Answer) → IsGood w all.0 all.1 all.2 all.3 (questions w) answers (outcome w gen ds answers)
+    good answers = subst (λ q. IsGood w all.0 all.1 all.2 all.3 q answers (outcome w gen ds answers)) asked (all.4 [] (fresh_machine answers).now (fresh answers))
 
-    at_end : (answers : List Answer) (m : Machine) → outcome w gen ds answers ≡ Done m → Agrees w ds m.scope m.store all.2 × (m.now.events ≡ made)
+    at_end : (answers : List Answer) (m : Machine) → outcome w gen ds answers ≡ Done m → Agrees w ds m.scope m.store all.2 × AreSeen w m.store m.now.events (user_numbers w) (start_calls w)
     at_end answers m done =
-        let is : (m.scope ≡ all.0) × (m.store ≡ all.1) × IsNow made all.2 m.now = done_with all.0 all.1 all.2 made (questions w) answers (outcome w gen ds answers) m (good answers) done in
-        (subst (λ s. Agrees w ds m.scope s all.2) (sym is.1) (subst (λ c. Agrees w ds c all.1 all.2) (sym is.0) all.4), is.2.events)
+        let is : (m.scope ≡ all.0) × (m.store ≡ all.1) × IsNow all.3 all.2 m.now = done_with w all.0 all.1 all.2 all.3 (questions w) answers (outcome w gen ds answers) m (good answers) done in (
+          subst (λ s. Agrees w ds m.scope s all.2) (sym is.1) (subst (λ c. Agrees w ds c all.1 all.2) (sym is.0) all.5.agrees),
+          subst (λ s. AreSeen w s m.now.events (user_numbers w) (start_calls w)) (sym is.1) (subst (λ es. AreSeen w all.1 es (user_numbers w) (start_calls w)) (sym is.2.events) seen),
+        )
+
+    ready_at_end : (answers : List Answer) (m : Machine) → outcome w gen ds answers ≡ Done m → IsReady w m.store
+    ready_at_end answers m done =
+        let a = (at_end answers m done).0 in
+        record {
+          shims = a.shims;
+          filled = filled_at_end w m n.debug_names built.generated built.are_generated a.shims (flat_map (at_root item_instantiates) ds) (root_instances n w ds built) a.with_shims ok;
+          planned = a.served;
+        }
 
     traps : (before after : List Def) → ds ≡ before ++ after → BeforeFixup w gen before → IsTrue (is_some gen.fixup) → (answers : List Answer) (m : Machine) → outcome w gen before answers ≡ Done m → (address : ℕ) → IsShim w m address → TrapsAtOnce m address
     traps before after whole unfixed fixed answers m done =
         let those : List ℕ = flat_map (at_root item_instantiates) before in
         let may_before : AllByRecursion (MayMake w gen) those =
         AllByRecursion-front (MayMake w gen) those (flat_map (at_root item_instantiates) after) (subst (AllByRecursion (MayMake w gen)) (ap (flat_map (at_root item_instantiates)) whole ∙ flat_map-append (at_root item_instantiates) before after) may) in
-        let to : Resolves w gen [] before (fresh_machine []).scope (fresh_machine []).store [] =
+        let to : Resolves w gen [] before (fresh_machine []).scope (fresh_machine []).store [] [] =
         resolves w gen ok [] before (fresh_machine []).scope (fresh_machine []).store [] (start w) may_before (right_before w [] before after (subst (RightAfter w []) whole built.right)) in
-        let is : (m.scope ≡ to.0) × (m.store ≡ to.1) × IsNow (seen_by w before) to.2 m.now =
-        done_with to.0 to.1 to.2 (seen_by w before) (asked_by w before) answers (outcome w gen before answers) m (to.3 [] (fresh_machine answers).now (fresh answers)) done in
-        let a : Agrees w before m.scope m.store to.2 = subst (λ s. Agrees w before m.scope s to.2) (sym is.1) (subst (λ c. Agrees w before c to.1 to.2) (sym is.0) to.4) in
-        quiet_shims w m those a.shims a.instantiated a.with_shims (no_fixup_before w n.debug_names built.generated before fixed unfixed)
+        let is : (m.scope ≡ to.0) × (m.store ≡ to.1) × IsNow to.3 to.2 m.now =
+        done_with w to.0 to.1 to.2 to.3 (asks to.3) answers (outcome w gen before answers) m (to.4 [] (fresh_machine answers).now (fresh answers)) done in
+        let a : Agrees w before m.scope m.store to.2 = subst (λ s. Agrees w before m.scope s to.2) (sym is.1) (subst (λ c. Agrees w before c to.1 to.2) (sym is.0) to.5.agrees) in
+        quiet_shims w m those a.shims a.instantiated a.with_shims (no_fixup_before w n.debug_names built.generated built.are_generated before unfixed)

@@ -47,7 +47,7 @@ use Rattle.shim_plan.specs.declared.shims.Shim.{Shim}
 use Rattle.world_shims.specs.WorldShims.{shims_of, type_of_shim}
 use Rattle.standard_kinds.specs.declared.kinds.ExportKind.TheVariants as kinds
 use Rattle.core_types.specs.declared.types.MemoryType.{MemoryType}
-use Rattle.shim_runs.specs.ShimRuns.{IsShimAt, AreShimsFrom, memory_name}
+use Rattle.shim_runs.specs.ShimRuns.{IsShimAt, memory_name}
 use Rattle.shim_runs.proofs.Exported.{shims_found}
 use Rattle.shim_runs.proofs.Acting.{filled_shims_forward}
 use Rattle.shim_runs.proofs.Placed.{shim_at}
@@ -63,11 +63,11 @@ use Rattle.link_laws.specs.Meeting.{CoreMeets, CoreExportMeets, task_hook, hooks
 use Rattle.instance_laws.proofs.Held.{tree_of_held}
 use Rattle.link_laws.specs.Linking.{IsOpaque, IsUntouched, AreTablesUntouched, ShimsFilled, IsServed, AreServed, UsersServed, IsProvided, IsTypeProvided, DestructorMeets, IsDefined, IsNumberDefined, exports_at}
 use Rattle.link_laws.proofs.Zips.{AllByRecursion-join, each_at}
-use Rattle.link_laws.proofs.Stores.{IsOpaqueOf, ShimsAt, resource_core, IsLoweredFor, IsFunctionOf, IsFunctionExported, IsItemExported, IsServedAs, IsServedIn, IsShimGivenAt, IsShimGiven, ExportsShims, exports_of_shims, Serves, IsFilledWith, AreFilled, main_module, IsPlanned, IsPlannedUser, IsMemoryOfMain, IsShimExported, IsReallocHeld, IsOptionHeld, function_at_key, IsRequiredAt, IsFunctionExport, IsAmong, IsInterfaceExport, IsItemExport, IsKeyExport, AreKeyExports, type_at_key, IsTypeAmong, IsTypeOfMemory, IsOwnTable, IsOwnIfTable, HasOwnTables, IsDestroyedBy, IsOwnResource, IsOwnIfDefined, AreResources, HasNumber}
+use Rattle.link_laws.proofs.Stores.{IsOpaqueOf, ShimsAt, resource_core, IsLoweredFor, IsFunctionOf, IsFunctionExported, IsItemExported, IsServedAs, IsServedIn, IsShimGivenAt, IsShimGiven, ExportsShims, exports_of_shims, Serves, IsFilledWith, AreFilled, AreShimsFilled, main_module, IsPlanned, IsPlannedUser, IsMemoryOfMain, IsShimExported, IsReallocHeld, IsOptionHeld, function_at_key, IsRequiredAt, IsFunctionExport, IsAmong, IsInterfaceExport, IsItemExport, IsKeyExport, AreKeyExports, type_at_key, IsTypeAmong, IsTypeOfMemory, IsOwnTable, IsOwnIfTable, HasOwnTables, IsDestroyedBy, IsOwnResource, IsOwnIfDefined, AreResources, HasNumber}
 use Rattle.link_laws.proofs.Given.{by_parts, named_in_space}
 use Rattle.comp_links.proofs.Keys.{one_provider}
 use Rattle.link_laws.proofs.GivenImports.{purpose_opaque, one_purpose}
-use Rattle.link_laws.proofs.Plain.{no_hook, function_key}
+use Rattle.link_laws.proofs.Plain.{nothing_in, no_hook, function_key}
 use Rattle.comp_worlds.specs.WorldContents.{exported_item}
 
 -- ---- opaque functions
@@ -134,7 +134,7 @@ module _ (w : ComponentWorld) (ok : IsWorld w) (m : Machine) where
 
 module _ (w : ComponentWorld) (ok : IsWorld w) (m : Machine) where
   -- what a user module exports is that export of an instance of it
-  function_item : {address : ℕ} {export_ref : ExportRef} (h : IsFunctionExported w m.store address export_ref) → ItemIsExport w m export_ref (ExportedBy h.user export_ref.name)
+  pub function_item : {address : ℕ} {export_ref : ExportRef} (h : IsFunctionExported w m.store address export_ref) → ItemIsExport w m export_ref (ExportedBy h.user export_ref.name)
   function_item h = record {
     number = h.number;
     is = record { made = h.instance.instance; present = h.instance.present; of = h.instance.of };
@@ -174,10 +174,7 @@ entry_at P (y ∷ xs) (suc n) x h e = entry_at P xs n x h.1 e
 module _ (w : ComponentWorld) (ok : IsWorld w) (m : Machine) where
   -- the shims are filled at the end
   abbrev pub FilledAtEnd : Option ShimsAt → Type 0
-  FilledAtEnd None = AllByRecursion (λ (i : ModuleInstance). i.module_number ≡ shims_number w → ⊥) m.store.module_instances
-  FilledAtEnd (Some at) =
-      AreShimsFrom m.store.code at.table 0 at.address (shims_of w) × ((shims_of w ≡ [] → ⊥) → AreFilled w m.store at.table) × (length (shims_of w) < 2 ^ 32)
-      × AllByRecursion (ExportsShims w at) m.store.module_instances
+  FilledAtEnd shims = AreShimsFilled w m.store shims
 
   -- A shim forwards to what it stands for: for an import what that is to be given, or an export.
   record ForwardsFor (address : ℕ) (target : Target) : Type 0 where
@@ -215,10 +212,12 @@ module _ (w : ComponentWorld) (ok : IsWorld w) (m : Machine) where
 
   -- each shim is filled, whoever uses it
   pub shims_filled : (shims : Option ShimsAt) → FilledAtEnd shims → ShimsFilled w m
-  shims_filled None filled address s = absurd (entry_at (λ (i : ModuleInstance). i.module_number ≡ shims_number w → ⊥) m.store.module_instances s.instance s.made filled s.present s.of)
+  shims_filled None filled address s =
+      let none : s.made.exports ≡ [] = entry_at (ExportsShims w None) m.store.module_instances s.instance s.made filled s.present s.of in
+      nothing_in (record { space = spaces.CoreFunc; name = s.name; address = address }) (subst (λ (es : List Export). Contains es (record { space = spaces.CoreFunc; name = s.name; address = address })) none s.exported)
   shims_filled (Some at) filled address s =
       let shims : List Shim = shims_of w in
-      let exports : s.made.exports ≡ exports_of_shims w at = entry_at (ExportsShims w at) m.store.module_instances s.instance s.made filled.3 s.present s.of in
+      let exports : s.made.exports ≡ exports_of_shims w at = entry_at (ExportsShims w (Some at)) m.store.module_instances s.instance s.made filled.3 s.present s.of in
       let own : (place : ℕ) × (place < length shims) × (address ≡ at.address + place) =
       (shims_found shims at.address at.table at.memory).listed s.name address (subst (λ es. Contains es (record { space = spaces.CoreFunc; name = s.name; address = address })) exports s.exported) in
       let place : ℕ = own.0 in
@@ -248,7 +247,7 @@ module _ (w : ComponentWorld) (ok : IsWorld w) (m : Machine) where
   -- what an instance of their module exports for a place is the shim of that place
   shim_held_at : (at : ShimsAt) → FilledAtEnd (Some at) → (address : ℕ) (target : Target) → IsShimExported w m.store address target → IsShimGivenAt w at address target
   shim_held_at at filled address target h =
-      let exports : h.instance.exports ≡ exports_of_shims w at = entry_at (ExportsShims w at) m.store.module_instances h.user h.instance filled.3 h.present h.of in
+      let exports : h.instance.exports ≡ exports_of_shims w at = entry_at (ExportsShims w (Some at)) m.store.module_instances h.user h.instance filled.3 h.present h.of in
       let shim : ℕ → Export = λ n. record { space = spaces.CoreFunc; name = decimal h.place; address = n } in
       let found : export_named (decimal h.place) (exports_of_shims w at) ≡ Some (shim (at.address + h.place)) =
       (shims_found (shims_of w) at.address at.table at.memory).found h.place (slice_get_within (shims_of w) h.place h.stands.shim h.stands.listed) filled.2 in
@@ -265,7 +264,9 @@ module _ (w : ComponentWorld) (ok : IsWorld w) (m : Machine) where
 
   -- a shim for an export meets it
   shim_meets_export : (shims : Option ShimsAt) → FilledAtEnd shims → (kind : Bracketed) (address : ℕ) (export_ref : ExportRef) → IsShimExported w m.store address (ExportOf export_ref) → CoreExportMeets w m (Some kind) address export_ref
-  shim_meets_export None filled kind address export_ref h = absurd (entry_at (λ (i : ModuleInstance). i.module_number ≡ shims_number w → ⊥) m.store.module_instances h.user h.instance filled h.present h.of)
+  shim_meets_export None filled kind address export_ref h =
+      let none : h.instance.exports ≡ [] = entry_at (ExportsShims w None) m.store.module_instances h.user h.instance filled h.present h.of in
+      absurd (none-some (record { space = spaces.CoreFunc; name = decimal h.place; address = address }) (ap (export_named (decimal h.place)) (sym none) ∙ h.exported))
   shim_meets_export (Some at) filled kind address export_ref h =
       let x : ForwardsFor address (ExportOf export_ref) = shim_forwards address at (ExportOf export_ref) filled (shim_held_at at filled address (ExportOf export_ref) h) in
       export_meets (Some kind) address x.function export_ref x.serves (x.same x.serves.type (ExportedBy x.serves.user export_ref.name) x.serves.is)

@@ -57,7 +57,7 @@ use Rattle.core_types.specs.declared.types.GlobalType.{GlobalType}
 use Rattle.core_types.specs.declared.types.ValType.{ValType}
 use Rattle.comp_worlds.specs.declared.world.ComponentWorld.{ComponentWorld}
 use Rattle.core_runs.specs.Instances.{there_is, type_of}
-use Rattle.core_runs.specs.Store.{Opaque, Cell, Now}
+use Rattle.core_runs.specs.Store.{Opaque, Event, Cell, Now}
 use Rattle.core_runs.specs.Values.{same_value_type}
 use Rattle.comp_runs.specs.Store.{Thing, Export, HeldOption, HeldEncoding, HeldMemory, HeldRealloc, HeldPostReturn, HeldAsync, HeldCallback, CoreItem, Lowering, IntrinsicOf, Function, Imported, Lifting, TypeItem, TreeOf, ImportedResource, OwnResource, item_tree, tree_held, own_resources as resources_among, InstanceTypeOf, ModuleInstance, Store}
 use Rattle.comp_links.specs.Targets.{ExportRef, ExportOf, ResourceFunction, New, Rep, Drop}
@@ -80,11 +80,11 @@ use Rattle.instance_laws.proofs.Importing.{instance_type_made, import_runs, alia
 use Rattle.link_laws.specs.Composition.{GeneratedModules, at_root, item_instantiates}
 use Rattle.link_laws.specs.Linking.{module_meanings}
 use Rattle.link_laws.proofs.Zips.{all_some-self}
-use Rattle.link_laws.proofs.Outcomes.{machine, no_answers, quiet, users_among, Steps}
-use Rattle.link_laws.proofs.Stores.{IsOpaqueOf, IsUserItem, IsUserExport, IsUserInstance, ShimsAt, exports_of_shims, HasSharedMemory, IsModuleInstance, IsNamedEntry, ExportsShims, AreShims, MayHaveShims, IsTypeAt, resource_core, IsResourceItem, DefIs, Means, makes, IsTypeEntry, entry_of, IsFunctionEntry, IsInstanceThing, IsPlannedUser, IsAliasedItem, IsHeldOption, NumberedFrom, HasGlobals, HasOwnTables, Agrees, AreKeyExports, IsShimGiven, IsDestroyedBy, IsOwnResource, AreResources}
-use Rattle.link_laws.proofs.Given.{of_shims, module_there, address_there, all_held, scope_there, entry_there, held_there, type_there, instance_type_there, instance_there, imported_there, user_there, space_of_kind, offered_there, shim_there}
+use Rattle.link_laws.proofs.Outcomes.{AgreesWith, machine, no_answers, quiet, Steps}
+use Rattle.link_laws.proofs.Stores.{IsSeen, expected_of, expects, IsOpaqueOf, IsUserItem, IsUserExport, IsUserInstance, ShimsAt, exports_of_shims, HasSharedMemory, IsModuleInstance, IsNamedEntry, ExportsShims, AreShims, MayHaveShims, IsTypeAt, resource_core, IsResourceItem, DefIs, Means, makes, IsTypeEntry, entry_of, IsFunctionEntry, IsInstanceThing, IsPlannedUser, IsAliasedItem, IsHeldOption, NumberedFrom, HasGlobals, HasOwnTables, Agrees, AreKeyExports, IsShimGiven, IsDestroyedBy, IsOwnResource, AreResources}
+use Rattle.link_laws.proofs.Given.{has_by_place, has_by_shared, of_shims, module_there, address_there, all_held, scope_there, entry_there, held_there, type_there, instance_type_there, instance_there, imported_there, user_there, space_of_kind, offered_there, shim_there}
 use Rattle.link_laws.proofs.Plain.{only}
-use Rattle.link_laws.proofs.Kept.{sizes_kept, ShimsKept, shims_same, MayHaveShims-kept, keeps_all, IsHeldOption-kept, Keeps, address_at-append, things_kept, keeps_store, keeps_type, keeps_function, keeps_opaque, keeps_core_instance, keeps_module, Means-kept, IsTypeEntry-kept, IsFunctionEntry-kept, IsInstanceThing-kept, IsPlannedUser-kept, AreKeyExports-kept, AreResources-more, AreResources-push}
+use Rattle.link_laws.proofs.Kept.{AreSeen-kept, sizes_kept, ShimsKept, shims_same, MayHaveShims-kept, keeps_all, IsHeldOption-kept, Keeps, address_at-append, things_kept, keeps_store, keeps_type, keeps_function, keeps_opaque, keeps_core_instance, keeps_module, Means-kept, IsTypeEntry-kept, IsFunctionEntry-kept, IsInstanceThing-kept, IsPlannedUser-kept, AreKeyExports-kept, AreResources-more, AreResources-push}
 
 -- a list without generated modules
 abbrev pub no_modules : GeneratedModules
@@ -273,8 +273,8 @@ module _ {w : ComponentWorld} {earlier : List Def} {c : Scope} {s : Store} {g : 
       Means w shims (earlier ++ d ∷ []) c'.items s' d t → Makes d s' t → NumberedFrom 0 (filter (is_of spaces.CoreModule) c'.items) (length s'.core_modules) →
       map (λ (u : ModuleInstance). u.module_number) s'.module_instances ≡ map (λ (u : ModuleInstance). u.module_number) s.module_instances ++ at_root item_instantiates d →
       AllByRecursion (IsPlannedUser w shims s') s'.module_instances → AllByRecursion (HasGlobals w g') s'.module_instances → AllByRecursion (HasOwnTables w shims s'.code.tables) s'.module_instances → MayHaveShims w s' (flat_map (at_root item_instantiates) earlier ++ at_root item_instantiates d) shims → map (λ (e : Export). e.name) c'.exports ≡ map (λ (e : Export). e.name) c.exports ++ def_export d → AreKeyExports w s' (required_keys w) c'.exports →
-      c'.imports ≡ imports_made (inventory earlier) d → AreResources w shims s'.types (resources_made (inventory earlier) d) → Agrees w (earlier ++ d ∷ []) c' s' g'
-  agrees_with d c' s' g' t shims same grew keeps means made modules instantiated served with_globals with_tables with_shims exports lifted imports resources =
+      c'.imports ≡ imports_made (inventory earlier) d → AreResources w shims s'.types (resources_made (inventory earlier) d) → (seen : List Event) → AllZip (IsSeen w s') seen (expects w d) → AgreesWith w (earlier ++ d ∷ []) c' s' g' a.events seen
+  agrees_with d c' s' g' t shims same grew keeps means made modules instantiated served with_globals with_tables with_shims exports lifted imports resources seen are_seen =
       let before : List Def = filter makes earlier in
       let old : Inventory = inventory earlier in
       let Meaning : Def → Thing → Type 0 = Means w shims (earlier ++ d ∷ []) c'.items s' in
@@ -287,32 +287,39 @@ module _ {w : ComponentWorld} {earlier : List Def} {c : Scope} {s : Store} {g : 
       each_joined (IsFunctionEntry s') old.functions (functions_made old d) (filter (is_of spaces.Func) c.items) (filter (is_of spaces.Func) (t ∷ [])) (AllZip-weaker (IsFunctionEntry-kept keeps) old.functions (filter (is_of spaces.Func) c.items) a.functions) made.1 in
       let more_instances : AllZip (IsInstanceThing s') (old.instances ++ instances_made old d) (filter (is_of spaces.Instance) c.items ++ filter (is_of spaces.Instance) (t ∷ [])) =
       each_joined (IsInstanceThing s') old.instances (instances_made old d) (filter (is_of spaces.Instance) c.items) (filter (is_of spaces.Instance) (t ∷ [])) (AllZip-weaker (IsInstanceThing-kept keeps) old.instances (filter (is_of spaces.Instance) c.items) a.instances) made.2 in
+      let all_seen : AllZip (IsSeen w s') (a.events ++ seen) (flat_map (expects w) earlier ++ expects w d) =
+      each_joined (IsSeen w s') a.events seen (flat_map (expects w) earlier) (expects w d) (AreSeen-kept keeps w a.events (flat_map (expects w) earlier) a.seen) are_seen in
       record {
-        shims = shims;
-        means = subst (λ ds. AllZip Meaning ds c'.items) (sym (made-push earlier d t.space means.space)) (subst (λ ts. AllZip Meaning (before ++ d ∷ []) ts) (sym grew) pushed);
-        types = subst (λ (v : Inventory). AllZip (IsTypeEntry s') v.types (filter (is_of spaces.Type) c'.items)) (sym (inventory-push earlier d))
-            (subst (λ ts. AllZip (IsTypeEntry s') (old.types ++ types_made old d) ts) (sym (of spaces.Type)) more_types);
-        functions = subst (λ (v : Inventory). AllZip (IsFunctionEntry s') v.functions (filter (is_of spaces.Func) c'.items)) (sym (inventory-push earlier d))
-            (subst (λ ts. AllZip (IsFunctionEntry s') (old.functions ++ functions_made old d) ts) (sym (of spaces.Func)) more_functions);
-        instances = subst (λ (v : Inventory). AllZip (IsInstanceThing s') v.instances (filter (is_of spaces.Instance) c'.items)) (sym (inventory-push earlier d))
-            (subst (λ ts. AllZip (IsInstanceThing s') (old.instances ++ instances_made old d) ts) (sym (of spaces.Instance)) more_instances);
-        resources = subst (λ (v : Inventory). AreResources w shims s'.types v.resources) (sym (inventory-push earlier d)) resources;
-        modules = modules;
-        instantiated = instantiated ∙ (ap (λ l. l ++ at_root item_instantiates d) a.instantiated ∙ sym (flat-push (at_root item_instantiates) earlier d));
-        served = served;
-        with_globals = with_globals;
-        with_tables = with_tables;
-        with_shims = subst (λ l. MayHaveShims w s' l shims) (sym (flat-push (at_root item_instantiates) earlier d)) with_shims;
-        exports = exports ∙ (ap (λ l. l ++ def_export d) a.exports ∙ sym (flat-push def_export earlier d));
-        lifted = lifted;
-        imports = imports ∙ sym (ap (λ (v : Inventory). v.imports) (inventory-push earlier d));
+        events = refl;
+        agrees = record {
+          shims = shims;
+          events = a.events ++ seen;
+          seen = subst (AllZip (IsSeen w s') (a.events ++ seen)) (sym (flat-push (expects w) earlier d)) all_seen;
+          means = subst (λ ds. AllZip Meaning ds c'.items) (sym (made-push earlier d t.space means.space)) (subst (λ ts. AllZip Meaning (before ++ d ∷ []) ts) (sym grew) pushed);
+          types = subst (λ (v : Inventory). AllZip (IsTypeEntry s') v.types (filter (is_of spaces.Type) c'.items)) (sym (inventory-push earlier d))
+              (subst (λ ts. AllZip (IsTypeEntry s') (old.types ++ types_made old d) ts) (sym (of spaces.Type)) more_types);
+          functions = subst (λ (v : Inventory). AllZip (IsFunctionEntry s') v.functions (filter (is_of spaces.Func) c'.items)) (sym (inventory-push earlier d))
+              (subst (λ ts. AllZip (IsFunctionEntry s') (old.functions ++ functions_made old d) ts) (sym (of spaces.Func)) more_functions);
+          instances = subst (λ (v : Inventory). AllZip (IsInstanceThing s') v.instances (filter (is_of spaces.Instance) c'.items)) (sym (inventory-push earlier d))
+              (subst (λ ts. AllZip (IsInstanceThing s') (old.instances ++ instances_made old d) ts) (sym (of spaces.Instance)) more_instances);
+          resources = subst (λ (v : Inventory). AreResources w shims s'.types v.resources) (sym (inventory-push earlier d)) resources;
+          modules = modules;
+          instantiated = instantiated ∙ (ap (λ l. l ++ at_root item_instantiates d) a.instantiated ∙ sym (flat-push (at_root item_instantiates) earlier d));
+          served = served;
+          with_globals = with_globals;
+          with_tables = with_tables;
+          with_shims = subst (λ l. MayHaveShims w s' l shims) (sym (flat-push (at_root item_instantiates) earlier d)) with_shims;
+          exports = exports ∙ (ap (λ l. l ++ def_export d) a.exports ∙ sym (flat-push def_export earlier d));
+          lifted = lifted;
+          imports = imports ∙ sym (ap (λ (v : Inventory). v.imports) (inventory-push earlier d));
+        };
       }
 
   -- the shims after a definition that makes no instance
   pub shims_beside : {b : List Thing} {s' : Store} → Keeps c.items b s s' → (more : List ℕ) → more ≡ [] → s'.module_instances ≡ s.module_instances → s'.code.tables ≡ s.code.tables →
       MayHaveShims w s' (flat_map (at_root item_instantiates) earlier ++ more) a.shims
   shims_beside {b} {s'} keeps more none users tables =
-      MayHaveShims-kept keeps w (flat_map (at_root item_instantiates) earlier) more a.shims (keeps_same tables) (λ yes. among more none yes) (λ yes. among more none yes)
+      MayHaveShims-kept keeps w (flat_map (at_root item_instantiates) earlier) more a.shims (keeps_same tables) (λ yes. among more none yes)
       (λ at h. subst (AllByRecursion (ExportsShims w at)) (sym users) h) a.with_shims
     where
       numbers : List ℕ
@@ -325,12 +332,12 @@ module _ {w : ComponentWorld} {earlier : List Def} {c : Scope} {s : Store} {g : 
   -- been this many imports after it.
   pub quiet_step : (d : Def) (count : ℕ) (s' : Store) (t : Thing) → ((rest : List Def) (now : Now) → run (module_meanings w gen) (d ∷ rest) (machine c s now) ≡ run (module_meanings w gen) rest (machine (with_thing c t count) s' now)) →
       Keeps c.items (c.items ++ t ∷ []) s s' → Means w a.shims (earlier ++ d ∷ []) (c.items ++ t ∷ []) s' d t → Makes d s' t → is_of spaces.CoreModule t ≡ false → s'.core_modules ≡ s.core_modules → s'.module_instances ≡ s.module_instances →
-      s'.code.tables ≡ s.code.tables → at_root item_instantiates d ≡ [] → def_export d ≡ [] → count ≡ imports_made (inventory earlier) d → AreResources w a.shims s'.types (resources_made (inventory earlier) d) → Steps w gen earlier c s g d
+      s'.code.tables ≡ s.code.tables → at_root item_instantiates d ≡ [] → def_export d ≡ [] → count ≡ imports_made (inventory earlier) d → AreResources w a.shims s'.types (resources_made (inventory earlier) d) → Steps w gen earlier c s g a.events d
   quiet_step d count s' t same keeps means made other modules users tables none no_export imports resources = (
     with_thing c t count,
     s',
     g,
-    quiet w gen d c s g (with_thing c t count) s' (ap (users_among w) none) same,
+    quiet w gen d c s g (with_thing c t count) s' same,
     agrees_with d (with_thing c t count) s' g t a.shims (shims_same a.shims) refl keeps means made
         (rw (filter-push (is_of spaces.CoreModule) false c.items t other, modules) a.modules)
         (rw (users, none) (sym (append-nil (map (λ (u : ModuleInstance). u.module_number) s.module_instances))))
@@ -341,11 +348,13 @@ module _ {w : ComponentWorld} {earlier : List Def} {c : Scope} {s : Store} {g : 
         (rw no_export (sym (append-nil (map (λ (e : Export). e.name) c.exports))))
         (AreKeyExports-kept w keeps (required_keys w) c.exports a.lifted)
         imports
-        resources,
+        resources
+        []
+        (subst (λ ns. AllZip (IsSeen w s') [] (flat_map (expected_of w) ns)) (sym none) tt),
   )
 
   -- the step of a type of values or functions
-  step_type_made : (type : TypeDef) → IsTypeRight (scope_of earlier) type → resources_made (inventory earlier) (defs.Item (items.Type type)) ≡ (inventory earlier).resources → Steps w gen earlier c s g (defs.Item (items.Type type))
+  step_type_made : (type : TypeDef) → IsTypeRight (scope_of earlier) type → resources_made (inventory earlier) (defs.Item (items.Type type)) ≡ (inventory earlier).resources → Steps w gen earlier c s g a.events (defs.Item (items.Type type))
   step_type_made type h none =
       let d : Def = defs.Item (items.Type type) in
       let t : Thing = record { space = spaces.Type; address = length s.types } in
@@ -365,7 +374,7 @@ module _ {w : ComponentWorld} {earlier : List Def} {c : Scope} {s : Store} {g : 
   resource_held None (Some e) h = absurd h
   resource_held (Some index) None h = absurd h
 
-  step_resource : (destructor : Option ℕ) → DefinesResource w earlier destructor → Steps w gen earlier c s g (defs.Item (items.Type (types.Resource destructor)))
+  step_resource : (destructor : Option ℕ) → DefinesResource w earlier destructor → Steps w gen earlier c s g a.events (defs.Item (items.Type (types.Resource destructor)))
   step_resource destructor h =
       let d : Def = defs.Item (items.Type (types.Resource destructor)) in
       let t : Thing = record { space = spaces.Type; address = length s.types } in
@@ -378,12 +387,12 @@ module _ {w : ComponentWorld} {earlier : List Def} {c : Scope} {s : Store} {g : 
       (record { space = refl; is = tt }) ((record { item = item; present = slice_get-end s.types item; denotes = ap (λ n. OfValues (ResourceAt (DefinedAt n))) a.resources.counted; is = tt }, tt), tt, tt) refl refl refl refl refl refl a.imports
       (AreResources-push w a.shims s.types number x.held (inventory earlier).resources a.resources.counted a.resources own)
 
-  pub step_type : (t : TypeDef) → IsItemRight w earlier (items.Type t) → Steps w gen earlier c s g (defs.Item (items.Type t))
+  pub step_type : (t : TypeDef) → IsItemRight w earlier (items.Type t) → Steps w gen earlier c s g a.events (defs.Item (items.Type t))
   step_type (types.Func f) h = step_type_made (types.Func f) h refl
   step_type (types.Defined t) h = step_type_made (types.Defined t) h refl
   step_type (types.Resource destructor) h = step_resource destructor h
 
-  pub step_import : (name : ExternName) (kind : ℕ) → HasFunctionType earlier kind → Steps w gen earlier c s g (defs.Item (items.Import name (descriptions.Func kind)))
+  pub step_import : (name : ExternName) (kind : ℕ) → HasFunctionType earlier kind → Steps w gen earlier c s g a.events (defs.Item (items.Import name (descriptions.Func kind)))
   step_import name kind h =
       let d : Def = defs.Item (items.Import name (descriptions.Func kind)) in
       let t : Thing = record { space = spaces.Func; address = length s.functions } in
@@ -396,7 +405,7 @@ module _ {w : ComponentWorld} {earlier : List Def} {c : Scope} {s : Store} {g : 
       (record { space = refl; is = tt }) (tt, (record { function = f; present = slice_get-end s.functions f; same = entry }, tt), tt) refl refl refl refl refl refl (ap suc a.imports) a.resources
 
   -- a type that equals another is that one
-  pub step_import_type : (name : ExternName) (index : ℕ) → index < length (scope_of earlier) → Steps w gen earlier c s g (defs.Item (items.Import name (descriptions.TypeEqual index)))
+  pub step_import_type : (name : ExternName) (index : ℕ) → index < length (scope_of earlier) → Steps w gen earlier c s g a.events (defs.Item (items.Import name (descriptions.TypeEqual index)))
   step_import_type name index l =
       let d : Def = defs.Item (items.Import name (descriptions.TypeEqual index)) in
       let x = entry_there a l in
@@ -407,7 +416,7 @@ module _ {w : ComponentWorld} {earlier : List Def} {c : Scope} {s : Store} {g : 
       (record { space = refl; is = tt }) ((subst (λ e. IsTypeEntry s e t) (sym entry) (record { item = x.4.item; present = x.4.present; denotes = x.4.denotes; is = x.4.is }), tt), tt, tt) refl refl refl refl refl refl (ap suc a.imports) a.resources
 
   -- a resource is a new type, known by the number of the import
-  pub step_import_resource : (name : ExternName) → Steps w gen earlier c s g (defs.Item (items.Import name descriptions.SubResource))
+  pub step_import_resource : (name : ExternName) → Steps w gen earlier c s g a.events (defs.Item (items.Import name descriptions.SubResource))
   step_import_resource name =
       let d : Def = defs.Item (items.Import name descriptions.SubResource) in
       let t : Thing = record { space = spaces.Type; address = length s.types } in
@@ -417,7 +426,7 @@ module _ {w : ComponentWorld} {earlier : List Def} {c : Scope} {s : Store} {g : 
       (record { space = refl; is = tt }) ((record { item = item; present = slice_get-end s.types item; denotes = ap (λ n. OfValues (ResourceAt (ImportedAt (record { number = n; inner = None })))) a.imports; is = tt }, tt), tt, tt) refl refl refl refl refl refl (ap suc a.imports) (AreResources-more w a.shims s.types (item ∷ []) (inventory earlier).resources a.resources refl)
 
   -- a type of instances has the members that the inventory says
-  pub step_instance_type : (type : InstanceTypeDef) → Steps w gen earlier c s g (defs.Item (items.InstanceType type))
+  pub step_instance_type : (type : InstanceTypeDef) → Steps w gen earlier c s g a.events (defs.Item (items.InstanceType type))
   step_instance_type type =
       let d : Def = defs.Item (items.InstanceType type) in
       let t : Thing = record { space = spaces.Type; address = length s.types } in
@@ -430,7 +439,7 @@ module _ {w : ComponentWorld} {earlier : List Def} {c : Scope} {s : Store} {g : 
 
   -- An import of a type of instances makes types and functions, and one item: the instance.
   pub step_import_instance : (name : ExternName) (index : ℕ) (outer : List TypeTree) (members : List Member) → slice_get (inventory earlier).types index ≡ Some (OfInstances outer members) → AreMembersRight (surroundings_of (imports_in earlier) outer) [] members →
-      Steps w gen earlier c s g (defs.Item (items.Import name (descriptions.Instance index)))
+      Steps w gen earlier c s g a.events (defs.Item (items.Import name (descriptions.Instance index)))
   step_import_instance name index outer members h right =
       let d : Def = defs.Item (items.Import name (descriptions.Instance index)) in
       let origin : Origin = record { number = c.imports; inner = None } in
@@ -458,7 +467,7 @@ module _ {w : ComponentWorld} {earlier : List Def} {c : Scope} {s : Store} {g : 
       (record { space = refl; is = tt }) (tt, tt, (record { exports = r.exports; present = slice_get-end s.instances r.exports; is = subst (λ e. IsInstanceEntry r.types r.functions e r.exports) entry r.is }, tt)) refl refl refl refl refl refl (ap suc a.imports) (subst (λ l. AreResources w a.shims l (inventory earlier).resources) (sym r.types_grew) (AreResources-more w a.shims s.types r.more_types (inventory earlier).resources a.resources r.none_defined))
 
   -- an alias of what an imported instance exports is that item
-  pub step_alias_function : (instance : ℕ) (name : List ℕ) → AliasesImported earlier spaces.Func instance name → Steps w gen earlier c s g (defs.Item (items.Alias (aliases.Export exports.Func instance name)))
+  pub step_alias_function : (instance : ℕ) (name : List ℕ) → AliasesImported earlier spaces.Func instance name → Steps w gen earlier c s g a.events (defs.Item (items.Alias (aliases.Export exports.Func instance name)))
   step_alias_function instance name h =
       let d : Def = defs.Item (items.Alias (aliases.Export exports.Func instance name)) in
       let of : InstanceEntry = ImportedInstance h.number h.outer h.members in
@@ -492,7 +501,7 @@ module _ {w : ComponentWorld} {earlier : List Def} {c : Scope} {s : Store} {g : 
             (aliases_nested_type (machine c s no_answers) instance x.0 x.2 name h.exported h.tree x.1 x.3 x.4 h.named);
       }
 
-  step_alias_found : (instance : ℕ) (name : List ℕ) → FindsAlias instance name → Steps w gen earlier c s g (defs.Item (items.Alias (aliases.Export exports.Type instance name)))
+  step_alias_found : (instance : ℕ) (name : List ℕ) → FindsAlias instance name → Steps w gen earlier c s g a.events (defs.Item (items.Alias (aliases.Export exports.Type instance name)))
   step_alias_found instance name f =
       let d : Def = defs.Item (items.Alias (aliases.Export exports.Type instance name)) in
       let entry : get_or (inventory earlier).instances instance OtherInstance ≡ f.of = get_or_from_slice_get (inventory earlier).instances instance f.of OtherInstance f.listed in
@@ -503,14 +512,14 @@ module _ {w : ComponentWorld} {earlier : List Def} {c : Scope} {s : Store} {g : 
       quiet_step d c.imports s t (λ rest now. ap (λ o. with_some o (λ (x : Thing). run (module_meanings w gen) rest (machine (with_thing c x c.imports) s now))) f.is.at) (keeps_store c.items t s)
       (record { space = refl; is = tt }) ((subst (λ e. IsTypeEntry s (type_of_instance name e) t) (sym entry) is, tt), tt, tt) refl refl refl refl refl refl a.imports a.resources
 
-  pub step_alias_type : (instance : ℕ) (name : List ℕ) → MayAliasType earlier instance name → Steps w gen earlier c s g (defs.Item (items.Alias (aliases.Export exports.Type instance name)))
+  pub step_alias_type : (instance : ℕ) (name : List ℕ) → MayAliasType earlier instance name → Steps w gen earlier c s g a.events (defs.Item (items.Alias (aliases.Export exports.Type instance name)))
   step_alias_type instance name (inl h) = step_alias_found instance name (alias_of_imported instance name h)
   step_alias_type instance name (inr h) = step_alias_found instance name (alias_of_nested instance name h)
 
   -- an intrinsic is a new core function
   step_intrinsic : (i held : Intrinsic) (type : FuncType) → ((now : Now) → addressed (machine c s now) i ≡ Some held) → ((tree_of : ComponentValType → Tree) → intrinsic_signature tree_of i ≡ type) →
       DefIs w a.shims (earlier ++ defs.Item (items.Intrinsic i) ∷ []) (c.items ++ record { space = spaces.CoreFunc; address = length s.code.functions } ∷ []) (with_opaque (IntrinsicOf held) type s) (defs.Item (items.Intrinsic i)) (length s.code.functions) →
-      Steps w gen earlier c s g (defs.Item (items.Intrinsic i))
+      Steps w gen earlier c s g a.events (defs.Item (items.Intrinsic i))
   step_intrinsic i held type found typed is =
       let d : Def = defs.Item (items.Intrinsic i) in
       let t : Thing = record { space = spaces.CoreFunc; address = length s.code.functions } in
@@ -533,17 +542,17 @@ module _ {w : ComponentWorld} {earlier : List Def} {c : Scope} {s : Store} {g : 
     is = opaque_there (IntrinsicOf (intrinsic_of function x)) (resource_core function) s;
   }
 
-  pub step_new : (type : ℕ) → HasOwnResource earlier type → Steps w gen earlier c s g (defs.Item (items.Intrinsic (intrinsics.ResourceNew type)))
+  pub step_new : (type : ℕ) → HasOwnResource earlier type → Steps w gen earlier c s g a.events (defs.Item (items.Intrinsic (intrinsics.ResourceNew type)))
   step_new type h =
       let x : (x : ℕ) × (address_at spaces.Type type c.items ≡ Some x) × ((now : Now) → own_address (machine c s now) type ≡ Some x) = own_there h.is in
       step_intrinsic (intrinsics.ResourceNew type) (intrinsics.ResourceNew x.0) (resource_core New) (λ now. ap (option_map (λ n. intrinsics.ResourceNew n)) (x.2 now)) (λ tree_of. refl) (resource_item New type x.0 x.1)
 
-  pub step_rep : (type : ℕ) → HasOwnResource earlier type → Steps w gen earlier c s g (defs.Item (items.Intrinsic (intrinsics.ResourceRep type)))
+  pub step_rep : (type : ℕ) → HasOwnResource earlier type → Steps w gen earlier c s g a.events (defs.Item (items.Intrinsic (intrinsics.ResourceRep type)))
   step_rep type h =
       let x : (x : ℕ) × (address_at spaces.Type type c.items ≡ Some x) × ((now : Now) → own_address (machine c s now) type ≡ Some x) = own_there h.is in
       step_intrinsic (intrinsics.ResourceRep type) (intrinsics.ResourceRep x.0) (resource_core Rep) (λ now. ap (option_map (λ n. intrinsics.ResourceRep n)) (x.2 now)) (λ tree_of. refl) (resource_item Rep type x.0 x.1)
 
-  pub step_drop : (type : ℕ) → HasResource earlier type → Steps w gen earlier c s g (defs.Item (items.Intrinsic (intrinsics.ResourceDrop type)))
+  pub step_drop : (type : ℕ) → HasResource earlier type → Steps w gen earlier c s g a.events (defs.Item (items.Intrinsic (intrinsics.ResourceDrop type)))
   step_drop type h =
       let x : (x : ℕ) × (address_at spaces.Type type c.items ≡ Some x) × IsHeldAs s.types (OfValues (ResourceAt h.resource)) x = held_there a h.is.denotes in
       step_intrinsic (intrinsics.ResourceDrop type) (intrinsics.ResourceDrop x.0) (resource_core Drop) (λ now. ap (option_map (λ n. intrinsics.ResourceDrop n)) x.1) (λ tree_of. refl) (resource_item Drop type x.0 x.1)
@@ -571,7 +580,7 @@ module _ {w : ComponentWorld} {earlier : List Def} {c : Scope} {s : Store} {g : 
   lower_option_addressed (options.PostReturn index) h = let x = option_addressed (options.PostReturn index) h in (x.0, x.1, (x.2, refl))
   lower_option_addressed (options.Callback index) h = let x = option_addressed (options.Callback index) h in (x.0, x.1, (x.2, refl))
 
-  pub step_lower : (function : ℕ) (written : List CanonicalOption) → HasImportedFunction earlier function → AllByRecursion (IsLowerOptionRight earlier) written → Steps w gen earlier c s g (defs.Item (items.Lower function written))
+  pub step_lower : (function : ℕ) (written : List CanonicalOption) → HasImportedFunction earlier function → AllByRecursion (IsLowerOptionRight earlier) written → Steps w gen earlier c s g a.events (defs.Item (items.Lower function written))
   step_lower function written h right =
       let d : Def = defs.Item (items.Lower function written) in
       let x : (x : ℕ) × (address_at spaces.Func function c.items ≡ Some x) × (slice_get s.functions x ≡ Some (Imported h.origin h.type)) = imported_there a h.is in
@@ -599,7 +608,7 @@ module _ {w : ComponentWorld} {earlier : List Def} {c : Scope} {s : Store} {g : 
       })
       (tt, tt, tt) refl refl refl refl refl refl a.imports a.resources
 
-  pub step_lift : (core : ℕ) (written : List CanonicalOption) (kind : ℕ) → core < items_in spaces.CoreFunc earlier → AllByRecursion (IsOptionRight earlier) written → HasFunctionType earlier kind → Steps w gen earlier c s g (defs.Item (items.Lift core written kind))
+  pub step_lift : (core : ℕ) (written : List CanonicalOption) (kind : ℕ) → core < items_in spaces.CoreFunc earlier → AllByRecursion (IsOptionRight earlier) written → HasFunctionType earlier kind → Steps w gen earlier c s g a.events (defs.Item (items.Lift core written kind))
   step_lift core written kind l right h =
       let d : Def = defs.Item (items.Lift core written kind) in
       let x : (x : ℕ) × (address_at spaces.CoreFunc core c.items ≡ Some x) = address_there a spaces.CoreFunc core l in
@@ -626,7 +635,7 @@ module _ {w : ComponentWorld} {earlier : List Def} {c : Scope} {s : Store} {g : 
       })
       (tt, (record { function = f; present = slice_get-end s.functions f; same = ap (λ tree. record { origin = None; type = tree }) (sym h.is.denotes.tree) }, tt), tt) refl refl refl refl refl refl a.imports a.resources
 
-  pub step_inline_instance : (entries : List CoreInlineExport) → AreEntries earlier entries → Steps w gen earlier c s g (defs.Item (items.CoreExports entries))
+  pub step_inline_instance : (entries : List CoreInlineExport) → AreEntries earlier entries → Steps w gen earlier c s g a.events (defs.Item (items.CoreExports entries))
   step_inline_instance entries h =
       let d : Def = defs.Item (items.CoreExports entries) in
       let t : Thing = record { space = spaces.CoreInstance; address = length s.core_instances } in
@@ -676,7 +685,7 @@ module _ {w : ComponentWorld} {earlier : List Def} {c : Scope} {s : Store} {g : 
   shim_found instance name h =
       let m : (x : ℕ) × (address_at spaces.CoreInstance instance c.items ≡ Some x) × IsModuleInstance w a.shims s (shims_number w) x = module_there a h.is in
       let at : (at : ShimsAt) × (a.shims ≡ Some at) × (m.2.exports ≡ exports_of_shims w at) × (length (shims_of w) < 2 ^ 32) =
-      of_shims w s (flat_map (at_root item_instantiates) earlier) m.2.user m.2.exports a.shims a.with_shims m.2.each in
+      of_shims w s (flat_map (at_root item_instantiates) earlier) m.2.user m.2.exports a.shims (has_by_place w h.place h.listed) a.with_shims m.2.each in
       let shim : Export = record { space = spaces.CoreFunc; name = decimal h.place; address = at.0.address + h.place } in
       let there : export_named name m.2.exports ≡ Some shim = ap₂ export_named h.named at.2 ∙ (shims_found (shims_of w) at.0.address at.0.table at.0.memory).found h.place h.listed at.3 in
       record {
@@ -691,7 +700,7 @@ module _ {w : ComponentWorld} {earlier : List Def} {c : Scope} {s : Store} {g : 
   memory_found instance name h =
       let numbers : List ℕ = flat_map (at_root item_instantiates) earlier in
       let m : (x : ℕ) × (address_at spaces.CoreInstance instance c.items ≡ Some x) × IsModuleInstance w a.shims s (shims_number w) x = module_there a h.is in
-      let at : (at : ShimsAt) × (a.shims ≡ Some at) × (m.2.exports ≡ exports_of_shims w at) × (length (shims_of w) < 2 ^ 32) = of_shims w s numbers m.2.user m.2.exports a.shims a.with_shims m.2.each in
+      let at : (at : ShimsAt) × (a.shims ≡ Some at) × (m.2.exports ≡ exports_of_shims w at) × (length (shims_of w) < 2 ^ 32) = of_shims w s numbers m.2.user m.2.exports a.shims (has_by_shared w h.shared) a.with_shims m.2.each in
       let made : AreShims w s numbers at.0 = subst (MayHaveShims w s numbers) at.1 a.with_shims in
       let held : (y : ℕ) × (at.0.memory ≡ Some y) = shared_address s (shared_memory w) at.0.memory h.shared made.memory in
       let there : export_named name m.2.exports ≡ Some (memory_at held.0) =
@@ -727,7 +736,7 @@ module _ {w : ComponentWorld} {earlier : List Def} {c : Scope} {s : Store} {g : 
     is = f.is.is;
   }
 
-  pub step_alias : (kind : ExportKind) (instance : ℕ) (name : List ℕ) → AliasesUser w earlier kind instance name ⊎ AliasesGenerated kind instance name → Steps w gen earlier c s g (defs.Item (items.Alias (aliases.CoreExport kind instance name)))
+  pub step_alias : (kind : ExportKind) (instance : ℕ) (name : List ℕ) → AliasesUser w earlier kind instance name ⊎ AliasesGenerated kind instance name → Steps w gen earlier c s g a.events (defs.Item (items.Alias (aliases.CoreExport kind instance name)))
   step_alias kinds.Func instance name h =
       let d : Def = defs.Item (items.Alias (aliases.CoreExport kinds.Func instance name)) in
       let f : FindsExport w earlier c s kinds.Func instance name = alias_found kinds.Func instance name h in
@@ -753,7 +762,7 @@ module _ {w : ComponentWorld} {earlier : List Def} {c : Scope} {s : Store} {g : 
       quiet_step d c.imports s t (λ rest now. rw (f.is.at, f.is.present, f.found, f.space) refl) (keeps_store c.items t s)
       (record { space = refl; is = aliased_item kinds.Global instance name f d t }) (tt, tt, tt) refl refl refl refl refl refl a.imports a.resources
 
-  pub step_module : (bytes : List ℕ) → Steps w gen earlier c s g (defs.Item (items.CoreModule bytes))
+  pub step_module : (bytes : List ℕ) → Steps w gen earlier c s g a.events (defs.Item (items.CoreModule bytes))
   step_module bytes =
       let d : Def = defs.Item (items.CoreModule bytes) in
       let t : Thing = record { space = spaces.CoreModule; address = length s.core_modules } in
@@ -762,7 +771,7 @@ module _ {w : ComponentWorld} {earlier : List Def} {c : Scope} {s : Store} {g : 
         with_thing c t c.imports,
         s',
         g,
-        quiet w gen d c s g (with_thing c t c.imports) s' refl (λ rest now. refl),
+        quiet w gen d c s g (with_thing c t c.imports) s' (λ rest now. refl),
         agrees_with d (with_thing c t c.imports) s' g t a.shims (shims_same a.shims) refl k (record { space = refl; is = tt }) (tt, tt, tt)
             (rw (filter-push (is_of spaces.CoreModule) true c.items t refl, length-append s.core_modules (bytes ∷ []), add-one (length s.core_modules)) (consecutive-push 0 (filter (is_of spaces.CoreModule) c.items) (length s.core_modules) t a.modules refl))
             (sym (append-nil (map (λ (u : ModuleInstance). u.module_number) s.module_instances)))
@@ -773,10 +782,12 @@ module _ {w : ComponentWorld} {earlier : List Def} {c : Scope} {s : Store} {g : 
             (sym (append-nil (map (λ (e : Export). e.name) c.exports)))
             (AreKeyExports-kept w k (required_keys w) c.exports a.lifted)
             a.imports
-            a.resources,
+            a.resources
+            []
+            tt,
       )
 
-  pub step_custom : (name contents : List ℕ) → Steps w gen earlier c s g (defs.Item (items.Custom name contents))
+  pub step_custom : (name contents : List ℕ) → Steps w gen earlier c s g a.events (defs.Item (items.Custom name contents))
   step_custom name contents =
       let d : Def = defs.Item (items.Custom name contents) in
       let same : filter makes (earlier ++ d ∷ []) ≡ filter makes earlier = filter-push makes false earlier d refl in
@@ -784,26 +795,31 @@ module _ {w : ComponentWorld} {earlier : List Def} {c : Scope} {s : Store} {g : 
         c,
         s,
         g,
-        quiet w gen d c s g c s refl (λ rest now. refl),
+        quiet w gen d c s g c s (λ rest now. refl),
         record {
-          shims = a.shims;
-          means = subst (λ ds. AllZip (Means w a.shims (earlier ++ d ∷ []) c.items s) ds c.items) (sym same)
-              (AllZip-weaker (Means-kept w a.shims a.shims (shims_same a.shims) earlier (earlier ++ d ∷ []) (λ space index e i. IsAt-append (d ∷ []) i) (keeps_all c.items s)) (filter makes earlier) c.items a.means);
-          types = subst (λ (v : Inventory). AllZip (IsTypeEntry s) v.types (filter (is_of spaces.Type) c.items)) (sym (inventory-push earlier d))
-              (subst (λ es. AllZip (IsTypeEntry s) es (filter (is_of spaces.Type) c.items)) (sym (append-nil old.types)) a.types);
-          functions = subst (λ (v : Inventory). AllZip (IsFunctionEntry s) v.functions (filter (is_of spaces.Func) c.items)) (sym (inventory-push earlier d))
-              (subst (λ es. AllZip (IsFunctionEntry s) es (filter (is_of spaces.Func) c.items)) (sym (append-nil old.functions)) a.functions);
-          instances = subst (λ (v : Inventory). AllZip (IsInstanceThing s) v.instances (filter (is_of spaces.Instance) c.items)) (sym (inventory-push earlier d))
-              (subst (λ es. AllZip (IsInstanceThing s) es (filter (is_of spaces.Instance) c.items)) (sym (append-nil old.instances)) a.instances);
-          resources = subst (λ (v : Inventory). AreResources w a.shims s.types v.resources) (sym (inventory-push earlier d)) a.resources;
-          modules = a.modules;
-          instantiated = a.instantiated ∙ sym (flat-push (at_root item_instantiates) earlier d ∙ append-nil (flat_map (at_root item_instantiates) earlier));
-          served = a.served;
-          with_globals = a.with_globals;
-          with_tables = a.with_tables;
-          with_shims = subst (λ l. MayHaveShims w s l a.shims) (sym (flat-push (at_root item_instantiates) earlier d ∙ append-nil (flat_map (at_root item_instantiates) earlier))) a.with_shims;
-          exports = a.exports ∙ sym (flat-push def_export earlier d ∙ append-nil (flat_map def_export earlier));
-          lifted = a.lifted;
-          imports = a.imports ∙ sym (ap (λ (v : Inventory). v.imports) (inventory-push earlier d));
+          events = sym (append-nil a.events);
+          agrees = record {
+            shims = a.shims;
+            events = a.events;
+            seen = subst (AllZip (IsSeen w s) a.events) (sym (flat-push (expects w) earlier d ∙ append-nil (flat_map (expects w) earlier))) a.seen;
+            means = subst (λ ds. AllZip (Means w a.shims (earlier ++ d ∷ []) c.items s) ds c.items) (sym same)
+                (AllZip-weaker (Means-kept w a.shims a.shims (shims_same a.shims) earlier (earlier ++ d ∷ []) (λ space index e i. IsAt-append (d ∷ []) i) (keeps_all c.items s)) (filter makes earlier) c.items a.means);
+            types = subst (λ (v : Inventory). AllZip (IsTypeEntry s) v.types (filter (is_of spaces.Type) c.items)) (sym (inventory-push earlier d))
+                (subst (λ es. AllZip (IsTypeEntry s) es (filter (is_of spaces.Type) c.items)) (sym (append-nil old.types)) a.types);
+            functions = subst (λ (v : Inventory). AllZip (IsFunctionEntry s) v.functions (filter (is_of spaces.Func) c.items)) (sym (inventory-push earlier d))
+                (subst (λ es. AllZip (IsFunctionEntry s) es (filter (is_of spaces.Func) c.items)) (sym (append-nil old.functions)) a.functions);
+            instances = subst (λ (v : Inventory). AllZip (IsInstanceThing s) v.instances (filter (is_of spaces.Instance) c.items)) (sym (inventory-push earlier d))
+                (subst (λ es. AllZip (IsInstanceThing s) es (filter (is_of spaces.Instance) c.items)) (sym (append-nil old.instances)) a.instances);
+            resources = subst (λ (v : Inventory). AreResources w a.shims s.types v.resources) (sym (inventory-push earlier d)) a.resources;
+            modules = a.modules;
+            instantiated = a.instantiated ∙ sym (flat-push (at_root item_instantiates) earlier d ∙ append-nil (flat_map (at_root item_instantiates) earlier));
+            served = a.served;
+            with_globals = a.with_globals;
+            with_tables = a.with_tables;
+            with_shims = subst (λ l. MayHaveShims w s l a.shims) (sym (flat-push (at_root item_instantiates) earlier d ∙ append-nil (flat_map (at_root item_instantiates) earlier))) a.with_shims;
+            exports = a.exports ∙ sym (flat-push def_export earlier d ∙ append-nil (flat_map def_export earlier));
+            lifted = a.lifted;
+            imports = a.imports ∙ sym (ap (λ (v : Inventory). v.imports) (inventory-push earlier d));
+          };
         },
       )

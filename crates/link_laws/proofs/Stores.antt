@@ -1,6 +1,7 @@
 -- What the items of a run are, next to the definitions that made them.
-use Rattle.std.proofs.Common.{false, None, ◌≡◌, ◌<◌, ◌^◌, ◌+◌, ◌⊎◌, ℕ, suc, Option, Bool, List, [], ◌∷◌, length, map, filter, Some, is_some}
-use Rattle.std.specs.Prelude.{Contains}
+use Rattle.std.proofs.Common.{true, false, cond, None, ◌≡◌, ◌<◌, ◌^◌, ◌+◌, ◌⊎◌, ℕ, suc, Option, Bool, List, [], ◌∷◌, length, map, filter, Some, is_some}
+use Rattle.std.proofs.Math.Dec.{ltb}
+use Rattle.std.specs.Prelude.{Contains, nat_eq}
 use Rattle.std.specs.Fmt.{decimal}
 use Rattle.std.specs.List.{slice_get, flat_map, AllZip, AllByRecursion}
 use Rattle.comp_bytes.specs.Spaces.{kind_space, space_of, sort_space}
@@ -43,12 +44,12 @@ use Rattle.comp_links.specs.Links.{core_name, lift_options, link_at, destructor_
 use Rattle.shim_plan.specs.declared.shims.Shim.{Shim}
 use Rattle.world_shims.specs.WorldShims.{shims_of}
 use Rattle.shim_runs.specs.ShimRuns.{AreShimsFrom, instance_exports}
-use Rattle.comp_terms.specs.Generated.{shims_number, fixup_number, Purpose, target_of, HasPurpose}
+use Rattle.comp_terms.specs.Generated.{has_shim_module, shims_number, fixup_number, Purpose, target_of, HasPurpose}
 use Rattle.comp_terms.specs.Shimmed.{has_shim_at}
 use Rattle.comp_worlds.specs.Offered.{shared_memory}
 use Rattle.comp_terms.specs.Terms.{CoreExport, IsInstanceOf, intrinsic_of, imports_in}
 use Rattle.comp_terms.specs.Planned.{main_memory, IsShimPlace, IsTypeOf, type_of_function}
-use Rattle.core_runs.specs.Store.{Opaque}
+use Rattle.core_runs.specs.Store.{Opaque, Event, Instantiated, Called}
 use Rattle.core_runs.specs.Instances.{empty_table}
 use Rattle.comp_runs.specs.Store.{Thing, Export, HeldOption, HeldEncoding, HeldMemory, HeldRealloc, HeldPostReturn, HeldAsync, HeldCallback, CoreItem, Lowering, IntrinsicOf, ExportedBy, Function, Imported, Lifting, TypeItem, TreeOf, OwnResource, item_tree, own_resources as resources_among, ModuleInstance, Store, ComponentItem}
 use Rattle.comp_runs.specs.Instances.{type_space}
@@ -59,6 +60,7 @@ use Rattle.instance_laws.specs.InstanceEntries.{IsInstanceType, IsInstanceEntry}
 use Rattle.nested_terms.specs.Nested.{empty_scope, imports_after, exports_after}
 use Rattle.nested_laws.specs.NestedRuns.{AreGiven, AreNestedExports}
 use Rattle.link_laws.specs.Composition.{at_root, item_instantiates}
+use Rattle.link_laws.specs.Linking.{StartCall, start_calls}
 use Rattle.wit_data.specs.declared.functions.Function.{Function as WitFunction}
 use Rattle.wit_data.specs.declared.ids.TypeId.{TypeId}
 use Rattle.wit_data.specs.declared.worlds.WorldKey.{WorldKey}
@@ -457,9 +459,14 @@ pub record AreFilled (w : ComponentWorld) (s : Store) (table : ℕ) : Type 0 whe
   pub slots : slice_get s.code.tables table ≡ Some (map (λ f. Some f) functions)
   pub each : AllZip (IsFilledWith w s) (shims_of w) functions
 
--- an instance of the module of shims exports those that are here
-abbrev pub ExportsShims : ComponentWorld → ShimsAt → ModuleInstance → Type 0
-ExportsShims w at i = i.module_number ≡ shims_number w → i.exports ≡ exports_of_shims w at
+-- an instance with the number of the module of shims exports those that are here; where there are none, it is that of a fixup, and
+-- exports nothing
+abbrev pub exports_if : ComponentWorld → Option ShimsAt → List Export
+exports_if w None = []
+exports_if w (Some at) = exports_of_shims w at
+
+abbrev pub ExportsShims : ComponentWorld → Option ShimsAt → ModuleInstance → Type 0
+ExportsShims w at i = i.module_number ≡ shims_number w → i.exports ≡ exports_if w at
 
 -- the memory that is made with the shims has the type that main imports, where it imports one
 abbrev pub HasSharedMemory : Store → Option MemoryType → Option ℕ → Type 0
@@ -476,17 +483,31 @@ pub record HasTable (tables : List (List (Option ℕ))) (address : ℕ) : Type 0
 -- is made, and then hold what the shims stand for.
 pub record AreShims (w : ComponentWorld) (s : Store) (numbers : List ℕ) (at : ShimsAt) : Type 0 where
   pub there : Contains numbers (shims_number w)
+  pub any : has_shim_module w ≡ true
   pub room : length (shims_of w) < 2 ^ 32
   pub made : AreShimsFrom s.code at.table 0 at.address (shims_of w)
-  pub exported : AllByRecursion (ExportsShims w at) s.module_instances
+  pub exported : AllByRecursion (ExportsShims w (Some at)) s.module_instances
   pub memory : HasSharedMemory s (shared_memory w) at.memory
   pub slotted : (shims_of w ≡ [] → ⊥) → HasTable s.code.tables at.table
   pub unfilled : (shims_of w ≡ [] → ⊥) → (Contains numbers (fixup_number w) → ⊥) → slice_get s.code.tables at.table ≡ Some (empty_table (length (shims_of w)))
-  pub filled : Contains numbers (fixup_number w) → AreFilled w s at.table
+  pub filled : (shims_of w ≡ [] → ⊥) → Contains numbers (fixup_number w) → AreFilled w s at.table
 
 abbrev pub MayHaveShims : ComponentWorld → Store → List ℕ → Option ShimsAt → Type 0
-MayHaveShims w s numbers None = Contains numbers (shims_number w) → ⊥
+MayHaveShims w s numbers None = AllByRecursion (ExportsShims w None) s.module_instances
 MayHaveShims w s numbers (Some at) = AreShims w s numbers at
+
+-- each slot holds what its shim stands for
+abbrev pub AreShimsFilled : ComponentWorld → Store → Option ShimsAt → Type 0
+AreShimsFilled w s None = AllByRecursion (ExportsShims w None) s.module_instances
+AreShimsFilled w s (Some at) =
+    AreShimsFrom s.code at.table 0 at.address (shims_of w) × ((shims_of w ≡ [] → ⊥) → AreFilled w s at.table) × (length (shims_of w) < 2 ^ 32)
+    × AllByRecursion (ExportsShims w (Some at)) s.module_instances
+
+-- the shims are filled, and the imports of the user modules are given what was planned
+pub record IsReady (w : ComponentWorld) (s : Store) : Type 0 where
+  pub shims : Option ShimsAt
+  pub filled : AreShimsFilled w s shims
+  pub planned : AllByRecursion (IsPlannedUser w shims s) s.module_instances
 
 -- the function is lifted from this export of a user module, with these options and this type
 pub record IsLiftedFrom (w : ComponentWorld) (s : Store) (address : ℕ) (entry : ExportRef) (options : List TargetOption) (type : FunctionTree) : Type 0 where
@@ -630,9 +651,33 @@ IsOwnIfTable w shims tables e = e.space ≡ spaces.CoreTable → IsOwnTable w sh
 abbrev pub HasOwnTables : ComponentWorld → Option ShimsAt → List (List (Option ℕ)) → ModuleInstance → Type 0
 HasOwnTables w shims tables u = (of : WorldModule) → slice_get (user_modules w) u.module_number ≡ Some of → AllByRecursion (IsOwnIfTable w shims tables) u.exports
 
+-- what is seen of an instance of a module: that of a user module, and the calls of a fixup
+pub data Expected : Type 0 where
+  Made : (number : ℕ) → Expected
+  Calls : (call : StartCall) → Expected
+
+abbrev pub calls_if : ComponentWorld → Bool → List Expected
+calls_if w false = []
+calls_if w true = map (λ call. Calls call) (start_calls w)
+
+abbrev pub expected_of : ComponentWorld → ℕ → List Expected
+expected_of w number = cond (ltb number (length (user_modules w))) (Made number ∷ []) (calls_if w (nat_eq number (fixup_number w)))
+
+-- what is seen of a definition
+abbrev pub expects : ComponentWorld → Def → List Expected
+expects w d = flat_map (expected_of w) (at_root item_instantiates d)
+
+-- the event is what was expected
+abbrev pub IsSeen : ComponentWorld → Store → Event → Expected → Type 0
+IsSeen w s (Instantiated n) (Made number) = n ≡ number
+IsSeen w s (Called address arguments) (Calls call) = IsFunctionExported w s address call.function × (arguments ≡ call.arguments)
+IsSeen w s event expected = ⊥
+
 -- the scope, the store and the types of the globals are what these definitions make
 pub record Agrees (w : ComponentWorld) (earlier : List Def) (c : Scope) (s : Store) (globals : List ValType) : Type 0 where
   pub shims : Option ShimsAt
+  pub events : List Event
+  pub seen : AllZip (IsSeen w s) events (flat_map (expects w) earlier)
   pub means : AllZip (Means w shims earlier c.items s) (filter makes earlier) c.items
   pub types : AllZip (IsTypeEntry s) (inventory earlier).types (filter (is_of spaces.Type) c.items)
   pub functions : AllZip (IsFunctionEntry s) (inventory earlier).functions (filter (is_of spaces.Func) c.items)

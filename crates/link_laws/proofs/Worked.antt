@@ -164,7 +164,7 @@ then_calls function (Done m) = resumed (acts m.store.code function [] m.now) m (
 then_calls function o = o
 
 -- where the outside traps, has no answer left, or returns a value, the run isn't done
-abbrev is_trapped : Outcome → Option ℕ
+abbrev pub is_trapped : Outcome → Option ℕ
 is_trapped (Trapped m) = Some 0
 is_trapped (Open m) = Some 1
 is_trapped Stuck = Some 2
@@ -416,8 +416,8 @@ wit_g = record { name = g; kind = Freestanding; params = []; result = None }
 
 pub keeps_the_rules : IsBuilt own_names one_each one_import_one_export
 keeps_the_rules = record {
-  generated = None;
-  are_generated = tt;
+  generated = record { shims = None; fixup = None };
+  are_generated = record { shims = refl; fixup = refl; room = omega arith };
   front = one_import_one_export;
   names = [];
   whole = refl;

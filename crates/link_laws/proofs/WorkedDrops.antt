@@ -233,8 +233,8 @@ both_given = record { named = refl; serves = record { entries = entries; made = 
 
 keeps_the_rules : IsBuilt own_names world (list_of 0 1)
 keeps_the_rules = record {
-  generated = None;
-  are_generated = tt;
+  generated = record { shims = None; fixup = None };
+  are_generated = record { shims = refl; fixup = refl; room = omega arith };
   front = list_of 0 1;
   names = [];
   whole = refl;

@@ -211,8 +211,8 @@ both_given = record {
 
 keeps_the_rules : IsBuilt own_names world definitions
 keeps_the_rules = record {
-  generated = None;
-  are_generated = tt;
+  generated = record { shims = None; fixup = None };
+  are_generated = record { shims = refl; fixup = refl; room = omega arith };
   front = definitions;
   names = [];
   whole = refl;

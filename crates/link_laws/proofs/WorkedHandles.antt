@@ -301,8 +301,8 @@ exported = record { required = record { of = Main; key = key }; id = interface_i
 keeps_the_rules : IsBuilt own_names world (list_of 0)
 unfolding values_from
 keeps_the_rules = record {
-  generated = None;
-  are_generated = tt;
+  generated = record { shims = None; fixup = None };
+  are_generated = record { shims = refl; fixup = refl; room = omega arith };
   front = list_of 0;
   names = [];
   whole = refl;

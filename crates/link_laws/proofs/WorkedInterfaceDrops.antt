@@ -239,8 +239,8 @@ both_given = record { named = refl; serves = record { entries = entries; made = 
 keeps_the_rules : IsBuilt own_names world (list_of s r)
 unfolding values_from
 keeps_the_rules = record {
-  generated = None;
-  are_generated = tt;
+  generated = record { shims = None; fixup = None };
+  are_generated = record { shims = refl; fixup = refl; room = omega arith };
   front = list_of s r;
   names = [];
   whole = refl;

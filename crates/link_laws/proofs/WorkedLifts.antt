@@ -261,8 +261,8 @@ g_required = record {
 
 keeps_the_rules : IsBuilt own_names world (lifting right_options)
 keeps_the_rules = record {
-  generated = None;
-  are_generated = tt;
+  generated = record { shims = None; fixup = None };
+  are_generated = record { shims = refl; fixup = refl; room = omega arith };
   front = lifting right_options;
   names = [];
   whole = refl;

@@ -188,8 +188,8 @@ exported = record { required = record { of = Main; key = key }; id = interface_i
 
 keeps_the_rules : IsBuilt own_names world straight
 keeps_the_rules = record {
-  generated = None;
-  are_generated = tt;
+  generated = record { shims = None; fixup = None };
+  are_generated = record { shims = refl; fixup = refl; room = omega arith };
   front = straight;
   names = [];
   whole = refl;

@@ -201,8 +201,8 @@ f_offered = record { named = refl; serves = record { entries = record { name = f
 keeps_the_rules : IsBuilt own_names world (list_of [] 1)
 unfolding inventory values_from
 keeps_the_rules = record {
-  generated = None;
-  are_generated = tt;
+  generated = record { shims = None; fixup = None };
+  are_generated = record { shims = refl; fixup = refl; room = omega arith };
   front = list_of [] 1;
   names = [];
   whole = refl;

@@ -234,7 +234,7 @@ pub shims_made : sections_of_shims None (shims_of world) false ≡ shim_module
 unfolding values_from digits
 shims_made = refl
 
-pub fixup_made : sections_of_fixup (shims_of world) false ≡ fixup_module
+pub fixup_made : sections_of_fixup (shims_of world) None false ≡ fixup_module
 unfolding values_from digits
 fixup_made = refl
 
@@ -244,10 +244,13 @@ generated = record { shims = Some shim_module; fixup = Some fixup_module }
 abbrev fixup_bytes : List ℕ
 fixup_bytes = (encoding_of fixup_module).bytes
 
-abbrev bytes : GeneratedBytes
-bytes = record { shims = (encoding_of shim_module).bytes; fixup = Some fixup_bytes }
+abbrev shims_bytes : List ℕ
+shims_bytes = (encoding_of shim_module).bytes
 
-shims_encoded : Encodes bytes.shims shim_module
+abbrev bytes : GeneratedBytes
+bytes = record { shims = Some shims_bytes; fixup = Some fixup_bytes }
+
+shims_encoded : Encodes shims_bytes shim_module
 unfolding leb128 signed_within
 shims_encoded = (all_below (encoding_of shim_module).counts refl, refl)
 
@@ -257,7 +260,7 @@ fixup_encoded = (all_below (encoding_of fixup_module).counts refl, refl)
 
 unfoldable are_generated : AreGenerated world false bytes
 unfolding values_from digits
-are_generated = record { shims = shims_encoded; fixup = (fixup_encoded, λ e. cc); any = λ e. cc; room = omega arith }
+are_generated = record { shims = (shims_encoded, refl); fixup = (fixup_encoded, refl); room = omega arith }
 
 -- ---- a list for it, where the resource is defined with this destructor
 
@@ -278,7 +281,7 @@ abbrev list_with : Option ℕ → List Def
 list_with destructor =
     map defs.Item (
     items.CoreModule core
-    ∷ items.CoreModule bytes.shims
+    ∷ items.CoreModule shims_bytes
     ∷ items.CoreInstantiate 1 []
     ∷ items.Alias (aliases.CoreExport kinds.Func 0 zero_text)
     ∷ items.Type (types.Resource destructor)
@@ -378,7 +381,7 @@ d_filled = record {
 }
 
 fixup_right : InstantiatesFixup world (ds 9) 2 fixup_arguments
-fixup_right = record { numbered = refl; scoped = omega arith; any = λ e. cc; last = refl; actual = 2; shims = 0; given = refl; of_shims = shims_are 9 refl; fills = d_filled }
+fixup_right = record { numbered = refl; scoped = omega arith; any = refl; last = refl; given = (record { named = refl; serves = d_filled }, (record { named = refl; serves = shims_are 9 refl }, tt)) }
 
 -- what the nested component imports is the resource
 abbrev own_resource : List ℕ → TypeTree
@@ -432,7 +435,7 @@ exported = record { required = record { of = Main; key = key }; id = interface_i
 
 keeps_the_rules : IsBuilt own_names world straight
 keeps_the_rules = record {
-  generated = Some bytes;
+  generated = bytes;
   are_generated = are_generated;
   front = straight;
   names = [];
@@ -442,7 +445,7 @@ keeps_the_rules = record {
     (
       tt,
       (
-        inr (inl (record { numbered = refl; scoped = omega arith; first = refl; closed = refl })),
+        inr (inl (record { numbered = refl; any = refl; scoped = omega arith; first = refl; closed = refl })),
         (
           inr (inl shim_aliased),
           (

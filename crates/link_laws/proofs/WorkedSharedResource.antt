@@ -292,8 +292,8 @@ from_u_given = record { named = refl; serves = record { entries = one_function f
 keeps_the_rules : IsBuilt own_names world (list_of shared)
 unfolding inventory values_from
 keeps_the_rules = record {
-  generated = None;
-  are_generated = tt;
+  generated = record { shims = None; fixup = None };
+  are_generated = record { shims = refl; fixup = refl; room = omega arith };
   front = list_of shared;
   names = [];
   whole = refl;

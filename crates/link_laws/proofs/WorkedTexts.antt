@@ -166,7 +166,7 @@ shims_made : sections_of_shims None (only_shim ∷ []) false ≡ table_shim
 unfolding digits
 shims_made = refl
 
-fixup_made : sections_of_fixup (only_shim ∷ []) false ≡ table_fixup
+fixup_made : sections_of_fixup (only_shim ∷ []) None false ≡ table_fixup
 fixup_made = refl
 
 abbrev pub generated : GeneratedModules
@@ -181,10 +181,13 @@ all_below (n ∷ ns) h =
 abbrev pub fixup_bytes : List ℕ
 fixup_bytes = (encoding_of table_fixup).bytes
 
-abbrev pub bytes : GeneratedBytes
-bytes = record { shims = (encoding_of table_shim).bytes; fixup = Some fixup_bytes }
+abbrev pub shims_bytes : List ℕ
+shims_bytes = (encoding_of table_shim).bytes
 
-pub shims_encoded : Encodes bytes.shims table_shim
+abbrev pub bytes : GeneratedBytes
+bytes = record { shims = Some shims_bytes; fixup = Some fixup_bytes }
+
+pub shims_encoded : Encodes shims_bytes table_shim
 unfolding leb128 signed_within
 shims_encoded = (all_below (encoding_of table_shim).counts refl, refl)
 
@@ -194,7 +197,7 @@ fixup_encoded = (all_below (encoding_of table_fixup).counts refl, refl)
 
 unfoldable pub are_generated : AreGenerated world false bytes
 unfolding values_from digits
-are_generated = record { shims = shims_encoded; fixup = (fixup_encoded, λ e. cc); any = λ e. cc; room = omega arith }
+are_generated = record { shims = (shims_encoded, refl); fixup = (fixup_encoded, refl); room = omega arith }
 
 -- ---- a list for it, where the lowering has these options
 
@@ -206,7 +209,7 @@ lowering options = map defs.Item (
     items.Type (types.Func text_type)
     ∷ items.Import (plain f) (descriptions.Func 0)
     ∷ items.CoreModule core
-    ∷ items.CoreModule bytes.shims
+    ∷ items.CoreModule shims_bytes
     ∷ items.CoreInstantiate 1 []
     ∷ items.Alias (aliases.CoreExport kinds.Func 0 zero_text)
     ∷ items.CoreExports (record { name = f; kind = kinds.Func; index = 0 } ∷ [])

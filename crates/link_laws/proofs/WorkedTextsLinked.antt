@@ -144,11 +144,11 @@ f_filled = record {
 }
 
 fixup_right : InstantiatesFixup world (ds 12) 2 (record { name = actual; instance = 3 } ∷ record { name = shim; instance = 0 } ∷ [])
-fixup_right = record { numbered = refl; scoped = omega arith; any = λ e. cc; last = refl; actual = 3; shims = 0; given = refl; of_shims = shims_made 12 refl; fills = f_filled }
+fixup_right = record { numbered = refl; scoped = omega arith; any = refl; last = refl; given = (record { named = refl; serves = f_filled }, (record { named = refl; serves = shims_made 12 refl }, tt)) }
 
 keeps_the_rules : IsBuilt own_names world (lowering right_options)
 keeps_the_rules = record {
-  generated = Some bytes;
+  generated = bytes;
   are_generated = are_generated;
   front = lowering right_options;
   names = [];
@@ -162,7 +162,7 @@ keeps_the_rules = record {
         (
           tt,
           (
-            inr (inl (record { numbered = refl; scoped = omega arith; first = refl; closed = refl })),
+            inr (inl (record { numbered = refl; any = refl; scoped = omega arith; first = refl; closed = refl })),
             (
               inr (inl shim_aliased),
               (
@@ -291,18 +291,14 @@ fills_only_these options fills =
     let each : AllZip (IsFillFor world (before_fixup options)) fills.entries (only_shim ∷ []) = subst (AllZip (IsFillFor world (before_fixup options)) fills.entries) one_shim fills.each in
     filled_with options (subst (λ es. AllZip (IsFillFor world (before_fixup options)) es (only_shim ∷ [])) (sym entries) each).0
 
--- the instance of the first argument
-abbrev first_instance : List CoreArgument → ℕ
-first_instance [] = 0
-first_instance (a ∷ rest) = a.instance
-
 pub only_these_options : (options : List CanonicalOption) → IsBuilt own_names world (lowering options) → options ≡ right_options
+unfolding values_from digits
 only_these_options options built = by built.right.1.1.1.1.1.1.1.1.1.1.1.1.0
   where
     by : InstantiatesModule world (before_fixup options) 2 fixup_arguments → options ≡ right_options
     by (inl user) = absurd (none-some user.of user.listed)
     by (inr (inl shims)) = let same : 2 ≡ 1 = shims.numbered in absurd (omega (arith, same))
-    by (inr (inr fixup)) = let at_3 : 3 ≡ fixup.actual = ap first_instance fixup.given in fills_only_these options (subst (AreFillsFor world (before_fixup options)) (sym at_3) fixup.fills)
+    by (inr (inr fixup)) = fills_only_these options fixup.given.0.serves
 
 -- without the memory, or with another encoding
 abbrev has_memory : List CanonicalOption → Bool

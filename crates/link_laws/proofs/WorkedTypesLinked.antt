@@ -140,9 +140,10 @@ g_required = record {
 }
 
 keeps_the_rules : IsBuilt own_names world (typed_list 4)
+unfolding values_from
 keeps_the_rules = record {
-  generated = None;
-  are_generated = tt;
+  generated = record { shims = None; fixup = None };
+  are_generated = record { shims = refl; fixup = refl; room = omega arith };
   front = typed_list 4;
   names = [];
   whole = refl;

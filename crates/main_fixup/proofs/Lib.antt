@@ -5,3 +5,4 @@ pub mod Lowering
 pub mod Behind
 pub mod Filled
 pub mod Instantiating
+pub mod EachArgument

@@ -1,6 +1,7 @@
 -- What is behind shims, and what that needs (Canonical ABI: `canon lower`; component model, explainer: core instances, the
 -- destructor of a resource type).
-use Rattle.std.specs.Prelude.{◌≡◌, ℕ, List, Option, Some, None, true, map, Contains, IsTrue}
+use Rattle.std.specs.Prelude.{◌≡◌, ℕ, List, [], Option, Some, None, true, map, Contains, IsTrue}
+use Rattle.std.specs.List.{AllByRecursion}
 use Rattle.std.specs.Option.{option_map}
 use Rattle.standard_kinds.specs.declared.kinds.StringEncoding.{StringEncoding}
 use Rattle.comp_bytes.specs.declared.def.Def.{Def}
@@ -17,15 +18,22 @@ use Rattle.comp_worlds.specs.declared.world.ComponentWorld.{ComponentWorld}
 use Rattle.comp_links.specs.Links.{link_of, lower_options, lower_realloc}
 use Rattle.comp_links.specs.Lists.{IsOriginOf}
 use Rattle.comp_links.specs.Roles.{is_used, is_used_of, import_encoding}
-use Rattle.comp_links.specs.Modules.{IsModule, UserImport}
+use Rattle.comp_links.specs.Modules.{IsModule, UserImport, user_imports}
 use Rattle.comp_links.specs.Targets.{UserModule as User, ExportRef, WorldFunction, OfRoot, OfInterface, Lowered}
 use Rattle.shim_plan.specs.declared.shims.Shim.{Shim}
-use Rattle.comp_terms.specs.Generated.{interface_imported, Purpose, target_of, HasPurpose}
+use Rattle.fixup_modules.specs.declared.instances.ImportedInstance.{ImportedInstance}
+use Rattle.fixup_modules.specs.declared.instances.ImportedInstance.TheVariants as from
+use Rattle.world_shims.specs.WorldShims.{shims_of}
+use Rattle.comp_terms.specs.Generated.{shims_number, interface_imported, Purpose, target_of, HasPurpose}
 use Rattle.comp_terms.specs.Planned.{IsTypeOf, IsItemFor}
+use Rattle.comp_terms.specs.Rules.{Grows}
 use Rattle.comp_terms.specs.Terms.{IsImportedFunction, IsInstanceOf}
 use Rattle.wit_types.specs.declared.maps.TypeEncodingMaps.{TypeEncodingMaps}
+use Rattle.root_imports.specs.declared.root_scope.RootScope.{RootScope}
 use Rattle.root_imports.specs.RootScopes.{AreTablesRight, ArePassed}
 use Rattle.root_imports.specs.Imports.{FindsImports, FindsUsed}
+use Rattle.core_options.specs.declared.fault.StateFault.{StateFault}
+use Rattle.core_options.specs.Causes.{IsCauseAmong}
 use Rattle.core_options.specs.MainOptions.{IsFunctionOf, AreUserInstances, OffersFunction, HasLowerOptions}
 use Rattle.shim_targets.specs.ShimTargets.{StandsFor}
 use Rattle.main_fixup.specs.declared.sources.FillSources.{FillSources}
@@ -38,6 +46,18 @@ pub record AreFillSources (w : ComponentWorld) (s : FillSources) (met : MetTypes
   pub users : AreUserInstances w ds s.instances.now
   pub tables : AreTablesRight w met instances ds maps
   pub passed : ArePassed w met
+
+-- the same, of what a component has at its root so far
+abbrev pub HasFillSources : RootScope ComponentWorld → FillSources → Type 0
+HasFillSources root s = AreFillSources root.world.now s root.met root.items.defs root.maps root.instances
+
+-- definitions were added that are no landmarks
+abbrev pub GrowsInside : RootScope ComponentWorld → RootScope ComponentWorld → Type 0
+GrowsInside old new = Grows old.world.now old.items.defs new.items.defs []
+
+-- why what is behind the shims can't be made: what the imports of the user modules need is not there
+abbrev pub IsFillCause : RootScope ComponentWorld → StateFault → Type 0
+IsFillCause root = IsCauseAmong root.world.now (user_imports root.world.now) []
 
 -- for each import that a shim stands for, main has the memory, and there is the realloc, that its call needs
 abbrev pub HasShimOptions : ComponentWorld → Shim → Type 0
@@ -107,3 +127,22 @@ pub record ServesShim (w : ComponentWorld) (ds : List Def) (s : Shim) (index : �
   pub purpose : Purpose
   pub stands_for : HasPurpose w s purpose
   pub serves : IsItemFor w ds spaces.CoreFunc index (target_of w purpose)
+
+-- ---- the arguments of the fixup
+
+-- the instance of the module of shims is there
+abbrev pub IsShimsAt : ComponentWorld → List Def → Option ℕ → Type 0
+IsShimsAt w ds None = ⊥
+IsShimsAt w ds (Some instance) = IsInstanceOf ds instance (shims_number w)
+
+-- what the fixup imports from is there, or is made for it
+abbrev pub IsSourceThere : ComponentWorld → List Def → Option ℕ → ImportedInstance → Type 0
+IsSourceThere w ds shim_instance from.Actual = Unit {0}
+IsSourceThere w ds shim_instance from.Main = Unit {0}
+IsSourceThere w ds shim_instance from.Shim = IsShimsAt w ds shim_instance
+IsSourceThere w ds shim_instance (from.Adapter name) = ⊥
+
+-- and where that is what the shims stand for, each has what it needs
+abbrev pub HasSourceOptions : ComponentWorld → ImportedInstance → Type 0
+HasSourceOptions w from.Actual = AllByRecursion (HasShimOptions w) (shims_of w)
+HasSourceOptions w source = Unit {0}

@@ -2,13 +2,12 @@
 //! adapter is called for.
 #![tactic(auto, using(comp_items::proofs::Extending::extends_none, comp_items::proofs::Extending::extends_same, comp_items::proofs::Extending::extends_then))]
 
-ghost use Rattle.std.specs.Prelude.{◌≡◌, [], IfOk, IfErr, OnOk};
+ghost use Rattle.std.specs.Prelude.{◌≡◌, IfOk, IfErr, OnOk};
 ghost use Rattle.comp_items.specs.Items.{Extends};
 ghost use Rattle.comp_links.specs.Links.{export_of, module_of};
 ghost use Rattle.comp_links.specs.Targets.{Adapter};
-ghost use Rattle.comp_terms.specs.Rules.{Grows};
 ghost use Rattle.core_options.specs.MainOptions.{IsAliasOf, user_of};
-ghost use Rattle.main_fixup.specs.Filling.{AreFillSources, IsExportAt, OffersExport};
+ghost use Rattle.main_fixup.specs.Filling.{IsExportAt, OffersExport, HasFillSources, GrowsInside};
 ghost use Rattle.root_imports.specs.RootScopes.{IsRefusal};
 
 use crate::modules::{custom_module, instance_of_adapter, instance_of_module};
@@ -30,7 +29,7 @@ fn export_at(
     requires made { IsExportAt root.old.world.now root.old.items.defs instance (export_of (user_of of) name.now) }
     ensures same { root.new ≡ record root.old { items = root.new.items } }
     ensures extends { Extends root.old.items root.new.items }
-    ensures grows { OnOk result (Grows root.old.world.now root.old.items.defs root.new.items.defs []) }
+    ensures grows { OnOk result (GrowsInside root.old root.new) }
     ensures alias { IfOk result (λ index. IsAliasOf root.old.world.now root.new.items.defs index (export_of (user_of of.entry) name.now)) }
     ensures cause { IfErr result IsRefusal }
 {
@@ -50,11 +49,11 @@ pub(crate) fn export_of_module(
     which: &MainOrAdapter,
     name: &Text,
 ) -> Result<u32, BuildFault>
-    requires sources { AreFillSources root.old.world.now sources.now root.old.met root.old.items.defs root.old.maps root.old.instances }
+    requires sources { HasFillSources root.old sources.now }
     requires offered { OffersExport root.old.world.now (export_of (module_of which.now) name.now) }
     ensures same { root.new ≡ record root.old { items = root.new.items } }
     ensures extends { Extends root.old.items root.new.items }
-    ensures grows { OnOk result (Grows root.old.world.now root.old.items.defs root.new.items.defs []) }
+    ensures grows { OnOk result (GrowsInside root.old root.new) }
     ensures alias { IfOk result (λ index. IsAliasOf root.old.world.now root.new.items.defs index (export_of (module_of which.now) name.now)) }
     ensures cause { IfErr result IsRefusal }
 {
@@ -71,11 +70,11 @@ pub(crate) fn export_of_adapter(
     adapter: &Text,
     name: &Text,
 ) -> Result<u32, BuildFault>
-    requires sources { AreFillSources root.old.world.now sources.now root.old.met root.old.items.defs root.old.maps root.old.instances }
+    requires sources { HasFillSources root.old sources.now }
     requires offered { OffersExport root.old.world.now (export_of (Adapter adapter.now) name.now) }
     ensures same { root.new ≡ record root.old { items = root.new.items } }
     ensures extends { Extends root.old.items root.new.items }
-    ensures grows { OnOk result (Grows root.old.world.now root.old.items.defs root.new.items.defs []) }
+    ensures grows { OnOk result (GrowsInside root.old root.new) }
     ensures alias { IfOk result (λ index. IsAliasOf root.old.world.now root.new.items.defs index (export_of (Adapter adapter.now) name.now)) }
     ensures cause { IfErr result IsRefusal }
 {

@@ -1,14 +1,11 @@
 //! The inline instance that has what each shim stands for.
 #![tactic(auto, using(comp_items::proofs::Extending::extends_none, comp_items::proofs::Extending::extends_same, comp_items::proofs::Extending::extends_then))]
 
-ghost use Rattle.std.specs.Prelude.{◌≡◌, ◌<◌, ◌^◌, [], length, IfOk, IfErr, OnOk};
+ghost use Rattle.std.specs.Prelude.{◌≡◌, ◌<◌, ◌^◌, length, IfOk, IfErr, OnOk};
 ghost use Rattle.std.specs.List.{AllByRecursion, AllZip};
 ghost use Rattle.comp_items.specs.Items.{Extends};
-ghost use Rattle.comp_links.specs.Modules.{user_imports};
 ghost use Rattle.comp_terms.specs.Planned.{IsFillFor, AreFillsFor};
-ghost use Rattle.comp_terms.specs.Rules.{Grows};
-ghost use Rattle.core_options.specs.Causes.{IsCauseAmong};
-ghost use Rattle.main_fixup.specs.Filling.{AreFillSources, HasShimOptions};
+ghost use Rattle.main_fixup.specs.Filling.{HasShimOptions, HasFillSources, GrowsInside, IsFillCause};
 ghost use Rattle.shim_targets.specs.ShimTargets.{StandsForOne};
 ghost use Rattle.world_shims.specs.WorldShims.{shims_of};
 
@@ -28,14 +25,14 @@ fn fill(
     sources: &FillSources<'_>,
     shim: &Shim,
 ) -> Result<CoreInlineExport, StateFault>
-    requires sources { AreFillSources root.old.world.now sources.now root.old.met root.old.items.defs root.old.maps root.old.instances }
+    requires sources { HasFillSources root.old sources.now }
     requires stands { StandsForOne root.old.world.now shim.now }
     ensures same { root.new ≡ record root.old { items = root.new.items } }
     ensures extends { Extends root.old.items root.new.items }
-    ensures grows { OnOk result (Grows root.old.world.now root.old.items.defs root.new.items.defs []) }
+    ensures grows { OnOk result (GrowsInside root.old root.new) }
     ensures fills { IfOk result (λ entry. IsFillFor root.old.world.now root.new.items.defs entry shim.now) }
     ensures offered { OnOk result (HasShimOptions root.old.world.now shim.now) }
-    ensures cause { IfErr result (IsCauseAmong root.old.world.now (user_imports root.old.world.now) []) }
+    ensures cause { IfErr result (IsFillCause root.old) }
 {
     let name = shim.name.clone(root.items.allocator())?;
     let index = function_behind(root, sources, shim)?;
@@ -52,15 +49,15 @@ fn fills(
     sources: &FillSources<'_>,
     shims: &Shims,
 ) -> Result<Seq<CoreInlineExport>, StateFault>
-    requires sources { AreFillSources root.old.world.now sources.now root.old.met root.old.items.defs root.old.maps root.old.instances }
+    requires sources { HasFillSources root.old sources.now }
     requires shims { shims.now ≡ shims_of root.old.world.now }
     ensures same { root.new ≡ record root.old { items = root.new.items } }
     ensures extends { Extends root.old.items root.new.items }
-    ensures grows { OnOk result (Grows root.old.world.now root.old.items.defs root.new.items.defs []) }
+    ensures grows { OnOk result (GrowsInside root.old root.new) }
     ensures fills { IfOk result (λ entries. AllZip (IsFillFor root.old.world.now root.new.items.defs) entries (shims_of root.old.world.now)) }
     ensures offered { OnOk result (AllByRecursion (HasShimOptions root.old.world.now) (shims_of root.old.world.now)) }
     ensures few { OnOk result (length (shims_of root.old.world.now) < 2 ^ 64) }
-    ensures cause { IfErr result (IsCauseAmong root.old.world.now (user_imports root.old.world.now) []) }
+    ensures cause { IfErr result (IsFillCause root.old) }
 {
     let mut entries = Seq::from_vec(Vec::with_capacity(root.items.allocator(), shims.len())?);
     for shim in shims.iter() {
@@ -76,14 +73,14 @@ pub(crate) fn actual_instance(
     sources: &FillSources<'_>,
     shims: &Shims,
 ) -> Result<u32, StateFault>
-    requires sources { AreFillSources root.old.world.now sources.now root.old.met root.old.items.defs root.old.maps root.old.instances }
+    requires sources { HasFillSources root.old sources.now }
     requires shims { shims.now ≡ shims_of root.old.world.now }
     ensures same { root.new ≡ record root.old { items = root.new.items } }
     ensures extends { Extends root.old.items root.new.items }
-    ensures grows { OnOk result (Grows root.old.world.now root.old.items.defs root.new.items.defs []) }
+    ensures grows { OnOk result (GrowsInside root.old root.new) }
     ensures fills { IfOk result (AreFillsFor root.old.world.now root.new.items.defs) }
     ensures offered { OnOk result (AllByRecursion (HasShimOptions root.old.world.now) (shims_of root.old.world.now)) }
-    ensures cause { IfErr result (IsCauseAmong root.old.world.now (user_imports root.old.world.now) []) }
+    ensures cause { IfErr result (IsFillCause root.old) }
 {
     let entries = fills(root, sources, shims)?;
     let instance = root.items.inline_instance(Some("actual"), entries)?;

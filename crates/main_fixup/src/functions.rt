@@ -1,15 +1,14 @@
 //! The function of the world that a shim stands for.
 #![tactic(auto, using(comp_items::proofs::Extending::extends_none, comp_items::proofs::Extending::extends_same, comp_items::proofs::Extending::extends_then))]
 
-ghost use Rattle.std.specs.Prelude.{◌≡◌, [], Some, IfOk, IfErr, OnOk, IsSome, IsTrue};
+ghost use Rattle.std.specs.Prelude.{◌≡◌, Some, IfOk, IfErr, OnOk, IsSome, IsTrue};
 ghost use Rattle.std.specs.Option.{option_copied, option_and_then};
 ghost use Rattle.comp_items.specs.Items.{Extends};
 ghost use Rattle.comp_links.specs.Roles.{is_used};
 ghost use Rattle.comp_links.specs.Targets.{OfRoot, OfInterface};
 ghost use Rattle.comp_terms.specs.Generated.{interface_in, interface_imported};
-ghost use Rattle.comp_terms.specs.Rules.{Grows};
 ghost use Rattle.comp_worlds.specs.Encodable.{IsEncodable};
-ghost use Rattle.main_fixup.specs.Filling.{AreFillSources, IsUsedOfInterface, IsUsedAt, IsFunctionAt};
+ghost use Rattle.main_fixup.specs.Filling.{IsUsedOfInterface, IsUsedAt, IsFunctionAt, HasFillSources, GrowsInside};
 ghost use Rattle.core_options.specs.MainOptions.{IsFunctionOf};
 ghost use Rattle.root_imports.specs.RootScopes.{IsRefusal};
 
@@ -47,7 +46,7 @@ fn root_function(
     sources: &FillSources<'_>,
     name: &Text,
 ) -> u32
-    requires sources { AreFillSources root.now.world.now sources.now root.now.met root.now.items.defs root.now.maps root.now.instances }
+    requires sources { HasFillSources root.now sources.now }
     requires used { IsTrue (is_used root.now.world.now name.now) }
     ensures { IsFunctionOf root.now.world.now root.now.items.defs result (OfRoot name.now) }
 {
@@ -61,11 +60,11 @@ fn interface_function(
     interface: InterfaceId,
     name: &Text,
 ) -> Result<u32, BuildFault>
-    requires sources { AreFillSources root.old.world.now sources.now root.old.met root.old.items.defs root.old.maps root.old.instances }
+    requires sources { HasFillSources root.old sources.now }
     requires used { IsUsedOfInterface root.old.world.now interface name.now }
     ensures same { root.new ≡ record root.old { items = root.new.items } }
     ensures extends { Extends root.old.items root.new.items }
-    ensures grows { OnOk result (Grows root.old.world.now root.old.items.defs root.new.items.defs []) }
+    ensures grows { OnOk result (GrowsInside root.old root.new) }
     ensures function { IfOk result (λ index. IsFunctionOf root.old.world.now root.new.items.defs index (OfInterface interface name.now)) }
     ensures cause { IfErr result IsRefusal }
 {
@@ -82,11 +81,11 @@ pub(crate) fn imported_function(
     interface: &Option<WorldKey>,
     name: &Text,
 ) -> Result<u32, BuildFault>
-    requires sources { AreFillSources root.old.world.now sources.now root.old.met root.old.items.defs root.old.maps root.old.instances }
+    requires sources { HasFillSources root.old sources.now }
     requires used { IsUsedAt root.old.world.now interface.now name.now }
     ensures same { root.new ≡ record root.old { items = root.new.items } }
     ensures extends { Extends root.old.items root.new.items }
-    ensures grows { OnOk result (Grows root.old.world.now root.old.items.defs root.new.items.defs []) }
+    ensures grows { OnOk result (GrowsInside root.old root.new) }
     ensures function { IfOk result (IsFunctionAt root.old.world.now root.new.items.defs interface.now name.now) }
     ensures cause { IfErr result IsRefusal }
 {

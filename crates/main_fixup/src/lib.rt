@@ -9,9 +9,11 @@
 //!
 //! In reading order: `sources` (what is given), `modules` (user modules, as shims name them), `functions` (the function of the world
 //! that a shim stands for), `exports` (an alias of what a user module exports), `lowerings` (a lowering, and what is behind a shim of
-//! any kind), `fills` (the inline instance with all of them), `fixup` (the module and its instance).
+//! any kind), `fills` (the inline instance with all of them), `arguments` (what the fixup is given), `fixup` (the module and its
+//! instance).
 #![tactic(auto)]
 
+mod arguments;
 mod exports;
 mod fills;
 mod fixup;

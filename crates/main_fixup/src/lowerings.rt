@@ -1,17 +1,14 @@
 //! The core function behind a shim.
 #![tactic(auto, using(comp_items::proofs::Extending::extends_none, comp_items::proofs::Extending::extends_same, comp_items::proofs::Extending::extends_then))]
 
-ghost use Rattle.std.specs.Prelude.{◌≡◌, [], Some, IfOk, IfErr, OnOk};
+ghost use Rattle.std.specs.Prelude.{◌≡◌, Some, IfOk, IfErr, OnOk};
 ghost use Rattle.std.specs.Option.{option_map};
 ghost use Rattle.comp_items.specs.Items.{Extends};
 ghost use Rattle.comp_links.specs.Links.{export_of, module_of};
-ghost use Rattle.comp_links.specs.Modules.{user_imports};
 ghost use Rattle.comp_terms.specs.Generated.{export_of_kind};
-ghost use Rattle.comp_terms.specs.Rules.{Grows};
 ghost use Rattle.comp_worlds.specs.Encodable.{IsEncodable};
-ghost use Rattle.core_options.specs.Causes.{IsCauseAmong};
 ghost use Rattle.core_options.specs.MainOptions.{AreOptionSources, export_ref_of};
-ghost use Rattle.main_fixup.specs.Filling.{AreFillSources, HasShimOptions, IsBehind, ServesShim};
+ghost use Rattle.main_fixup.specs.Filling.{HasShimOptions, IsBehind, ServesShim, HasFillSources, GrowsInside, IsFillCause};
 ghost use Rattle.shim_targets.specs.ShimTargets.{StandsForOne};
 
 use crate::exports::{export_of_adapter, export_of_module};
@@ -41,10 +38,10 @@ fn lower_function(
     requires behind { IsBehind root.old.world.now root.old.items.defs shim.now encoding (option_map export_ref_of sources.now.realloc) function }
     ensures same { root.new ≡ record root.old { items = root.new.items } }
     ensures extends { Extends root.old.items root.new.items }
-    ensures grows { OnOk result (Grows root.old.world.now root.old.items.defs root.new.items.defs []) }
+    ensures grows { OnOk result (GrowsInside root.old root.new) }
     ensures serves { IfOk result (ServesShim root.old.world.now root.new.items.defs shim.now) }
     ensures offered { OnOk result (HasShimOptions root.old.world.now shim.now) }
-    ensures cause { IfErr result (IsCauseAmong root.old.world.now (user_imports root.old.world.now) []) }
+    ensures cause { IfErr result (IsFillCause root.old) }
 {
     let name = shim.debug_name.as_str();
     let options = options_for(root, sources, &shim.debug_name, shim.options, encoding)?;
@@ -60,15 +57,15 @@ fn export_behind(
     which: &MainOrAdapter,
     export: &Text,
 ) -> Result<u32, StateFault>
-    requires sources { AreFillSources root.old.world.now sources.now root.old.met root.old.items.defs root.old.maps root.old.instances }
+    requires sources { HasFillSources root.old sources.now }
     requires stands { StandsForOne root.old.world.now shim.now }
     requires kind { export_of_kind shim.now.kind ≡ Some (export_of (module_of which.now) export.now) }
     ensures same { root.new ≡ record root.old { items = root.new.items } }
     ensures extends { Extends root.old.items root.new.items }
-    ensures grows { OnOk result (Grows root.old.world.now root.old.items.defs root.new.items.defs []) }
+    ensures grows { OnOk result (GrowsInside root.old root.new) }
     ensures serves { IfOk result (ServesShim root.old.world.now root.new.items.defs shim.now) }
     ensures offered { OnOk result (HasShimOptions root.old.world.now shim.now) }
-    ensures cause { IfErr result (IsCauseAmong root.old.world.now (user_imports root.old.world.now) []) }
+    ensures cause { IfErr result (IsFillCause root.old) }
 {
     let aliased = export_of_module(root, sources, which, export)?;
     Ok(aliased)
@@ -84,14 +81,14 @@ pub(crate) fn function_behind(
     sources: &FillSources<'_>,
     shim: &Shim,
 ) -> Result<u32, StateFault>
-    requires sources { AreFillSources root.old.world.now sources.now root.old.met root.old.items.defs root.old.maps root.old.instances }
+    requires sources { HasFillSources root.old sources.now }
     requires stands { StandsForOne root.old.world.now shim.now }
     ensures same { root.new ≡ record root.old { items = root.new.items } }
     ensures extends { Extends root.old.items root.new.items }
-    ensures grows { OnOk result (Grows root.old.world.now root.old.items.defs root.new.items.defs []) }
+    ensures grows { OnOk result (GrowsInside root.old root.new) }
     ensures serves { IfOk result (ServesShim root.old.world.now root.new.items.defs shim.now) }
     ensures offered { OnOk result (HasShimOptions root.old.world.now shim.now) }
-    ensures cause { IfErr result (IsCauseAmong root.old.world.now (user_imports root.old.world.now) []) }
+    ensures cause { IfErr result (IsFillCause root.old) }
 {
     match &shim.kind {
         ShimKind::IndirectLowering {

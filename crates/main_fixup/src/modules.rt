@@ -7,7 +7,7 @@ ghost use Rattle.comp_links.specs.Modules.{IsModule, module_found};
 ghost use Rattle.comp_links.specs.Targets.{Adapter};
 ghost use Rattle.comp_terms.specs.Terms.{IsInstanceOf};
 ghost use Rattle.core_options.specs.MainOptions.{IsInstanceExport, AreOptionSources, export_ref_of, user_of};
-ghost use Rattle.main_fixup.specs.Filling.{AreFillSources, IsUserNamed};
+ghost use Rattle.main_fixup.specs.Filling.{IsUserNamed, HasFillSources};
 
 use crate::sources::FillSources;
 use comp_lists::Text;
@@ -43,7 +43,7 @@ pub(crate) fn instance_of_adapter(
     sources: &FillSources<'_>,
     name: &Text,
 ) -> u32
-    requires sources { AreFillSources root.now.world.now sources.now root.now.met root.now.items.defs root.now.maps root.now.instances }
+    requires sources { HasFillSources root.now sources.now }
     requires named { IsUserNamed root.now.world.now (Adapter name.now) }
     ensures { (number : ℕ) → IsModule root.now.world.now number (Adapter name.now) → IsInstanceOf root.now.items.defs result number }
 {
@@ -56,7 +56,7 @@ pub(crate) fn instance_of_module(
     sources: &FillSources<'_>,
     which: &MainOrAdapter,
 ) -> u32
-    requires sources { AreFillSources root.now.world.now sources.now root.now.met root.now.items.defs root.now.maps root.now.instances }
+    requires sources { HasFillSources root.now sources.now }
     requires named { IsUserNamed root.now.world.now (module_of which.now) }
     ensures { (number : ℕ) → IsModule root.now.world.now number (module_of which.now) → IsInstanceOf root.now.items.defs result number }
 {
@@ -72,7 +72,7 @@ fn realloc_of_calls<'a>(
     sources: &FillSources<'_>,
     which: &'a MainOrAdapter,
 ) -> Option<InstanceExport<'a>>
-    requires sources { AreFillSources root.now.world.now sources.now root.now.met root.now.items.defs root.now.maps root.now.instances }
+    requires sources { HasFillSources root.now sources.now }
     requires named { IsUserNamed root.now.world.now (module_of which.now) }
     ensures same { option_map export_ref_of result ≡ lower_realloc root.now.world.now (module_of which.now) }
     ensures made { IfSome result (IsInstanceExport root.now.world.now root.now.items.defs) }
@@ -89,7 +89,7 @@ pub(crate) fn options_of_calls<'a>(
     sources: &FillSources<'a>,
     which: &'a MainOrAdapter,
 ) -> OptionSources<'a>
-    requires sources { AreFillSources root.now.world.now sources.now root.now.met root.now.items.defs root.now.maps root.now.instances }
+    requires sources { HasFillSources root.now sources.now }
     requires named { IsUserNamed root.now.world.now (module_of which.now) }
     ensures options { AreOptionSources root.now.world.now root.now.items.defs result }
     ensures realloc { option_map export_ref_of result.realloc ≡ lower_realloc root.now.world.now (module_of which.now) }

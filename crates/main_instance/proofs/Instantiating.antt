@@ -1,5 +1,5 @@
 -- The module of shims and its instance keep the rules.
-use Rattle.std.proofs.Common.{◌≡◌, ◌∙◌, ◌<◌, ◌^◌, ℕ, Bool, IsSome, List, [], ◌∷◌, ◌++◌, length, ap, ap₂, sym, subst, refl, filter_map, inl, inr, Option, Some, None}
+use Rattle.std.proofs.Common.{true, ◌≡◌, ◌∙◌, ◌<◌, ◌^◌, ℕ, Bool, IsSome, List, [], ◌∷◌, ◌++◌, length, ap, ap₂, sym, subst, refl, filter_map, inl, inr, Option, Some, None}
 use Rattle.std.specs.Prelude.{codes}
 use Rattle.std.proofs.lemmas.Option.{none-some}
 use Rattle.core_bytes.specs.declared.section.Section.{Section}
@@ -21,7 +21,8 @@ use Rattle.comp_bytes.specs.declared.def.Item.TheVariants as items
 use Rattle.comp_bytes.specs.declared.space.Space.TheVariants as spaces
 use Rattle.comp_worlds.specs.Offered.{shared_memory}
 use Rattle.comp_worlds.specs.declared.world.ComponentWorld.{ComponentWorld}
-use Rattle.comp_terms.specs.Generated.{shims_number}
+use Rattle.shim_plan.specs.declared.shims.Shim.{Shim}
+use Rattle.comp_terms.specs.Generated.{has_shims_in, has_shim_module, shims_number}
 use Rattle.comp_terms.specs.Rules.{Grows, ModuleIs, InstanceOf, instance_number, landmark, landmarks, instances_in}
 use Rattle.comp_terms.specs.Terms.{IsInstanceOf}
 use Rattle.root_imports.specs.Growing.{Grows-by, Grows-may, Grows-then}
@@ -37,15 +38,24 @@ still_first : (bytes : List ℕ) (old mid : List Def) → mid ≡ old ++ defs.It
 still_first bytes old mid appended first =
     ap instances_in appended ∙ (ap (λ l. filter_map instance_number l) (filter_map-append landmark old (defs.Item (items.CoreModule bytes) ∷ [])) ∙ (filter_map-append instance_number (landmarks old) (ModuleIs bytes ∷ []) ∙ ap (λ l. l ++ []) first))
 
+-- where there are shims, or main imports its memory, there is a module of shims
+pub one_made : (w : ComponentWorld) → (shims_of w ≡ [] → IsSome (shared_memory w)) → has_shim_module w ≡ true
+one_made w memory = by (shims_of w) (shared_memory w) memory
+  where
+    by : (ss : List Shim) (o : Option MemoryType) → (ss ≡ [] → IsSome o) → has_shims_in ss o ≡ true
+    by [] None memory = let no : IsSome {T = MemoryType} None = memory refl in cc
+    by [] (Some type) memory = refl
+    by (s ∷ ss) o memory = refl
+
 pub adds_shims : (w : ComponentWorld) (debug_names : Bool) (old mid new : List Def) (bytes : List ℕ) (index instance : ℕ) →
-    Encodes bytes (sections_of_shims (shared_memory w) (shims_of w) debug_names) → length (shims_of w) < 2 ^ 32 → instances_in old ≡ [] → items_in spaces.CoreModule old ≡ shims_number w →
+    Encodes bytes (sections_of_shims (shared_memory w) (shims_of w) debug_names) → length (shims_of w) < 2 ^ 32 → has_shim_module w ≡ true → instances_in old ≡ [] → items_in spaces.CoreModule old ≡ shims_number w →
     index ≡ items_in spaces.CoreModule old → mid ≡ old ++ defs.Item (items.CoreModule bytes) ∷ [] → IsAt mid spaces.CoreModule index (defs.Item (items.CoreModule bytes)) →
     new ≡ mid ++ defs.Item (items.CoreInstantiate index []) ∷ [] → IsInstanceOf new instance index → AddsShims w debug_names old new instance
-adds_shims w debug_names old mid new bytes index instance encodes room first next is module_added at instance_added made =
+adds_shims w debug_names old mid new bytes index instance encodes room any first next is module_added at instance_added made =
     let number : index ≡ shims_number w = is ∙ next in
     let one : Grows w old mid (ModuleIs bytes ∷ []) = Grows-by (defs.Item (items.CoreModule bytes)) module_added tt in
     let two : Grows w mid new (InstanceOf index ∷ []) =
-    Grows-by (defs.Item (items.CoreInstantiate index [])) instance_added (inr (inl (record { numbered = number; scoped = in_range at; first = still_first bytes old mid module_added first; closed = refl }))) in
+    Grows-by (defs.Item (items.CoreInstantiate index [])) instance_added (inr (inl (record { numbered = number; any = any; scoped = in_range at; first = still_first bytes old mid module_added first; closed = refl }))) in
     record {
       bytes = bytes;
       encodes = encodes;

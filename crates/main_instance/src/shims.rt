@@ -1,7 +1,7 @@
 //! The module of shims, and its instance.
 #![tactic(auto, using(crate::proofs::Growth::growing))]
 
-ghost use Rattle.std.specs.Prelude.{◌≡◌, ◌<◌, ◌^◌, [], length, None, IfOk, IfErr, OnOk};
+ghost use Rattle.std.specs.Prelude.{true, ◌≡◌, ◌<◌, ◌^◌, [], length, None, IfOk, IfErr, OnOk};
 ghost use Rattle.comp_terms.specs.Rules.{Grows};
 ghost use Rattle.comp_terms.specs.Terms.{IsInstanceOf};
 ghost use Rattle.comp_worlds.specs.Encodable.{IsEncodable};
@@ -11,7 +11,7 @@ ghost use Rattle.main_instance.specs.Sources.{IsShimAlias, IsShimInstance, share
 ghost use Rattle.comp_bytes.specs.Spaces.{items_in};
 ghost use Rattle.comp_bytes.specs.declared.space.Space.TheVariants as spaces;
 ghost use Rattle.comp_items.specs.Items.{Extends};
-ghost use Rattle.comp_terms.specs.Generated.{shims_number};
+ghost use Rattle.comp_terms.specs.Generated.{has_shim_module, shims_number};
 ghost use Rattle.comp_terms.specs.Rules.{instances_in};
 ghost use Rattle.main_instance.specs.Shims.{AddsShims, MayAddShims};
 ghost use Rattle.root_imports.specs.RootScopes.{IsRefusal};
@@ -33,6 +33,7 @@ fn instantiate_shims(
 ) -> Result<u32, BuildFault>
     requires module { «module».now ≡ sections_of_shims (shared_memory root.old.world.now) (shims_of root.old.world.now) debug_names }
     requires room { length (shims_of root.old.world.now) < 2 ^ 32 }
+    requires any { has_shim_module root.old.world.now ≡ true }
     requires first { instances_in root.old.items.defs ≡ [] }
     requires next { items_in spaces.CoreModule root.old.items.defs ≡ shims_number root.old.world.now }
     ensures same { root.new ≡ record root.old { items = root.new.items } }

@@ -120,6 +120,10 @@ handling = record { params = numbers.I32 ∷ []; results = numbers.I32 ∷ []; i
 abbrev reallocating : WasmSignature
 reallocating = record { params = numbers.I32 ∷ numbers.I32 ∷ numbers.I32 ∷ numbers.I32 ∷ []; results = numbers.I32 ∷ []; indirect_params = false; retptr = false }
 
+-- an initialization takes and returns nothing
+abbrev initializing : WasmSignature
+initializing = record { params = []; results = []; indirect_params = false; retptr = false }
+
 -- equal memory types are one
 same_number : (m n : ℕ) → nat_eq m n ≡ true → m ≡ n
 same_number m n e = grind (arith, nat_tests)
@@ -218,4 +222,6 @@ module _ (r : Resolve) (present : 0 < length r.worlds) (core : CoreModule) where
   export_typed exports.GeneralPurposeExportRealloc items.Tag ty fits is = absurd (true≢false (sym fits))
   export_typed exports.ReallocForAdapter (items.Entity e) ty fits is = entity_of core e reallocating fits ∙ is
   export_typed exports.ReallocForAdapter items.Tag ty fits is = absurd (true≢false (sym fits))
+  export_typed exports.Initialize (items.Entity e) ty fits is = entity_of core e initializing fits ∙ is
+  export_typed exports.Initialize items.Tag ty fits is = absurd (true≢false (sym fits))
   export_typed role item ty fits is = absurd (none-some ty is)

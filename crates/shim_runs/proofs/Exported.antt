@@ -12,22 +12,8 @@ use Rattle.comp_bytes.specs.declared.space.Space.TheVariants as spaces
 use Rattle.comp_runs.specs.Store.{Export}
 use Rattle.comp_runs.specs.Machine.{export_named, export_in, export_of}
 use Rattle.shim_plan.specs.declared.shims.Shim.{Shim}
+use Rattle.world_shims.proofs.Digits.{same_name, other_digits}
 use Rattle.shim_runs.specs.ShimRuns.{shims_exported, table_exported, memory_name, memory_at, memory_exported, instance_exports, ShimsAreFound}
-
--- ---- names
-
-pub same_name : (name other : List ℕ) → name ≡ other → bytes_eq name other ≡ true
-same_name name other e = (bytes_eq-Decides name other).1 e
-
--- other numbers have other digits
-pub other_digits : (m n : ℕ) → m < 2 ^ 32 → n < m → bytes_eq (decimal m) (decimal n) ≡ false
-other_digits m n small below = by (bytes_eq (decimal m) (decimal n)) refl
-  where
-    by : (b : Bool) → bytes_eq (decimal m) (decimal n) ≡ b → b ≡ false
-    by false e = refl
-    by true e =
-        let same : m ≡ n = decimal_injective m n (omega arith) (omega arith) ((bytes_eq-Decides (decimal m) (decimal n)).0 e) in
-        absurd (omega (arith, same, below))
 
 -- ---- the first of a name
 

@@ -4,6 +4,7 @@ use Rattle.std.proofs.lemmas.Option.{slice_get-map, none-some}
 use Rattle.std.specs.List.{slice_get, slice_set}
 use Rattle.core_runs.specs.Store.{Store}
 use Rattle.comp_runs.specs.Store.{Export}
+use Rattle.shim_plan.specs.declared.shims.Shim.{Shim}
 use Rattle.shim_runs.specs.ShimRuns.{with_slots}
 
 set_there : {X : Type 0} (xs : List X) (k : ℕ) (old new : X) → slice_get xs k ≡ Some old → slice_get (slice_set xs k new) k ≡ Some new
@@ -18,14 +19,16 @@ set_elsewhere (x ∷ xs) zero (suc i) new other = refl
 set_elsewhere (x ∷ xs) (suc k) zero new other = refl
 set_elsewhere (x ∷ xs) (suc k) (suc i) new other = set_elsewhere xs k i new (λ e. other (ap suc e))
 
--- the table holds all functions that are given, in their order
-pub table_filled : (code : Store) (actual : List Export) (table : ℕ) (slots : List (Option ℕ)) → slice_get code.tables table ≡ Some slots → slice_get (with_slots table actual code).tables table ≡ Some (map (λ (e : Export). Some e.address) actual)
-table_filled code actual table slots there = set_there code.tables table slots (map (λ (e : Export). Some e.address) actual) there
+-- where there are shims, the table holds all functions that are given, in their order
+pub table_filled : (shims : List Shim) (code : Store) (actual : List Export) (table : ℕ) (slots : List (Option ℕ)) → (shims ≡ [] → ⊥) → slice_get code.tables table ≡ Some slots → slice_get (with_slots shims table actual code).tables table ≡ Some (map (λ (e : Export). Some e.address) actual)
+table_filled [] code actual table slots any there = absurd (any refl)
+table_filled (s ∷ ss) code actual table slots any there = set_there code.tables table slots (map (λ (e : Export). Some e.address) actual) there
 
 -- each slot has the function of its place
 pub slot_filled : (actual : List Export) (place : ℕ) (e : Export) → slice_get actual place ≡ Some e → slice_get (map (λ (x : Export). Some x.address) actual) place ≡ Some (Some e.address)
 slot_filled actual place e at = slice_get-map (λ (x : Export). Some x.address) actual place ∙ ap (λ o. option_map (λ (x : Export). Some x.address) o) at
 
 -- another table is as it was
-pub other_table : (code : Store) (actual : List Export) (table other : ℕ) → (other ≡ table → ⊥) → slice_get (with_slots table actual code).tables other ≡ slice_get code.tables other
-other_table code actual table other different = set_elsewhere code.tables table other (map (λ (e : Export). Some e.address) actual) different
+pub other_table : (shims : List Shim) (code : Store) (actual : List Export) (table other : ℕ) → (other ≡ table → ⊥) → slice_get (with_slots shims table actual code).tables other ≡ slice_get code.tables other
+other_table [] code actual table other different = refl
+other_table (s ∷ ss) code actual table other different = set_elsewhere code.tables table other (map (λ (e : Export). Some e.address) actual) different

@@ -1,4 +1,5 @@
--- What the imports of a fixup are given: the functions of `actual`, in order, and the table of the shims.
+-- What the imports of a fixup are given: the functions of `actual`, in order, the function with which main is initialized, and the table
+-- of the shims.
 use Rattle.std.proofs.Common.{◌≡◌, ◌∙◌, ◌+◌, ◌<◌, ◌≤◌, ◌^◌, ℕ, suc, List, [], ◌∷◌, ◌++◌, length, map, cond, if◌then◌else◌, Option, Some, None, option_map, codes, append_assoc, refl, sym, ap, arith}
 use Rattle.std.specs.Fmt.{decimal}
 use Rattle.std.specs.List.{AllByRecursion, AllZip}
@@ -10,24 +11,21 @@ use Rattle.comp_bytes.specs.Spaces.{is_space}
 use Rattle.comp_bytes.specs.declared.space.Space.TheVariants as spaces
 use Rattle.standard_kinds.specs.declared.kinds.ExportKind.TheVariants as kinds
 use Rattle.core_types.specs.declared.types.FuncType.{FuncType}
-use Rattle.core_bytes.specs.declared.entity.EntityType.TheVariants as entities
 use Rattle.core_bytes.specs.declared.entry.Import.{Import}
 use Rattle.core_runs.specs.Store.{Store}
-use Rattle.core_runs.specs.Bodies.{table_of_shims}
 use Rattle.core_runs.specs.Instances.{Given, FunctionAt, TableAt}
 use Rattle.interned_types.specs.Interning.{interned}
-use Rattle.fixup_modules.specs.declared.instances.ImportedInstance.TheVariants as instances
-use Rattle.fixup_modules.specs.Imports.{entry_of}
 use Rattle.fixup_modules.specs.Sections.{table_name}
 use Rattle.comp_runs.specs.Store.{Thing, Export}
 use Rattle.comp_runs.specs.Machine.{export_named, all_some}
 use Rattle.comp_runs.specs.Instances.{Arguments, argument_for, of_kind, entity_kind, external}
 use Rattle.shim_plan.specs.Plans.{AreNumbered}
 use Rattle.shim_plan.specs.declared.shims.Shim.{Shim}
-use Rattle.world_shims.specs.WorldShims.{type_of_shim}
-use Rattle.shim_runs.specs.ShimRuns.{table_exported, memory_exported, instance_exports, IsActual, fixup_arguments}
-use Rattle.shim_runs.proofs.Exported.{same_name, other_digits, behind_shims}
-use Rattle.shim_runs.proofs.FixupImports.{imports_of}
+use Rattle.world_shims.specs.WorldShims.{type_of_shim, types_with}
+use Rattle.shim_runs.specs.ShimRuns.{table_exported, memory_exported, instance_exports, IsActual, AreCalls, fixup_arguments}
+use Rattle.world_shims.proofs.Digits.{same_name, other_digits}
+use Rattle.shim_runs.proofs.Exported.{behind_shims}
+use Rattle.world_shims.proofs.FixupImports.{imports_of, call_imports, table_imports}
 
 -- ---- the table
 
@@ -69,16 +67,16 @@ of_function e h = ap (λ s. if is_space spaces.CoreFunc (Some s) then Some (reco
 abbrev pub argument_of : Arguments → Import → Option Thing
 argument_of arguments i = argument_for arguments (entity_kind i.entity) i.module_name i.field
 
-module _ (code : Store) (whole shim : List Export) where
+module _ (code : Store) (whole : List Export) (others : Arguments) where
   functions_given : (types : List FuncType) (place : ℕ) (shims : List Shim) (actual before : List Export) → AreNumbered place shims → place + length shims ≤ 2 ^ 32 → AllZip (IsActual code) shims actual → AllByRecursion (IsBefore place) before → whole ≡ before ++ actual →
-      (more : List Import) (given : List Thing) → all_some (map (argument_of ((codes "actual", whole) ∷ (codes "shim", shim) ∷ [])) more) ≡ Some given →
-      all_some (map (argument_of ((codes "actual", whole) ∷ (codes "shim", shim) ∷ [])) (imports_of types shims ++ more)) ≡ Some (map function_of actual ++ given)
+      (more : List Import) (given : List Thing) → all_some (map (argument_of ((codes "actual", whole) ∷ others)) more) ≡ Some given →
+      all_some (map (argument_of ((codes "actual", whole) ∷ others)) (imports_of types shims ++ more)) ≡ Some (map function_of actual ++ given)
   functions_given types place [] [] before numbered room each earlier is more given rest = rest
   functions_given types place [] (e ∷ es) before numbered room each earlier is more given rest = absurd each
   functions_given types place (s ∷ ss) [] before numbered room each earlier is more given rest = absurd each
   functions_given types place (s ∷ ss) (e ∷ es) before numbered room each earlier is more given rest =
-      let others = all_some (map (argument_of ((codes "actual", whole) ∷ (codes "shim", shim) ∷ [])) (imports_of (interned types (type_of_shim s)) ss ++ more)) in
-      let all : Option Thing → Option (List Thing) = λ o. all_some (o ∷ map (argument_of ((codes "actual", whole) ∷ (codes "shim", shim) ∷ [])) (imports_of (interned types (type_of_shim s)) ss ++ more)) in
+      let rest_given = all_some (map (argument_of ((codes "actual", whole) ∷ others)) (imports_of (interned types (type_of_shim s)) ss ++ more)) in
+      let all : Option Thing → Option (List Thing) = λ o. all_some (o ∷ map (argument_of ((codes "actual", whole) ∷ others)) (imports_of (interned types (type_of_shim s)) ss ++ more)) in
       let named : e.name ≡ decimal place = each.0.named ∙ numbered.0 in
       let own : IsBefore (suc place) e = record { number = place; below = omega arith; named = named } in
       ap (λ n. all (option_and_then (of_kind kinds.Func) (export_named n whole))) numbered.0
@@ -91,20 +89,54 @@ module _ (code : Store) (whole shim : List Export) where
 
 -- ---- the whole
 
-abbrev pub things_given : List Export → ℕ → List Thing
-things_given actual table = map function_of actual ++ record { space = spaces.CoreTable; address = table } ∷ []
+abbrev pub function_at : ℕ → Thing
+function_at address = record { space = spaces.CoreFunc; address = address }
 
-pub imports_given : (code : Store) (shims : List Shim) (actual : List Export) (address table : ℕ) (memory : Option ℕ) (count : ℕ) → (shims ≡ [] → ⊥) → AreNumbered 0 shims → length shims < 2 ^ 32 → AllZip (IsActual code) shims actual →
-    all_some (map (argument_of (fixup_arguments shims actual address table memory)) (imports_of [] shims ++ entry_of instances.Shim table_name (entities.Table (table_of_shims count)) ∷ [])) ≡ Some (things_given actual table)
-imports_given code shims actual address table memory count any numbered room each =
-    functions_given code actual (instance_exports shims address table memory) [] 0 shims actual [] numbered (omega arith) each tt refl
-    (entry_of instances.Shim table_name (entities.Table (table_of_shims count)) ∷ []) (record { space = spaces.CoreTable; address = table } ∷ [])
-    (ap (λ o. all_some (option_and_then (of_kind kinds.Table) o ∷ [])) (table_found shims address table memory any room))
+abbrev pub table_things : List Shim → ℕ → List Thing
+table_things [] table = []
+table_things (s ∷ ss) table = record { space = spaces.CoreTable; address = table } ∷ []
+
+abbrev pub things_given : List Shim → List Export → List ℕ → ℕ → List Thing
+things_given shims actual called table = map function_of actual ++ (map function_at called ++ table_things shims table)
+
+abbrev all_imports : List Shim → Option (List ℕ) → List Import
+all_imports shims initialize = imports_of [] shims ++ (call_imports (types_with [] shims) initialize ++ table_imports shims)
+
+pub imports_given : (code : Store) (shims : List Shim) (initialize : Option (List ℕ)) (actual main : List Export) (address table : ℕ) (memory : Option ℕ) (called : List ℕ) → AreNumbered 0 shims → length shims < 2 ^ 32 → AllZip (IsActual code) shims actual → AreCalls code main initialize called →
+    all_some (map (argument_of (fixup_arguments shims initialize actual main address table memory)) (all_imports shims initialize)) ≡ Some (things_given shims actual called table)
+imports_given code [] None [] main address table memory called numbered room each calls = ap (λ l. Some (map function_at l ++ [])) (sym calls)
+imports_given code [] None (e ∷ es) main address table memory called numbered room each calls = absurd each
+imports_given code [] (Some name) (e ∷ es) main address table memory called numbered room each calls = absurd each
+imports_given code [] (Some name) [] main address table memory [] numbered room each calls = absurd calls
+imports_given code [] (Some name) [] main address table memory (a ∷ b ∷ as') numbered room each calls = absurd calls
+imports_given code [] (Some name) [] main address table memory (a ∷ []) numbered room each calls = ap (λ o. all_some (option_and_then (of_kind kinds.Func) o ∷ [])) calls.0
+imports_given code (s ∷ ss) None actual main address table memory called numbered room each calls =
+    let shims = s ∷ ss in
+    let found : export_named table_name (instance_exports shims address table memory) ≡ Some (record { space = spaces.CoreTable; name = table_name; address = table }) = table_found shims address table memory (λ e. cc) room in
+    functions_given code actual ((codes "shim", instance_exports shims address table memory) ∷ []) [] 0 shims actual [] numbered (omega arith) each tt refl
+    (table_imports shims) (table_things shims table)
+    (ap (λ o. all_some (option_and_then (of_kind kinds.Table) o ∷ [])) found)
+    ∙ ap (λ l. Some (map function_of actual ++ (map function_at l ++ table_things shims table))) (sym calls)
+imports_given code (s ∷ ss) (Some name) actual main address table memory [] numbered room each calls = absurd calls
+imports_given code (s ∷ ss) (Some name) actual main address table memory (a ∷ b ∷ as') numbered room each calls = absurd calls
+imports_given code (s ∷ ss) (Some name) actual main address table memory (a ∷ []) numbered room each calls =
+    let shims = s ∷ ss in
+    let found : export_named table_name (instance_exports shims address table memory) ≡ Some (record { space = spaces.CoreTable; name = table_name; address = table }) = table_found shims address table memory (λ e. cc) room in
+    functions_given code actual ((codes "main", main) ∷ (codes "shim", instance_exports shims address table memory) ∷ []) [] 0 shims actual [] numbered (omega arith) each tt refl
+    (call_imports (types_with [] shims) (Some name) ++ table_imports shims) (function_at a ∷ table_things shims table)
+    (ap (λ o. all_some (option_and_then (of_kind kinds.Func) o ∷ option_and_then (of_kind kinds.Table) (export_named table_name (instance_exports shims address table memory)) ∷ [])) calls.0
+    ∙ ap (λ o. all_some (Some (function_at a) ∷ option_and_then (of_kind kinds.Table) o ∷ [])) found)
 
 -- as external values
-abbrev pub values_given : List Export → ℕ → List Given
-values_given actual table = map (λ (e : Export). FunctionAt e.address) actual ++ TableAt table ∷ []
+abbrev pub table_values : List Shim → ℕ → List Given
+table_values [] table = []
+table_values (s ∷ ss) table = TableAt table ∷ []
 
-pub values_are : (actual : List Export) (table : ℕ) → all_some (map external (things_given actual table)) ≡ Some (values_given actual table)
-values_are [] table = refl
-values_are (e ∷ es) table = ap (λ o. option_map (λ xs. FunctionAt e.address ∷ xs) o) (values_are es table)
+abbrev pub values_given : List Shim → List Export → List ℕ → ℕ → List Given
+values_given shims actual called table = map (λ (e : Export). FunctionAt e.address) actual ++ (map (λ a. FunctionAt a) called ++ table_values shims table)
+
+pub values_are : (shims : List Shim) (actual : List Export) (called : List ℕ) (table : ℕ) → all_some (map external (things_given shims actual called table)) ≡ Some (values_given shims actual called table)
+values_are [] [] [] table = refl
+values_are (s ∷ ss) [] [] table = refl
+values_are shims [] (a ∷ as') table = ap (λ o. option_map (λ xs. FunctionAt a ∷ xs) o) (values_are shims [] as' table)
+values_are shims (e ∷ es) called table = ap (λ o. option_map (λ xs. FunctionAt e.address ∷ xs) o) (values_are shims es called table)

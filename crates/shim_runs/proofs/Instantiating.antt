@@ -1,11 +1,10 @@
--- The instance of a generated module that has no start function.
-use Rattle.std.proofs.Common.{◌≡◌, ◌∙◌, ℕ, List, [], map, Option, Some, None, ap}
-use Rattle.std.specs.List.{slice_get, flat_map}
+-- The instance of a generated module.
+use Rattle.std.proofs.Common.{◌≡◌, ◌∙◌, ℕ, List, map, Option, Some, ap}
+use Rattle.std.specs.List.{flat_map}
 use Rattle.std.specs.Option.{option_and_then}
 use Rattle.core_bytes.specs.declared.entry.Import.{Import as CoreImport}
 use Rattle.core_bytes.specs.declared.section.Section.{Section}
-use Rattle.core_runs.specs.Store.{Returned, Stuck}
-use Rattle.core_runs.specs.Execution.{acts}
+use Rattle.core_runs.specs.Store as core
 use Rattle.core_runs.specs.Instances.{Given, Made, Parts, instance_of, started}
 use Rattle.core_runs.specs.Sections.{parts_of}
 use Rattle.comp_runs.specs.Store.{Thing, Export}
@@ -13,8 +12,8 @@ use Rattle.comp_runs.specs.Machine.{Machine, Next, Outcome, all_some, with_some,
 use Rattle.comp_runs.specs.Instances.{Arguments, argument_for, entity_kind, external, export_at, section_imports, section_exports, with_module_instance, instantiate_generated}
 use Rattle.shim_runs.specs.ShimRuns.{with_code}
 
--- All imports are found, the instance is made, and its exports exist.
-pub record IsMade (ss : List Section) (arguments : Arguments) (m : Machine) (given : List Thing) (made : Made) (exports : List Export) : Type 0 where
+-- All imports are found, the instance is made, its exports exist, and its start function ends like this.
+pub record IsMade (ss : List Section) (arguments : Arguments) (m : Machine) (given : List Thing) (made : Made) (exports : List Export) (outcome : core.Outcome) : Type 0 where
   pub parts : Parts
   pub externals : List Given
   pub found : all_some (map (λ (i : CoreImport). argument_for arguments (entity_kind i.entity) i.module_name i.field) (flat_map section_imports ss)) ≡ Some given
@@ -22,12 +21,12 @@ pub record IsMade (ss : List Section) (arguments : Arguments) (m : Machine) (giv
   pub parts_are : parts_of ss ≡ parts
   pub is_made : instance_of parts externals m.store.code m.now ≡ Some made
   pub exported : all_some (map (export_at made.frame) (flat_map section_exports ss)) ≡ Some exports
-  pub no_start : parts.start ≡ None
+  pub starts : started parts made ≡ outcome
 
 -- Then the run goes on with it.
-pub made_runs : (ss : List Section) (number : ℕ) (arguments : Arguments) (m : Machine) (given : List Thing) (made : Made) (exports : List Export) → IsMade ss arguments m given made exports → (next : Next) → instantiate_generated ss number arguments m next
-    ≡ next (with_module_instance (record { module_number = number; given = given; exports = exports }) (record m { store = record m.store { code = made.store }; now = made.now }))
-made_runs ss number arguments m given made exports h next =
+pub made_runs : (ss : List Section) (number : ℕ) (arguments : Arguments) (m : Machine) (given : List Thing) (made : Made) (exports : List Export) (outcome : core.Outcome) → IsMade ss arguments m given made exports outcome → (next : Next) → instantiate_generated ss number arguments m next
+    ≡ resumed outcome (record m { store = record m.store { code = made.store } }) (λ values after. next (with_module_instance (record { module_number = number; given = given; exports = exports }) after))
+made_runs ss number arguments m given made exports outcome h next =
     let instance : List Thing → List Export → Machine → Outcome = λ g es after. next (with_module_instance (record { module_number = number; given = g; exports = es }) after) in
     let goes_on : Parts → List Thing → Made → List Export → Outcome = λ p g x es. resumed (started p x) (record m { store = with_code m.store x.store }) (λ values after. instance g es after) in
     let exporting : Parts → List Thing → Made → Outcome = λ p g x. with_some (all_some (map (export_at x.frame) (flat_map section_exports ss))) (goes_on p g x) in
@@ -37,4 +36,4 @@ made_runs ss number arguments m given made exports h next =
     ∙ ap (λ o. making h.parts given o) h.external_values
     ∙ ap (λ o. with_some o (exporting h.parts given)) h.is_made
     ∙ ap (λ o. with_some o (goes_on h.parts given made)) h.exported
-    ∙ ap (λ start. resumed (elim start [ None ↦ Returned [] made.now | Some f ↦ elim (slice_get made.frame.functions f) [ None ↦ Stuck | Some a ↦ acts made.store a [] made.now ] ]) (record m { store = with_code m.store made.store }) (λ values after. instance given exports after)) h.no_start
+    ∙ ap (λ o. resumed o (record m { store = with_code m.store made.store }) (λ values after. instance given exports after)) h.starts

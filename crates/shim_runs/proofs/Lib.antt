@@ -3,7 +3,6 @@ pub mod Placed
 pub mod Exported
 mod Instantiating
 pub mod ShimInstance
-mod FixupImports
 mod FixupGiven
 pub mod FixupInstance
 pub mod Filled

@@ -12,6 +12,7 @@ use Rattle.core_bytes.specs.declared.entry.Export.{Export as CoreExport}
 use Rattle.core_bytes.specs.declared.entry.Import.{Import as CoreImport}
 use Rattle.core_runs.specs.declared.tables.Shim.{Shim as ShimCode}
 use Rattle.core_runs.specs.Store.{Frame, Func, Generated, Store, Cell, Now}
+use Rattle.core_runs.specs.Store as core
 use Rattle.core_runs.specs.Bodies.{table_shim, table_shims, table_of_shims}
 use Rattle.core_runs.specs.Instances.{Parts, Made, new_frame, own_functions, own_tables, cons_if, made_of, instance_of, empty_table}
 use Rattle.core_runs.specs.LawsOfInstances.{Slot, shim_of, shim_parts, Typed}
@@ -213,7 +214,7 @@ shims_run memory shims debug_names number c s =
     let exports = instance_exports shims first (length code.tables) (memory_address memory code) in
     let made : Now → Made = λ now. made_with types slots tables memories code now in
     let as_many : length (map (λ (s : Slot). s.index) slots) ≡ length shims = length-map slots (λ (s : Slot). s.index) ∙ slots_length [] shims in
-    let is : (now : Now) (arguments : Arguments) → IsMade (sections_of_shims memory shims debug_names) arguments (machine c s now) [] (made now) exports = λ now arguments. record {
+    let is : (now : Now) (arguments : Arguments) → IsMade (sections_of_shims memory shims debug_names) arguments (machine c s now) [] (made now) exports (core.Returned [] (made now).now) = λ now arguments. record {
       parts = parts_with types slots tables memories;
       externals = [];
       found = ap (λ l. all_some (map (λ (i : CoreImport). argument_for arguments (entity_kind i.entity) i.module_name i.field) l)) (no_imports memory types (functions_of [] shims) debug_names);
@@ -222,7 +223,7 @@ shims_run memory shims debug_names number c s =
       is_made = is_made types slots tables memories code now (typed_slots [] shims);
       exported = ap (λ l. all_some (map (export_at frame) l)) (exports_alone memory types (functions_of [] shims) debug_names)
           ∙ exports_are frame first (length shims) (ap (λ n. range_with_len first n) as_many) (table_exports (functions_of [] shims) ++ memory_exports memory) (table_exported shims (length code.tables) ++ memory_exported (memory_address memory code)) (rest_exported memory shims code) [] shims 0 first (omega arith) (omega arith);
-      no_start = refl;
+      starts = refl;
     } in
     let with_rest : Now → List (List (Option ℕ)) → List MemoryType → List Cell → Machine = λ now ts ms globals. record {
       scope = c;
@@ -234,7 +235,7 @@ shims_run memory shims debug_names number c s =
       functions = functions;
       are = all_are_shims memory shims code;
       runs = λ now arguments next.
-          made_runs (sections_of_shims memory shims debug_names) number arguments (machine c s now) [] (made now) exports (is now arguments) next
+          made_runs (sections_of_shims memory shims debug_names) number arguments (machine c s now) [] (made now) exports (core.Returned [] (made now).now) (is now arguments) next
           ∙ ap (λ l. next (after (with_rest now l (code.memories ++ memories) (now.globals ++ [])))) (tables_more shims code.tables)
           ∙ ap (λ l. next (after (with_rest now (with_shim_table shims code.tables) l (now.globals ++ [])))) (memories_more memory code.memories)
           ∙ ap (λ l. next (after (with_rest now (with_shim_table shims code.tables) (with_memory memory code.memories) l))) (append-nil now.globals);

@@ -20,6 +20,7 @@ use Rattle.shim_plan.specs.Plans.{numbered}
 use Rattle.shim_plan.specs.declared.kinds.ShimKind.TheVariants as kinds
 use Rattle.shim_plan.specs.declared.needs.NeededShim.{NeededShim}
 use Rattle.shim_plan.specs.declared.shims.Shim.{Shim}
+use Rattle.fixup_modules.specs.Fixups.{thunk}
 use Rattle.world_shims.specs.WorldShims.{sections_of_shims, sections_of_fixup}
 use Rattle.shim_runs.specs.ShimRuns.{fixup_arguments}
 
@@ -70,7 +71,7 @@ with_shims memory functions debug_names next = instantiate_generated (sections_o
 
 -- the fixup after the shims, whose functions are at 2 and 3, with this for `actual`; a memory is at 0
 abbrev with_memory_and_fixup : Option MemoryType → Option ℕ → List Export → Bool → Outcome
-with_memory_and_fixup memory at actual debug_names = with_shims memory opaque debug_names (λ m. instantiate_generated (sections_of_fixup shims debug_names) 2 (fixup_arguments shims actual 2 0 at) m (λ after. Done after))
+with_memory_and_fixup memory at actual debug_names = with_shims memory opaque debug_names (λ m. instantiate_generated (sections_of_fixup shims None debug_names) 2 (fixup_arguments shims None actual [] 2 0 at) m (λ after. Done after))
 
 abbrev with_fixup : List Export → Bool → Outcome
 with_fixup actual debug_names = with_memory_and_fixup None None actual debug_names
@@ -232,3 +233,27 @@ memory_alone_made = refl
 
 memory_alone_with_names : ended (instantiate_generated (sections_of_shims (Some one_page) [] true) 1 [] (machine_with opaque) (λ m. Done m)) ≡ memory_alone
 memory_alone_with_names = refl
+
+-- ---- main is initialized
+
+-- a thunk of main, which is another opaque function, and the fixup that calls it
+abbrev with_thunk : List Func
+with_thunk = opaque ++ Opaque 2 thunk ∷ []
+
+abbrev main_exports : List Export
+main_exports = function_export (codes "start") 2 ∷ []
+
+abbrev run_initialized : List Shim → List Answer → Outcome
+run_initialized those answers =
+    let m : Machine = machine_with with_thunk in
+    instantiate_generated (sections_of_fixup those (Some (codes "start")) false) 2 (fixup_arguments those (Some (codes "start")) [] main_exports 3 0 None) (record m { now = now_with answers [] }) (λ after. Done after)
+
+-- it is called once, and nothing else is seen
+called_alone : option_map (λ (e : Ended). e.events) (ended (run_initialized [] (Gives [] 0 ∷ []))) ≡ Some (Called 2 [] ∷ [])
+unfolding digits acts exec
+called_alone = refl
+
+-- a run with no answer is open, and one in which it traps ends there
+no_answer_left : ended (run_initialized [] []) ≡ None
+unfolding digits acts exec
+no_answer_left = refl

@@ -13,14 +13,18 @@ use Rattle.core_runs.specs.Store.{Frame, Func, Opaque, signature_of, Store, Now,
 use Rattle.core_runs.specs.Bodies.{table_shim}
 use Rattle.core_runs.specs.Shims.{HasBody}
 use Rattle.core_runs.specs.Execution.{acts}
-use Rattle.core_runs.specs.Expected.{expected}
+use Rattle.core_runs.specs.Expected.{expected, Is as IsOpaqueAt}
+use Rattle.core_runs.specs.Starts.{deeds_done}
 use Rattle.core_runs.specs.Instances.{empty_table}
+use Rattle.fixup_modules.specs.declared.instances.ImportedInstance.{ImportedInstance}
+use Rattle.fixup_modules.specs.declared.instances.ImportedInstance.TheVariants as instances
+use Rattle.fixup_modules.specs.Laws.{thunk_at, call_of}
 use Rattle.comp_runs.specs.Store.{Thing, Export, Store as RunStore}
-use Rattle.comp_runs.specs.Machine.{Scope, Machine, Next, export_named, export_of}
+use Rattle.comp_runs.specs.Machine.{Scope, Machine, Next, export_named, export_of, resumed}
 use Rattle.comp_runs.specs.Instances.{Arguments, with_module_instance, instantiate_generated}
 use Rattle.shim_plan.specs.Plans.{AreNumbered}
 use Rattle.shim_plan.specs.declared.shims.Shim.{Shim}
-use Rattle.world_shims.specs.WorldShims.{type_of_shim, sections_of_shims, sections_of_fixup}
+use Rattle.world_shims.specs.WorldShims.{type_of_shim, sections_of_shims, sections_of_fixup, fixup_instances}
 
 -- ---- shims in a store
 
@@ -115,29 +119,54 @@ pub record IsActual (code : Store) (s : Shim) (e : Export) : Type 0 where
   pub present : slice_get code.functions e.address ≡ Some function
   pub typed : signature_of function ≡ type_of_shim s
 
--- the code with these functions in the table
-abbrev pub with_slots : ℕ → List Export → Store → Store
-with_slots table actual code = record code { tables = slice_set code.tables table (map (λ (e : Export). Some e.address) actual) }
-
--- the arguments of its instance
-abbrev pub fixup_arguments : List Shim → List Export → ℕ → ℕ → Option ℕ → Arguments
-fixup_arguments shims actual address table memory = (codes "actual", actual) ∷ (codes "shim", instance_exports shims address table memory) ∷ []
-
--- what is there when it is made: shims, a table with a slot for each of them, and what each is to forward to
-pub record CanFix (shims : List Shim) (actual : List Export) (table : ℕ) (code : Store) : Type 0 where
-  pub any : shims ≡ [] → ⊥
-  pub numbered : AreNumbered 0 shims
-  pub room : length shims < 2 ^ 32
-  pub each : AllZip (IsActual code) shims actual
+-- a slot of the table for each shim
+pub record HasSlots (code : Store) (table : ℕ) (shims : List Shim) : Type 0 where
   pub slots : List (Option ℕ)
   pub present : slice_get code.tables table ≡ Some slots
   pub size : length slots ≡ length shims
 
--- The instance is made: each slot holds what is given for the shim of its place. There is no event, and no new function.
-pub record FixupRun (shims : List Shim) (debug_names : Bool) (actual : List Export) (address table : ℕ) (memory : Option ℕ) (number : ℕ) (c : Scope) (s : RunStore) : Type 0 where
+-- the code with these functions in the table, where there are shims
+abbrev pub with_slots : List Shim → ℕ → List Export → Store → Store
+with_slots [] table actual code = code
+with_slots (s ∷ ss) table actual code = record code { tables = slice_set code.tables table (map (λ (e : Export). Some e.address) actual) }
+
+-- the function with which main is initialized, where it has one, is a function of a user module without parameters and results, at this
+-- address
+abbrev pub IsCall : Store → List Export → List ℕ → ℕ → Type 0
+IsCall code main name address = (export_named name main ≡ Some (record { space = spaces.CoreFunc; name = name; address = address })) × (what : ℕ) × IsOpaqueAt code (thunk_at address) what
+
+abbrev pub AreCalls : Store → List Export → Option (List ℕ) → List ℕ → Type 0
+AreCalls code main None called = called ≡ []
+AreCalls code main (Some name) [] = ⊥
+AreCalls code main (Some name) (address ∷ []) = IsCall code main name address
+AreCalls code main (Some name) (a ∷ b ∷ more) = ⊥
+
+-- what each of them exports
+abbrev pub exports_given : List Export → List Export → List Export → ImportedInstance → List Export
+exports_given actual main shims instances.Actual = actual
+exports_given actual main shims instances.Main = main
+exports_given actual main shims instances.Shim = shims
+exports_given actual main shims (instances.Adapter name) = []
+
+abbrev pub fixup_arguments : List Shim → Option (List ℕ) → List Export → List Export → ℕ → ℕ → Option ℕ → Arguments
+fixup_arguments shims initialize actual main address table memory =
+    map (λ i. (i.0, exports_given actual main (instance_exports shims address table memory) i.1)) (fixup_instances shims initialize)
+
+-- what is there when it is made: shims, a table with a slot for each of them, what each is to forward to, and what is called
+pub record CanFix (shims : List Shim) (initialize : Option (List ℕ)) (actual main : List Export) (table : ℕ) (called : List ℕ) (code : Store) : Type 0 where
+  pub numbered : AreNumbered 0 shims
+  pub room : length shims < 2 ^ 32
+  pub each : AllZip (IsActual code) shims actual
+  pub slotted : (shims ≡ [] → ⊥) → HasSlots code table shims
+  pub calls : AreCalls code main initialize called
+
+-- The instance is made: each slot holds what is given for the shim of its place, and there is no new function. Then main is initialized,
+-- where it has to be, and nothing else is seen.
+pub record FixupRun (shims : List Shim) (initialize : Option (List ℕ)) (debug_names : Bool) (actual main : List Export) (address table : ℕ) (memory : Option ℕ) (called : List ℕ) (number : ℕ) (c : Scope) (s : RunStore) : Type 0 where
   pub given : List Thing
-  pub runs : (now : Now) (next : Next) → instantiate_generated (sections_of_fixup shims debug_names) number (fixup_arguments shims actual address table memory) (machine c s now) next
-      ≡ next (with_module_instance (record { module_number = number; given = given; exports = [] }) (machine c (with_code s (with_slots table actual s.code)) now))
+  pub runs : (now : Now) (next : Next) → instantiate_generated (sections_of_fixup shims initialize debug_names) number (fixup_arguments shims initialize actual main address table memory) (machine c s now) next
+      ≡ resumed (deeds_done (map call_of called) now) (machine c (with_code s (with_slots shims table actual s.code)) now)
+      (λ values after. next (with_module_instance (record { module_number = number; given = given; exports = [] }) after))
 
 -- ---- the exports of the instance of the shims
 

@@ -152,6 +152,7 @@ export_left_out types exports.GeneralPurposeRealloc = None
 export_left_out types exports.GeneralPurposeImportRealloc = None
 export_left_out types exports.GeneralPurposeExportRealloc = None
 export_left_out types exports.ReallocForAdapter = None
+export_left_out types exports.Initialize = None
 export_left_out types role = Some (export_kind role)
 
 -- the imports from one module: the first that is left out; none is where a whole instance satisfies them

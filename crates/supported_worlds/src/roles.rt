@@ -76,7 +76,8 @@ fn export_left_out(types: &[TypeDef], role: &Export) -> Option<&'static str>
         | Export::GeneralPurposeRealloc
         | Export::GeneralPurposeImportRealloc
         | Export::GeneralPurposeExportRealloc
-        | Export::ReallocForAdapter => None,
+        | Export::ReallocForAdapter
+        | Export::Initialize => None,
         _ => Some(export_kind(role)),
     }
 }

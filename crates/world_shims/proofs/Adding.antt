@@ -72,6 +72,7 @@ more_actual f name type h named room =
       room = room;
       few_types = omega (arith, few_types, one, count);
       few_imports = omega (arith, few_imports, count);
+      no_calls = h.no_calls;
     }
 
 -- ---- shims one after the other
@@ -99,30 +100,3 @@ one_more all f g s rest h is room =
 pub too_many : (all : List Shim) (f : Fixup) (s : Shim) (rest : List Shim) (e : BuildFault) → AddedSoFar all f (s ∷ rest) → HasTooMany (length f.fills + 1) e → HasTooMany (length all) e
 too_many all f s rest build.Memory h many = tt
 too_many all f s rest (build.TooMany n) h many = let counted = h.counted in omega (arith, counted, many)
-
--- ---- the module
-
-fills_of : (f : Fixup) (shims : List Shim) → length (fixup_with f shims).fills ≡ length f.fills + length shims
-fills_of f [] = omega arith
-fills_of f (s ∷ ss) =
-    let more = fills_of (with_shim f s.name (type_of_shim s)) ss in
-    let pushed : length (with_shim f s.name (type_of_shim s)).fills ≡ length f.fills + 1 = length_push f.fills _ in
-    omega (arith, more, pushed)
-
-abbrev module_of : Option EncodedFixup → Option (List Section)
-module_of encoded = option_map (λ (e : EncodedFixup). e.«module») encoded
-
--- where a slot is filled, there is a module
-filled : (f : Fixup) (debug_names : Bool) → (length f.fills == 0) ≡ false → module_of (encoded_fixup f debug_names) ≡ Some (fixup_sections f debug_names)
-filled f debug_names e = ap (λ b. module_of (if b then None else Some (module_with_instances f debug_names))) e
-
-made : (shims : List Shim) (debug_names : Bool) → module_of (encoded_fixup (fixup_with nothing_fixed shims) debug_names) ≡ if_any shims (sections_of_fixup shims debug_names)
-made [] debug_names = refl
-made (s ∷ ss) debug_names =
-    let fills = fills_of nothing_fixed (s ∷ ss) in
-    let count : length (fixup_with nothing_fixed (s ∷ ss)).fills ≡ suc (length ss) = omega (arith, fills) in
-    let not_zero : (suc (length ss) == 0) ≡ false = grind (arith, nat_tests) in
-    filled (fixup_with nothing_fixed (s ∷ ss)) debug_names (ap (λ n. n == 0) count ∙ not_zero)
-
-pub module_is : (shims : List Shim) (debug_names : Bool) (f : Fixup) (encoded : Option EncodedFixup) (module_made : Option (List Section)) → f ≡ fixup_with nothing_fixed shims → encoded ≡ encoded_fixup f debug_names → module_made ≡ module_of encoded → module_made ≡ if_any shims (sections_of_fixup shims debug_names)
-module_is shims debug_names f encoded module_made is e m = m ∙ ap module_of (e ∙ ap (λ (g : Fixup). encoded_fixup g debug_names) is) ∙ made shims debug_names

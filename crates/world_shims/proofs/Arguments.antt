@@ -16,13 +16,13 @@ use Rattle.fixup_modules.proofs.Named.{earlier, grown}
 use Rattle.shim_plan.specs.declared.shims.Shim.{Shim}
 use Rattle.world_shims.specs.WorldShims.{type_of_shim, fixup_with}
 
-abbrev IsOfActual : Import → Type 0
+abbrev pub IsOfActual : Import → Type 0
 IsOfActual i = i.module_name ≡ codes "actual"
 
 -- something is imported, and all from `actual`
-record OfActual (m : Imported) : Type 0 where
-  instances : m.instances ≡ (codes "actual", instances.Actual) ∷ []
-  entries : AllByRecursion IsOfActual m.entries
+pub record OfActual (m : Imported) : Type 0 where
+  pub instances : m.instances ≡ (codes "actual", instances.Actual) ∷ []
+  pub entries : AllByRecursion IsOfActual m.entries
 
 of_actual_more : (m : Imported) (name : List ℕ) (item : EntityType) → OfActual m → OfActual (with_import m instances.Actual name item)
 of_actual_more m name item h = by (has_import m instances.Actual name) refl
@@ -38,17 +38,5 @@ of_actual_all : (f : Fixup) (shims : List Shim) → OfActual f.imported → OfAc
 of_actual_all f [] h = h
 of_actual_all f (s ∷ ss) h = of_actual_all (with_shim f s.name (type_of_shim s)) ss (of_actual_more f.imported s.name (shim_target f.types (type_of_shim s)) h)
 
-of_actual : (s : Shim) (shims : List Shim) → OfActual (fixup_with nothing_fixed (s ∷ shims)).imported
+pub of_actual : (s : Shim) (shims : List Shim) → OfActual (fixup_with nothing_fixed (s ∷ shims)).imported
 of_actual s shims = of_actual_all (with_shim nothing_fixed s.name (type_of_shim s)) shims (record { instances = refl; entries = (refl, tt) })
-
-no_table : (es : List Import) → AllByRecursion IsOfActual es → list_any (is_named (codes "shim") table_name) es ≡ false
-no_table [] h = refl
-no_table (e ∷ es) h = ap (λ (name : List ℕ). (bytes_eq (codes "shim") name && bytes_eq table_name e.field) || list_any (is_named (codes "shim") table_name) es) h.0 ∙ no_table es h.1
-
--- the functions that the shims forward to, and then the shims
-pub arguments_are : (s : Shim) (shims : List Shim) → (with_table (fixup_with nothing_fixed (s ∷ shims))).instances ≡ (codes "actual", instances.Actual) ∷ (codes "shim", instances.Shim) ∷ []
-arguments_are s shims =
-    let f : Fixup = fixup_with nothing_fixed (s ∷ shims) in
-    let so : OfActual f.imported = of_actual s shims in
-    ap (λ (m : Imported). m.instances) (grown f.imported instances.Shim table_name (shim_table f) (no_table f.imported.entries so.entries))
-    ∙ ap (λ (t : List (List ℕ × ImportedInstance)). with_first bytes_eq t (codes "shim") instances.Shim) so.instances

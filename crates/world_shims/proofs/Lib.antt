@@ -4,5 +4,8 @@ pub mod Beyond
 pub mod Listing
 pub mod Refused
 pub mod Adding
+pub mod Calling
 pub mod Arguments
 pub mod Worked
+pub mod Digits
+pub mod FixupImports

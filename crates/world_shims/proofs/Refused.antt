@@ -39,7 +39,7 @@ AreActual table = (table ≡ []) ⊎ (table ≡ (codes "actual", instances.Actua
 
 -- ---- no name is taken
 
-free : (instance : ImportedInstance) (m : Imported) → is_taken (record m { instances = (codes "actual", instances.Actual) ∷ [] }) instance ≡ false → AreActual m.instances → is_taken m instance ≡ false
+pub free : (instance : ImportedInstance) (m : Imported) → is_taken (record m { instances = (codes "actual", instances.Actual) ∷ [] }) instance ≡ false → AreActual m.instances → is_taken m instance ≡ false
 free instance m e (inl none) = ap (λ (table : Instances). is_taken (record m { instances = table }) instance) none
 free instance m e (inr one) = ap (λ (table : Instances). is_taken (record m { instances = table }) instance) one ∙ e
 
@@ -60,11 +60,11 @@ other_place count i h room = not_passed (is_named (codes "actual") (decimal coun
 other_instance : (count : ℕ) (i : Import) (field : List ℕ) → IsNumbered count i → is_named (codes "shim") field i ≡ false
 other_instance count i field h = ap (λ (name : List ℕ). bytes_eq (codes "shim") name && bytes_eq field i.field) h.from
 
-none_found : (p : Import → Bool) (es : List Import) → AllByRecursion (λ i. p i ≡ false) es → find p es ≡ None
+pub none_found : (p : Import → Bool) (es : List Import) → AllByRecursion (λ i. p i ≡ false) es → find p es ≡ None
 none_found p [] h = refl
 none_found p (e ∷ es) h = ap (λ b. cond b (Some e) (find p es)) h.0 ∙ none_found p es h.1
 
-alike : (m : Imported) (instance : ImportedInstance) (field : List ℕ) (item : EntityType) → find (is_named (instance_name instance) field) m.entries ≡ None → has_other_type m instance field item ≡ false
+pub alike : (m : Imported) (instance : ImportedInstance) (field : List ℕ) (item : EntityType) → find (is_named (instance_name instance) field) m.entries ≡ None → has_other_type m instance field item ≡ false
 alike m instance field item e = ap (λ (o : Option Import). elim o [ None ↦ false | Some i ↦ not (is_item i.entity item) ]) e
 
 shim_alike : (f : Fixup) (item : EntityType) → IsFromActual f → has_other_type f.imported instances.Actual (decimal (length f.fills)) item ≡ false
@@ -73,7 +73,7 @@ shim_alike f item h =
     (none_found (is_named (codes "actual") (decimal (length f.fills))) f.imported.entries
     (AllByRecursion-weaker (λ (i : Import) n. other_place (length f.fills) i n h.room) f.imported.entries h.entries))
 
-table_alike : (f : Fixup) (item : EntityType) → IsFromActual f → has_other_type f.imported instances.Shim table_name item ≡ false
+pub table_alike : (f : Fixup) (item : EntityType) → IsFromActual f → has_other_type f.imported instances.Shim table_name item ≡ false
 table_alike f item h =
     alike f.imported instances.Shim table_name item
     (none_found (is_named (codes "shim") table_name) f.imported.entries
@@ -84,50 +84,50 @@ table_alike f item h =
 filtered_few : {X : Type 0} (p : X → Bool) (xs : List X) → length (filter p xs) ≤ length xs
 filtered_few p xs = let whole = length-filter_both p (λ x. not (p x)) (λ x. refl) xs in omega (arith, whole)
 
-none_passes : {X : Type 0} (p : X → Bool) (xs : List X) → AllByRecursion (λ x. p x ≡ false) xs → length (filter p xs) ≡ 0
+pub none_passes : {X : Type 0} (p : X → Bool) (xs : List X) → AllByRecursion (λ x. p x ≡ false) xs → length (filter p xs) ≡ 0
 none_passes p [] h = refl
 none_passes p (x ∷ xs) h = ap (λ b. length (cond b (x ∷ filter p xs) (filter p xs))) h.0 ∙ none_passes p xs h.1
 
-no_tables : (count : ℕ) (es : List Import) → AllByRecursion (IsNumbered count) es → count_of kinds.Table es ≡ 0
+pub no_tables : (count : ℕ) (es : List Import) → AllByRecursion (IsNumbered count) es → count_of kinds.Table es ≡ 0
 no_tables count es h = none_passes (λ (i : Import). is_kind kinds.Table i.entity) es (AllByRecursion-weaker (λ (i : Import) (n : IsNumbered count i). n.no_table) es h)
 
 -- ---- refusals
 
 -- out of memory, or there can't be so many
-abbrev IsUpTo : ℕ → ShimFault → Type 0
+abbrev pub IsUpTo : ℕ → ShimFault → Type 0
 IsUpTo count faults.Memory = Unit {0}
 IsUpTo count (faults.TooMany n) = (2 ^ 32 ≤ n) × (2 ^ 32 ≤ count)
 IsUpTo count e = ⊥
 
-of_counts : (count : ℕ) (e : ShimFault) → IsUpTo count e → IsOfCounts e
+pub of_counts : (count : ℕ) (e : ShimFault) → IsUpTo count e → IsOfCounts e
 of_counts count faults.Memory h = tt
 of_counts count (faults.TooMany n) h = h.0
 of_counts count (faults.InstanceKind name) h = absurd h
 of_counts count (faults.ImportType of name) h = absurd h
 
-has_too_many : (count : ℕ) (e : ShimFault) (fault : BuildFault) → e ≡ of_build fault → IsUpTo count e → HasTooMany count fault
+pub has_too_many : (count : ℕ) (e : ShimFault) (fault : BuildFault) → e ≡ of_build fault → IsUpTo count e → HasTooMany count fault
 has_too_many count e build.Memory is h = tt
 has_too_many count e (build.TooMany n) is h = (subst (IsUpTo count) is h).1
 
-import_refused : (few : ℕ) (m : Imported) (instance : ImportedInstance) (field : List ℕ) (item : EntityType) (e : ShimFault) → count_of (kind_of item) m.entries ≤ few → is_taken m instance ≡ false → has_other_type m instance field item ≡ false → ImportCause m instance field item e → IsUpTo (few + 1) e
+pub import_refused : (few : ℕ) (m : Imported) (instance : ImportedInstance) (field : List ℕ) (item : EntityType) (e : ShimFault) → count_of (kind_of item) m.entries ≤ few → is_taken m instance ≡ false → has_other_type m instance field item ≡ false → ImportCause m instance field item e → IsUpTo (few + 1) e
 import_refused few m instance field item faults.Memory le a b h = tt
 import_refused few m instance field item (faults.TooMany n) le a b h = let many = h.0 in let is = h.1 in (many, omega (arith, le, many, is))
 import_refused few m instance field item (faults.InstanceKind name) le a b h = absurd (true≢false (sym h.1 ∙ a))
 import_refused few m instance field item (faults.ImportType of name) le a b h = absurd (true≢false (sym h.2 ∙ b))
 
-type_refused : (few : ℕ) (types : List FuncType) (type : FuncType) (e : ShimFault) → length types ≤ few → TypeCause types type e → IsUpTo (few + 1) e
+pub type_refused : (few : ℕ) (types : List FuncType) (type : FuncType) (e : ShimFault) → length types ≤ few → TypeCause types type e → IsUpTo (few + 1) e
 type_refused few types type faults.Memory le h = tt
 type_refused few types type (faults.TooMany n) le h = let many = h.0 in let is = h.1 in let one = interned_few types type in (many, omega (arith, le, many, is, one))
 type_refused few types type (faults.InstanceKind name) le h = absurd h
 type_refused few types type (faults.ImportType of name) le h = absurd h
 
-count_refused : (count : ℕ) (e : ShimFault) → IsFull count e → IsUpTo (count + 1) e
+pub count_refused : (count : ℕ) (e : ShimFault) → IsFull count e → IsUpTo (count + 1) e
 count_refused count faults.Memory h = tt
 count_refused count (faults.TooMany n) h = let many = h.0 in let is = h.1 in (many, omega (arith, many, is))
 count_refused count (faults.InstanceKind name) h = absurd h
 count_refused count (faults.ImportType of name) h = absurd h
 
-functions_few : (f : Fixup) → IsFromActual f → count_of kinds.Func f.imported.entries ≤ length f.fills
+pub functions_few : (f : Fixup) → IsFromActual f → count_of kinds.Func f.imported.entries ≤ length f.fills
 functions_few f h =
     let passed = filtered_few (λ (i : Import). is_kind kinds.Func i.entity) f.imported.entries in
     let few = h.few_imports in
@@ -147,19 +147,3 @@ shim_refused f s name type e next same cause = of_counts (length f.fills + 1) e 
 
 pub shim_too_many : (f : Fixup) (s : Shim) (name : List ℕ) (type : FuncType) (e : ShimFault) (fault : BuildFault) → IsNext f s → name ≡ s.name → ShimCause f name type e → e ≡ of_build fault → HasTooMany (length f.fills + 1) fault
 shim_too_many f s name type e fault next same cause is = has_too_many (length f.fills + 1) e fault is (shim_up_to f s name type e next same cause)
-
--- the table is the first one, and is never refused but for memory
-table_up_to : (f : Fixup) (e : ShimFault) → IsFromActual f → ImportCause f.imported instances.Shim table_name (shim_table f) e → IsUpTo 1 e
-table_up_to f e h cause =
-    let none = no_tables (length f.fills) f.imported.entries h.entries in
-    import_refused 0 f.imported instances.Shim table_name (shim_table f) e (omega (arith, none)) (free instances.Shim f.imported refl h.instances) (table_alike f (shim_table f) h) cause
-
-pub table_refused : (f : Fixup) (e : ShimFault) → IsFromActual f → ImportCause f.imported instances.Shim table_name (shim_table f) e → IsOfCounts e
-table_refused f e h cause = of_counts 1 e (table_up_to f e h cause)
-
-one_is_few : (count : ℕ) (fault : BuildFault) → HasTooMany 1 fault → HasTooMany count fault
-one_is_few count build.Memory h = tt
-one_is_few count (build.TooMany n) h = absurd (omega (arith, h))
-
-pub table_too_many : (count : ℕ) (f : Fixup) (e : ShimFault) (fault : BuildFault) → IsFromActual f → ImportCause f.imported instances.Shim table_name (shim_table f) e → e ≡ of_build fault → HasTooMany count fault
-table_too_many count f e fault h cause is = one_is_few count fault (has_too_many 1 e fault is (table_up_to f e h cause))

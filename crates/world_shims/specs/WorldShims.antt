@@ -1,11 +1,12 @@
 -- The shims of a world, and the two modules that are generated for them, as values. (The rules are this project's own, over
 -- the core standard's modules.)
-use Rattle.std.specs.Prelude.{ℕ, Bool, List, [], ◌∷◌, length, map, Option}
+use Rattle.std.specs.Prelude.{ℕ, Bool, List, [], ◌∷◌, ◌++◌, length, map, codes, Option, Some, None}
 use Rattle.std.specs.List.{flat_map}
 use Rattle.core_types.specs.declared.types.FuncType.{FuncType}
 use Rattle.core_types.specs.declared.types.MemoryType.{MemoryType}
 use Rattle.core_bytes.specs.declared.section.Section.{Section}
 use Rattle.comp_roles.specs.CoreTypes.{core_type}
+use Rattle.comp_roles.specs.Lookups.{first_export, is_initialize}
 use Rattle.comp_roles.specs.declared.libraries.MainOrAdapter.{MainOrAdapter}
 use Rattle.comp_roles.specs.declared.libraries.MainOrAdapter.TheVariants as users
 use Rattle.comp_worlds.specs.declared.world.ComponentWorld.{ComponentWorld}
@@ -16,7 +17,9 @@ use Rattle.shim_plan.specs.Plans.{with_needed}
 use Rattle.shim_plan.specs.declared.shims.Shim.{Shim}
 use Rattle.shim_modules.specs.Shims.{shim_sections}
 use Rattle.shim_modules.specs.declared.shims.ShimFunction.{ShimFunction}
-use Rattle.fixup_modules.specs.Fixups.{Fixup, nothing_fixed, with_shim}
+use Rattle.fixup_modules.specs.declared.instances.ImportedInstance.{ImportedInstance}
+use Rattle.fixup_modules.specs.declared.instances.ImportedInstance.TheVariants as instances
+use Rattle.fixup_modules.specs.Fixups.{Fixup, nothing_fixed, with_shim, with_initialize}
 use Rattle.fixup_modules.specs.Sections.{fixup_sections}
 
 -- the user modules of a world: main, then the adapters in order
@@ -60,5 +63,32 @@ abbrev pub fixup_with : Fixup → List Shim → Fixup
 fixup_with f [] = f
 fixup_with f (s ∷ ss) = fixup_with (with_shim f s.name (type_of_shim s)) ss
 
-abbrev pub sections_of_fixup : List Shim → Bool → List Section
-sections_of_fixup shims debug_names = fixup_sections (fixup_with nothing_fixed shims) debug_names
+-- the function with which main is initialized, where it has one, is called
+abbrev pub initialize_of : ComponentWorld → Option (List ℕ)
+initialize_of w = first_export is_initialize w.main.exports.exports
+
+abbrev pub with_call : Fixup → Option (List ℕ) → Fixup
+with_call f None = f
+with_call f (Some name) = with_initialize f name
+
+abbrev pub fixup_of : List Shim → Option (List ℕ) → Fixup
+fixup_of shims initialize = with_call (fixup_with nothing_fixed shims) initialize
+
+abbrev pub sections_of_fixup : List Shim → Option (List ℕ) → Bool → List Section
+sections_of_fixup shims initialize debug_names = fixup_sections (fixup_of shims initialize) debug_names
+
+-- the instances that its imports are from, by the names of its arguments, in order
+abbrev pub actual_if : List Shim → List (List ℕ × ImportedInstance)
+actual_if [] = []
+actual_if (s ∷ ss) = (codes "actual", instances.Actual) ∷ []
+
+abbrev pub main_if : Option (List ℕ) → List (List ℕ × ImportedInstance)
+main_if None = []
+main_if (Some name) = (codes "main", instances.Main) ∷ []
+
+abbrev pub shim_if : List Shim → List (List ℕ × ImportedInstance)
+shim_if [] = []
+shim_if (s ∷ ss) = (codes "shim", instances.Shim) ∷ []
+
+abbrev pub fixup_instances : List Shim → Option (List ℕ) → List (List ℕ × ImportedInstance)
+fixup_instances shims initialize = actual_if shims ++ (main_if initialize ++ shim_if shims)

@@ -1,16 +1,16 @@
-//! The module that fills the table of the shims.
+//! The module that fills the table of the shims, and initializes main.
 
-ghost use Rattle.std.specs.Prelude.{◌≡◌, ◌+◌, ◌<◌, ◌^◌, [], ◌∷◌, ◌++◌, length, option_map, IfOk, OnOk, IfErr};
+ghost use Rattle.std.specs.Prelude.{◌≡◌, ◌+◌, ◌<◌, ◌^◌, length, IfOk, OnOk, IfErr};
 ghost use Rattle.fixup_modules.specs.Faults.{of_build};
 ghost use Rattle.fixup_modules.specs.Fixups.{nothing_fixed, with_shim};
 ghost use Rattle.fixup_modules.specs.Sections.{encoded_fixup};
-ghost use Rattle.world_shims.specs.Refusals.{IsFullOrMemory, HasTooMany, IsOfCounts, if_any};
+ghost use Rattle.world_shims.specs.Refusals.{IsFullOrMemory, HasTooMany, IsOfCounts};
 ghost use Rattle.world_shims.specs.Fixing.{IsNext, IsFromActual};
-ghost use Rattle.world_shims.specs.WorldShims.{type_of_shim, fixup_with, sections_of_fixup};
+ghost use Rattle.world_shims.specs.WorldShims.{type_of_shim, fixup_with, with_call, fixup_of};
+ghost use Rattle.std.specs.Option.{option_copied};
 
 use crate::core_type::core_type;
 use byte_encoding::BuildFault;
-use core_bytes::Module;
 use fixup_modules::{EncodedFixup, FixupModule, ShimFault};
 use shim_plan::{Shim, Shims};
 use std::alloc::Global;
@@ -62,38 +62,46 @@ fn fixup_with_shims(alloc: Global, shims: &Shims) -> Result<FixupModule, BuildFa
     Ok(fixup)
 }
 
-/// The module of a fixup, without its arguments.
-fn module_of(encoded: Option<EncodedFixup>) -> Option<Module>
-    ensures { result ≡ option_map (λ e. e.«module») encoded }
+/// Lets the function be called with which main is initialized, where it has one.
+#[tactic(auto, using(crate::proofs::Calling::call_refused, crate::proofs::Calling::call_too_many))]
+fn add_call(fixup: &mut FixupModule, initialize: Option<&str>) -> Result<(), BuildFault>
+    requires { IsFromActual fixup.old }
+    ensures ok { OnOk result (fixup.new ≡ with_call fixup.old (option_copied initialize.entry)) }
+    ensures cause { IfErr result IsFullOrMemory }
+    ensures many { IfErr result (HasTooMany (length fixup.old.fills + 1)) }
 {
-    let EncodedFixup {
-        module,
-        instances: _,
-    } = encoded?;
-    Some(module)
+    let Some(name) = initialize else {
+        return Ok(());
+    };
+    match fixup.add_initialize(name) {
+        Ok(()) => Ok(()),
+        Err(fault) => Err(build_fault(fault)),
+    }
 }
 
-/// The module that fills the table of the shims, or `None` where there are no shims: it imports a function for each shim from
-/// `actual`, under the shim's name and with its type, and the table from `shim`; and slot number i is filled with the function
-/// of shim number i.
+/// The module that is instantiated last, with its arguments, or `None` where there is nothing to do: it imports a function for each
+/// shim from `actual`, under the shim's name and with its type, the function `initialize`, where main has one, from `main`, and the table of the shims, where there are any, from `shim`; slot number i is filled with the function of shim number i; and
+/// then main is initialized.
 ///
-/// It is refused with [`BuildFault::TooMany`] only where there are more than 2^32 - 1 shims, and with [`BuildFault::Memory`]
+/// It is refused with [`BuildFault::TooMany`] only where there are 2^32 - 1 shims or more, and with [`BuildFault::Memory`]
 /// when out of memory.
 ///
-/// Core standard, structure: modules, element segments.
-#[tactic(auto, using(crate::proofs::Refused::table_refused, crate::proofs::Refused::table_too_many, crate::proofs::Adding::module_is))]
+/// Core standard, structure: modules, element segments, start function.
+#[tactic(auto, using(crate::proofs::Calling::encode_refused, crate::proofs::Calling::encode_too_many, crate::proofs::Calling::call_beyond, crate::proofs::Calling::shims_beyond))]
 pub fn fixup_of_shims(
     alloc: Global,
     shims: &Shims,
+    initialize: Option<&str>,
     debug_names: bool,
-) -> Result<Option<Module>, BuildFault>
-    ensures ok { IfOk result (λ made. made ≡ if_any shims.now (sections_of_fixup shims.now debug_names)) }
+) -> Result<Option<EncodedFixup>, BuildFault>
+    ensures ok { IfOk result (λ made. made ≡ encoded_fixup (fixup_of shims.now (option_copied initialize.entry)) debug_names) }
     ensures cause { IfErr result IsFullOrMemory }
-    ensures many { IfErr result (HasTooMany (length shims.now)) }
+    ensures many { IfErr result (HasTooMany (length shims.now + 1)) }
 {
-    let fixup = fixup_with_shims(alloc, shims)?;
+    let mut fixup = fixup_with_shims(alloc, shims)?;
+    add_call(&mut fixup, initialize)?;
     match fixup.encode(debug_names) {
-        Ok(encoded) => Ok(module_of(encoded)),
+        Ok(encoded) => Ok(encoded),
         Err(fault) => Err(build_fault(fault)),
     }
 }

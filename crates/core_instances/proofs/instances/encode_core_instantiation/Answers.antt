@@ -28,7 +28,7 @@ use Rattle.root_imports.specs.Met.{AreExportsMet}
 use Rattle.root_imports.specs.RootScopes.{AreTablesRight}
 use Rattle.root_imports.proofs.Keeping.{kept_none, kept_items, moved_items, moved_kept, moved_then}
 use Rattle.world_shims.specs.WorldShims.{shims_of}
-use Rattle.core_instances.specs.Instances.{HasUserModules, IsMainUser, AreImportsMade, IsFixupNextIf, MayAddFixup}
+use Rattle.core_instances.specs.Instances.{HasUserModules, IsMainUser, AreImportsMade, IsFixupNext, MayAddFixup}
 use Rattle.core_instances.proofs.Made.{sources_after, fills_after, made_after}
 use Rattle.core_instances.proofs.Needs.{all_lowered}
 use Rattle.core_instances.proofs.Ordering.{modules_kept, modules_after, none_after, shims_after, fixup_next, all_added}
@@ -149,7 +149,7 @@ encode_indirect_lowerings-requires-clause-next c =
     let o : Option ℕ = c.in_ok-generated.generated.instance in
     let k : RootMoved w c.args.root.now c.define_exported_types.new.root = typed c.args.root.now c.encode_shim_instantiation.new.root c.define_exported_types.new.root c.requires.made.tables c.in_ok-generated.ensures.same c.in_ok-generated.ensures.extends c.in_ok-define_exported_types.ensures.moved in
     let world : c.instantiate_users.new.root.world ≡ c.args.root.now.world = ap (λ (r : Root). r.world) c.in_ok-instances.ensures.same ∙ k.world in
-    subst (λ x. IsFixupNextIf x.now new o) (sym world) (fixup_next w c.args.debug_names old mid new o c.requires.users c.in_ok-generated.ensures.added (users_grow c.args.root.now c.encode_shim_instantiation.new.root c.define_exported_types.new.root c.instantiate_users.new.root c.in_ok-generated.ensures.same k c.in_ok-define_exported_types.ensures.grows c.in_ok-instances.ensures.grows))
+    subst (λ x. IsFixupNext x.now new o) (sym world) (fixup_next w c.args.debug_names old mid new o c.requires.users c.in_ok-generated.ensures.added (users_grow c.args.root.now c.encode_shim_instantiation.new.root c.define_exported_types.new.root c.instantiate_users.new.root c.in_ok-generated.ensures.same k c.in_ok-define_exported_types.ensures.grows c.in_ok-instances.ensures.grows))
 
 pub returns-in_err-encode_indirect_lowerings-clause-moved : goal.returns-in_err-encode_indirect_lowerings-clause-moved
 returns-in_err-encode_indirect_lowerings-clause-moved c =

@@ -7,7 +7,7 @@ use Rattle.root_imports.specs.declared.root_scope.RootScope.{RootScope}
 use Rattle.world_shims.specs.WorldShims.{shims_of, sections_of_shims}
 use Rattle.world_shims.specs.Refusals.{if_needed}
 use Rattle.main_instance.specs.Shims.{AddsShims}
-use Rattle.main_instance.proofs.Instantiating.{adds_alias, needed_for}
+use Rattle.main_instance.proofs.Instantiating.{adds_alias, needed_for, one_made}
 use Rattle.main_instance.proofs.shims.encode_shim_instantiation.Goals as goal
 
 abbrev Root : Type 0
@@ -25,3 +25,11 @@ returns-in_ok-memory-in-Some-clause-added c =
     let made : Some c.in-Some.module ≡ if_needed (shared_memory w) (shims_of w) (sections_of_shims (shared_memory w) (shims_of w) debug_names) =
     sym c.in-Some.is ∙ (c.in_ok-module.ensures.ok ∙ ap₂ (λ m s. if_needed m s (sections_of_shims m s debug_names)) c.imported_memory-memory.ensures c.requires.shims) in
     (added, needed_for w (sections_of_shims (shared_memory w) (shims_of w) debug_names) c.in-Some.module made)
+
+pub instantiate_shims-requires-clause-any : goal.instantiate_shims-requires-clause-any
+instantiate_shims-requires-clause-any c =
+    let w = c.args.root.now.world.now in
+    let debug_names = c.args.debug_names in
+    let made : Some c.in-Some.module ≡ if_needed (shared_memory w) (shims_of w) (sections_of_shims (shared_memory w) (shims_of w) debug_names) =
+    sym c.in-Some.is ∙ (c.in_ok-module.ensures.ok ∙ ap₂ (λ m s. if_needed m s (sections_of_shims m s debug_names)) c.imported_memory-memory.ensures c.requires.shims) in
+    one_made w (needed_for w (sections_of_shims (shared_memory w) (shims_of w) debug_names) c.in-Some.module made)

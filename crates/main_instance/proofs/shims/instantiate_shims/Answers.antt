@@ -32,5 +32,5 @@ returns-clause-added c =
     let encodes : Encodes c.bytes.result.now ss = subst (λ b. Encodes b ss) (sym c.bytes.ensures) (subst (λ (s : List Section). Encodes c.in_ok-module.module s) c.requires.module c.in_ok-module.ensures.ok) in
     let added : new ≡ mid ++ defs.Item (items.CoreInstantiate index []) ∷ [] =
     subst (λ (as' : List CoreArgument). new ≡ mid ++ defs.Item (items.CoreInstantiate index as') ∷ []) c.new.ensures (ap (λ (b : Built). b.defs) c.in_ok-instance.ensures.adds.1) in
-    adds_shims w c.args.debug_names c.args.root.now.items.defs mid new c.bytes.result.now index c.in_ok-instance.instance encodes c.requires.room
+    adds_shims w c.args.debug_names c.args.root.now.items.defs mid new c.bytes.result.now index c.in_ok-instance.instance encodes c.requires.room c.requires.any
     c.requires.first c.requires.next c.in_ok-index.ensures.adds.0 (ap (λ (b : Built). b.defs) c.in_ok-index.ensures.adds.1) c.in_ok-index.ensures.at added c.in_ok-instance.ensures.instance

@@ -1,0 +1,15 @@
+use Rattle.std.proofs.Common.{◌∙◌, ℕ, List, refl, sym, ap, ap₂}
+use Rattle.core_bytes.specs.declared.section.Section.{Section}
+use Rattle.fixup_modules.specs.declared.encoding.EncodedFixup.{EncodedFixup}
+use Rattle.fixup_modules.specs.declared.instances.ImportedInstance.{ImportedInstance}
+use Rattle.fixup_modules.specs.Fixups.{Fixup}
+use Rattle.fixup_modules.specs.Imports.{Imported}
+use Rattle.fixup_modules.proofs.encoding.encode_tasks.Goals as goal
+
+pub returns-clause-ok : goal.returns-clause-ok
+returns-clause-ok c =
+    let f : Fixup = record { types = c.args.types; imported = c.args.imports; fills = c.args.fills.now; calls = c.args.calls.now } in
+    let build : List Section → List (List ℕ × ImportedInstance) → EncodedFixup = λ sections instances. record { «module» = sections; instances = instances } in
+    ap₂ build
+    (c.in_ok-module.ensures f (sym c.in_ok-own_type.ensures.types) (sym c.in_ok-table.ensures.imports) (sym c.in_ok-table.ensures.index) (sym c.in_ok-own_type.ensures.index) refl refl)
+    (c.into_instances.ensures ∙ ap (λ (m : Imported). m.instances) c.in_ok-table.ensures.imports)
