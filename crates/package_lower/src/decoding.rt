@@ -56,7 +56,8 @@ fn with_named(
     core: &CoreModule,
     roles: &mut Roles,
 ) -> Result<(), Failure>
-    ensures { Gives (λ _. roles.new) result (with_named names.now rejects_older core.now roles.old) }
+    ensures { Gives (λ _. roles.new) result
+        (with_named names.now rejects_older core.now roles.old) }
 {
     let imports = core.imports.as_slice();
     add_imports(
