@@ -141,16 +141,24 @@ fn said_of(
     Ok(said)
 }
 
-/// A module without the sections that describe its component, and what it says of that.
+/// A module without the sections that describe its component, and what it says of that. What is kept before the first of these
+/// stays where it is.
 #[tactic(auto, unfolding(crate::specs::Decoding::decoding))]
 pub(crate) fn decode(
     alloc: Global,
     rejects_older: bool,
-    bytes: &[u8],
+    mut bytes: Vec<u8>,
 ) -> Result<(SharedBytes, Bindgen), Failure>
-    ensures { Gives (λ d. d) result (decoding rejects_older bytes.now) }
+    ensures { Gives (λ d. d) result (decoding rejects_older bytes.items) }
 {
-    let Divided { kept, texts } = divide(alloc, bytes)?;
-    let said = said_of(alloc, rejects_older, bytes, &texts)?;
-    Ok((SharedBytes::from_vec(kept)?, said))
+    let Divided {
+        prefix,
+        rest,
+        texts,
+    } = divide(alloc, &bytes)?;
+    let said = said_of(alloc, rejects_older, &bytes, &texts)?;
+    drop(texts);
+    bytes.truncate(prefix);
+    bytes.extend_from_slice(&rest)?;
+    Ok((SharedBytes::from_vec(bytes)?, said))
 }

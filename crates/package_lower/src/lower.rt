@@ -62,7 +62,7 @@ impl Lower for PackageLower {
     }
 
     fn decode(&self, alloc: Global, bytes: Vec<u8>) -> Result<(SharedBytes, Bindgen), LowerFault> {
-        Ok(decode(alloc, self.reject_legacy_names, &bytes)?)
+        Ok(decode(alloc, self.reject_legacy_names, bytes)?)
     }
 
     fn merge(
