@@ -21,6 +21,7 @@ use Rattle.wit_data.specs.declared.worlds.WorldItem.TheVariants as items
 use Rattle.wit_data.specs.Keys.{is_same_key}
 use Rattle.wit_data.specs.Names.{id_name_of, key_text}
 use Rattle.wit_data.specs.Values.{kind_at}
+use Rattle.built_ins.specs.BuiltIns.{plain_intrinsic}
 use Rattle.comp_roles.specs.declared.imports.Import.{Import}
 use Rattle.comp_roles.specs.declared.imports.Import.TheVariants as imports
 use Rattle.comp_roles.specs.declared.imports.ImportInstance.{ImportInstance}
@@ -88,7 +89,7 @@ pub record IsOwnResource (w : ComponentWorld) (key : WorldKey) (id : TypeId) : T
 
 -- the role of an import is a function that the world imports, at its root or in an interface, called in the right form, the drop of a
 -- resource, `resource.drop`, `resource.rep` or `resource.new` of a resource of an exported interface, main's memory, what main or an
--- adapter offers, or an item of an argument of a library
+-- adapter offers, an item of an argument of a library, or a built-in function without operands
 abbrev pub IsImportRole : ComponentWorld → Import → Type 0
 IsImportRole w (imports.WorldFunc (keys.Name text) function abi) = Contains (imported_functions w) text × (function ≡ text) × (abi ≡ GuestImport)
 IsImportRole w (imports.InterfaceFunc key id function abi) = Contains (items_of w).imports (key, items.Interface id) × Contains (map (λ e. e.0) (functions_of w.resolve id)) function × (abi ≡ GuestImport)
@@ -100,7 +101,7 @@ IsImportRole w (imports.MainModuleMemory type) = MemoryMatches w type
 IsImportRole w (imports.MainModuleExport name kind) = OffersItem w.main name kind
 IsImportRole w (imports.AdapterExport adapter name type) = AdapterOffers w adapter name type
 IsImportRole w (imports.Item item) = NamedOffers w item.which item.name item.kind
-IsImportRole w role = ⊥
+IsImportRole w role = IsSome (plain_intrinsic role)
 
 -- a function of the handles of an exported resource is for the module that has to export its interface
 abbrev pub IsForOwnKey : List WorldKey → Import → Type 0

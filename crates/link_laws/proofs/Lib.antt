@@ -1,5 +1,6 @@
 mod Zips
 mod Stores
+mod BuiltIns
 mod Kept
 pub mod Plain
 mod ModuleMarks

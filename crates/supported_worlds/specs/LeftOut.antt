@@ -2,10 +2,10 @@
 -- types and of synchronous functions, exported interfaces of types of their own and of synchronous functions made of these and of
 -- named types of interfaces that are imported or exported, types that it imports, in their order and with all resources of the root
 -- among them, core imports and exports with the role of such a function, core imports that drop a resource, or make or read a handle of
--- one that their module has to export, or are main's memory, an export of main, a function that an adapter exports or an item of an
--- argument of a library, and core exports that are a post-return, a destructor, a memory or a realloc; of main, of adapters and of
--- libraries. All else is left out, and reported by the name of its kind. (The names are those of this project's record.)
-use Rattle.std.specs.Prelude.{ℕ, Bool, ◌++◌, List, length, codes, Option, Some, None, Result, Ok, Err, get_or, if◌then◌else◌}
+-- one that their module has to export, or are main's memory, an export of main, a function that an adapter exports, an item of an
+-- argument of a library or a built-in function without operands, and core exports that are a post-return, a destructor, a memory or a
+-- realloc; of main, of adapters and of libraries. All else is left out, and reported by the name of its kind. (The names are those of this project's record.)
+use Rattle.std.specs.Prelude.{ℕ, Bool, ◌++◌, List, length, codes, Option, Some, None, Result, Ok, Err, get_or, is_some, if◌then◌else◌}
 use Rattle.std.specs.List.{flat_map}
 use Rattle.std.specs.Map.{lookup}
 use Rattle.std.specs.Option.{option_or}
@@ -21,6 +21,7 @@ use Rattle.wit_data.specs.declared.worlds.WorldItem.{WorldItem}
 use Rattle.wit_data.specs.declared.worlds.WorldItem.TheVariants as items
 use Rattle.wit_data.specs.declared.worlds.WorldKey.{WorldKey}
 use Rattle.wit_data.specs.declared.worlds.WorldKey.TheVariants as keys
+use Rattle.built_ins.specs.BuiltIns.{plain_intrinsic}
 use Rattle.comp_roles.specs.Lookups.{first_some}
 use Rattle.comp_roles.specs.declared.exports.Export.{Export}
 use Rattle.comp_roles.specs.declared.exports.Export.TheVariants as exports
@@ -113,7 +114,7 @@ resources_left_out types entries = unless (are_in_place types 0 (imported_number
 
 -- an import of a module, unless it is a function at the root or of an interface that is called synchronously, or drops a resource, by the
 -- places of the types, and that of the root; or has a role that an exported resource may have; or is main's memory, an export of main, a
--- function that an adapter exports, or an item of an argument
+-- function that an adapter exports, an item of an argument, or a built-in function without operands
 abbrev pub import_left_out : List TypeDef → List ℕ → ℕ → Import → Option (List ℕ)
 import_left_out types places root (imports.WorldFunc (keys.Name text) name GuestImport) = None
 import_left_out types places root (imports.WorldFunc key name GuestImportAsync) = Some (codes "async")
@@ -127,7 +128,7 @@ import_left_out types places root (imports.MainModuleMemory type) = None
 import_left_out types places root (imports.MainModuleExport name kind) = None
 import_left_out types places root (imports.AdapterExport adapter name type) = None
 import_left_out types places root (imports.Item item) = None
-import_left_out types places root role = Some (import_kind role)
+import_left_out types places root role = unless (is_some (plain_intrinsic role)) (import_kind role)
 
 -- such a role, unless it is of a resource of an interface that the module has to export at the key
 abbrev pub own_role_left_out : List TypeDef → Entries → List InterfaceId → Import → Option (List ℕ)
