@@ -43,7 +43,8 @@ impl ComponentItems {
     /// Adds a built-in function without operands and options (`canon task.cancel` and its neighbours).
     pub fn built_in(&mut self, intrinsic: Intrinsic) -> Result<u32, BuildFault>
         requires plain { IsSome (plain_type intrinsic) }
-        ensures adds { Adds self.old self.new result Space.CoreFunc (Def.Item (Item.Intrinsic intrinsic)) None }
+        ensures adds { Adds self.old self.new result Space.CoreFunc
+            (Def.Item (Item.Intrinsic intrinsic)) None }
         ensures made { IfOk result (λ index. IsBuiltIn self.new.defs index intrinsic) }
     {
         let index = self.component.intrinsic(intrinsic)?;

@@ -294,15 +294,23 @@ impl ImportSources<'_> {
         field: &Text,
         import: &Import,
     ) -> Result<(ExportKind, u32), StateFault>
-        requires sources { AreSources root.old.world.now self.now root.old.met root.old.items.defs root.old.maps root.old.instances }
-        requires present { Contains (imports_of self.now.user.found.now) (record { module_name = «module».now; field = field.now; role = import.now }) }
+        requires sources { AreSources root.old.world.now self.now root.old.met root.old.items.defs root.old.maps
+            root.old.instances }
+        requires present { Contains (imports_of self.now.user.found.now)
+            (record { module_name = «module».now; field = field.now; role = import.now }) }
         requires linked { plain_intrinsic import.now ≡ None }
         ensures same { root.new ≡ record root.old { items = root.new.items } }
         ensures extends { Extends root.old.items root.new.items }
-        ensures grows { OnOk result (Grows root.old.world.now root.old.items.defs root.new.items.defs []) }
-        ensures made { IfOk result (λ item. IsGivenFor root.old.world.now (user_of self.now.user.which) root.new.items.defs (kind_space item.0) item.1 import.now) }
-        ensures supplied { OnOk result (IsSuppliedImport root.old.world.now (user_of self.now.user.which) import.now) }
-        ensures cause { IfErr result (IsCauseAmong root.old.world.now (record { of = user_of self.now.user.which; core = record { module_name = «module».now; field = field.now; role = import.now } } ∷ []) []) }
+        ensures grows { OnOk result (Grows root.old.world.now root.old.items.defs root.new.items.defs
+            []) }
+        ensures made { IfOk result (λ item. IsGivenFor root.old.world.now (user_of self.now.user.which)
+            root.new.items.defs (kind_space item.0) item.1 import.now) }
+        ensures supplied { OnOk result (IsSuppliedImport root.old.world.now (user_of self.now.user.which)
+            import.now) }
+        ensures cause { IfErr result (IsCauseAmong root.old.world.now (record {
+          of = user_of self.now.user.which;
+          core = record { module_name = «module».now; field = field.now; role = import.now };
+        } ∷ []) []) }
     {
         let place = CorePlace { module, field };
         match import {
@@ -363,14 +371,22 @@ impl ImportSources<'_> {
         field: &Text,
         import: &Import,
     ) -> Result<(ExportKind, u32), StateFault>
-        requires sources { AreSources root.old.world.now self.now root.old.met root.old.items.defs root.old.maps root.old.instances }
-        requires present { Contains (imports_of self.now.user.found.now) (record { module_name = «module».now; field = field.now; role = import.now }) }
+        requires sources { AreSources root.old.world.now self.now root.old.met root.old.items.defs root.old.maps
+            root.old.instances }
+        requires present { Contains (imports_of self.now.user.found.now)
+            (record { module_name = «module».now; field = field.now; role = import.now }) }
         ensures same { root.new ≡ record root.old { items = root.new.items } }
         ensures extends { Extends root.old.items root.new.items }
-        ensures grows { OnOk result (Grows root.old.world.now root.old.items.defs root.new.items.defs []) }
-        ensures made { IfOk result (λ item. IsGivenFor root.old.world.now (user_of self.now.user.which) root.new.items.defs (kind_space item.0) item.1 import.now) }
-        ensures supplied { OnOk result (IsSuppliedImport root.old.world.now (user_of self.now.user.which) import.now) }
-        ensures cause { IfErr result (IsCauseAmong root.old.world.now (record { of = user_of self.now.user.which; core = record { module_name = «module».now; field = field.now; role = import.now } } ∷ []) []) }
+        ensures grows { OnOk result (Grows root.old.world.now root.old.items.defs root.new.items.defs
+            []) }
+        ensures made { IfOk result (λ item. IsGivenFor root.old.world.now (user_of self.now.user.which)
+            root.new.items.defs (kind_space item.0) item.1 import.now) }
+        ensures supplied { OnOk result (IsSuppliedImport root.old.world.now (user_of self.now.user.which)
+            import.now) }
+        ensures cause { IfErr result (IsCauseAmong root.old.world.now (record {
+          of = user_of self.now.user.which;
+          core = record { module_name = «module».now; field = field.now; role = import.now };
+        } ∷ []) []) }
     {
         match plain_intrinsic(import) {
             Some(intrinsic) => {
@@ -390,12 +406,16 @@ impl ImportSources<'_> {
         import: &Import,
     ) -> Result<CoreInlineExport, StateFault>
         requires sources { AreSources root.old.world.now self.now root.old.met root.old.items.defs root.old.maps root.old.instances }
-        requires present { Contains (imports_of self.now.user.found.now) (record { module_name = «module».now; field = field.now; role = import.now }) }
+        requires present { Contains (imports_of self.now.user.found.now)
+            (record { module_name = «module».now; field = field.now; role = import.now }) }
         ensures same { root.new ≡ record root.old { items = root.new.items } }
         ensures extends { Extends root.old.items root.new.items }
         ensures grows { OnOk result (Grows root.old.world.now root.old.items.defs root.new.items.defs []) }
         ensures serves { IfOk result (λ entry. IsEntryFor root.old.world.now (user_of self.now.user.which) root.new.items.defs entry (field.now, import.now)) }
-        ensures cause { IfErr result (IsCauseAmong root.old.world.now (record { of = user_of self.now.user.which; core = record { module_name = «module».now; field = field.now; role = import.now } } ∷ []) []) }
+        ensures cause { IfErr result (IsCauseAmong root.old.world.now (record {
+          of = user_of self.now.user.which;
+          core = record { module_name = «module».now; field = field.now; role = import.now };
+        } ∷ []) []) }
     {
         let name = field.clone(root.items.allocator())?;
         let (kind, index) = self.materialize_import(root, module, field, import)?;

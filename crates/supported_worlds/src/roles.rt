@@ -34,7 +34,8 @@ fn drop_left_out(types: &[TypeDef], places: &Places, id: TypeId) -> Option<&'sta
 
 /// A role of another kind, unless it is a built-in function without operands.
 fn built_in_left_out(role: &Import) -> Option<&'static str>
-    ensures { option_copied result ≡ unless (is_some (plain_intrinsic role.now)) (import_kind role.now) }
+    ensures { option_copied result ≡
+        unless (is_some (plain_intrinsic role.now)) (import_kind role.now) }
 {
     match plain_intrinsic(role) {
         Some(_) => None,
