@@ -54,3 +54,4 @@ mod CrossedMemories
 mod OtherLists
 mod OtherRuns
 mod WorkedInitialize
+mod WorkedBuiltIns
