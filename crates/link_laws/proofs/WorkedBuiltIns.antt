@@ -157,14 +157,14 @@ straight_ends = refl
 
 -- ---- it keeps the rules, and so links
 
-inc_given : IsEntryFor world Main (take 3 straight) (record { name = inc; kind = kinds.Func; index = 0 }) (inc, imports.BackpressureInc)
+inc_given : IsEntryFor world Main (take 4 straight) (record { name = inc; kind = kinds.Func; index = 0 }) (inc, imports.BackpressureInc)
 inc_given = record {
   named = refl;
   serves = inl (record { term = terms.BuiltIn intrinsics.BackpressureInc; is = record { made = record { made = refl }; plain = refl }; asked = refl });
   supplied = record { encoding = not_true; memory = not_true; realloc = λ shared needed. cc };
 }
 
-dec_given : IsEntryFor world Main (take 3 straight) (record { name = dec; kind = kinds.Func; index = 1 }) (dec, imports.BackpressureDec)
+dec_given : IsEntryFor world Main (take 4 straight) (record { name = dec; kind = kinds.Func; index = 1 }) (dec, imports.BackpressureDec)
 dec_given = record {
   named = refl;
   serves = inl (record { term = terms.BuiltIn intrinsics.BackpressureDec; is = record { made = record { made = refl }; plain = refl }; asked = refl });
