@@ -6,8 +6,6 @@ use Rattle.std.specs.Map.{keys_of}
 use Rattle.std.specs.Str.{bytes_eq}
 use Rattle.core_types.specs.Core.{IsCoreModule}
 use Rattle.wit_data.specs.declared.functions.Function.{Function}
-use Rattle.wit_data.specs.declared.functions.FunctionKind.{FunctionKind}
-use Rattle.wit_data.specs.declared.functions.FunctionKind.TheVariants as functions
 use Rattle.wit_data.specs.declared.functions.AbiVariant.TheVariants.{GuestImport, GuestExport}
 use Rattle.wit_data.specs.declared.ids.InterfaceId.{InterfaceId}
 use Rattle.wit_data.specs.declared.ids.TypeId.{TypeId}
@@ -37,18 +35,11 @@ use Rattle.comp_worlds.specs.Typed.{FitsImport, FitsExport}
 use Rattle.comp_worlds.specs.Uses.{imports_of}
 use Rattle.comp_worlds.specs.WorldContents.{items_of, imported_functions, exported_functions, exported_item, core_name_in, interface_at, keys_required}
 
--- a kind of function that is called synchronously
-abbrev pub IsSynchronous : FunctionKind → Type 0
-IsSynchronous functions.AsyncFreestanding = ⊥
-IsSynchronous (functions.AsyncMethod id) = ⊥
-IsSynchronous (functions.AsyncStatic id) = ⊥
-IsSynchronous kind = Unit {0}
-
--- a synchronous function under its name
+-- a function under its name
 abbrev pub IsNamedFunction : List ℕ × Function → Type 0
-IsNamedFunction e = (e.0 ≡ e.1.name) × IsSynchronous e.1.kind
+IsNamedFunction e = e.0 ≡ e.1.name
 
--- the world imports synchronous functions at its root, each under its name, types, and interfaces of such functions
+-- the world imports functions at its root, each under its name, types, and interfaces of such functions
 abbrev pub IsImportItem : Resolve → WorldKey × WorldItem → Type 0
 IsImportItem r (keys.Name text, items.Function f) = IsNamedFunction (text, f)
 IsImportItem r (keys.Name text, items.NamedType id) = Unit {0}
@@ -56,7 +47,7 @@ IsImportItem r (keys.Name text, items.Interface id) = AllByRecursion IsNamedFunc
 IsImportItem r (keys.Interface other, items.Interface id) = AllByRecursion IsNamedFunction (functions_of r id)
 IsImportItem r entry = ⊥
 
--- it exports synchronous functions at its root, each under its name, and interfaces of such functions
+-- it exports functions at its root, each under its name, and interfaces of such functions
 abbrev pub IsExportItem : Resolve → WorldKey × WorldItem → Type 0
 IsExportItem r (keys.Name text, items.Function f) = IsNamedFunction (text, f)
 IsExportItem r (keys.Name text, items.Interface id) = AllByRecursion IsNamedFunction (functions_of r id)

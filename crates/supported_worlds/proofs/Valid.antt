@@ -61,7 +61,7 @@ use Rattle.supported_worlds.specs.Modules.{UserModule, main_of, module_of}
 use Rattle.supported_worlds.specs.Causes.{role_left_out, own_role_out}
 use Rattle.supported_worlds.specs.Placed.{places_of, is_resource, is_droppable, is_resource_at, is_own_resource}
 use Rattle.supported_worlds.specs.Guarantees.{HasFoundImport, IsUsed, OffersExport, IsSoundModule, HasSoundParts}
-use Rattle.supported_worlds.proofs.Interfaces.{synchronous, synchronous_interface, own_are, other_key, one_found, entry_there, name_there as function_there, found_there}
+use Rattle.supported_worlds.proofs.Interfaces.{named_interface, own_are, other_key, one_found, entry_there, name_there as function_there, found_there}
 use Rattle.supported_worlds.proofs.Lists.{nothing, at_front, after, none_picked}
 use Rattle.supported_worlds.proofs.InPlace.{both, resource_kind}
 use Rattle.supported_worlds.proofs.Order.{passes}
@@ -75,26 +75,26 @@ Entries = List (WorldKey × WorldItem)
 
 -- ---- items
 
-import_item : (r : Resolve) (e : WorldKey × WorldItem) → import_item_left_out r e ≡ None → IsNamed e → AllByRecursion AreListed r.interfaces → IsImportItem r e
-import_item r (keys.Name text, items.Function f) h named listed = (sym named, synchronous f.kind h)
+import_item : (r : Resolve) (e : WorldKey × WorldItem) → import_item_left_out e ≡ None → IsNamed e → AllByRecursion AreListed r.interfaces → IsImportItem r e
+import_item r (keys.Name text, items.Function f) h named listed = sym named
 import_item r (keys.Name text, items.NamedType id) h named listed = tt
-import_item r (keys.Name text, items.Interface id) h named listed = synchronous_interface r id h listed
+import_item r (keys.Name text, items.Interface id) h named listed = named_interface r id listed
 import_item r (keys.Interface other, items.Function f) h named listed = nothing _ h
 import_item r (keys.Interface other, items.NamedType id) h named listed = nothing _ h
-import_item r (keys.Interface other, items.Interface id) h named listed = synchronous_interface r id h listed
+import_item r (keys.Interface other, items.Interface id) h named listed = named_interface r id listed
 
-import_items : (r : Resolve) (es : Entries) → AllByRecursion (λ e. import_item_left_out r e ≡ None) es → AllByRecursion IsNamed es → AllByRecursion AreListed r.interfaces → AllByRecursion (IsImportItem r) es
+import_items : (r : Resolve) (es : Entries) → AllByRecursion (λ e. import_item_left_out e ≡ None) es → AllByRecursion IsNamed es → AllByRecursion AreListed r.interfaces → AllByRecursion (IsImportItem r) es
 import_items r [] h named listed = tt
 import_items r (e ∷ es) h named listed = (import_item r e h.0 named.0 listed, import_items r es h.1 named.1 listed)
 
-export_item : (r : Resolve) (e : WorldKey × WorldItem) → export_item_left_out r e ≡ None → IsNamed e → AllByRecursion AreListed r.interfaces → IsExportItem r e
-export_item r (keys.Name text, items.Function f) h named listed = (sym named, synchronous f.kind h)
+export_item : (r : Resolve) (e : WorldKey × WorldItem) → export_item_left_out e ≡ None → IsNamed e → AllByRecursion AreListed r.interfaces → IsExportItem r e
+export_item r (keys.Name text, items.Function f) h named listed = sym named
 export_item r (keys.Interface other, items.Function f) h named listed = nothing _ h
 export_item r (key, items.NamedType id) h named listed = nothing _ h
-export_item r (keys.Name text, items.Interface id) h named listed = synchronous_interface r id h listed
-export_item r (keys.Interface other, items.Interface id) h named listed = synchronous_interface r id h listed
+export_item r (keys.Name text, items.Interface id) h named listed = named_interface r id listed
+export_item r (keys.Interface other, items.Interface id) h named listed = named_interface r id listed
 
-export_items : (r : Resolve) (es : Entries) → AllByRecursion (λ e. export_item_left_out r e ≡ None) es → AllByRecursion IsNamed es → AllByRecursion AreListed r.interfaces → AllByRecursion (IsExportItem r) es
+export_items : (r : Resolve) (es : Entries) → AllByRecursion (λ e. export_item_left_out e ≡ None) es → AllByRecursion IsNamed es → AllByRecursion AreListed r.interfaces → AllByRecursion (IsExportItem r) es
 export_items r [] h named listed = tt
 export_items r (e ∷ es) h named listed = (export_item r e h.0 named.0 listed, export_items r es h.1 named.1 listed)
 
