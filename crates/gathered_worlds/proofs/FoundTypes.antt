@@ -19,6 +19,7 @@ use Rattle.core_sections.specs.Reading.{◌>>=◌}
 use Rattle.core_types.specs.declared.types.FuncType.{FuncType}
 use Rattle.core_types.specs.declared.types.MemoryType.{MemoryType}
 use Rattle.core_types.specs.declared.types.ValType.{ValType}
+use Rattle.core_types.specs.declared.types.ValType.TheVariants as types
 use Rattle.core_types.specs.contracts.types.MemoryTypePartialEq.TheImpl as same_memory
 use Rattle.wit_data.specs.Keys.{is_same_key}
 use Rattle.wit_data.specs.Signatures.{signature}
@@ -120,9 +121,20 @@ handling = record { params = numbers.I32 ∷ []; results = numbers.I32 ∷ []; i
 abbrev reallocating : WasmSignature
 reallocating = record { params = numbers.I32 ∷ numbers.I32 ∷ numbers.I32 ∷ numbers.I32 ∷ []; results = numbers.I32 ∷ []; indirect_params = false; retptr = false }
 
--- an initialization takes and returns nothing
+-- an initialization and a built-in function without numbers take and return nothing
 abbrev initializing : WasmSignature
 initializing = record { params = []; results = []; indirect_params = false; retptr = false }
+
+-- `waitable.join` takes a waitable and a set
+abbrev joining : WasmSignature
+joining = record { params = numbers.I32 ∷ numbers.I32 ∷ []; results = []; indirect_params = false; retptr = false }
+
+-- what returns a set or the contents of a slot, and what sets a slot
+abbrev getting : WasmType → WasmSignature
+getting type = record { params = []; results = type ∷ []; indirect_params = false; retptr = false }
+
+abbrev setting : WasmType → WasmSignature
+setting type = record { params = type ∷ []; results = []; indirect_params = false; retptr = false }
 
 -- equal memory types are one
 same_number : (m n : ℕ) → nat_eq m n ≡ true → m ≡ n
@@ -175,6 +187,19 @@ module _ (r : Resolve) (present : 0 < length r.worlds) (core : CoreModule) where
   import_typed (imports.ExportedResourceNew key id) e ty fits is = entity_of core e handling fits ∙ is
   import_typed (imports.MainModuleMemory type) e ty fits is = memory_typed core e type fits ∙ is
   import_typed (imports.AdapterExport adapter name type) e ty fits is = function_is (extern_type core e) type fits ∙ is
+  import_typed imports.ExportedTaskCancel e ty fits is = entity_of core e initializing fits ∙ is
+  import_typed imports.BackpressureInc e ty fits is = entity_of core e initializing fits ∙ is
+  import_typed imports.BackpressureDec e ty fits is = entity_of core e initializing fits ∙ is
+  import_typed imports.WaitableSetNew e ty fits is = entity_of core e (getting numbers.I32) fits ∙ is
+  import_typed imports.WaitableSetDrop e ty fits is = entity_of core e dropping fits ∙ is
+  import_typed imports.WaitableJoin e ty fits is = entity_of core e joining fits ∙ is
+  import_typed imports.SubtaskDrop e ty fits is = entity_of core e dropping fits ∙ is
+  import_typed (imports.SubtaskCancel is_async) e ty fits is = entity_of core e handling fits ∙ is
+  import_typed imports.ErrorContextDrop e ty fits is = entity_of core e dropping fits ∙ is
+  import_typed (imports.ContextGet types.I32 slot) e ty fits is = entity_of core e (getting numbers.I32) fits ∙ is
+  import_typed (imports.ContextGet types.I64 slot) e ty fits is = entity_of core e (getting numbers.I64) fits ∙ is
+  import_typed (imports.ContextSet types.I32 slot) e ty fits is = entity_of core e dropping fits ∙ is
+  import_typed (imports.ContextSet types.I64 slot) e ty fits is = entity_of core e (setting numbers.I64) fits ∙ is
   import_typed role e ty fits is = absurd (none-some ty is)
 
   -- an entity is of no type that is not required

@@ -14,9 +14,10 @@ use Rattle.comp_roles.specs.CoreImports.{CoreImport}
 use Rattle.core_options.specs.MainOptions.{user_of}
 use Rattle.shim_targets.proofs.Users.{among_all}
 use Rattle.main_instance.specs.Sources.{IsMade}
+use Rattle.main_instance.proofs.BuiltIns.{IsLinked, linked_role}
 use Rattle.main_instance.proofs.OfMain.{behind, item_named, memory_for_import}
 use Rattle.main_instance.proofs.Serving.{handed_on, import_role, user_import}
-use Rattle.main_instance.proofs.instances.ImportSources.materialize_import.Goals as goal
+use Rattle.main_instance.proofs.instances.ImportSources.link_import.Goals as goal
 
 pub drop_resource-requires-clause-known : goal.drop_resource-requires-clause-known
 drop_resource-requires-clause-known c =
@@ -101,4 +102,5 @@ pub unreachable-requires : goal.unreachable-requires
 unreachable-requires c =
     let role : IsImportRole c.args.root.now.world.now c.args.import.now =
     import_role c.args.root.now.world.now (user_of c.args.self.now.user.which) c.args.self.now.user.found.now c.requires.sources.user.named c.requires.sources.valid (record { module_name = c.args.module.now; field = c.args.field.now; role = c.args.import.now }) c.requires.present in
+    let linked : IsLinked c.args.import.now = linked_role c.args.root.now.world.now c.args.import.now role c.requires.linked in
     search rules
