@@ -131,6 +131,7 @@ module _ (w : ComponentWorld) (ok : IsWorld w) (s : Store) (of : UserModule) whe
       offered_matches w ok of (imports.AdapterExport adapter name function) e right refl from (listed_there (user_modules w) h.number from h.of.listed) h.of.same (externs.Func h.type) h.offered (externs.Func type) fits in
       let typed : externs.Func type ≡ externs.Func h.type = matched_function (externs.Func type) h.type matching in
       (ExportedBy h.user name, subst (λ t. IsOpaqueOf s address t (ExportedBy h.user name)) (ap (function_type_in type) (sym typed)) h.is)
+  served_opaque address (imports.WorldFunc (keys.Interface other) function abi) type right fits h = absurd (true≢false (sym right))
   served_opaque address role type right fits h = built_in_opaque w s address (plain_intrinsic role) type fits h
 
 -- what serves a role matches an import that fits the role
@@ -177,6 +178,7 @@ module _ (w : ComponentWorld) (ok : IsWorld w) (s : Store) (globals : List ValTy
   role_typed space address (imports.AdapterExport adapter name function) type right fits h =
       let e : ExportRef = record { of = Adapter adapter; name = name } in
       export_typed w ok s globals typed space address e type (λ m listed same t offered. offered_matches w ok of (imports.AdapterExport adapter name function) e right refl m listed same t offered type fits) h
+  role_typed space address (imports.WorldFunc (keys.Interface other) function abi) type right fits h = absurd (true≢false (sym right))
   role_typed space address role type right fits h =
       let core : (t : FuncType) × (plain_import_type role ≡ Some t) × (externs.Func t ≡ type) = mapped_some externs.Func (plain_import_type role) type fits in
       subst (HasType s globals space address) core.2

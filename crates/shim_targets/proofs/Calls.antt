@@ -1,5 +1,5 @@
 -- The functions that core imports call: how they are lowered, and the kinds of shims for them.
-use Rattle.std.proofs.Common.{◌≡◌, ◌∙◌, ℕ, true, false, List, [], ◌∷◌, map, Contains, inl, inr, is_some, Option, Some, None, refl, sym, ap, subst, rules}
+use Rattle.std.proofs.Common.{◌≡◌, ◌∙◌, ℕ, true, false, List, [], ◌∷◌, map, Contains, inl, inr, is_some, Option, Some, None, refl, sym, ap, subst, rules, true≢false}
 use Rattle.std.specs.Cmp.{IsEquivalence}
 use Rattle.std.specs.Cmp.Rules.{comparing}
 use Rattle.std.specs.List.{AllByRecursion, flat_map}
@@ -202,4 +202,5 @@ role_back w ok of (imports.MainModuleMemory type) h encoding kind e = absurd (no
 role_back w ok of (imports.MainModuleExport name export) h encoding kind e = absurd (none-some kind e)
 role_back w ok of (imports.AdapterExport adapter name type) h encoding kind e = absurd (none-some kind e)
 role_back w ok of (imports.Item item) h encoding kind e = absurd (none-some kind e)
+role_back w ok of (imports.WorldFunc (keys.Interface other) function abi) h encoding kind e = absurd (true≢false (sym h))
 role_back w ok of role h encoding kind e = absurd (none-some kind e)

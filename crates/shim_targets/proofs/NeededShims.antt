@@ -112,6 +112,7 @@ import_needed w ok unshared of m name field (imports.MainModuleMemory type) ther
 import_needed w ok unshared of m name field (imports.MainModuleExport export sort) there h encoding encoded memory kind is = absurd (none-some kind is)
 import_needed w ok unshared of m name field (imports.AdapterExport adapter function type) there h encoding encoded memory kind is = absurd (none-some kind is)
 import_needed w ok unshared of m name field (imports.Item item) there h encoding encoded memory kind is = absurd (none-some kind is)
+import_needed w ok unshared of m name field (imports.WorldFunc (keys.Interface other) function abi) there h encoding encoded memory kind is = absurd (true≢false (sym h))
 import_needed w ok unshared of m name field role there h encoding encoded memory kind is = absurd (none-some kind is)
 
 -- so has one that needs a realloc, where main imports its memory
@@ -133,6 +134,7 @@ realloc_needed_by w ok shared of m name field (imports.MainModuleMemory type) th
 realloc_needed_by w ok shared of m name field (imports.MainModuleExport export sort) there h realloc r found = absurd (true≢false (sym realloc))
 realloc_needed_by w ok shared of m name field (imports.AdapterExport adapter function type) there h realloc r found = absurd (true≢false (sym realloc))
 realloc_needed_by w ok shared of m name field (imports.Item item) there h realloc r found = absurd (true≢false (sym realloc))
+realloc_needed_by w ok shared of m name field (imports.WorldFunc (keys.Interface other) function abi) there h realloc r found = absurd (true≢false (sym h))
 realloc_needed_by w ok shared of m name field role there h realloc r found = absurd (true≢false (sym realloc))
 
 -- a kind that is needed of an import of a module has a shim

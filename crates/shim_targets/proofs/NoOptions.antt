@@ -1,5 +1,5 @@
 -- A call that needs no memory has no option.
-use Rattle.std.proofs.Common.{◌≡◌, ◌∙◌, ℕ, false, List, [], Contains, Option, Some, None, refl, sym, ap}
+use Rattle.std.proofs.Common.{◌≡◌, ◌∙◌, ℕ, false, List, [], Contains, Option, Some, None, refl, sym, ap, true≢false}
 use Rattle.std.specs.Option.{option_map_or}
 use Rattle.wit_data.specs.declared.functions.AbiVariant.{AbiVariant}
 use Rattle.wit_data.specs.declared.functions.AbiVariant.TheVariants.{GuestImport}
@@ -42,4 +42,5 @@ role_without w (imports.MainModuleMemory type) h e = refl
 role_without w (imports.MainModuleExport name kind) h e = refl
 role_without w (imports.AdapterExport adapter name type) h e = refl
 role_without w (imports.Item item) h e = refl
+role_without w (imports.WorldFunc (keys.Interface other) function abi) h e = absurd (true≢false (sym h))
 role_without w role h e = refl

@@ -1,5 +1,5 @@
 -- Functions that user modules import are called synchronously.
-use Rattle.std.proofs.Common.{◌≡◌, ◌∙◌, false, List, Option, Some, None, refl, ap}
+use Rattle.std.proofs.Common.{◌≡◌, ◌∙◌, false, List, Option, Some, None, refl, ap, true≢false, sym}
 use Rattle.std.specs.Option.{option_map_or}
 use Rattle.wit_data.specs.declared.functions.AbiVariant.{AbiVariant}
 use Rattle.wit_data.specs.declared.functions.AbiVariant.TheVariants.{GuestImport}
@@ -36,4 +36,5 @@ role_waits w (imports.MainModuleMemory type) h = refl
 role_waits w (imports.MainModuleExport name kind) h = refl
 role_waits w (imports.AdapterExport adapter name type) h = refl
 role_waits w (imports.Item item) h = refl
+role_waits w (imports.WorldFunc (keys.Interface other) function abi) h = absurd (true≢false (sym h))
 role_waits w role h = refl

@@ -230,7 +230,7 @@ is_world : IsWorld mixed_world
 unfolding IsDistinct
 is_world = record {
   present = omega arith;
-  imports = (((refl, tt), tt), ((refl, tt), ((refl, tt), tt)));
+  imports = ((refl, tt), (refl, (refl, tt)));
   exports = tt;
   import_keys_apart = ((refl, (refl, tt)), ((refl, tt), (tt, tt)));
   import_names_apart = ((refl, tt), (tt, tt));

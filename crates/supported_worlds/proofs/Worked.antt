@@ -476,7 +476,7 @@ representation_of_values_is_reported : own_role_left_out (an_interface_type ∷ 
 representation_of_values_is_reported = refl
 
 -- of the imports from one module the first that is left out is reported
-first_field_is_reported : group_left_out [] [] 0 (codes "$root", instances.Names ((codes "f", imports.WorldFunc f (codes "f") GuestImport) ∷ (codes "s", imports.WaitableSetNew) ∷ (codes "i", imports.BackpressureInc) ∷ [])) ≡ Some (codes "waitable-set-new")
+first_field_is_reported : group_left_out [] [] 0 (codes "$root", instances.Names ((codes "f", imports.WorldFunc f (codes "f") GuestImport) ∷ (codes "i", imports.BackpressureInc) ∷ (codes "s", imports.WaitableSetWait) ∷ (codes "p", imports.WaitableSetPoll) ∷ [])) ≡ Some (codes "waitable-set-wait")
 first_field_is_reported = refl
 
 whole_is_encoded : group_left_out [] [] 0 (codes "m", instances.Whole modules.Main) ≡ None
