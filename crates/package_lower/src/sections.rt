@@ -1,6 +1,6 @@
 //! A module without the sections that describe a component, and what these hold.
 
-ghost use Rattle.std.specs.Prelude.{◌≡◌, ◌++◌, ◌≤◌, length, take, map, IfOk, OnOk};
+ghost use Rattle.std.specs.Prelude.{[], ◌≡◌, ◌++◌, ◌≤◌, length, take, map, IfOk, OnOk};
 ghost use Rattle.std.specs.List.{flat_map};
 ghost use Rattle.comp_lists.specs.Tables.{with_first};
 ghost use Rattle.core_sections.specs.Sections.{preamble, view};
