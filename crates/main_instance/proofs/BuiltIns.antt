@@ -1,9 +1,11 @@
 -- Imports that are given a built-in function without operands, and all others.
-use Rattle.std.proofs.Common.{◌≡◌, ◌∙◌, ℕ, true, false, List, Option, Some, None, is_some, refl, sym, ap, true≢false}
+use Rattle.std.proofs.Common.{◌≡◌, ◌∙◌, ℕ, true, false, List, Option, Some, None, is_some, refl, sym, ap, subst, inl, true≢false}
 use Rattle.std.specs.Prelude.{IsTrue, IsSome}
 use Rattle.std.proofs.lemmas.Option.{none-some}
 use Rattle.built_ins.specs.BuiltIns.{plain_intrinsic}
 use Rattle.comp_bytes.specs.declared.canon.Intrinsic.{Intrinsic}
+use Rattle.comp_bytes.specs.declared.def.Def.{Def}
+use Rattle.comp_bytes.specs.declared.space.Space.TheVariants as spaces
 use Rattle.comp_links.specs.Links.{link_of_intrinsic, link_of, lower_needs}
 use Rattle.comp_links.specs.Roles.{needs_encoding, is_main_memory}
 use Rattle.comp_links.specs.Supplied.{IsSuppliedImport}
@@ -11,6 +13,9 @@ use Rattle.comp_links.specs.Targets.{UserModule, BuiltIn}
 use Rattle.comp_options.specs.Options.{needs}
 use Rattle.comp_roles.specs.declared.imports.Import.{Import}
 use Rattle.comp_roles.specs.declared.imports.Import.TheVariants as imports
+use Rattle.comp_terms.specs.Planned.{IsTermFor, IsGivenFor}
+use Rattle.comp_terms.specs.Terms.{IsBuiltIn}
+use Rattle.comp_terms.specs.Terms as terms
 use Rattle.comp_worlds.specs.Worlds.{IsImportRole}
 use Rattle.comp_worlds.specs.declared.world.ComponentWorld.{ComponentWorld}
 use Rattle.wit_data.specs.declared.worlds.WorldKey.TheVariants as keys
@@ -55,6 +60,11 @@ built_in_linked w of (imports.MainModuleExport name kind) intrinsic h = absurd (
 built_in_linked w of (imports.AdapterExport adapter name type) intrinsic h = absurd (none-some intrinsic h)
 built_in_linked w of (imports.Item item) intrinsic h = absurd (none-some intrinsic h)
 built_in_linked w of role intrinsic h = ap link_of_intrinsic h
+
+-- such a function is given for it
+pub built_in_given : (w : ComponentWorld) (of : UserModule) (ds : List Def) (index : ℕ) (role : Import) (intrinsic : Intrinsic) → plain_intrinsic role ≡ Some intrinsic → IsBuiltIn ds index intrinsic → IsGivenFor w of ds spaces.CoreFunc index role
+built_in_given w of ds index role intrinsic e h =
+    inl (record { term = terms.BuiltIn intrinsic; is = h; asked = subst (λ t. IsTermFor w t (terms.BuiltIn intrinsic)) (sym (built_in_linked w of role intrinsic e)) refl })
 
 -- it is no call, so that it needs nothing else
 record NeedsNothing (w : ComponentWorld) (role : Import) : Type 0 where
