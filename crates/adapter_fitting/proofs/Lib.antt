@@ -1,0 +1,4 @@
+pub mod Naming
+pub mod Chains
+pub mod Steps
+pub mod Active

@@ -1,0 +1,7 @@
+pub mod Faults
+pub mod Places
+pub mod Stack
+pub mod Allocation
+pub mod Fitting
+pub mod MainRealloc
+pub mod Segments

@@ -1,0 +1,3 @@
+pub mod Names
+pub mod Functions
+pub mod Segments
