@@ -1,5 +1,5 @@
 -- An adapter that gets its stack when it is first called. (This project's own, after the tools that write such adapters.)
-use Rattle.std.specs.Prelude.{ℕ, ◌-◌, ◌==◌, Bool, false, ◌&&◌, is_some, List, [], ◌∷◌, length, Option, Some, None, Result, Ok, Err, if◌then◌else◌}
+use Rattle.std.specs.Prelude.{ℕ, ◌-◌, ◌==◌, Bool, false, ◌&&◌, is_some, List, [], ◌∷◌, ◌++◌, length, Option, Some, None, Result, Ok, Err, if◌then◌else◌}
 use Rattle.std.specs.List.{slice_get, list_all}
 use Rattle.byte_encoding.specs.Encoding.{Encoding, ◌⊕◌}
 use Rattle.core_sections.specs.Sections.{Piece, pieces_of}
@@ -8,16 +8,18 @@ use Rattle.core_sections.specs.declared.core_module.CoreModule.{CoreModule}
 use Rattle.core_types.specs.Grammar.{function_type}
 use Rattle.core_parts.specs.Functions.{indices_of, bodies_of, instructions_of}
 use Rattle.core_parts.specs.declared.exports.ExportedIndex.{ExportedIndex}
-use Rattle.module_edits.specs.Additions.{with_function}
+use Rattle.module_edits.specs.Additions.{Added, with_function}
 use Rattle.adapter_fitting.specs.declared.fault.Refusal.{Refusal}
 use Rattle.adapter_fitting.specs.declared.fault.Refusal.TheVariants as refusals
 use Rattle.adapter_fitting.specs.declared.stack.StackGlobals.{StackGlobals}
 use Rattle.adapter_fitting.specs.declared.realloc.ReallocImport.{ReallocImport}
+use Rattle.adapter_fitting.specs.declared.checks.NewIndices.{NewIndices}
 use Rattle.adapter_fitting.specs.declared.indices.Indices.{Indices}
 use Rattle.adapter_fitting.specs.declared.indices.StackIndices.{StackIndices}
 use Rattle.adapter_fitting.specs.Faults.{◌>>=◌, or_refused, of_sections}
 use Rattle.adapter_fitting.specs.Places.{Placed, placed, bytes_in, first, misplaced}
-use Rattle.adapter_fitting.specs.Stack.{stack_in, realloc_from, imported_from, is_realloc_type}
+use Rattle.adapter_fitting.specs.Segments.{no_data}
+use Rattle.adapter_fitting.specs.Stack.{stack_in, realloc_from, imported_from, globals_from, shares_memory, is_realloc_type}
 use Rattle.adapter_fitting.specs.Allocation.{allocation_type, allocation}
 
 -- ---- what is read of a module
@@ -34,15 +36,20 @@ with_type m (Some r) = if is_realloc_type (slice_get m.types r.type_index) then 
 abbrev pub realloc_of : CoreModule → Result ReallocImport Refusal
 realloc_of m = with_type m (realloc_from 0 m.imports)
 
--- what its stack needs, if it has the globals of one and functions of its own
+-- what its stack needs, if it has the globals of one
 abbrev pub needed_by : CoreModule → Option StackGlobals → Result (Option StackIndices) Refusal
 needed_by m None = Ok None
-needed_by m (Some g) =
-    if length m.items.functions == imported_from 0 m.imports then Ok None
-    else (realloc_of m >>= λ r. Ok (Some (record { indices = indices_of_module m; realloc = r.index; globals = g })))
+needed_by m (Some g) = realloc_of m >>= λ r. Ok (Some (record { indices = indices_of_module m; realloc = r.index; globals = g }))
 
+-- only functions of its own need one
+abbrev pub stack_needed : CoreModule → List Placed → Result (Option StackIndices) Refusal
+stack_needed m ss =
+    if length m.items.functions == imported_from 0 m.imports then Ok None
+    else (stack_in m.items.globals (globals_from 0 m.imports) ss >>= needed_by m)
+
+-- In a memory of its own it may have data and a stack; another module's memory it must not write over.
 abbrev pub needed_of : CoreModule → List Placed → Result (Option StackIndices) Refusal
-needed_of m ss = stack_in m.items.globals ss >>= needed_by m
+needed_of m ss = if shares_memory m.imports then (no_data ss >>= λ u. stack_needed m ss) else Ok None
 
 -- ---- what has to hold of its sections
 
@@ -74,17 +81,23 @@ exports_of end_place x ss =
 abbrev pub limited : List ℕ → Encoding
 limited indices = record { bytes = []; counts = indices }
 
--- the module with a function that allocates the stack, which each exported function calls first
+-- those of a function that is added to a module, which is the last one, as its type is
+abbrev pub added_at : Indices → NewIndices
+added_at x = record { type_index = x.types; index = x.functions; first = x.imported }
+
+abbrev pub limits_of : Indices → List ℕ
+limits_of x = x.types ∷ x.functions ∷ x.imported ∷ []
+
+-- a function that allocates the stack
+abbrev pub stack_function : NewIndices → List ℕ → Added
+stack_function n body =
+    record { func_type = (function_type allocation_type).bytes; type_index = n.type_index; index = n.index; body = body; export = None }
+
+-- the module with one, which each exported function calls first
 abbrev pub stacked : List ExportedIndex → StackIndices → List Piece → Encoding
 stacked es x ps =
-    limited (x.indices.types ∷ x.indices.functions ∷ x.indices.imported ∷ x.realloc ∷ [])
-    ⊕ with_function es x.indices.imported (record {
-      func_type = (function_type allocation_type).bytes;
-      type_index = x.indices.types;
-      index = x.indices.functions;
-      body = (allocation x.realloc x.globals).bytes;
-      export = None;
-    }) ps
+    limited (limits_of x.indices ++ x.realloc ∷ [])
+    ⊕ with_function es x.indices.imported (stack_function (added_at x.indices) (allocation x.realloc x.globals).bytes) ps
 
 abbrev pub fit_needed : ℕ → List Piece → Option StackIndices → Result (Option Encoding) Refusal
 fit_needed end_place ps None = Ok None

@@ -16,6 +16,10 @@ abbrev pub one_has_active : List Placed → Result Bool Refusal
 one_has_active [] = Ok false
 one_has_active (s ∷ ss) = has_active s >>= λ here. if here then Ok true else one_has_active ss
 
+-- none of them has one
+abbrev pub no_data : List Placed → Result Unit Refusal
+no_data ss = one_has_active ss >>= λ found. if found then Err refusals.ActiveData else Ok tt
+
 -- Whether a module has one.
 abbrev pub active_data : List ℕ → Result Bool Refusal
 active_data bytes = of_sections (pieces_of bytes) >>= λ ps. one_has_active (placed 8 ps)

@@ -1,8 +1,8 @@
 -- The stack of an adapter: the globals that say where it is and whether it is there, by their names, and main's realloc, by
 -- the names of its import. (The names are those that the tools for WebAssembly's components know; debug names: WebAssembly core
 -- specification, appendix, custom sections.)
-use Rattle.std.specs.Prelude.{ℕ, ◌+◌, ◌==◌, Bool, true, false, ◌&&◌, List, [], ◌∷◌, ◌++◌, length, map, filter, codes, Option, Some, None, Result, Ok, Err, if◌then◌else◌}
-use Rattle.std.specs.List.{slice_get}
+use Rattle.std.specs.Prelude.{ℕ, ◌+◌, ◌==◌, nat_le, Bool, true, false, ◌&&◌, List, [], ◌∷◌, ◌++◌, length, map, filter, codes, Option, Some, None, Result, Ok, Err, if◌then◌else◌}
+use Rattle.std.specs.List.{slice_get, list_any}
 use Rattle.std.specs.Str.{bytes_eq}
 use Rattle.core_sections.specs.declared.entries.ValType.{ValType}
 use Rattle.core_sections.specs.declared.entries.ValType.TheVariants as vals
@@ -39,33 +39,35 @@ abbrev pub is_variable : Option EntityType → Bool
 is_variable (Some (entities.Global vals.I32 mutable)) = mutable
 is_variable e = false
 
-abbrev pub is_variable_of : List EntityType → List ℕ → Named → Bool
-is_variable_of globals name n = bytes_eq n.name name && is_variable (slice_get globals n.index)
+-- a variable of this name that the module defines: those that it imports are before the first of these
+abbrev pub is_variable_of : List EntityType → ℕ → List ℕ → Named → Bool
+is_variable_of globals first name n = bytes_eq n.name name && (nat_le first n.index && is_variable (slice_get globals n.index))
 
 -- the indices of the variables with this name
-abbrev pub variables : List EntityType → List ℕ → List Named → List ℕ
-variables globals name ns = map (λ n. n.index) (filter (is_variable_of globals name) ns)
+abbrev pub variables : List EntityType → ℕ → List ℕ → List Named → List ℕ
+variables globals first name ns = map (λ n. n.index) (filter (is_variable_of globals first name) ns)
 
 -- the one that there is, if there is one
 abbrev pub the_one : List ℕ → Result (Option ℕ) Refusal
 the_one [] = Ok None
 the_one (i ∷ more) = if length more == 0 then Ok (Some i) else Err refusals.ManyGlobals
 
-abbrev pub both : Option ℕ → Option ℕ → Option StackGlobals
-both (Some pointer) (Some state) = Some (record { pointer = pointer; state = state })
-both (Some pointer) None = None
-both None state = None
+-- a stack has a pointer and a state
+abbrev pub both : Option ℕ → Option ℕ → Result (Option StackGlobals) Refusal
+both (Some pointer) (Some state) = Ok (Some (record { pointer = pointer; state = state }))
+both (Some pointer) None = Err refusals.NoState
+both None state = Ok None
 
 -- the globals of the stack: the pointer to its end, and the state, which is 0 where the stack isn't there yet
-abbrev pub stack_of : List EntityType → List Named → Result (Option StackGlobals) Refusal
-stack_of globals ns =
-    the_one (variables globals (codes "__stack_pointer") ns) >>= λ pointer.
-    the_one (variables globals (codes "allocation_state") ns) >>= λ state.
-    Ok (both pointer state)
+abbrev pub stack_of : List EntityType → ℕ → List Named → Result (Option StackGlobals) Refusal
+stack_of globals first ns =
+    the_one (variables globals first (codes "__stack_pointer") ns) >>= λ pointer.
+    the_one (variables globals first (codes "allocation_state") ns) >>= λ state.
+    both pointer state
 
 -- the globals of the stack that these sections name
-abbrev pub stack_in : List EntityType → List Placed → Result (Option StackGlobals) Refusal
-stack_in globals ss = names_of ss >>= stack_of globals
+abbrev pub stack_in : List EntityType → ℕ → List Placed → Result (Option StackGlobals) Refusal
+stack_in globals first ss = names_of ss >>= stack_of globals first
 
 -- ---- main's realloc
 
@@ -95,6 +97,27 @@ realloc_from index (i ∷ is) = elim (realloc_import index i) [ None ↦ realloc
 abbrev pub imported_from : ℕ → List CoreImport → ℕ
 imported_from index [] = index
 imported_from index (i ∷ is) = imported_from (functions_after index i.entity) is
+
+-- ---- what else is imported
+
+-- one more global, if this is one
+abbrev pub globals_after : ℕ → EntityType → ℕ
+globals_after index (entities.Global type mutable) = index + 1
+globals_after index e = index
+
+-- how many globals are imported
+abbrev pub globals_from : ℕ → List CoreImport → ℕ
+globals_from index [] = index
+globals_from index (i ∷ is) = globals_from (globals_after index i.entity) is
+
+abbrev pub is_memory : CoreImport → Bool
+is_memory i = elim i.entity [ entities.Memory limits ↦ true | e ↦ false ]
+
+-- the memory is another module's
+abbrev pub shares_memory : List CoreImport → Bool
+shares_memory is = list_any is_memory is
+
+-- ---- types
 
 abbrev pub is_i32 : ValType → Bool
 is_i32 vals.I32 = true

@@ -92,11 +92,11 @@ pub(crate) fn page_realloc() -> &'static [u8]
     ]
 }
 
-/// Writes the entry of an export of a function as `cabi_realloc`.
+/// Writes the entry of an export of a function as `cabi_realloc_adapter`.
 pub(crate) fn put_realloc_export(out: &mut Vec<u8>, index: u32) -> Result<(), BuildFault>
     ensures { Writes out.old.items out.new.items result (function_export realloc_name index) }
 {
-    let name = b"cabi_realloc";
+    let name = b"cabi_realloc_adapter";
     put_count(out, name.len())?;
     put_bytes(out, name)?;
     put_bytes(out, &[0x00])?;

@@ -8,7 +8,7 @@ ghost use Rattle.byte_encoding.specs.Written.{Refused};
 ghost use Rattle.core_parts.specs.Functions.{instructions_of, bodies_of};
 ghost use Rattle.adapter_fitting.specs.Faults.{Gives};
 ghost use Rattle.adapter_fitting.specs.Places.{placed_view, first};
-ghost use Rattle.adapter_fitting.specs.Fitting.{in_order, are_bodies, has_bodies, exports_in, exports_of};
+ghost use Rattle.adapter_fitting.specs.Fitting.{limits_of, added_at, in_order, are_bodies, has_bodies, exports_in, exports_of};
 
 use crate::fault::{Refusal, Stop};
 use crate::indices::Indices;
@@ -17,6 +17,14 @@ use byte_encoding::{BuildFault, counted};
 use core_parts::{ExportedIndex, exported_indices, function_bodies, instructions_of};
 use std::alloc::Global;
 
+/// The indices of a function that is added: of its type, of itself, and of the first function that isn't imported.
+#[derive(Clone, Copy)]
+pub(crate) struct NewIndices {
+    pub(crate) type_index: u32,
+    pub(crate) index: u32,
+    pub(crate) first: u32,
+}
+
 /// An index, if it has no more than 32 bits.
 pub(crate) fn limited(index: usize) -> Result<u32, BuildFault>
     ensures { MatchResult result
@@ -24,6 +32,21 @@ pub(crate) fn limited(index: usize) -> Result<u32, BuildFault>
 {
     let index = counted(index as u128)?;
     Ok(index)
+}
+
+/// The indices of a function that is added to a module, if they have no more than 32 bits.
+pub(crate) fn new_indices(indices: Indices) -> Result<NewIndices, BuildFault>
+    ensures { MatchResult result
+        (λ n. (n ≡ added_at indices) × Fits (limits_of indices)) (λ e. Refused (limits_of indices) e) }
+{
+    let type_index = limited(indices.types)?;
+    let index = limited(indices.functions)?;
+    let first = limited(indices.imported)?;
+    Ok(NewIndices {
+        type_index,
+        index,
+        first,
+    })
 }
 
 fn in_order(sections: &[PlacedSection<'_>]) -> Result<(), Stop>

@@ -4,7 +4,7 @@ ghost use Rattle.std.specs.Prelude.{◌≡◌, Ok, map};
 ghost use Rattle.core_sections.specs.Sections.{view, pieces_of};
 ghost use Rattle.adapter_fitting.specs.Faults.{Gives, Told};
 ghost use Rattle.adapter_fitting.specs.Places.{placed_view, placed};
-ghost use Rattle.adapter_fitting.specs.Segments.{has_active, one_has_active, active_data};
+ghost use Rattle.adapter_fitting.specs.Segments.{has_active, one_has_active, no_data, active_data};
 
 use crate::fault::{FitFault, Refusal, Stop};
 use crate::places::{PlacedSection, bytes_in, has_id, placed_sections};
@@ -38,6 +38,17 @@ fn one_has_active(sections: &[PlacedSection<'_>]) -> Result<bool, Stop>
         }
     }
     Ok(false)
+}
+
+/// Checks that none of these sections has one.
+pub(crate) fn no_data(sections: &[PlacedSection<'_>]) -> Result<(), Stop>
+    ensures { Gives (λ u. u) result (no_data (map placed_view sections.now)) }
+{
+    if one_has_active(sections)? {
+        Err(Stop::Refused(Refusal::ActiveData))
+    } else {
+        Ok(())
+    }
 }
 
 fn active_in(alloc: Global, bytes: &[u8], sections: &[Section<'_>]) -> Result<bool, FitFault>

@@ -28,7 +28,7 @@ pub enum Refusal {
     /// The section of names at this offset is malformed.
     #[error("F6 Names place={place}")]
     Names { place: usize },
-    /// Several globals are named `__stack_pointer`, or `allocation_state`.
+    /// Several globals of an adapter are named `__stack_pointer`, or `allocation_state`.
     #[error("F7 ManyGlobals")]
     ManyGlobals,
     /// An adapter that needs a stack doesn't import main's `cabi_realloc`.
@@ -50,6 +50,12 @@ pub enum Refusal {
     /// A main module that has no function of its own, or no exports.
     #[error("F13 NoFunctions")]
     NoFunctions,
+    /// An adapter has `__stack_pointer`, and no `allocation_state`: nothing says when its stack is there.
+    #[error("F14 NoState")]
+    NoState,
+    /// An adapter has an active data segment, which would be copied over what is in main's memory.
+    #[error("F15 ActiveData")]
+    ActiveData,
 }
 
 /// Why reading a module ends early.

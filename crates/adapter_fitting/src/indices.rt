@@ -2,14 +2,18 @@
 
 ghost use Rattle.std.specs.Prelude.{◌≡◌, map};
 ghost use Rattle.core_sections.specs.Entries.{module_of};
-ghost use Rattle.adapter_fitting.specs.Faults.{Gives, of_sections};
+ghost use Rattle.adapter_fitting.specs.Faults.{Gives, of_sections, ◌>>=◌};
+ghost use Rattle.adapter_fitting.specs.Stack.{stack_in, globals_from};
 ghost use Rattle.adapter_fitting.specs.Places.{placed_view};
 ghost use Rattle.adapter_fitting.specs.Fitting.{indices_of_module, with_type, realloc_of};
-ghost use Rattle.adapter_fitting.specs.Fitting.{needed_by, needed_of, needed_in};
+ghost use Rattle.adapter_fitting.specs.Fitting.{needed_by, stack_needed, needed_of, needed_in};
 
+use crate::data::no_data;
 use crate::fault::{Refusal, Stop};
 use crate::places::PlacedSection;
-use crate::realloc::{ReallocImport, find_realloc, imported, is_realloc_type};
+use crate::realloc::{
+    ReallocImport, find_realloc, imported, imported_globals, is_realloc_type, shares_memory,
+};
 use crate::stack::{StackGlobals, stack_globals};
 use core_sections::{CoreModule, read_module};
 use std::alloc::Global;
@@ -60,19 +64,46 @@ fn realloc_of(module: &CoreModule) -> Result<ReallocImport, Stop>
 fn needed_with(module: &CoreModule, globals: StackGlobals) -> Result<Option<StackIndices>, Stop>
     ensures { Gives (λ o. o) result (needed_by module.now (Some globals)) }
 {
-    let indices = indices_of(module);
-    if indices.functions == indices.imported {
-        return Ok(None);
-    }
     let realloc = realloc_of(module)?;
     Ok(Some(StackIndices {
-        indices,
+        indices: indices_of(module),
         realloc: realloc.index,
         globals,
     }))
 }
 
-/// What the stack of a module needs, if it has the globals of one and functions of its own.
+/// What the stack of a module needs, if it has the globals of one.
+fn needed_by_names(
+    alloc: Global,
+    module: &CoreModule,
+    sections: &[PlacedSection<'_>],
+) -> Result<Option<StackIndices>, Stop>
+    ensures { Gives (λ o. o) result (stack_in module.now.items.globals
+        (globals_from 0 module.now.imports) (map placed_view sections.now) >>= needed_by module.now) }
+{
+    let first = imported_globals(module.imports.as_slice());
+    match stack_globals(alloc, module.items.globals.as_slice(), first, sections)? {
+        None => Ok(None),
+        Some(globals) => needed_with(module, globals),
+    }
+}
+
+/// What the stack of a module needs, if it has one and functions of its own.
+fn stack_needed(
+    alloc: Global,
+    module: &CoreModule,
+    sections: &[PlacedSection<'_>],
+) -> Result<Option<StackIndices>, Stop>
+    ensures { Gives (λ o. o) result (stack_needed module.now (map placed_view sections.now)) }
+{
+    if module.items.functions.len() == imported(module.imports.as_slice()) {
+        Ok(None)
+    } else {
+        needed_by_names(alloc, module, sections)
+    }
+}
+
+/// What the stack of a module needs, if the module shares a memory, and has no data for it.
 fn needed_of(
     alloc: Global,
     module: &CoreModule,
@@ -80,10 +111,11 @@ fn needed_of(
 ) -> Result<Option<StackIndices>, Stop>
     ensures { Gives (λ o. o) result (needed_of module.now (map placed_view sections.now)) }
 {
-    match stack_globals(alloc, module.items.globals.as_slice(), sections)? {
-        None => Ok(None),
-        Some(globals) => needed_with(module, globals),
+    if !shares_memory(module.imports.as_slice()) {
+        return Ok(None);
     }
+    no_data(sections)?;
+    stack_needed(alloc, module, sections)
 }
 
 /// What the stack of the module with these bytes needs.

@@ -1,17 +1,19 @@
 //! A main module that gets a realloc.
 #![tactic(auto, using(byte_encoding::proofs::Pieces::writing))]
 
-ghost use Rattle.std.specs.Prelude.{◌≡◌, ◌++◌, Ok, List, [], map, length, is_some};
+ghost use Rattle.std.specs.Prelude.{◌≡◌, ◌++◌, Ok, List, [], map, length, is_some, IfOk};
 ghost use Rattle.byte_encoding.specs.Encoding.{Encoding, Fits, ◌⊕◌};
 ghost use Rattle.byte_encoding.specs.Written.{Writes, Refused};
 ghost use Rattle.core_sections.specs.Sections.{view, pieces_of};
 ghost use Rattle.adapter_fitting.specs.Faults.{Gives, Fitted};
 ghost use Rattle.adapter_fitting.specs.Places.{placed_view, placed};
-ghost use Rattle.adapter_fitting.specs.MainRealloc.{with_realloc, has_lists, can_get_realloc};
-ghost use Rattle.adapter_fitting.specs.MainRealloc.{lacking, give_lacking, main_with_realloc};
+ghost use Rattle.module_edits.specs.Additions.{added_view, with_function};
+ghost use Rattle.adapter_fitting.specs.MainRealloc.{realloc_name, function_export, realloc_function, with_realloc};
+ghost use Rattle.adapter_fitting.specs.MainRealloc.{has_lists, can_get_realloc, exports_name, has_realloc};
+ghost use Rattle.adapter_fitting.specs.MainRealloc.{lacking_of, lacking, give_lacking, main_with_realloc};
 
 use crate::allocation::{page_realloc, put_realloc_export, realloc_type};
-use crate::checks::{exports_of, limited};
+use crate::checks::{NewIndices, exports_of, new_indices};
 use crate::fault::{FitFault, Refusal, Stop};
 use crate::indices::{Indices, indices_of};
 use crate::places::{PlacedSection, first, placed_sections};
@@ -19,7 +21,48 @@ use byte_encoding::BuildFault;
 use comp_lists::Text;
 use core_sections::{CoreModule, Section, read_module, sections_of};
 use module_edits::{NewFunction, put_with_function};
-use std::alloc::Global;
+use std::alloc::{AllocError, Global};
+
+/// A realloc, with the entry of its export.
+fn realloc_function<'a>(indices: NewIndices, export: &'a [u8]) -> NewFunction<'a>
+    ensures { added_view result ≡ realloc_function indices export.now }
+{
+    NewFunction {
+        func_type: realloc_type(),
+        type_index: indices.type_index,
+        index: indices.index,
+        body: page_realloc(),
+        export: Some(export),
+    }
+}
+
+/// Writes a module with a realloc that has this export.
+fn put_with_export(
+    out: &mut Vec<u8>,
+    indices: NewIndices,
+    export: &[u8],
+    sections: &[Section<'_>],
+) -> Result<(), BuildFault>
+    ensures { Writes out.old.items out.new.items result (with_function []
+        indices.first (realloc_function indices export.now) (map view sections.now)) }
+{
+    let new = realloc_function(indices, export);
+    put_with_function(out, &[], indices.first, new, sections)
+}
+
+/// Writes a module with a realloc at these indices.
+fn put_realloc_at(
+    out: &mut Vec<u8>,
+    indices: NewIndices,
+    sections: &[Section<'_>],
+) -> Result<(), BuildFault>
+    ensures { Writes out.old.items out.new.items result (with_function [] indices.first (realloc_function
+        indices (function_export realloc_name indices.index).bytes) (map view sections.now)) }
+{
+    let mut export = Vec::new(*out.allocator());
+    put_realloc_export(&mut export, indices.index)?;
+    put_with_export(out, indices, export.as_slice(), sections)
+}
 
 /// Writes a module with a realloc.
 fn put_with_realloc(
@@ -30,19 +73,8 @@ fn put_with_realloc(
     ensures { Writes out.old.items out.new.items result
         (with_realloc indices (map view sections.now)) }
 {
-    let type_index = limited(indices.types)?;
-    let index = limited(indices.functions)?;
-    let first = limited(indices.imported)?;
-    let mut export = Vec::new(*out.allocator());
-    put_realloc_export(&mut export, index)?;
-    let new = NewFunction {
-        func_type: realloc_type(),
-        type_index,
-        index,
-        body: page_realloc(),
-        export: Some(export.as_slice()),
-    };
-    put_with_function(out, &[], first, new, sections)
+    let new = new_indices(indices)?;
+    put_realloc_at(out, new, sections)
 }
 
 /// Whether a module has the lists that get an entry.
@@ -66,6 +98,43 @@ fn can_get_realloc(module: &CoreModule, sections: &[PlacedSection<'_>]) -> Resul
     }
 }
 
+/// Whether a module exports an item of this name.
+pub(crate) fn exports_name(
+    alloc: Global,
+    module: &CoreModule,
+    name: &str,
+) -> Result<bool, AllocError>
+    ensures { IfOk result (λ b. b ≡ exports_name name.now module.now) }
+{
+    let name = Text::from_str(alloc, name)?;
+    Ok(module.exports.contains_key(&name))
+}
+
+/// Whether a module exports an item that counts as a realloc.
+fn has_realloc(alloc: Global, module: &CoreModule) -> Result<bool, AllocError>
+    ensures { IfOk result (λ b. b ≡ has_realloc module.now) }
+{
+    let general = exports_name(alloc, module, "cabi_realloc")?;
+    let own = exports_name(alloc, module, "cabi_realloc_adapter")?;
+    Ok(general || own)
+}
+
+/// What a module is that can get a realloc, if it has none.
+fn lacking_of(
+    module: &CoreModule,
+    sections: &[PlacedSection<'_>],
+    has: bool,
+) -> Result<Option<Indices>, Stop>
+    ensures { Gives (λ o. o) result
+        (lacking_of module.now (map placed_view sections.now) has) }
+{
+    if has {
+        return Ok(None);
+    }
+    can_get_realloc(module, sections)?;
+    Ok(Some(indices_of(module)))
+}
+
 /// What a module is that has no realloc, and can get one.
 fn lacking(
     alloc: Global,
@@ -74,13 +143,9 @@ fn lacking(
 ) -> Result<Option<Indices>, Stop>
     ensures { Gives (λ o. o) result (lacking bytes.now (map placed_view sections.now)) }
 {
-    let name = Text::from_str(alloc, "cabi_realloc")?;
     let module = read_module(alloc, bytes)?;
-    if module.exports.contains_key(&name) {
-        return Ok(None);
-    }
-    can_get_realloc(&module, sections)?;
-    Ok(Some(indices_of(&module)))
+    let has = has_realloc(alloc, &module)?;
+    lacking_of(&module, sections, has)
 }
 
 /// The module of these sections, which end there, with a realloc.
@@ -116,7 +181,8 @@ fn give_to_sections(
     }
 }
 
-/// A main module with a realloc, or `None` where it exports something named `cabi_realloc`.
+/// A main module with a realloc for its adapters, `cabi_realloc_adapter`, or `None` where it exports something of this name or
+/// `cabi_realloc`.
 ///
 /// The realloc is one more function, the last, and its export the last one. It answers with a page of memory, 64 KiB, by which
 /// memory 0 grows. It traps where something was there before, where another size is asked for, and where the memory can't grow. All else is kept,

@@ -1,8 +1,9 @@
-//! The import of main's realloc.
+//! What an adapter imports: main's realloc, globals, and a memory.
 
 ghost use Rattle.std.specs.Prelude.{◌≡◌, ◌≤◌, ◌<◌, ◌+◌, ◌^◌, length, option_map};
 ghost use Rattle.adapter_fitting.specs.Stack.{is_realloc, functions_after, function_type_of};
 ghost use Rattle.adapter_fitting.specs.Stack.{realloc_import, realloc_from, imported_from};
+ghost use Rattle.adapter_fitting.specs.Stack.{globals_after, globals_from, is_memory, shares_memory};
 ghost use Rattle.adapter_fitting.specs.Stack.{is_i32, are_i32, is_realloc_type};
 
 use core_sections::{CoreImport, EntityType, FuncType, ValType};
@@ -74,6 +75,46 @@ pub(crate) fn imported(imports: &[CoreImport]) -> usize
         index = functions_after(index, import.entity);
     }
     index
+}
+
+/// How many globals there are after this item.
+fn globals_after(index: usize, entity: EntityType) -> usize
+    requires { index + 1 < 2 ^ 64 }
+    ensures { result ≡ globals_after index entity }
+{
+    match entity {
+        EntityType::Global { .. } => index + 1,
+        _ => index,
+    }
+}
+
+/// How many globals are imported.
+pub(crate) fn imported_globals(imports: &[CoreImport]) -> usize
+    ensures { result ≡ globals_from 0 imports.now }
+{
+    let mut index = 0;
+    for import in imports {
+        index = globals_after(index, import.entity);
+    }
+    index
+}
+
+fn is_memory(import: &CoreImport) -> bool
+    ensures { result ≡ is_memory import.now }
+{
+    matches!(import.entity, EntityType::Memory(_))
+}
+
+/// Whether a memory is imported.
+pub(crate) fn shares_memory(imports: &[CoreImport]) -> bool
+    ensures { result ≡ shares_memory imports.now }
+{
+    for import in imports {
+        if is_memory(import) {
+            return true;
+        }
+    }
+    false
 }
 
 /// Whether these are so many numbers of 32 bits.

@@ -75,25 +75,28 @@ fn is_variable(entity: Option<&EntityType>) -> bool
     }
 }
 
-fn is_variable_of(globals: &[EntityType], name: &[u8], given: GlobalName<'_>) -> bool
-    ensures { result ≡ is_variable_of globals.now name.now (name_view given.entry) }
+/// Whether this is the name of a variable that the module defines; `first` is the first global that it defines.
+fn is_variable_of(globals: &[EntityType], first: usize, name: &[u8], given: GlobalName<'_>) -> bool
+    ensures { result ≡ is_variable_of globals.now first name.now (name_view given.entry) }
 {
-    given.name == name && is_variable(globals.get(given.index as usize))
+    let index = given.index as usize;
+    given.name == name && first <= index && is_variable(globals.get(index))
 }
 
 /// The indices of the variables with this name.
 fn variables(
     alloc: Global,
     globals: &[EntityType],
+    first: usize,
     name: &[u8],
     names: &[GlobalName<'_>],
 ) -> Result<Vec<u32>, AllocError>
     ensures { IfOk result
-        (λ v. v.items ≡ variables globals.now name.now (map name_view names.now)) }
+        (λ v. v.items ≡ variables globals.now first name.now (map name_view names.now)) }
 {
     let mut indices = Vec::new(alloc);
     for given in names {
-        if is_variable_of(globals, name, *given) {
+        if is_variable_of(globals, first, name, *given) {
             indices.push(given.index)?;
         }
     }
@@ -120,46 +123,54 @@ fn the_one(indices: &[u32]) -> Result<Option<u32>, Stop>
 fn variable(
     alloc: Global,
     globals: &[EntityType],
+    first: usize,
     name: &[u8],
     names: &[GlobalName<'_>],
 ) -> Result<Option<u32>, Stop>
     ensures { Gives (λ o. o) result
-        (the_one (variables globals.now name.now (map name_view names.now))) }
+        (the_one (variables globals.now first name.now (map name_view names.now))) }
 {
-    let indices = variables(alloc, globals, name, names)?;
+    let indices = variables(alloc, globals, first, name, names)?;
     the_one(&indices)
 }
 
-fn both(pointer: Option<u32>, state: Option<u32>) -> Option<StackGlobals>
-    ensures { result ≡ both pointer state }
+/// The globals of a stack, which has a pointer and a state.
+fn both(pointer: Option<u32>, state: Option<u32>) -> Result<Option<StackGlobals>, Stop>
+    ensures { Gives (λ o. o) result (both pointer state) }
 {
-    let pointer = pointer?;
-    let state = state?;
-    Some(StackGlobals { pointer, state })
+    let Some(pointer) = pointer else {
+        return Ok(None);
+    };
+    let Some(state) = state else {
+        return Err(Stop::Refused(Refusal::NoState));
+    };
+    Ok(Some(StackGlobals { pointer, state }))
 }
 
 /// The globals of the stack, by these names.
 fn stack_by_names(
     alloc: Global,
     globals: &[EntityType],
+    first: usize,
     names: &[GlobalName<'_>],
 ) -> Result<Option<StackGlobals>, Stop>
-    ensures { Gives (λ o. o) result (stack_of globals.now (map name_view names.now)) }
+    ensures { Gives (λ o. o) result (stack_of globals.now first (map name_view names.now)) }
 {
-    let pointer = variable(alloc, globals, b"__stack_pointer", names)?;
-    let state = variable(alloc, globals, b"allocation_state", names)?;
-    Ok(both(pointer, state))
+    let pointer = variable(alloc, globals, first, b"__stack_pointer", names)?;
+    let state = variable(alloc, globals, first, b"allocation_state", names)?;
+    both(pointer, state)
 }
 
-/// The globals of the stack, where these sections name them.
+/// The globals of the stack, where these sections name them; `first` is the first global that the module defines.
 pub(crate) fn stack_globals(
     alloc: Global,
     globals: &[EntityType],
+    first: usize,
     sections: &[PlacedSection<'_>],
 ) -> Result<Option<StackGlobals>, Stop>
     ensures { Gives (λ o. o) result
-        (stack_in globals.now (map placed_view sections.now)) }
+        (stack_in globals.now first (map placed_view sections.now)) }
 {
     let names = names_of(alloc, sections)?;
-    stack_by_names(alloc, globals, &names)
+    stack_by_names(alloc, globals, first, &names)
 }

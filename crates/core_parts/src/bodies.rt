@@ -58,7 +58,7 @@ fn is_short_type(byte: u8) -> bool
 
 /// What follows a value type.
 #[tactic(auto, unfolding(crate::specs::Functions::after_type))]
-fn skip_type(bytes: &[u8]) -> Option<&[u8]>
+pub(crate) fn skip_type(bytes: &[u8]) -> Option<&[u8]>
     ensures value { option_map (λ x. x.now) result ≡ after_type bytes.now }
     ensures shorter { IfSome result (λ x. length x.now ≤ length bytes.now) }
 {

@@ -6,13 +6,13 @@ ghost use Rattle.core_sections.specs.Contents.{byte_at};
 
 /// A number below the limit, in at most as many bytes as a number of that limit may have, and what follows it.
 #[tactic(auto, unfolding(core_sections::specs::Numbers::leb_at))]
-pub(crate) fn read_below(limit: u64, bytes: &[u8]) -> Option<(u64, &[u8])>
+pub(crate) fn read_below(limit: u128, bytes: &[u8]) -> Option<(u128, &[u8])>
     ensures value { option_map (λ x. (x.0, x.1.now)) result ≡ leb_at limit bytes.now }
     ensures below { IfSome result (λ x. x.0 < limit) }
     ensures shorter { IfSome result (λ x. length x.1.now < length bytes.now) }
 {
     let (first, rest) = bytes.split_first()?;
-    let first = *first as u64;
+    let first = *first as u128;
     if first < 128 {
         return if first < limit {
             Some((first, rest))

@@ -7,6 +7,8 @@ use Rattle.byte_encoding.specs.declared.fault.BuildFault.{BuildFault}
 use Rattle.byte_encoding.specs.declared.fault.BuildFault.TheVariants as builds
 use Rattle.core_parts.specs.Functions.{is_exported}
 use Rattle.core_parts.specs.declared.exports.ExportedIndex.{ExportedIndex}
+use Rattle.core_parts.specs.Imports.{parts_view}
+use Rattle.core_parts.specs.declared.imports.ImportParts.{ImportParts}
 use Rattle.module_edits.specs.Additions.{entered_if, bodies_from}
 use Rattle.module_edits.proofs.Remaining.{Remains, all_remains, next_at, none_of, next_written, none_left}
 
@@ -44,3 +46,6 @@ held_length bs = length-map bs (λ b. b.now)
 pub no_counts : (counts : List ℕ) (e : BuildFault) → Refused [] e → Refused counts e
 no_counts counts builds.Memory r = tt
 no_counts counts (builds.TooMany n) r = absurd (omega (arith, r.1.1))
+
+pub parts_length : (is : List ImportParts) → length (map parts_view is) ≡ length is
+parts_length is = length-map is parts_view
