@@ -10,7 +10,7 @@ use Rattle.adapter_fitting.specs.Places.{Placed, placed}
 use Rattle.adapter_fitting.specs.Segments.{has_active, one_has_active}
 
 -- the next section can't be read
-pub active_fail : (e : Stop) (s : Placed) (rest ss : List Placed) (total : Result Bool Refusal) → rest ≡ s ∷ ss → Gives {Bool} {Bool} (λ b. b) (Err e) (has_active s) → one_has_active rest ≡ total → Gives {Bool} {Bool} (λ b. b) (Err e) total
+pub active_fail : (e : Stop) (s : Placed) (rest ss : List Placed) (total : Result Bool Refusal) → rest ≡ s ∷ ss → Gives {X = Bool} {Y = Bool} (λ b. b) (Err e) (has_active s) → one_has_active rest ≡ total → Gives {X = Bool} {Y = Bool} (λ b. b) (Err e) total
 active_fail stops.Memory s rest ss total e h so_far = tt
 active_fail (stops.Refused r) s rest ss total e h so_far = sym so_far ∙ ap one_has_active e ∙ ap (λ x. x >>= λ here. if here then Ok true else one_has_active ss) h
 

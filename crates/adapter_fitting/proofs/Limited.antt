@@ -1,5 +1,5 @@
 -- Indices that are checked before what has them is written.
-use Rattle.std.proofs.Common.{◌≡◌, ℕ, List, [], ◌∷◌, ◌++◌, Result, Ok, Err, subst}
+use Rattle.std.proofs.Common.{◌≡◌, ℕ, List, [], ◌∷◌, ◌++◌, Result, Ok, Err, ap, subst, ◌∙◌}
 use Rattle.byte_encoding.specs.Encoding.{Encoding, Fits, ◌⊕◌}
 use Rattle.byte_encoding.specs.Written.{Writes}
 use Rattle.byte_encoding.specs.declared.fault.BuildFault.{BuildFault}
@@ -29,3 +29,7 @@ pub realloc_written : (old new : List ℕ) (r : Result Unit BuildFault) (n : New
     → Writes old new r (with_function [] n.first (realloc_function n (function_export realloc_name n.index).bytes) ps) → Writes old new r (with_realloc x ps)
 realloc_written old new r n x ps i w =
     limited_first (limits_of x) _ old new r i.1 (subst (λ (m : NewIndices). Writes old new r (with_function [] m.first (realloc_function m (function_export realloc_name m.index).bytes) ps)) i.0 w)
+
+-- a function that was made in a buffer
+pub with_buffer : (P : List ℕ → Type 0) (slice buffer start whole : List ℕ) → slice ≡ buffer → buffer ≡ start ++ whole → start ≡ [] → P slice → P whole
+with_buffer P slice buffer start whole a b e p = subst P (a ∙ b ∙ ap (λ (l : List ℕ). l ++ whole) e) p

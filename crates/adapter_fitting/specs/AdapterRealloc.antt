@@ -1,9 +1,10 @@
 -- Main's realloc under the name that it has for adapters, and an adapter that imports it so. (This project's own, after the
 -- tools that write such modules.)
-use Rattle.std.specs.Prelude.{ℕ, Bool, List, codes, Option, Some, None, Result, Ok, Err}
+use Rattle.std.specs.Prelude.{ℕ, Bool, ◌||◌, not, List, codes, Option, Some, None, Result, Ok, Err}
 use Rattle.byte_encoding.specs.Encoding.{Encoding}
 use Rattle.core_sections.specs.Sections.{Piece, pieces_of}
 use Rattle.core_sections.specs.Entries.{module_of}
+use Rattle.core_sections.specs.declared.core_module.CoreModule.{CoreModule}
 use Rattle.module_edits.specs.Renaming.{Renamed, with_import_name}
 use Rattle.adapter_fitting.specs.declared.fault.Refusal.{Refusal}
 use Rattle.adapter_fitting.specs.declared.realloc.ReallocImport.{ReallocImport}
@@ -12,9 +13,13 @@ use Rattle.adapter_fitting.specs.MainRealloc.{realloc_name, exports_name}
 use Rattle.adapter_fitting.specs.Places.{Placed, placed}
 use Rattle.adapter_fitting.specs.Stack.{realloc_from}
 
--- Whether a main module has one.
-abbrev pub has_adapter_realloc : List ℕ → Result Bool Refusal
-has_adapter_realloc bytes = of_sections (module_of bytes) >>= λ m. Ok (exports_name realloc_name m)
+-- main has one for adapters, or none at all, so that it gets one where that is asked for
+abbrev pub is_for_adapters : CoreModule → Bool
+is_for_adapters m = exports_name realloc_name m || not (exports_name (codes "cabi_realloc") m)
+
+-- Whether the adapters of a main module are to import its realloc under that name.
+abbrev pub names_adapter_realloc : List ℕ → Result Bool Refusal
+names_adapter_realloc bytes = of_sections (module_of bytes) >>= λ m. Ok (is_for_adapters m)
 
 abbrev pub new_name : Renamed
 new_name = record { «module» = codes "__main_module__"; field = codes "cabi_realloc"; new_field = realloc_name }

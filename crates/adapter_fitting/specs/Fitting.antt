@@ -41,11 +41,13 @@ abbrev pub needed_by : CoreModule → Option StackGlobals → Result (Option Sta
 needed_by m None = Ok None
 needed_by m (Some g) = realloc_of m >>= λ r. Ok (Some (record { indices = indices_of_module m; realloc = r.index; globals = g }))
 
+abbrev pub needed_by_names : CoreModule → List Placed → Result (Option StackIndices) Refusal
+needed_by_names m ss = stack_in m.items.globals (globals_from 0 m.imports) ss >>= needed_by m
+
 -- only functions of its own need one
 abbrev pub stack_needed : CoreModule → List Placed → Result (Option StackIndices) Refusal
 stack_needed m ss =
-    if length m.items.functions == imported_from 0 m.imports then Ok None
-    else (stack_in m.items.globals (globals_from 0 m.imports) ss >>= needed_by m)
+    if length m.items.functions == imported_from 0 m.imports then Ok None else needed_by_names m ss
 
 -- In a memory of its own it may have data and a stack; another module's memory it must not write over.
 abbrev pub needed_of : CoreModule → List Placed → Result (Option StackIndices) Refusal

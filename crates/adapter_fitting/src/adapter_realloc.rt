@@ -1,7 +1,7 @@
 //! Main's realloc under the name that it has for adapters, and an adapter that imports it so.
 #![tactic(auto, using(byte_encoding::proofs::Pieces::writing))]
 
-ghost use Rattle.std.specs.Prelude.{◌≡◌, ◌++◌, Ok, Some, List, [], map, MatchResult};
+ghost use Rattle.std.specs.Prelude.{◌≡◌, ◌++◌, Ok, Some, List, [], map, MatchResult, IfOk};
 ghost use Rattle.byte_encoding.specs.Encoding.{Encoding, Fits, ◌⊕◌};
 ghost use Rattle.byte_encoding.specs.Written.{Writes, Refused};
 ghost use Rattle.core_sections.specs.Sections.{view, pieces_of};
@@ -9,26 +9,36 @@ ghost use Rattle.core_sections.specs.Entries.{module_of};
 ghost use Rattle.module_edits.specs.Renaming.{renamed_view, with_import_name};
 ghost use Rattle.adapter_fitting.specs.Faults.{Gives, Fitted, Told};
 ghost use Rattle.adapter_fitting.specs.Places.{placed};
-ghost use Rattle.adapter_fitting.specs.AdapterRealloc.{has_adapter_realloc, new_name, importing};
+ghost use Rattle.adapter_fitting.specs.AdapterRealloc.{is_for_adapters, names_adapter_realloc, new_name, importing};
 ghost use Rattle.adapter_fitting.specs.AdapterRealloc.{renamed_if, with_adapter_realloc};
 
 use crate::fault::{FitFault, Stop};
 use crate::main_realloc::exports_name;
 use crate::realloc::{ReallocImport, find_realloc};
 use byte_encoding::BuildFault;
-use core_sections::{Section, read_module, sections_of};
+use core_sections::{CoreModule, Section, read_module, sections_of};
 use module_edits::{ImportName, put_with_import_name};
-use std::alloc::Global;
+use std::alloc::{AllocError, Global};
 
-/// Whether a main module exports an item named `cabi_realloc_adapter`.
+/// Whether a module exports a realloc for adapters, or none at all.
+fn is_for_adapters(alloc: Global, module: &CoreModule) -> Result<bool, AllocError>
+    ensures { IfOk result (λ b. b ≡ is_for_adapters module.now) }
+{
+    let own = exports_name(alloc, module, "cabi_realloc_adapter")?;
+    let general = exports_name(alloc, module, "cabi_realloc")?;
+    Ok(own || !general)
+}
+
+/// Whether the adapters of a main module are to import its realloc as `cabi_realloc_adapter`: it exports an item of that name, or none
+/// that counts as a realloc, so that [`crate::give_realloc`] gives it one.
 ///
 /// The fault is `NotModule` or `Section`, or out of memory.
-pub fn has_adapter_realloc(alloc: Global, bytes: &[u8]) -> Result<bool, FitFault>
-    ensures { Told result (has_adapter_realloc bytes.now) }
+pub fn names_adapter_realloc(alloc: Global, bytes: &[u8]) -> Result<bool, FitFault>
+    ensures { Told result (names_adapter_realloc bytes.now) }
 {
     let module = read_module(alloc, bytes)?;
-    let found = exports_name(alloc, &module, "cabi_realloc_adapter")?;
-    Ok(found)
+    let named = is_for_adapters(alloc, &module)?;
+    Ok(named)
 }
 
 /// The import of main's realloc.

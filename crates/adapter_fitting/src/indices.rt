@@ -2,11 +2,10 @@
 
 ghost use Rattle.std.specs.Prelude.{◌≡◌, map};
 ghost use Rattle.core_sections.specs.Entries.{module_of};
-ghost use Rattle.adapter_fitting.specs.Faults.{Gives, of_sections, ◌>>=◌};
-ghost use Rattle.adapter_fitting.specs.Stack.{stack_in, globals_from};
+ghost use Rattle.adapter_fitting.specs.Faults.{Gives, of_sections};
 ghost use Rattle.adapter_fitting.specs.Places.{placed_view};
 ghost use Rattle.adapter_fitting.specs.Fitting.{indices_of_module, with_type, realloc_of};
-ghost use Rattle.adapter_fitting.specs.Fitting.{needed_by, stack_needed, needed_of, needed_in};
+ghost use Rattle.adapter_fitting.specs.Fitting.{needed_by, needed_by_names, stack_needed, needed_of, needed_in};
 
 use crate::data::no_data;
 use crate::fault::{Refusal, Stop};
@@ -78,8 +77,7 @@ fn needed_by_names(
     module: &CoreModule,
     sections: &[PlacedSection<'_>],
 ) -> Result<Option<StackIndices>, Stop>
-    ensures { Gives (λ o. o) result (stack_in module.now.items.globals
-        (globals_from 0 module.now.imports) (map placed_view sections.now) >>= needed_by module.now) }
+    ensures { Gives (λ o. o) result (needed_by_names module.now (map placed_view sections.now)) }
 {
     let first = imported_globals(module.imports.as_slice());
     match stack_globals(alloc, module.items.globals.as_slice(), first, sections)? {

@@ -30,7 +30,7 @@ mod places;
 mod realloc;
 mod stack;
 
-pub use adapter_realloc::{has_adapter_realloc, name_adapter_realloc};
+pub use adapter_realloc::{name_adapter_realloc, names_adapter_realloc};
 pub use data::has_active_data;
 pub use fault::{FitFault, Refusal};
 pub use fitting::fit_adapter;

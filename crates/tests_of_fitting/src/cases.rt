@@ -1,7 +1,8 @@
 //! The calls of the inputs of cases.
 
 use adapter_fitting::{
-    FitFault, fit_adapter, give_realloc, has_active_data, has_adapter_realloc, name_adapter_realloc,
+    FitFault, fit_adapter, give_realloc, has_active_data, name_adapter_realloc,
+    names_adapter_realloc,
 };
 use std::alloc::{AllocError, Global};
 use test_cases::{bytes_of, word_and_rest};
@@ -39,7 +40,7 @@ pub(crate) fn answer(alloc: Global, input: &str) -> Result<String, AllocError> {
         "fit" => changed(alloc, fit_adapter(alloc, &bytes)),
         "realloc" => changed(alloc, give_realloc(alloc, &bytes)),
         "rename" => changed(alloc, name_adapter_realloc(alloc, &bytes)),
-        "named" => told(alloc, has_adapter_realloc(alloc, &bytes)),
+        "named" => told(alloc, names_adapter_realloc(alloc, &bytes)),
         _ => told(alloc, has_active_data(alloc, &bytes)),
     }
 }

@@ -1,7 +1,9 @@
 use Rattle.std.proofs.Common.{◌≡◌, ◌∙◌, ◌++◌, map, ap, arith}
 use Rattle.std.proofs.lemmas.List.{map-append}
 use Rattle.module_edits.proofs.Remaining.{none_of}
+use Rattle.std.specs.Global.{Vec}
 use Rattle.core_parts.specs.Names.{name_view}
+use Rattle.core_parts.specs.declared.names.GlobalName.{GlobalName}
 use Rattle.adapter_fitting.specs.Places.{placed_view}
 use Rattle.adapter_fitting.specs.Stack.{names_of}
 use Rattle.adapter_fitting.proofs.Chains.{read_exits}
@@ -19,8 +21,8 @@ loop-section-preserved c =
 
 pub returns-in_err-more : goal.returns-in_err-more
 returns-in_err-more c =
-    read_exits (λ v. map name_view v.items) _ _ _ c.from_residual.ensures.1
-    (names_fail_at (λ v. map name_view v.items) _ c.args.sections.now c.loop-section.section-index _ _ _ c.loop-section-test.true c.in_err-more.ensures c.loop-section.invariant)
+    read_exits (λ (v : Vec GlobalName). map name_view v.items) _ _ _ c.from_residual.ensures.1
+    (names_fail_at (λ (v : Vec GlobalName). map name_view v.items) _ c.args.sections.now c.loop-section.section-index _ _ _ c.loop-section-test.true c.in_err-more.ensures c.loop-section.invariant)
 
 pub returns : goal.returns
 returns c = names_end (map name_view c.loop-section.names.items) _ _ (none_of placed_view c.args.sections.now c.loop-section.section-index (omega (arith, c.loop-section-test.false))) c.loop-section.invariant
