@@ -19,7 +19,9 @@ pub(crate) fn run<S: Store, W: Write, E: Write>(
     out: &mut W,
     err: &mut E,
 ) -> u8
-    ensures started { StartedOver ⟦<PlainLower as Lower>⟧ (map (λ a. a.items) arguments.now) (S.events store.old) (S.events store.new) (W.contents out.old) (W.contents out.new) (E.contents err.old) (E.contents err.new) result }
+    ensures started { StartedOver ⟦<PlainLower as Lower>⟧ (map (λ a. a.items) arguments.now)
+        (S.events store.old) (S.events store.new) (W.contents out.old) (W.contents out.new)
+        (E.contents err.old) (E.contents err.new) result }
     ensures files { result ≢ 0 → Known Kept (S.files store.old) (S.files store.new) }
 {
     start_with(alloc, PlainLower::new(), arguments, store, out, err)
