@@ -1,0 +1,5 @@
+pub mod Naming
+pub mod Chains
+pub mod Steps
+pub mod Limited
+pub mod Active

@@ -1,0 +1,4 @@
+pub mod Names
+pub mod Functions
+pub mod Segments
+pub mod Imports

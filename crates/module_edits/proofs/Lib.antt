@@ -1,0 +1,4 @@
+pub mod Remaining
+pub mod EditedSections
+pub mod Chosen
+pub mod Bodies
