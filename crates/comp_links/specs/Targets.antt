@@ -3,6 +3,7 @@
 -- exports, and never an index.
 use Rattle.std.specs.Prelude.{ℕ, List}
 use Rattle.standard_kinds.specs.declared.kinds.StringEncoding.{StringEncoding}
+use Rattle.comp_bytes.specs.declared.canon.Intrinsic.{Intrinsic}
 use Rattle.wit_data.specs.declared.ids.InterfaceId.{InterfaceId}
 use Rattle.wit_data.specs.declared.ids.TypeId.{TypeId}
 
@@ -44,6 +45,8 @@ pub data Target : Type 0 where
   MainMemory : Target
   -- a function of the handles of a resource of the world
   OfResource : (function : ResourceFunction) (resource : TypeId) → Target
+  -- a built-in function without operands and options
+  BuiltIn : (intrinsic : Intrinsic) → Target
   Lifted : (entry : ExportRef) (options : List TargetOption) → Target
   -- of a role that no world has so far: no item meets it
   Unlinked : Target

@@ -1,6 +1,6 @@
 -- A list that keeps the rules names earlier items, each by its index and space.
 use Rattle.comp_links.specs.Naming.{Naming}
-use Rattle.std.proofs.Common.{ℕ, ◌<◌, length, List, [], ◌∷◌, ◌++◌, sym, subst, append-nil, Option, Some, None, inl, inr}
+use Rattle.std.proofs.Common.{ℕ, ◌<◌, length, List, [], ◌∷◌, ◌++◌, sym, subst, append-nil, Option, Some, None, inl, inr, true≢false}
 use Rattle.std.specs.List.{AllByRecursion, AllZip, flat_map}
 use Rattle.std.proofs.lemmas.List.{length-map}
 use Rattle.std.proofs.lemmas.Option.{slice_get_within}
@@ -133,7 +133,18 @@ intrinsic_within : (earlier : List Def) (i : Intrinsic) → IsIntrinsicRight ear
 intrinsic_within earlier (intrinsics.ResourceNew type) h = (type_named earlier type h.is.denotes.within, tt)
 intrinsic_within earlier (intrinsics.ResourceRep type) h = (type_named earlier type h.is.denotes.within, tt)
 intrinsic_within earlier (intrinsics.ResourceDrop type) h = (type_named earlier type h.is.denotes.within, tt)
-intrinsic_within earlier i h = absurd h
+intrinsic_within earlier intrinsics.TaskCancel h = tt
+intrinsic_within earlier intrinsics.BackpressureInc h = tt
+intrinsic_within earlier intrinsics.BackpressureDec h = tt
+intrinsic_within earlier intrinsics.WaitableSetNew h = tt
+intrinsic_within earlier intrinsics.WaitableSetDrop h = tt
+intrinsic_within earlier intrinsics.WaitableJoin h = tt
+intrinsic_within earlier intrinsics.SubtaskDrop h = tt
+intrinsic_within earlier (intrinsics.SubtaskCancel is_async) h = tt
+intrinsic_within earlier intrinsics.ErrorContextDrop h = tt
+intrinsic_within earlier (intrinsics.ContextGet type slot) h = tt
+intrinsic_within earlier (intrinsics.ContextSet type slot) h = tt
+intrinsic_within earlier i h = absurd (true≢false (sym h))
 
 -- an alias names an instance of the list, since one is imported there
 instance_in_range : (earlier : List Def) (space : Space) (instance : ℕ) (name : List ℕ) → AliasesImported earlier space instance name → instance < items_in spaces.Instance earlier

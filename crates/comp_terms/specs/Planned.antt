@@ -105,6 +105,7 @@ IsTermFor w (targets.Lowered function options) (terms.Lowering origin type writt
 IsTermFor w (targets.ExportOf export_ref) (terms.Exported e) = IsExportFor w e export_ref
 IsTermFor w targets.MainMemory (terms.Exported e) = IsMemoryFor w e × (e.kind ≡ kinds.Memory)
 IsTermFor w (targets.OfResource function id) (terms.OfResource same resource) = (same ≡ function) × (resource ≡ resource_of w id)
+IsTermFor w (targets.BuiltIn intrinsic) (terms.BuiltIn same) = same ≡ intrinsic
 IsTermFor w (targets.Lifted entry options) (terms.Lifting e written type) = IsExportFor w e entry × AllZip (IsOptionFor w) written options
 IsTermFor w target term = ⊥
 

@@ -31,6 +31,7 @@ use Rattle.comp_bytes.specs.declared.def.Item.{Item}
 use Rattle.comp_bytes.specs.declared.def.Item.TheVariants as items
 use Rattle.comp_bytes.specs.declared.def.Def.{Def}
 use Rattle.comp_bytes.specs.declared.def.Def.TheVariants as defs
+use Rattle.built_ins.specs.BuiltIns.{plain_type}
 use Rattle.comp_lists.specs.Found.{found}
 use Rattle.wit_data.specs.declared.ids.TypeId.{TypeId}
 use Rattle.comp_trees.specs.Trees.{Origin, Resource, ImportedAt, DefinedAt, ResourceAt, FunctionTree, is_known, is_known_function}
@@ -282,13 +283,13 @@ abbrev pub IsLowerOptionRight : List Def → CanonicalOption → Type 0
 IsLowerOptionRight earlier options.Async = ⊥
 IsLowerOptionRight earlier option = IsOptionRight earlier option
 
--- an intrinsic: so far, a function of the handles of a resource. `resource.new` and `resource.rep` are of one that the component
--- defines
+-- an intrinsic: so far, a function of the handles of a resource, or one without operands and options. `resource.new` and
+-- `resource.rep` are of one that the component defines
 abbrev pub IsIntrinsicRight : List Def → Intrinsic → Type 0
 IsIntrinsicRight earlier (intrinsics.ResourceNew type) = HasOwnResource earlier type
 IsIntrinsicRight earlier (intrinsics.ResourceRep type) = HasOwnResource earlier type
 IsIntrinsicRight earlier (intrinsics.ResourceDrop type) = HasResource earlier type
-IsIntrinsicRight earlier _ = ⊥
+IsIntrinsicRight earlier i = IsSome (plain_type i)
 
 -- an export is the next required one; its name is a landmark
 abbrev pub IsExportRight : ComponentWorld → List Def → Sort → ℕ → Option Description → Type 0

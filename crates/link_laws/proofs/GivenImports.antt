@@ -5,7 +5,9 @@ use Rattle.std.specs.List.{AllZip, AllByRecursion}
 use Rattle.std.specs.Option.{option_map, option_map_or, option_and_then}
 use Rattle.comp_lists.specs.Found.{found}
 use Rattle.comp_lists.proofs.Lists.{AllZip-weaker}
+use Rattle.built_ins.specs.BuiltIns.{plain_intrinsic, plain_type, plain_import_type}
 use Rattle.comp_bytes.specs.Spaces.{kind_space}
+use Rattle.comp_bytes.specs.declared.canon.Intrinsic.{Intrinsic}
 use Rattle.core_types.specs.declared.types.FuncType.{FuncType}
 use Rattle.core_types.specs.declared.types.ValType.{ValType}
 use Rattle.core_runs.specs.Store.{Opaque}
@@ -43,7 +45,7 @@ use Rattle.comp_roles.specs.declared.offered.ImportType.{ImportType}
 use Rattle.comp_links.specs.Targets.{UserModule, Main, Adapter, ExportRef, WorldFunction, TargetOption, Target, OfRoot, OfInterface, Lowered, ResourceFunction, New, Rep, Drop, ExportOf}
 use Rattle.comp_links.specs.Modules.{WorldModule, user_modules, IsModule}
 use Rattle.comp_links.specs.Lists.{resource_of}
-use Rattle.comp_links.specs.Links.{lower_options, link_of, link_in, link_at, module_of}
+use Rattle.comp_links.specs.Links.{lower_options, link_of_intrinsic, link_of, link_in, link_at, module_of}
 use Rattle.shim_plan.specs.declared.kinds.ShimKind.{ShimKind}
 use Rattle.shim_plan.specs.declared.kinds.ShimKind.TheVariants as shim_kinds
 use Rattle.shim_plan.specs.declared.shims.Shim.{Shim}
@@ -72,6 +74,32 @@ resource_opaque : (s : Store) (address : ℕ) (function : ResourceFunction) (res
 resource_opaque s address function resource type fits h =
     let item : CoreItem = IntrinsicOf (intrinsic_of function h.of) in
     (item, subst (λ t. IsOpaqueOf s address t item) (ap (function_type_in type) (same_Some (externs.Func (resource_core function)) (externs.Func type) fits)) h.is)
+
+-- so is a built-in function without operands, where a role has one
+built_in_opaque : (w : ComponentWorld) (s : Store) (address : ℕ) (o : Option Intrinsic) (type : FuncType) → option_map externs.Func (option_and_then plain_type o) ≡ Some (externs.Func type) → IsServedAs w s address (link_of_intrinsic o) →
+    (item : CoreItem) × IsOpaqueOf s address type item
+built_in_opaque w s address None type fits h = absurd h
+built_in_opaque w s address (Some i) type fits h =
+    let typed : externs.Func h.type ≡ externs.Func type = same_Some (externs.Func h.type) (externs.Func type) (sym (ap (option_map externs.Func) h.typed) ∙ fits) in
+    (IntrinsicOf i, subst (λ t. IsOpaqueOf s address t (IntrinsicOf i)) (ap (function_type_in type) typed) h.is)
+
+-- it is no table, no memory and no global
+no_table : (w : ComponentWorld) (s : Store) (address : ℕ) (o : Option Intrinsic) → IsServedIn w s spaces.CoreTable address (link_of_intrinsic o) → ⊥
+no_table w s address None h = h
+no_table w s address (Some i) h = h
+
+no_memory : (w : ComponentWorld) (s : Store) (address : ℕ) (o : Option Intrinsic) → IsServedIn w s spaces.CoreMemory address (link_of_intrinsic o) → ⊥
+no_memory w s address None h = h
+no_memory w s address (Some i) h = h
+
+no_global : (w : ComponentWorld) (s : Store) (address : ℕ) (o : Option Intrinsic) → IsServedIn w s spaces.CoreGlobal address (link_of_intrinsic o) → ⊥
+no_global w s address None h = h
+no_global w s address (Some i) h = h
+
+-- it is no lowering
+not_lowered : (o : Option Intrinsic) (function : WorldFunction) (options : List TargetOption) → link_of_intrinsic o ≡ Lowered function options → ⊥
+not_lowered None function options is = cc
+not_lowered (Some i) function options is = cc
 
 module _ (w : ComponentWorld) (ok : IsWorld w) (s : Store) (of : UserModule) where
   -- what serves a role is opaque, and has the core type that the role requires
@@ -103,7 +131,7 @@ module _ (w : ComponentWorld) (ok : IsWorld w) (s : Store) (of : UserModule) whe
       offered_matches w ok of (imports.AdapterExport adapter name function) e right refl from (listed_there (user_modules w) h.number from h.of.listed) h.of.same (externs.Func h.type) h.offered (externs.Func type) fits in
       let typed : externs.Func type ≡ externs.Func h.type = matched_function (externs.Func type) h.type matching in
       (ExportedBy h.user name, subst (λ t. IsOpaqueOf s address t (ExportedBy h.user name)) (ap (function_type_in type) (sym typed)) h.is)
-  served_opaque address role type right fits h = absurd right
+  served_opaque address role type right fits h = built_in_opaque w s address (plain_intrinsic role) type fits h
 
 -- what serves a role matches an import that fits the role
 module _ (w : ComponentWorld) (ok : IsWorld w) (s : Store) (globals : List ValType) (typed : AllByRecursion (HasGlobals w globals) s.module_instances) (of : UserModule) where
@@ -149,7 +177,10 @@ module _ (w : ComponentWorld) (ok : IsWorld w) (s : Store) (globals : List ValTy
   role_typed space address (imports.AdapterExport adapter name function) type right fits h =
       let e : ExportRef = record { of = Adapter adapter; name = name } in
       export_typed w ok s globals typed space address e type (λ m listed same t offered. offered_matches w ok of (imports.AdapterExport adapter name function) e right refl m listed same t offered type fits) h
-  role_typed space address role type right fits h = absurd right
+  role_typed space address role type right fits h =
+      let core : (t : FuncType) × (plain_import_type role ≡ Some t) × (externs.Func t ≡ type) = mapped_some externs.Func (plain_import_type role) type fits in
+      subst (HasType s globals space address) core.2
+      (function_typed space address role core.0 right (fits ∙ ap (λ (t : ExternType). Some t) (sym core.2)) (no_table w s address (plain_intrinsic role)) (no_memory w s address (plain_intrinsic role)) (no_global w s address (plain_intrinsic role)) h)
 
 -- what a shim hands on to is opaque, and has the shim's core type
 pub purpose_opaque : (w : ComponentWorld) → IsWorld w → (s : Store) (address : ℕ) (shim : Shim) (p : Purpose) → HasPurpose w shim p → IsServedAs w s address (target_of w p) → (item : CoreItem) × IsOpaqueOf s address (type_of_shim shim) item
@@ -219,7 +250,7 @@ lowered_call w of (imports.MainModuleMemory memory) right f options is = cc
 lowered_call w of (imports.MainModuleExport name kind) right f options is = cc
 lowered_call w of (imports.AdapterExport adapter name function) right f options is = cc
 lowered_call w of (imports.Item item) right f options is = cc
-lowered_call w of role right f options is = absurd right
+lowered_call w of role right f options is = absurd (not_lowered (plain_intrinsic role) f options is)
 
 -- the core type of calls of what a target names
 abbrev type_of_target : ComponentWorld → Target → Option ExternType

@@ -1,5 +1,6 @@
 mod Zips
 mod Stores
+mod BuiltIns
 mod Kept
 pub mod Plain
 mod ModuleMarks
@@ -53,3 +54,4 @@ mod CrossedMemories
 mod OtherLists
 mod OtherRuns
 mod WorkedInitialize
+mod WorkedBuiltIns

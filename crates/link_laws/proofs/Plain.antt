@@ -81,7 +81,7 @@ pub function_key : (w : ComponentWorld) → IsWorld w → (key : WorldKey) (f : 
 function_key w ok key f e = by key (AllByRecursion-contains (IsExportItem w.resolve) (items_of w).exports (key, items.Function f) ok.exports (Contains-from_lookup key_same key (items.Function f) (items_of w).exports e))
   where
     by : (key : WorldKey) → IsExportItem w.resolve (key, items.Function f) → key ≡ keys.Name f.name
-    by (keys.Name text) h = ap keys.Name h.0
+    by (keys.Name text) h = ap keys.Name h
     by (keys.Interface id) h = absurd h
 
 -- ---- core types

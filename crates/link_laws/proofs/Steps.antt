@@ -9,6 +9,7 @@ use Rattle.std.specs.List.{slice_get, flat_map, list_any, AllZip, AllByRecursion
 use Rattle.std.specs.Prelude.{IsSome}
 use Rattle.std.specs.Option.{option_map, option_and_then}
 use Rattle.comp_lists.specs.Found.{found}
+use Rattle.comp_lists.proofs.Lookups.{some_of}
 use Rattle.comp_lists.proofs.Lists.{slice_get-end, AllZip-weaker, AllZip-end, AllByRecursion-weaker}
 use Rattle.comp_bytes.proofs.ItemIndices.{IsAt-append}
 use Rattle.comp_bytes.specs.Spaces.{kind_space, space_of, items_in}
@@ -28,6 +29,7 @@ use Rattle.comp_bytes.specs.declared.types.Alias.TheVariants as aliases
 use Rattle.comp_bytes.specs.declared.types.Member.{Member}
 use Rattle.comp_bytes.specs.declared.types.InstanceType.{InstanceType as InstanceTypeDef}
 use Rattle.comp_bytes.specs.declared.types.Description.TheVariants as descriptions
+use Rattle.built_ins.specs.BuiltIns.{plain_type}
 use Rattle.comp_bytes.specs.declared.canon.Intrinsic.{Intrinsic}
 use Rattle.comp_bytes.specs.declared.canon.Intrinsic.TheVariants as intrinsics
 use Rattle.comp_bytes.specs.declared.types.ComponentValType.{ComponentValType}
@@ -81,7 +83,8 @@ use Rattle.link_laws.specs.Composition.{GeneratedModules, at_root, item_instanti
 use Rattle.link_laws.specs.Linking.{module_meanings}
 use Rattle.link_laws.proofs.Zips.{all_some-self}
 use Rattle.link_laws.proofs.Outcomes.{AgreesWith, machine, no_answers, quiet, Steps}
-use Rattle.link_laws.proofs.Stores.{IsSeen, expected_of, expects, IsOpaqueOf, IsUserItem, IsUserExport, IsUserInstance, ShimsAt, exports_of_shims, HasSharedMemory, IsModuleInstance, IsNamedEntry, ExportsShims, AreShims, MayHaveShims, IsTypeAt, resource_core, IsResourceItem, DefIs, Means, makes, IsTypeEntry, entry_of, IsFunctionEntry, IsInstanceThing, IsPlannedUser, IsAliasedItem, IsHeldOption, NumberedFrom, HasGlobals, HasOwnTables, Agrees, AreKeyExports, IsShimGiven, IsDestroyedBy, IsOwnResource, AreResources}
+use Rattle.link_laws.proofs.BuiltIns.{plain_addressed, plain_signature, item_plain}
+use Rattle.link_laws.proofs.Stores.{IsSeen, expected_of, expects, IsOpaqueOf, IsUserItem, IsUserExport, IsUserInstance, ShimsAt, exports_of_shims, HasSharedMemory, IsModuleInstance, IsNamedEntry, ExportsShims, AreShims, MayHaveShims, IsTypeAt, resource_core, IsResourceItem, IsPlainItem, DefIs, Means, makes, IsTypeEntry, entry_of, IsFunctionEntry, IsInstanceThing, IsPlannedUser, IsAliasedItem, IsHeldOption, NumberedFrom, HasGlobals, HasOwnTables, Agrees, AreKeyExports, IsShimGiven, IsDestroyedBy, IsOwnResource, AreResources}
 use Rattle.link_laws.proofs.Given.{has_by_place, has_by_shared, of_shims, module_there, address_there, all_held, scope_there, entry_there, held_there, type_there, instance_type_there, instance_there, imported_there, user_there, space_of_kind, offered_there, shim_there}
 use Rattle.link_laws.proofs.Plain.{only}
 use Rattle.link_laws.proofs.Kept.{AreSeen-kept, sizes_kept, ShimsKept, shims_same, MayHaveShims-kept, keeps_all, IsHeldOption-kept, Keeps, address_at-append, things_kept, keeps_store, keeps_type, keeps_function, keeps_opaque, keeps_core_instance, keeps_module, Means-kept, IsTypeEntry-kept, IsFunctionEntry-kept, IsInstanceThing-kept, IsPlannedUser-kept, AreKeyExports-kept, AreResources-more, AreResources-push}
@@ -556,6 +559,15 @@ module _ {w : ComponentWorld} {earlier : List Def} {c : Scope} {s : Store} {g : 
   step_drop type h =
       let x : (x : ℕ) × (address_at spaces.Type type c.items ≡ Some x) × IsHeldAs s.types (OfValues (ResourceAt h.resource)) x = held_there a h.is.denotes in
       step_intrinsic (intrinsics.ResourceDrop type) (intrinsics.ResourceDrop x.0) (resource_core Drop) (λ now. ap (option_map (λ n. intrinsics.ResourceDrop n)) x.1) (λ tree_of. refl) (resource_item Drop type x.0 x.1)
+
+  pub step_plain : (i : Intrinsic) → IsSome (plain_type i) → Steps w gen earlier c s g a.events (defs.Item (items.Intrinsic i))
+  step_plain i h =
+      let t : (t : FuncType) × (plain_type i ≡ Some t) = some_of (plain_type i) h in
+      let ds : List Def = earlier ++ defs.Item (items.Intrinsic i) ∷ [] in
+      let things : List Thing = c.items ++ record { space = spaces.CoreFunc; address = length s.code.functions } ∷ [] in
+      let after : Store = with_opaque (IntrinsicOf i) t.0 s in
+      step_intrinsic i i t.0 (λ now. plain_addressed (machine c s now) i h) (λ tree_of. plain_signature tree_of i t.0 t.1)
+      (item_plain w a.shims ds things after i (length s.code.functions) h (subst (λ o. IsPlainItem after i o (length s.code.functions)) (sym t.1) (opaque_there (IntrinsicOf i) t.0 s)))
 
   -- an option that names an earlier item has its address
   option_addressed : (o : CanonicalOption) → IsOptionRight earlier o → (x : HeldOption) × (held (machine c s no_answers) o ≡ Some x) × IsHeldOption c.items o x

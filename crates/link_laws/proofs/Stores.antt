@@ -15,6 +15,8 @@ use Rattle.core_types.specs.declared.types.MemoryType.{MemoryType}
 use Rattle.comp_lists.specs.Found.{found}
 use Rattle.comp_roles.specs.Matching.{kind_of}
 use Rattle.comp_bytes.specs.declared.types.Alias.TheVariants as aliases
+use Rattle.built_ins.specs.BuiltIns.{plain_type}
+use Rattle.comp_bytes.specs.declared.canon.Intrinsic.{Intrinsic}
 use Rattle.comp_bytes.specs.declared.canon.Intrinsic.TheVariants as intrinsics
 use Rattle.comp_bytes.specs.declared.def.CoreInlineExport.{CoreInlineExport}
 use Rattle.comp_bytes.specs.declared.def.Item.{Item}
@@ -36,7 +38,7 @@ use Rattle.comp_roles.specs.declared.offered.ExternType.TheVariants as externs
 use Rattle.comp_roles.specs.declared.offered.ImportType.{ImportType}
 use Rattle.comp_worlds.specs.WorldContents.{exported_item, function_exported}
 use Rattle.comp_worlds.specs.declared.world.ComponentWorld.{ComponentWorld}
-use Rattle.comp_links.specs.Targets.{Main, ExportRef, WorldFunction, TargetOption, ResourceFunction, New, Rep, Drop, Target, Lowered, ExportOf, MainMemory, OfResource}
+use Rattle.comp_links.specs.Targets.{Main, ExportRef, WorldFunction, TargetOption, ResourceFunction, New, Rep, Drop, Target, Lowered, ExportOf, MainMemory, OfResource, BuiltIn}
 use Rattle.comp_links.specs.Targets as targets
 use Rattle.comp_links.specs.Modules.{WorldModule, user_modules, IsModule}
 use Rattle.comp_links.specs.Lists.{IsOriginOf, resource_of, RequiredKey, required_keys, RequiredFunction, functions_required, RequiredType, types_required, type_of_world, ProvidedType, provided_resources}
@@ -176,6 +178,11 @@ pub record IsResourceItem (things : List Thing) (s : Store) (function : Resource
   pub at : address_at spaces.Type type things ≡ Some of
   pub is : IsOpaqueOf s address (resource_core function) (IntrinsicOf (intrinsic_of function of))
 
+-- a built-in function without operands, with its core type
+abbrev pub IsPlainItem : Store → Intrinsic → Option FuncType → ℕ → Type 0
+IsPlainItem s intrinsic None address = Unit {0}
+IsPlainItem s intrinsic (Some type) address = IsOpaqueOf s address type (IntrinsicOf intrinsic)
+
 -- an option, with the address of what it names
 abbrev pub IsHeldOption : List Thing → CanonicalOption → HeldOption → Type 0
 IsHeldOption things options.Utf8 (HeldEncoding e) = e ≡ encodings.UTF8
@@ -266,6 +273,7 @@ module _ (w : ComponentWorld) (shims : Option ShimsAt) (ds : List Def) (things :
   ItemIs (items.Intrinsic (intrinsics.ResourceNew type)) a = IsResourceItem things s New type a
   ItemIs (items.Intrinsic (intrinsics.ResourceRep type)) a = IsResourceItem things s Rep type a
   ItemIs (items.Intrinsic (intrinsics.ResourceDrop type)) a = IsResourceItem things s Drop type a
+  ItemIs (items.Intrinsic intrinsic) a = IsPlainItem s intrinsic (plain_type intrinsic) a
   ItemIs (items.Instantiate component arguments) a = IsNestedInstance ds things s component arguments a
   ItemIs _ a = Unit {0}
 
@@ -404,10 +412,17 @@ pub record IsFunctionOf (s : Store) (address : ℕ) (function : ResourceFunction
   pub is : IsOpaqueOf s address (resource_core function) (IntrinsicOf (intrinsic_of function of))
   pub held : IsHeldAs s.types (OfValues (ResourceAt resource)) of
 
+-- the core function is this built-in one, with its core type
+pub record IsBuiltInAt (s : Store) (address : ℕ) (intrinsic : Intrinsic) : Type 0 where
+  pub type : FuncType
+  pub typed : plain_type intrinsic ≡ Some type
+  pub is : IsOpaqueOf s address type (IntrinsicOf intrinsic)
+
 -- the core function is what the target names
 abbrev pub IsServedAs : ComponentWorld → Store → ℕ → Target → Type 0
 IsServedAs w s address (Lowered function options) = IsLoweredFor w s address function options
 IsServedAs w s address (OfResource function id) = IsFunctionOf s address function (resource_of w id)
+IsServedAs w s address (BuiltIn intrinsic) = IsBuiltInAt s address intrinsic
 IsServedAs w s address (ExportOf export_ref) = IsFunctionExported w s address export_ref
 IsServedAs w s address target = ⊥
 

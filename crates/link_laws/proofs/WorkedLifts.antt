@@ -125,7 +125,7 @@ unfolding values_from
 is_world = record {
   present = omega arith;
   imports = tt;
-  exports = ((refl, tt), tt);
+  exports = (refl, tt);
   import_keys_apart = keys_apart;
   import_names_apart = none_apart;
   export_keys_apart = one_key_apart (keys.Name g);

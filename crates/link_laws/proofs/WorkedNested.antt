@@ -115,7 +115,7 @@ unfolding values_from
 is_world = record {
   present = omega arith;
   imports = tt;
-  exports = (((refl, tt), ((refl, tt), tt)), tt);
+  exports = ((refl, (refl, tt)), tt);
   import_keys_apart = no_keys_apart;
   import_names_apart = none_apart;
   export_keys_apart = one_key_apart key;

@@ -59,7 +59,7 @@ is_world : IsWorld world
 unfolding values_from
 is_world = record {
   present = omega arith;
-  imports = (tt, (((refl, tt), tt), tt));
+  imports = (tt, ((refl, tt), tt));
   exports = tt;
   import_keys_apart = keys_apart;
   import_names_apart = none_apart;

@@ -114,7 +114,7 @@ pub is_world : IsWorld world
 unfolding values_from
 is_world = record {
   present = omega arith;
-  imports = ((refl, tt), tt);
+  imports = (refl, tt);
   exports = tt;
   import_keys_apart = keys_apart;
   import_names_apart = one_apart f;

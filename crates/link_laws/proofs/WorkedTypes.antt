@@ -123,8 +123,8 @@ pub is_world : IsWorld world
 unfolding values_from
 is_world = record {
   present = omega arith;
-  imports = (tt, ((refl, tt), tt));
-  exports = ((refl, tt), tt);
+  imports = (tt, (refl, tt));
+  exports = (refl, tt);
   import_keys_apart = keys_apart;
   import_names_apart = one_apart f;
   export_keys_apart = one_key_apart (keys.Name g);

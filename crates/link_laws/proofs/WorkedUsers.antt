@@ -114,8 +114,8 @@ two_names_apart = ((refl, tt), (tt, tt))
 pub is_world : IsWorld world
 is_world = record {
   present = omega arith;
-  imports = ((refl, tt), tt);
-  exports = ((refl, tt), ((refl, tt), tt));
+  imports = (refl, tt);
+  exports = (refl, (refl, tt));
   import_keys_apart = one_key_apart (keys.Name f);
   import_names_apart = one_apart f;
   export_keys_apart = two_exports_apart;

@@ -5,6 +5,7 @@ ghost use Rattle.std.specs.Prelude.{◌≡◌, [], ◌∷◌, None, IfOk, IfErr,
 ghost use Rattle.std.specs.List.{AllZip, IsDistinct};
 ghost use Rattle.std.specs.Option.{option_copied};
 ghost use Rattle.std.specs.Str.{bytes_eq};
+ghost use Rattle.built_ins.specs.BuiltIns.{plain_intrinsic};
 ghost use Rattle.comp_bytes.specs.Spaces.{kind_space};
 ghost use Rattle.comp_bytes.specs.declared.space.Space.TheVariants.{CoreFunc};
 ghost use Rattle.comp_items.specs.Items.{Extends};
@@ -32,6 +33,7 @@ ghost use Rattle.wit_data.specs.declared.worlds.WorldKey.TheVariants as keys;
 use crate::calls::{CorePlace, import_encoding, kind_of_call};
 use crate::direct::DirectCall;
 use crate::shims::shim_alias;
+use built_ins::plain_intrinsic;
 use byte_encoding::BuildFault;
 use comp_bytes::{CoreArgument, CoreInlineExport};
 use comp_lists::{Keyed, Seq, Text};
@@ -281,25 +283,34 @@ impl ImportSources<'_> {
         }
     }
 
-    /// What an import of the module is given: the kind and the index of a core item.
+    /// What an import is given that is no built-in function without operands.
     ///
     /// `E7` where the import is main's memory and main has none, `E8` where the function of the import is lowered with a realloc and
     /// there is none for the module, `E9` where it has no string encoding.
-    pub fn materialize_import(
+    fn link_import(
         &self,
         root: &mut RootScope<'_, ComponentWorld>,
         module: &Text,
         field: &Text,
         import: &Import,
     ) -> Result<(ExportKind, u32), StateFault>
-        requires sources { AreSources root.old.world.now self.now root.old.met root.old.items.defs root.old.maps root.old.instances }
-        requires present { Contains (imports_of self.now.user.found.now) (record { module_name = «module».now; field = field.now; role = import.now }) }
+        requires sources { AreSources root.old.world.now self.now root.old.met root.old.items.defs root.old.maps
+            root.old.instances }
+        requires present { Contains (imports_of self.now.user.found.now)
+            (record { module_name = «module».now; field = field.now; role = import.now }) }
+        requires linked { plain_intrinsic import.now ≡ None }
         ensures same { root.new ≡ record root.old { items = root.new.items } }
         ensures extends { Extends root.old.items root.new.items }
-        ensures grows { OnOk result (Grows root.old.world.now root.old.items.defs root.new.items.defs []) }
-        ensures made { IfOk result (λ item. IsGivenFor root.old.world.now (user_of self.now.user.which) root.new.items.defs (kind_space item.0) item.1 import.now) }
-        ensures supplied { OnOk result (IsSuppliedImport root.old.world.now (user_of self.now.user.which) import.now) }
-        ensures cause { IfErr result (IsCauseAmong root.old.world.now (record { of = user_of self.now.user.which; core = record { module_name = «module».now; field = field.now; role = import.now } } ∷ []) []) }
+        ensures grows { OnOk result (Grows root.old.world.now root.old.items.defs root.new.items.defs
+            []) }
+        ensures made { IfOk result (λ item. IsGivenFor root.old.world.now (user_of self.now.user.which)
+            root.new.items.defs (kind_space item.0) item.1 import.now) }
+        ensures supplied { OnOk result (IsSuppliedImport root.old.world.now (user_of self.now.user.which)
+            import.now) }
+        ensures cause { IfErr result (IsCauseAmong root.old.world.now (record {
+          of = user_of self.now.user.which;
+          core = record { module_name = «module».now; field = field.now; role = import.now };
+        } ∷ []) []) }
     {
         let place = CorePlace { module, field };
         match import {
@@ -349,6 +360,43 @@ impl ImportSources<'_> {
         }
     }
 
+    /// What an import of the module is given: the kind and the index of a core item.
+    ///
+    /// `E7` where the import is main's memory and main has none, `E8` where the function of the import is lowered with a realloc and
+    /// there is none for the module, `E9` where it has no string encoding.
+    pub fn materialize_import(
+        &self,
+        root: &mut RootScope<'_, ComponentWorld>,
+        module: &Text,
+        field: &Text,
+        import: &Import,
+    ) -> Result<(ExportKind, u32), StateFault>
+        requires sources { AreSources root.old.world.now self.now root.old.met root.old.items.defs root.old.maps
+            root.old.instances }
+        requires present { Contains (imports_of self.now.user.found.now)
+            (record { module_name = «module».now; field = field.now; role = import.now }) }
+        ensures same { root.new ≡ record root.old { items = root.new.items } }
+        ensures extends { Extends root.old.items root.new.items }
+        ensures grows { OnOk result (Grows root.old.world.now root.old.items.defs root.new.items.defs
+            []) }
+        ensures made { IfOk result (λ item. IsGivenFor root.old.world.now (user_of self.now.user.which)
+            root.new.items.defs (kind_space item.0) item.1 import.now) }
+        ensures supplied { OnOk result (IsSuppliedImport root.old.world.now (user_of self.now.user.which)
+            import.now) }
+        ensures cause { IfErr result (IsCauseAmong root.old.world.now (record {
+          of = user_of self.now.user.which;
+          core = record { module_name = «module».now; field = field.now; role = import.now };
+        } ∷ []) []) }
+    {
+        match plain_intrinsic(import) {
+            Some(intrinsic) => {
+                let index = root.items.built_in(intrinsic)?;
+                Ok((ExportKind::Func, index))
+            }
+            None => self.link_import(root, module, field, import),
+        }
+    }
+
     /// What the import of a field is given, as an entry of an inline instance.
     fn entry(
         &self,
@@ -358,12 +406,16 @@ impl ImportSources<'_> {
         import: &Import,
     ) -> Result<CoreInlineExport, StateFault>
         requires sources { AreSources root.old.world.now self.now root.old.met root.old.items.defs root.old.maps root.old.instances }
-        requires present { Contains (imports_of self.now.user.found.now) (record { module_name = «module».now; field = field.now; role = import.now }) }
+        requires present { Contains (imports_of self.now.user.found.now)
+            (record { module_name = «module».now; field = field.now; role = import.now }) }
         ensures same { root.new ≡ record root.old { items = root.new.items } }
         ensures extends { Extends root.old.items root.new.items }
         ensures grows { OnOk result (Grows root.old.world.now root.old.items.defs root.new.items.defs []) }
         ensures serves { IfOk result (λ entry. IsEntryFor root.old.world.now (user_of self.now.user.which) root.new.items.defs entry (field.now, import.now)) }
-        ensures cause { IfErr result (IsCauseAmong root.old.world.now (record { of = user_of self.now.user.which; core = record { module_name = «module».now; field = field.now; role = import.now } } ∷ []) []) }
+        ensures cause { IfErr result (IsCauseAmong root.old.world.now (record {
+          of = user_of self.now.user.which;
+          core = record { module_name = «module».now; field = field.now; role = import.now };
+        } ∷ []) []) }
     {
         let name = field.clone(root.items.allocator())?;
         let (kind, index) = self.materialize_import(root, module, field, import)?;

@@ -69,7 +69,7 @@ role_is_imported w text (imports.MainModuleMemory type) same h = cc
 role_is_imported w text (imports.MainModuleExport name kind) same h = cc
 role_is_imported w text (imports.AdapterExport adapter name type) same h = cc
 role_is_imported w text (imports.Item item) same h = cc
-role_is_imported w text role same h = absurd h
+role_is_imported w text role same h = cc
 
 field_is_imported : (w : ComponentWorld) (text : List ℕ) (fs : List (List ℕ × Import)) → AllByRecursion (λ f. IsImportRole w f.1) fs → is_any_import text fs ≡ true → IsWorldImport w text
 field_is_imported w text [] h e = cc

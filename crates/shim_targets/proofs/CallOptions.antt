@@ -47,4 +47,4 @@ options_needed w ok i there = by i.core.role refl (import_role w ok i there)
     by (imports.MainModuleExport name kind) is h = refl
     by (imports.AdapterExport adapter name type) is h = refl
     by (imports.Item item) is h = refl
-    by role is h = absurd h
+    by role is h = refl

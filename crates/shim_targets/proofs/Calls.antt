@@ -202,4 +202,4 @@ role_back w ok of (imports.MainModuleMemory type) h encoding kind e = absurd (no
 role_back w ok of (imports.MainModuleExport name export) h encoding kind e = absurd (none-some kind e)
 role_back w ok of (imports.AdapterExport adapter name type) h encoding kind e = absurd (none-some kind e)
 role_back w ok of (imports.Item item) h encoding kind e = absurd (none-some kind e)
-role_back w ok of role h encoding kind e = absurd h
+role_back w ok of role h encoding kind e = absurd (none-some kind e)

@@ -78,7 +78,7 @@ module _ (used : Used) (types : List TypeDef) (key : WorldKey) (f : Function) (t
 
 other_root : (used : Used) (r : Resolve) (text : List ℕ) (e : WorldKey × WorldItem) → IsImportItem r e → is_same_key (keys.Name text) e.0 ≡ false → lookup (is_call_of text) (root_lowerings used r.types e) ≡ None
 other_root used r text (keys.Name t, items.Function f) h apart =
-    other_function used r.types (keys.Name t) f text (ap (bytes_eq text) (sym h.0) ∙ by (bytes_eq text t) apart)
+    other_function used r.types (keys.Name t) f text (ap (bytes_eq text) (sym h) ∙ by (bytes_eq text t) apart)
   where
     by : (b : Bool) → (b && true) ≡ false → b ≡ false
     by true e = e
@@ -101,7 +101,7 @@ root_found used r text f (x ∷ es) h e called = by (is_same_key (keys.Name text
         let named : IsImportItem r (keys.Name text, items.Function f) = subst (IsImportItem r) (sym same) k in
         subst (λ z. lookup (is_call_of text) (root_lowerings used r.types z ++ rest_of) ≡ Some (lowering_of used.shares GuestImport r.types f)) same
         (found_in_front (is_call_of text) (function_lowerings used r.types (keys.Name text) f) rest_of (lowering_of used.shares GuestImport r.types f)
-        (this_function used r.types (keys.Name text) f text (sym named.0) called))
+        (this_function used r.types (keys.Name text) f text (sym named) called))
 
     by : (b : Bool) → is_same_key (keys.Name text) x.0 ≡ b → cond b (Some x.1) (lookup (is_same_key (keys.Name text)) es) ≡ Some (items.Function f) →
         (lookup (is_same_key (keys.Name text)) es ≡ Some (items.Function f) → lookup (is_call_of text) rest_of ≡ Some (lowering_of used.shares GuestImport r.types f)) →
@@ -128,9 +128,9 @@ functions_found used types key text f (x ∷ fs) h e called = by (bytes_eq text 
     by true same e rest =
         let text_is : text ≡ x.0 = (bytes_eq-Decides text x.0).0 same in
         found_in_front (is_call_of text) (function_lowerings used types key x.1) rest_of (lowering_of used.shares GuestImport types f)
-        (this_function used types key x.1 text (sym (text_is ∙ h.0.0)) called ∙ ap (λ g. Some (lowering_of used.shares GuestImport types g)) (same_Some x.1 f e))
+        (this_function used types key x.1 text (sym (text_is ∙ h.0)) called ∙ ap (λ g. Some (lowering_of used.shares GuestImport types g)) (same_Some x.1 f e))
     by false apart e rest =
-        passed_over (is_call_of text) (function_lowerings used types key x.1) rest_of (other_function used types key x.1 text (ap (bytes_eq text) (sym h.0.0) ∙ apart)) ∙ rest e
+        passed_over (is_call_of text) (function_lowerings used types key x.1) rest_of (other_function used types key x.1 text (ap (bytes_eq text) (sym h.0) ∙ apart)) ∙ rest e
 
 pub interface_found : (used : Used) (r : Resolve) (key : WorldKey) (id : InterfaceId) (text : List ℕ) (f : Function) → AllByRecursion IsNamedFunction (functions_of r id) → found text (functions_of r id) ≡ Some f → used.called (call_at key text GuestImport) ≡ true →
     lookup (is_call_of text) (interface_lowerings used r key id) ≡ Some (lowering_of used.shares GuestImport r.types f)

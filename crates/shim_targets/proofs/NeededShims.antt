@@ -112,7 +112,7 @@ import_needed w ok unshared of m name field (imports.MainModuleMemory type) ther
 import_needed w ok unshared of m name field (imports.MainModuleExport export sort) there h encoding encoded memory kind is = absurd (none-some kind is)
 import_needed w ok unshared of m name field (imports.AdapterExport adapter function type) there h encoding encoded memory kind is = absurd (none-some kind is)
 import_needed w ok unshared of m name field (imports.Item item) there h encoding encoded memory kind is = absurd (none-some kind is)
-import_needed w ok unshared of m name field role there h encoding encoded memory kind is = absurd h
+import_needed w ok unshared of m name field role there h encoding encoded memory kind is = absurd (none-some kind is)
 
 -- so has one that needs a realloc, where main imports its memory
 realloc_needed_by : (w : ComponentWorld) → IsEncodable w → is_some (shared_memory w) ≡ true → (of : UserModule) (m : ValidatedModule) (name field : List ℕ) (role : Import) → Contains (user_imports w) (record { of = of; core = record { module_name = name; field = field; role = role } }) →
@@ -133,7 +133,7 @@ realloc_needed_by w ok shared of m name field (imports.MainModuleMemory type) th
 realloc_needed_by w ok shared of m name field (imports.MainModuleExport export sort) there h realloc r found = absurd (true≢false (sym realloc))
 realloc_needed_by w ok shared of m name field (imports.AdapterExport adapter function type) there h realloc r found = absurd (true≢false (sym realloc))
 realloc_needed_by w ok shared of m name field (imports.Item item) there h realloc r found = absurd (true≢false (sym realloc))
-realloc_needed_by w ok shared of m name field role there h realloc r found = absurd h
+realloc_needed_by w ok shared of m name field role there h realloc r found = absurd (true≢false (sym realloc))
 
 -- a kind that is needed of an import of a module has a shim
 needed_there : (w : ComponentWorld) (of : UserModule) (m : ValidatedModule) → module_found w of ≡ Some m → (i : CoreImport) → Contains (imports_of m) i → (kind : ShimKind) → IsKindNeeded w of m i kind → IsSome (shim_of kind (shims_of w))

@@ -42,4 +42,4 @@ role_without w (imports.MainModuleMemory type) h e = refl
 role_without w (imports.MainModuleExport name kind) h e = refl
 role_without w (imports.AdapterExport adapter name type) h e = refl
 role_without w (imports.Item item) h e = refl
-role_without w role h e = absurd h
+role_without w role h e = refl

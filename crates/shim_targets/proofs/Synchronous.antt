@@ -36,4 +36,4 @@ role_waits w (imports.MainModuleMemory type) h = refl
 role_waits w (imports.MainModuleExport name kind) h = refl
 role_waits w (imports.AdapterExport adapter name type) h = refl
 role_waits w (imports.Item item) h = refl
-role_waits w role h = absurd h
+role_waits w role h = refl

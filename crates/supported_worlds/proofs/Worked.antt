@@ -30,7 +30,7 @@ use Rattle.comp_roles.specs.declared.imports.ImportInstance.TheVariants as insta
 use Rattle.comp_roles.specs.declared.libraries.Item.{Item}
 use Rattle.comp_roles.specs.declared.libraries.MainOrAdapter.TheVariants as modules
 use Rattle.supported_worlds.specs.Kinds.{import_kind}
-use Rattle.supported_worlds.specs.LeftOut.{import_item_left_out, interface_left_out, world_left_out, twice_left_out, names_left_out, order_left_out, resources_left_out, import_left_out, export_left_out, group_left_out, own_role_left_out}
+use Rattle.supported_worlds.specs.LeftOut.{import_item_left_out, world_left_out, twice_left_out, names_left_out, order_left_out, resources_left_out, import_left_out, export_left_out, group_left_out, own_role_left_out}
 use Rattle.supported_worlds.specs.Placed.{places_of}
 
 abbrev a_type : TypeId
@@ -77,7 +77,7 @@ importing ids = record { imports = map (λ id. (keys.Name (codes "t"), items.Nam
 
 -- what is left out of an imported function at the root
 abbrev of_root : List TypeDef → Function → Option (List ℕ)
-of_root types g = import_item_left_out (resolve_of types []) (f, items.Function g)
+of_root types g = import_item_left_out (f, items.Function g)
 
 -- ---- functions
 
@@ -100,11 +100,10 @@ many_params_are_encoded = refl
 any_types_are_encoded : (types : List TypeDef) (params : List Ty) (result : Option Ty) → of_root types (function Freestanding params result) ≡ None
 any_types_are_encoded types params result = refl
 
--- an asynchronous one is
-async_is_reported : of_root [] (function AsyncFreestanding (Primitive prims.«String» ∷ []) None) ≡ Some (codes "async")
-async_is_reported = refl
+-- nor is a kind of function: it may be asynchronous, and belong to a resource
+async_is_encoded : of_root [] (function AsyncFreestanding (Primitive prims.«String» ∷ []) None) ≡ None
+async_is_encoded = refl
 
--- a synchronous function may belong to a resource
 method_is_encoded : of_root [] (function (Method a_type) [] None) ≡ None
 method_is_encoded = refl
 
@@ -114,23 +113,23 @@ static_is_encoded = refl
 constructor_is_encoded : of_root (unnamed kinds.Resource ∷ unnamed (kinds.Own a_type) ∷ []) (function (Constructor a_type) [] (Some (Id another_type))) ≡ None
 constructor_is_encoded = refl
 
-async_method_is_reported : of_root [] (function (AsyncMethod a_type) [] None) ≡ Some (codes "async")
-async_method_is_reported = refl
+async_method_is_encoded : of_root [] (function (AsyncMethod a_type) [] None) ≡ None
+async_method_is_encoded = refl
 
-async_static_is_reported : of_root [] (function (AsyncStatic a_type) [] None) ≡ Some (codes "async")
-async_static_is_reported = refl
+async_static_is_encoded : of_root [] (function (AsyncStatic a_type) [] None) ≡ None
+async_static_is_encoded = refl
 
 -- ---- items
 
 -- an imported type is encoded, an exported one is not
-types_are_imported : world_left_out (resolve_of [] []) (record { imports = (keys.Name (codes "t"), items.NamedType a_type) ∷ (f, items.Function plain) ∷ []; exports = [] }) ≡ None
+types_are_imported : world_left_out (record { imports = (keys.Name (codes "t"), items.NamedType a_type) ∷ (f, items.Function plain) ∷ []; exports = [] }) ≡ None
 types_are_imported = refl
 
-types_are_not_exported : world_left_out (resolve_of [] []) (record { imports = []; exports = (keys.Name (codes "t"), items.NamedType a_type) ∷ [] }) ≡ Some (codes "type")
+types_are_not_exported : world_left_out (record { imports = []; exports = (keys.Name (codes "t"), items.NamedType a_type) ∷ [] }) ≡ Some (codes "type")
 types_are_not_exported = refl
 
 -- exports are checked only once all imports pass, and the first that is left out is reported
-first_is_reported : world_left_out (resolve_of [] []) (record {
+first_is_reported : world_left_out (record {
   imports = (f, items.Function plain) ∷ [];
   exports = (f, items.Function plain) ∷ (keys.Name (codes "t"), items.NamedType a_type) ∷ (keys.Interface an_interface, items.Interface an_interface) ∷ [];
 }) ≡ Some (codes "type")
@@ -142,47 +141,14 @@ first_is_reported = refl
 abbrev interface_of : List (List ℕ × TypeId) → Function → Interface
 interface_of named g = record { id = None; types = named; functions = (codes "f", g) ∷ [] }
 
-abbrev of_interface : List TypeDef → List (List ℕ × TypeId) → Function → Option (List ℕ)
-of_interface types named g = interface_left_out (resolve_of types (interface_of named g ∷ [])) an_interface
-
-interface_is_encoded : of_interface [] [] plain ≡ None
-interface_is_encoded = refl
-
-interface_is_imported : world_left_out (resolve_of [] (interface_of [] plain ∷ [])) (record { imports = (keys.Interface an_interface, items.Interface an_interface) ∷ (keys.Name (codes "i"), items.Interface an_interface) ∷ []; exports = [] }) ≡ None
+interface_is_imported : world_left_out (record { imports = (keys.Interface an_interface, items.Interface an_interface) ∷ (keys.Name (codes "i"), items.Interface an_interface) ∷ []; exports = [] }) ≡ None
 interface_is_imported = refl
 
-empty_interface_is_encoded : interface_left_out (resolve_of [] (record { id = None; types = []; functions = [] } ∷ [])) an_interface ≡ None
-empty_interface_is_encoded = refl
-
--- types of its own, and functions of these
-type_of_interface_is_encoded : of_interface (an_interface_type ∷ []) ((codes "t", a_type) ∷ []) (function Freestanding (Id a_type ∷ []) None) ≡ None
-type_of_interface_is_encoded = refl
-
-async_member_is_reported : of_interface [] [] (function AsyncFreestanding [] None) ≡ Some (codes "async")
-async_member_is_reported = refl
-
-async_method_of_interface_is_reported : of_interface [] [] (function (AsyncMethod a_type) [] None) ≡ Some (codes "async")
-async_method_of_interface_is_reported = refl
-
-async_static_of_interface_is_reported : of_interface [] [] (function (AsyncStatic a_type) [] None) ≡ Some (codes "async")
-async_static_of_interface_is_reported = refl
-
--- again no type is left out
-text_of_interface_is_encoded : of_interface [] [] (function Freestanding (Primitive prims.«String» ∷ []) (Some (Primitive prims.«String»))) ≡ None
-text_of_interface_is_encoded = refl
-
-any_types_of_interface_are_encoded : (types : List TypeDef) (params : List Ty) (result : Option Ty) → of_interface types [] (function Freestanding params result) ≡ None
-any_types_of_interface_are_encoded types params result = refl
-
--- an exported interface is one of synchronous functions, too
 abbrev exporting : WorldKey → InterfaceId → World
 exporting key id = record { imports = []; exports = (key, items.Interface id) ∷ [] }
 
-interface_is_exported : world_left_out (resolve_of [] (interface_of [] plain ∷ [])) (exporting (keys.Name (codes "i")) an_interface) ≡ None
+interface_is_exported : world_left_out (exporting (keys.Name (codes "i")) an_interface) ≡ None
 interface_is_exported = refl
-
-exported_async_member_is_reported : world_left_out (resolve_of [] (interface_of [] (function AsyncFreestanding [] None) ∷ [])) (exporting (keys.Interface an_interface) an_interface) ≡ Some (codes "async")
-exported_async_member_is_reported = refl
 
 -- ---- names of exported interfaces
 

@@ -26,8 +26,8 @@ own_role_out p keys role = own_role_left_out p.resolve.types (items_of p).export
 
 pub data IsLeftOut (p : WorldParts) : Refusal → Type 0 where
   -- an import or an export of the world
-  imported : (entry : WorldKey × WorldItem) (what : List ℕ) → Contains (items_of p).imports entry → import_item_left_out p.resolve entry ≡ Some what → IsLeftOut p (refusals.LeftOut what)
-  exported : (entry : WorldKey × WorldItem) (what : List ℕ) → Contains (items_of p).exports entry → export_item_left_out p.resolve entry ≡ Some what → IsLeftOut p (refusals.LeftOut what)
+  imported : (entry : WorldKey × WorldItem) (what : List ℕ) → Contains (items_of p).imports entry → import_item_left_out entry ≡ Some what → IsLeftOut p (refusals.LeftOut what)
+  exported : (entry : WorldKey × WorldItem) (what : List ℕ) → Contains (items_of p).exports entry → export_item_left_out entry ≡ Some what → IsLeftOut p (refusals.LeftOut what)
   -- the world, where an interface is imported or exported twice, or both, or something has to be exported twice; the exported interfaces, where one has no name or that of another; the
   -- items, where something is made of types of a later place, or an exported interface of types that are not at home there; and the
   -- imports, where their types are out of order or lack a resource of the root

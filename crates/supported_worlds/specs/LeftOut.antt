@@ -1,18 +1,16 @@
--- Which parts of a world are encoded yet: synchronous functions that it imports or exports at its root, imported interfaces of
--- types and of synchronous functions, exported interfaces of types of their own and of synchronous functions made of these and of
+-- Which parts of a world are encoded yet: functions that it imports or exports at its root, imported interfaces of
+-- types and of functions, exported interfaces of types of their own and of functions made of these and of
 -- named types of interfaces that are imported or exported, types that it imports, in their order and with all resources of the root
 -- among them, core imports and exports with the role of such a function, core imports that drop a resource, or make or read a handle of
--- one that their module has to export, or are main's memory, an export of main, a function that an adapter exports or an item of an
--- argument of a library, and core exports that are a post-return, a destructor, a memory or a realloc; of main, of adapters and of
--- libraries. All else is left out, and reported by the name of its kind. (The names are those of this project's record.)
-use Rattle.std.specs.Prelude.{ℕ, Bool, ◌++◌, List, length, codes, Option, Some, None, Result, Ok, Err, get_or, if◌then◌else◌}
+-- one that their module has to export, or are main's memory, an export of main, a function that an adapter exports, an item of an
+-- argument of a library or a built-in function without operands, and core exports that are a post-return, a destructor, a memory or a
+-- realloc; of main, of adapters and of libraries. All else is left out, and reported by the name of its kind. (The names are those of this project's record.)
+use Rattle.std.specs.Prelude.{ℕ, Bool, ◌++◌, List, length, codes, Option, Some, None, Result, Ok, Err, get_or, is_some, if◌then◌else◌}
 use Rattle.std.specs.List.{flat_map}
 use Rattle.std.specs.Map.{lookup}
 use Rattle.std.specs.Option.{option_or}
 use Rattle.wit_data.specs.Keys.{is_same_key}
 use Rattle.wit_data.specs.declared.functions.AbiVariant.TheVariants.{GuestImport, GuestExport, GuestImportAsync}
-use Rattle.wit_data.specs.declared.functions.FunctionKind.{FunctionKind}
-use Rattle.wit_data.specs.declared.functions.FunctionKind.TheVariants as functions
 use Rattle.wit_data.specs.declared.ids.InterfaceId.{InterfaceId}
 use Rattle.wit_data.specs.declared.resolve.Resolve.{Resolve}
 use Rattle.wit_data.specs.declared.types.TypeDef.{TypeDef}
@@ -21,6 +19,7 @@ use Rattle.wit_data.specs.declared.worlds.WorldItem.{WorldItem}
 use Rattle.wit_data.specs.declared.worlds.WorldItem.TheVariants as items
 use Rattle.wit_data.specs.declared.worlds.WorldKey.{WorldKey}
 use Rattle.wit_data.specs.declared.worlds.WorldKey.TheVariants as keys
+use Rattle.built_ins.specs.BuiltIns.{plain_intrinsic}
 use Rattle.comp_roles.specs.Lookups.{first_some}
 use Rattle.comp_roles.specs.declared.exports.Export.{Export}
 use Rattle.comp_roles.specs.declared.exports.Export.TheVariants as exports
@@ -47,28 +46,17 @@ use Rattle.supported_worlds.specs.Placed.{places_of, is_world_placed, imported_n
 
 -- ---- items of a world
 
--- a kind of function that is asynchronous
-abbrev pub kind_left_out : FunctionKind → Option (List ℕ)
-kind_left_out functions.AsyncFreestanding = Some (codes "async")
-kind_left_out (functions.AsyncMethod id) = Some (codes "async")
-kind_left_out (functions.AsyncStatic id) = Some (codes "async")
-kind_left_out kind = None
-
--- the first function of an interface that is asynchronous
-abbrev pub interface_left_out : Resolve → InterfaceId → Option (List ℕ)
-interface_left_out r id = first_some (λ e. kind_left_out e.1.kind) (functions_of r id)
-
--- an export of the world, unless it is a function at the root that is synchronous, or an interface of such functions
-abbrev pub export_item_left_out : Resolve → WorldKey × WorldItem → Option (List ℕ)
-export_item_left_out r (keys.Name text, items.Function f) = kind_left_out f.kind
-export_item_left_out r (keys.Interface id, items.Function f) = Some (codes "interface")
-export_item_left_out r (key, items.Interface id) = interface_left_out r id
-export_item_left_out r (key, items.NamedType id) = Some (codes "type")
+-- an export of the world, unless it is a function at the root, or an interface
+abbrev pub export_item_left_out : WorldKey × WorldItem → Option (List ℕ)
+export_item_left_out (keys.Name text, items.Function f) = None
+export_item_left_out (keys.Interface id, items.Function f) = Some (codes "interface")
+export_item_left_out (key, items.Interface id) = None
+export_item_left_out (key, items.NamedType id) = Some (codes "type")
 
 -- an import of the world, unless it is a type under its name, or a function or an interface as above
-abbrev pub import_item_left_out : Resolve → WorldKey × WorldItem → Option (List ℕ)
-import_item_left_out r (keys.Name text, items.NamedType id) = None
-import_item_left_out r entry = export_item_left_out r entry
+abbrev pub import_item_left_out : WorldKey × WorldItem → Option (List ℕ)
+import_item_left_out (keys.Name text, items.NamedType id) = None
+import_item_left_out entry = export_item_left_out entry
 
 -- ---- names and order
 
@@ -113,7 +101,7 @@ resources_left_out types entries = unless (are_in_place types 0 (imported_number
 
 -- an import of a module, unless it is a function at the root or of an interface that is called synchronously, or drops a resource, by the
 -- places of the types, and that of the root; or has a role that an exported resource may have; or is main's memory, an export of main, a
--- function that an adapter exports, or an item of an argument
+-- function that an adapter exports, an item of an argument, or a built-in function without operands
 abbrev pub import_left_out : List TypeDef → List ℕ → ℕ → Import → Option (List ℕ)
 import_left_out types places root (imports.WorldFunc (keys.Name text) name GuestImport) = None
 import_left_out types places root (imports.WorldFunc key name GuestImportAsync) = Some (codes "async")
@@ -127,7 +115,7 @@ import_left_out types places root (imports.MainModuleMemory type) = None
 import_left_out types places root (imports.MainModuleExport name kind) = None
 import_left_out types places root (imports.AdapterExport adapter name type) = None
 import_left_out types places root (imports.Item item) = None
-import_left_out types places root role = Some (import_kind role)
+import_left_out types places root role = unless (is_some (plain_intrinsic role)) (import_kind role)
 
 -- such a role, unless it is of a resource of an interface that the module has to export at the key
 abbrev pub own_role_left_out : List TypeDef → Entries → List InterfaceId → Import → Option (List ℕ)
@@ -197,8 +185,8 @@ abbrev pub items_of : WorldParts → World
 items_of p = get_or p.resolve.worlds p.world.index no_items
 
 -- the first of the imports that is left out, or else of the exports
-abbrev pub world_left_out : Resolve → World → Option (List ℕ)
-world_left_out r w = option_or (first_some (import_item_left_out r) w.imports) (first_some (export_item_left_out r) w.exports)
+abbrev pub world_left_out : World → Option (List ℕ)
+world_left_out w = option_or (first_some import_item_left_out w.imports) (first_some export_item_left_out w.exports)
 
 -- what of the modules is left out: of main first, then of the adapters in order
 abbrev pub modules_left_out : WorldParts → World → List ℕ → ℕ → Option (List ℕ)
@@ -218,7 +206,7 @@ named_left_out p w = option_or (names_left_out p.resolve w) (rest_left_out p w)
 
 -- what of a world is not encoded yet: of its items first
 unfoldable pub left_out : WorldParts → Option (List ℕ)
-left_out p = option_or (world_left_out p.resolve (items_of p)) (option_or (twice_left_out (all_required p) (items_of p)) (named_left_out p (items_of p)))
+left_out p = option_or (world_left_out (items_of p)) (option_or (twice_left_out (all_required p) (items_of p)) (named_left_out p (items_of p)))
 
 -- the refusal of what is left out
 abbrev pub refused : List ℕ → Failure

@@ -201,7 +201,7 @@ fn left_out(alloc: Global, parts: &WorldParts) -> Result<Option<&'static str>, A
     ensures apart { IfOk result (λ o. option_copied o ≡ None → AreApart parts.now) }
 {
     let world = items_of(parts);
-    if let Some(what) = world_left_out(&parts.resolve, world) {
+    if let Some(what) = world_left_out(world) {
         return Ok(Some(what));
     }
     let found = parts_left_out(alloc, parts, world)?;
@@ -236,7 +236,7 @@ fn unless_left_out(alloc: Global, parts: WorldParts) -> Result<ComponentWorld, F
 /// The world of these parts, where all of it is encoded yet.
 ///
 /// It refuses with `LeftOut` and the kind of something of the world that is not encoded yet: `async`
-/// for an asynchronous function, imported, exported, or of an interface; `type` for an exported type;
+/// for a core import or export that calls or implements a function asynchronously; `type` for an exported type;
 /// `interface` where an interface is imported or exported twice, or both, where one has to be exported
 /// twice, where an exported one has no name or that of another, or uses a named type of the world or a type
 /// of another interface that the world neither imports nor exports, where a type or a function is made of
@@ -244,7 +244,7 @@ fn unless_left_out(alloc: Global, parts: WorldParts) -> Result<ComponentWorld, F
 /// other or are out of order; `type` where the imported types are out of order or lack a resource; the kind
 /// of a role of a module's imports or exports; or `world-func` where a function at the root has to be exported
 /// twice.
-/// A synchronous function at the root or of an imported interface is encoded whatever its types are. The
+/// A function at the root or of an imported interface is encoded whatever its types are. The
 /// only other refusal is out of memory. On top of `world_of_parts` it takes time linear in the number of
 /// items, of interfaces' types and functions, of the parameters of functions, of types and their parts,
 /// of core imports and of core exports, and in the names of exported interfaces; and memory for a place

@@ -1,10 +1,10 @@
 //! Which worlds the encoder can build yet.
 //!
 //! [`encoded_world`] makes a world of its parts, with what follows from them, where all of it is
-//! encoded yet: synchronous functions at the world's root, imported interfaces of types and of
-//! synchronous functions, exported interfaces of types of their own and of synchronous functions, imported
+//! encoded yet: functions at the world's root, imported interfaces of types and of
+//! functions, exported interfaces of types of their own and of functions, imported
 //! types and resources, main, adapters and libraries, core imports of these
-//! modules with the role of such a function, of the drop of a resource, of a handle of an exported one
+//! modules with the role of such a function that is called synchronously, of a built-in function without operands, of the drop of a resource, of a handle of an exported one
 //! whose interface the module itself has to export, of main's memory, of what main gives to others, of a
 //! function that an adapter does, or of an item of an argument of a library, whole instances in such arguments,
 //! and core exports with the role of such a function, of its

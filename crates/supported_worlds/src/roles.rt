@@ -1,11 +1,13 @@
 //! What of a user module's imports and exports is not encoded yet, by their roles.
 
-ghost use Rattle.std.specs.Prelude.{◌≡◌, None, codes};
+ghost use Rattle.std.specs.Prelude.{◌≡◌, None, codes, is_some};
 ghost use Rattle.std.specs.List.{IsDistinct};
 ghost use Rattle.std.specs.Map.{keys_of};
 ghost use Rattle.std.specs.Option.{option_copied};
 ghost use Rattle.std.specs.Str.{bytes_eq};
+ghost use Rattle.built_ins.specs.BuiltIns.{plain_intrinsic};
 ghost use Rattle.comp_roles.specs.Lookups.{first_some};
+ghost use Rattle.supported_worlds.specs.Kinds.{import_kind};
 ghost use Rattle.supported_worlds.specs.Apart.{FieldsApart, GroupsApart};
 ghost use Rattle.supported_worlds.specs.LeftOut.{unless, import_left_out, export_left_out, instance_left_out, group_left_out, roles_left_out};
 ghost use Rattle.supported_worlds.specs.Placed.{is_droppable, is_resource_at};
@@ -13,6 +15,7 @@ ghost use Rattle.supported_worlds.specs.Placed.{is_droppable, is_resource_at};
 use crate::kinds::{export_kind, import_kind};
 use crate::places::Places;
 use crate::resources::{is_droppable, is_resource_at};
+use built_ins::plain_intrinsic;
 use comp_lists::{Keyed, Text};
 use comp_roles::{Export, Import, ImportInstance};
 use comp_worlds::ValidatedModule;
@@ -26,6 +29,17 @@ fn drop_left_out(types: &[TypeDef], places: &Places, id: TypeId) -> Option<&'sta
         None
     } else {
         Some("imported-drop")
+    }
+}
+
+/// A role of another kind, unless it is a built-in function without operands.
+fn built_in_left_out(role: &Import) -> Option<&'static str>
+    ensures { option_copied result ≡
+        unless (is_some (plain_intrinsic role.now)) (import_kind role.now) }
+{
+    match plain_intrinsic(role) {
+        Some(_) => None,
+        None => Some(import_kind(role)),
     }
 }
 
@@ -45,7 +59,7 @@ fn import_left_out(types: &[TypeDef], places: &Places, role: &Import) -> Option<
         | Import::MainModuleExport { .. }
         | Import::Item(_)
         | Import::AdapterExport { .. } => None,
-        _ => Some(import_kind(role)),
+        _ => built_in_left_out(role),
     }
 }
 

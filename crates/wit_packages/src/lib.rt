@@ -8,6 +8,9 @@
 //! ([`Lack`]), and the meaning at a declaration of the world ([`Wrong`]), whose indices are looked up in scopes
 //! (`package_types`).
 //!
+//! What a package says, with each use of a type without a name as a copy of it, is bounded by its length before anything is
+//! built (`package_copies`).
+//!
 //! Upward this crate promises that the result is that of `package_of` (`specs/Packages.antt`), memory aside.
 //!
 //! In reading order: `fault` (refusals), `state` (what is said so far), `steps` and `interfaces` (what a declaration says),

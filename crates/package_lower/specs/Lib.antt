@@ -1,0 +1,6 @@
+pub mod Faults
+pub mod Sections
+pub mod Reading
+pub mod Roles
+pub mod Decoding
+pub mod Layer
