@@ -39,7 +39,10 @@ fn give_adapter<L: Lower>(
     ensures { GivesAdapter L.Lower encoder.old adapter encoder.new result }
 {
     let NamedModule { name, bytes } = adapter;
-    encoder.add_adapter(name.as_str(), bytes.into_vec())
+    match encoder.add_adapter(name.as_str(), bytes.into_vec()) {
+        Ok(()) => Ok(()),
+        Err(fault) => Err(fault),
+    }
 }
 
 /// Gives the adapters to the encoder, one after the other.
@@ -78,7 +81,10 @@ fn encode<L: Lower + Drop>(
 {
     let mut encoder = encoder_of(alloc, lower, flags);
     supply(&mut encoder, modules)?;
-    encoder.encode()
+    match encoder.encode() {
+        Ok(component) => Ok(component),
+        Err(fault) => Err(fault),
+    }
 }
 
 /// The component of modules as they were read.
