@@ -36,6 +36,13 @@ twice_unchanged (Some x) (Some y) None h k = absurd k
 
 -- ---- adapters
 
+-- What was read so far of a list of adapters: what holds of the rest holds of all.
+pub record ReadSoFar (F : Type 0) (all rest : List Adapter) (done : List NamedModule) (before after : Option (List Event)) : Type 0 where
+  pub events : List Event
+  pub happened : after ≡ happen before events
+  pub reads : (more : List NamedModule) (es : List Event) → AreRead rest more es → AreRead all (done ++ more) (events ++ es)
+  pub ends : (es : List Event) (f : RunFault F) → NotAllRead es rest f → NotAllRead (events ++ es) all f
+
 module _ {F : Type 0} where
   -- the reading of one ended, and none of the rest is read
   not_first : (a : Adapter) (rest : List Adapter) (es : List Event) (f : RunFault F) → NotAllRead es (a ∷ []) f → NotAllRead es (a ∷ rest) f
@@ -54,24 +61,17 @@ module _ {F : Type 0} where
   not_first a rest (Put to bytes ∷ es) f h = absurd h
   not_first a rest (NotPut to bytes ∷ es) f h = absurd h
 
-  -- What was read so far of a list of adapters: what holds of the rest holds of all.
-  pub record ReadSoFar (all rest : List Adapter) (done : List NamedModule) (before after : Option (List Event)) : Type 0 where
-    pub events : List Event
-    pub happened : after ≡ happen before events
-    pub reads : (more : List NamedModule) (es : List Event) → AreRead rest more es → AreRead all (done ++ more) (events ++ es)
-    pub ends : (es : List Event) (f : RunFault F) → NotAllRead es rest f → NotAllRead (events ++ es) all f
-
-  pub none_read : (all : List Adapter) (before : Option (List Event)) → ReadSoFar all all [] before before
+  pub none_read : (all : List Adapter) (before : Option (List Event)) → ReadSoFar F all all [] before before
   none_read all None = record { events = []; happened = refl; reads = λ more es h. h; ends = λ es f h. h }
   none_read all (Some es) = record { events = []; happened = ap (λ x. Some x) (sym (append-nil es)); reads = λ more es h. h; ends = λ es f h. h }
 
   -- one more is read
   pub one_read : (all rest : List Adapter) (a : Adapter) (done new : List NamedModule) (before between after : Option (List Event)) (es : List Event) →
-      ReadSoFar all (a ∷ rest) done before between → after ≡ happen between es → AddsRead {F = F} done new a es (Ok tt) → ReadSoFar all rest new before after
+      ReadSoFar F all (a ∷ rest) done before between → after ≡ happen between es → AddsRead {F = F} done new a es (Ok tt) → ReadSoFar F all rest new before after
   one_read all rest a done new before between after es h k added =
       let m : NamedModule = record { name = a.name; bytes = added.0 } in
       let e : List Event = Read a.file added.0 ∷ [] in
-      subst (λ (ms : List NamedModule). ReadSoFar all rest ms before after) (sym added.2) (record {
+      subst (λ (ms : List NamedModule). ReadSoFar F all rest ms before after) (sym added.2) (record {
         events = h.events ++ e;
         happened = two_happened before between after h.events e h.happened (k ∙ ap (happen between) added.1);
         reads = λ more xs r.
@@ -82,7 +82,7 @@ module _ {F : Type 0} where
       })
 
   -- all are read
-  pub all_read : (all rest : List Adapter) (done : List NamedModule) (before after : Option (List Event)) → rest ≡ [] → ReadSoFar all rest done before after →
+  pub all_read : (all rest : List Adapter) (done : List NamedModule) (before after : Option (List Event)) → rest ≡ [] → ReadSoFar F all rest done before after →
       (es : List Event) × (after ≡ happen before es) × AdaptersRead {F = F} all es (Ok done)
   all_read all [] done before after none h = (
     h.events,
@@ -93,7 +93,7 @@ module _ {F : Type 0} where
 
   -- the run ends while one is read
   pub one_fails : (all rest : List Adapter) (a : Adapter) (done new : List NamedModule) (before between after : Option (List Event)) (es : List Event) (fault : RunFault F) (r : Result (List NamedModule) (RunFault F)) →
-      IsErrAnd r (λ y. y ≡ fault) → ReadSoFar all (a ∷ rest) done before between → after ≡ happen between es → AddsRead done new a es (Err fault) →
+      IsErrAnd r (λ y. y ≡ fault) → ReadSoFar F all (a ∷ rest) done before between → after ≡ happen between es → AddsRead done new a es (Err fault) →
       (all_events : List Event) × (after ≡ happen before all_events) × AdaptersRead all all_events r
   one_fails all rest a done new before between after es fault (Ok x) ends h k added = absurd ends
   one_fails all rest a done new before between after es fault (Err g) ends h k added = (
@@ -150,10 +150,9 @@ faults_after : (a b : List Event) → device_faults a ≡ 0 → device_faults (a
 faults_after [] b h = refl
 faults_after (e ∷ a) b h = omega (arith, faults_after a b (omega (arith, h)), h)
 
-module _ {F : Type 0} where
-  pub reported_later : (main : List ℕ) (adapters : List Adapter) (reads rest : List Event) (m : Modules) → FilesRead {F = F} main adapters reads (Ok m) → device_faults (reads ++ rest) ≡ device_faults rest
-  reported_later main adapters (Read name bytes ∷ es) rest m h = faults_after es rest (none_of_adapters adapters m.adapters es h.2)
-  reported_later main adapters [] rest m h = absurd h
-  reported_later main adapters (NotRead name ∷ es) rest m h = absurd h
-  reported_later main adapters (Put to bytes ∷ es) rest m h = absurd h
-  reported_later main adapters (NotPut to bytes ∷ es) rest m h = absurd h
+pub reported_later : (F : Type 0) (main : List ℕ) (adapters : List Adapter) (reads rest : List Event) (m : Modules) → FilesRead {F = F} main adapters reads (Ok m) → device_faults (reads ++ rest) ≡ device_faults rest
+reported_later F main adapters (Read name bytes ∷ es) rest m h = omega (arith, faults_after es rest (none_of_adapters adapters m.adapters es h.2))
+reported_later F main adapters [] rest m h = absurd h
+reported_later F main adapters (NotRead name ∷ es) rest m h = absurd h
+reported_later F main adapters (Put to bytes ∷ es) rest m h = absurd h
+reported_later F main adapters (NotPut to bytes ∷ es) rest m h = absurd h

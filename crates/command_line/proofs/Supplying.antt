@@ -129,4 +129,4 @@ module _ {L B F : Type 0} (l : lower.Ghosts L B F) where
   pub reported_made : (layer : L) (names : Arguments) (es : List Event) (r : Result ⊤ (RunFault F)) → Made l layer names es r → device_faults es ≡ reported_faults r
   reported_made layer names es r (inl h) = reported_not_read names.main names.adapters es h.0 h.2 ∙ ap (λ (x : Result ⊤ (RunFault F)). reported_faults x) (sym h.1)
   reported_made layer names es r (inr h) =
-      ap device_faults h.3 ∙ reported_later {F = F} names.main names.adapters h.1 h.2 h.0 h.4 ∙ reported_built names.out (begun l layer names.flags) h.0 h.2 r h.5
+      ap device_faults h.3 ∙ reported_later F names.main names.adapters h.1 h.2 h.0 h.4 ∙ reported_built names.out (begun l layer names.flags) h.0 h.2 r h.5
