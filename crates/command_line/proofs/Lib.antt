@@ -1,4 +1,5 @@
 mod Steps
+mod FilesGiven
 mod Supplying
 mod Lines
 mod Words

@@ -5,7 +5,9 @@ use Rattle.comp_encoder.specs.declared.fault.EncodeFault.TheVariants as encode_f
 use Rattle.command_line.specs.declared.store.StoreFault.{StoreFault}
 use Rattle.command_line.specs.declared.store.StoreFault.TheVariants as store_faults
 use Rattle.command_line.specs.declared.fault.RunFault.{RunFault}
-use Rattle.command_line.specs.declared.fault.RunFault.TheVariants.{Usage, Read, Write, Out, Closed, Encode, Check}
+use Rattle.fitted_modules.specs.declared.fault.ModulesFault.{ModulesFault}
+use Rattle.fitted_modules.specs.declared.fault.ModulesFault.TheVariants as fits
+use Rattle.command_line.specs.declared.fault.RunFault.TheVariants.{Usage, Read, Write, Out, Closed, Fit, Encode, Check}
 use Rattle.command_line.specs.declared.fault.Written.{Written}
 use Rattle.command_line.specs.declared.fault.Written.TheVariants as written
 use Rattle.std.specs.declared.io.ErrorKind.{ErrorKind}
@@ -22,6 +24,11 @@ out_of_memory listing = if listing then Check checks.Memory else no_memory
 abbrev pub of_read : {F : Type 0} → Bool → List ℕ → StoreFault → RunFault F
 of_read listing name store_faults.Device = Read name
 of_read listing name store_faults.Memory = out_of_memory listing
+
+-- out of memory, or another fault of modules that are not fitted
+abbrev pub of_fit : {F : Type 0} → ModulesFault → RunFault F
+of_fit fits.Memory = no_memory
+of_fit f = Fit f
 
 abbrev pub of_put : {F : Type 0} → List ℕ → StoreFault → RunFault F
 of_put name store_faults.Device = Write name

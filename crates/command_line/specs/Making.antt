@@ -1,6 +1,6 @@
--- From files to a file: what is read, what is put, and when neither. (The program's own; that the bytes are the component of
--- what was read is said by the encoder's definitions.)
-use Rattle.std.specs.Prelude.{◌≡◌, ℕ, not, List, [], ◌∷◌, ◌++◌, ⊤, ◌⊎◌, None, Result, Ok, Err}
+-- From files to a file: what is read, what is put, and when neither. (The program's own; what becomes of the modules that were read is
+-- said by `fitted_modules`, and that the bytes are the component of these by the encoder's definitions.)
+use Rattle.std.specs.Prelude.{◌≡◌, ◌≤◌, ◌^◌, ℕ, not, List, [], ◌∷◌, ◌++◌, ⊤, ◌⊎◌, None, Result, Ok, Err}
 use Rattle.comp_worlds.specs.declared.lower.Lower as lower
 use Rattle.comp_encoder.specs.Encoder.{Encoder}
 use Rattle.comp_encoder.specs.Calls.{fresh, validating, naming_generated, merging_versions, emitting_canonical_names, after_module, after_adapter}
@@ -8,28 +8,21 @@ use Rattle.comp_encoder.specs.Adapters.{NoAdapterCause, IsAdapterRefusal}
 use Rattle.comp_encoder.specs.Refusals.{ModuleCause, IsModuleRefusal, NoEncodeCause, IsEncodeRefusal}
 use Rattle.comp_encoder.specs.Component.{IsEncoding}
 use Rattle.comp_encoder.specs.declared.fault.EncodeFault.{EncodeFault}
+use Rattle.fitted_modules.specs.Modules.{fitted_modules}
+use Rattle.fitted_modules.specs.declared.fault.ModulesFault.{ModulesFault}
+use Rattle.fitted_modules.specs.declared.fault.ModulesFault.TheVariants as fits
+use Rattle.fitted_modules.specs.declared.modules.Modules.{Modules}
+use Rattle.fitted_modules.specs.declared.modules.NamedModule.{NamedModule}
 use Rattle.command_line.specs.Faults.{no_memory}
-use Rattle.command_line.specs.declared.adapters.Adapter.{Adapter}
+use Rattle.command_line.specs.Files.{FilesRead}
 use Rattle.command_line.specs.declared.arguments.Arguments.{Arguments}
 use Rattle.command_line.specs.declared.flags.Flags.{Flags}
 use Rattle.command_line.specs.declared.fault.RunFault.{RunFault}
 use Rattle.command_line.specs.declared.store.Event.{Event}
-use Rattle.command_line.specs.declared.store.Event.TheVariants.{Read, NotRead, Put, NotPut}
+use Rattle.command_line.specs.declared.store.Event.TheVariants.{Put, NotPut}
 use Rattle.command_line.specs.declared.fault.RunFault.TheVariants as faults
 
 module _ {F : Type 0} where
-  -- A file is read, and then what its bytes ask for happens. The first case is out of memory before the file was read.
-  abbrev pub AfterRead : List ℕ → (List ℕ → List Event → Result ⊤ (RunFault F) → Type 0) → List Event → Result ⊤ (RunFault F) → Type 0
-  AfterRead file Next [] r = r ≡ Err no_memory
-  AfterRead file Next (NotRead name ∷ []) r = (name ≡ file) × (r ≡ Err (faults.Read file))
-  AfterRead file Next (Read name bytes ∷ es) r = (name ≡ file) × Next bytes es r
-  AfterRead file Next _ r = ⊥
-
-  -- the encoder refuses, and nothing more is read or put
-  abbrev pub IsRefused : (EncodeFault F → Type 0) → List Event → Result ⊤ (RunFault F) → Type 0
-  IsRefused IsRefusal [] (Err (faults.Encode f)) = IsRefusal f
-  IsRefused IsRefusal _ _ = ⊥
-
   -- The component is put, once and last. The first case is out of memory before it was put.
   abbrev pub IsPut : List ℕ → List ℕ → List Event → Result ⊤ (RunFault F) → Type 0
   IsPut out component [] r = r ≡ Err no_memory
@@ -37,12 +30,12 @@ module _ {F : Type 0} where
   IsPut out component (NotPut to bytes ∷ []) r = (to ≡ out) × (bytes ≡ component) × (r ≡ Err (faults.Write out))
   IsPut out component _ r = ⊥
 
-module _ {V F : Type 0} where
-  -- These events are the beginning of a run: where they led to a value, whatever the rest makes of it is the rest of such a run; where
-  -- they led to a fault, the run is over.
-  abbrev pub Leads : (List Event → Result ⊤ (RunFault F) → Type 0) → (V → List Event → Result ⊤ (RunFault F) → Type 0) → List Event → Result V (RunFault F) → Type 0
-  Leads Whole Rest es (Ok v) = (more : List Event) (r : Result ⊤ (RunFault F)) → Rest v more r → Whole (es ++ more) r
-  Leads Whole Rest es (Err f) = Whole es (Err f)
+-- The fault of modules that are not fitted.
+abbrev pub IsFitRefusal : Modules → ModulesFault → Type 0
+IsFitRefusal m fits.Memory = ⊥
+IsFitRefusal m (fits.TooMany n) = 2 ^ 32 ≤ n
+IsFitRefusal m (fits.Main r) = fitted_modules m.main m.adapters ≡ Err (fits.Main r)
+IsFitRefusal m (fits.Adapter name r) = fitted_modules m.main m.adapters ≡ Err (fits.Adapter name r)
 
 module _ {L B F : Type 0} (l : lower.Ghosts L B F) where
   -- an encoder with the options that the flags ask for, and that was given nothing
@@ -56,27 +49,77 @@ module _ {L B F : Type 0} (l : lower.Ghosts L B F) where
     pub clear : NoEncodeCause l e
     pub encoded : IsEncoding l e component
 
-  -- The encoder makes no component; or it makes one, which is put.
-  abbrev pub Encoded : List ℕ → Encoder L B → List Event → Result ⊤ (RunFault F) → Type 0
-  Encoded out e es r = IsRefused (IsEncodeRefusal l e) es r ⊎ ((component : List ℕ) × IsMade e component × IsPut out component es r)
+  -- The component of an encoder that is given adapters too, each under its name.
+  abbrev pub AdaptersMade : Encoder L B → List NamedModule → List ℕ → Type 0
+  AdaptersMade e [] component = IsMade e component
+  AdaptersMade e (a ∷ rest) component = NoAdapterCause l e a.name a.bytes None × AdaptersMade (after_adapter l e a.name a.bytes None) rest component
 
-  -- The adapters are read one after the other, each is given to the encoder under its name before the next one is read, and then the
-  -- component is put. Where the encoder refuses one, nothing more is read or put.
-  abbrev pub Adapted : List ℕ → Encoder L B → List Adapter → List Event → Result ⊤ (RunFault F) → Type 0
-  Adapted out e [] es r = Encoded out e es r
-  Adapted out e (adapter ∷ adapters) es r =
-      AfterRead adapter.file (λ bytes more ended.
-      IsRefused (IsAdapterRefusal l e adapter.name bytes None) more ended
-      ⊎ (NoAdapterCause l e adapter.name bytes None × Adapted out (after_adapter l e adapter.name bytes None) adapters more ended)) es r
+  -- The encoder refuses one of the adapters, or makes no component of them.
+  abbrev pub AdaptersRefused : Encoder L B → List NamedModule → EncodeFault F → Type 0
+  AdaptersRefused e [] f = IsEncodeRefusal l e f
+  AdaptersRefused e (a ∷ rest) f =
+      IsAdapterRefusal l e a.name a.bytes None f
+      ⊎ (NoAdapterCause l e a.name a.bytes None × AdaptersRefused (after_adapter l e a.name a.bytes None) rest f)
 
-  -- MAIN is read and given to the encoder, and then the adapters.
-  abbrev pub Supplied : List ℕ → Encoder L B → List ℕ → List Adapter → List Event → Result ⊤ (RunFault F) → Type 0
-  Supplied out e main adapters es r =
-      AfterRead main (λ bytes more ended.
-      IsRefused (IsModuleRefusal l e bytes) more ended
-      ⊎ (((f : F) → ¬ ModuleCause l e bytes f) × Adapted out (after_module l e bytes) adapters more ended)) es r
+  -- The same of an encoder that is given the main module first.
+  abbrev pub ModulesMade : Encoder L B → Modules → List ℕ → Type 0
+  ModulesMade e m component = ((f : F) → ¬ ModuleCause l e m.main f) × AdaptersMade (after_module l e m.main) m.adapters component
+
+  abbrev pub ModulesRefused : Encoder L B → Modules → EncodeFault F → Type 0
+  ModulesRefused e m f =
+      IsModuleRefusal l e m.main f ⊎ (((g : F) → ¬ ModuleCause l e m.main g) × AdaptersRefused (after_module l e m.main) m.adapters f)
+
+  -- The component of modules as they were read: the encoder is given them as they are fitted.
+  pub record IsComponent (e : Encoder L B) (read : Modules) (component : List ℕ) : Type 0 where
+    pub modules : Modules
+    pub fitted : fitted_modules read.main read.adapters ≡ Ok modules
+    pub made : ModulesMade e modules component
+
+  -- the encoder makes none of them
+  pub record IsRefused (e : Encoder L B) (read : Modules) (f : EncodeFault F) : Type 0 where
+    pub modules : Modules
+    pub fitted : fitted_modules read.main read.adapters ≡ Ok modules
+    pub refused : ModulesRefused e modules f
+
+  -- There is no component: memory ran out, or the modules are not fitted, or the encoder refuses.
+  abbrev pub IsUnmade : Encoder L B → Modules → RunFault F → Type 0
+  IsUnmade e read (faults.Encode f) = (faults.Encode f ≡ no_memory) ⊎ IsRefused e read f
+  IsUnmade e read (faults.Fit f) = IsFitRefusal read f
+  IsUnmade e read _ = ⊥
+
+  -- There is no component, and nothing is put; or there is one, which is put.
+  abbrev pub Built : List ℕ → Encoder L B → Modules → List Event → Result ⊤ (RunFault F) → Type 0
+  Built out e read es r =
+      ((f : RunFault F) × (es ≡ []) × (r ≡ Err f) × IsUnmade e read f) ⊎ ((component : List ℕ) × IsComponent e read component × IsPut out component es r)
 
   -- What was read and put, and how the run ended: MAIN and then the adapters are read, each once, in the order of the arguments; OUT is
   -- put, once and last, where what was read has a component, which is what is put; nothing else is read or put.
   abbrev pub Made : L → Arguments → List Event → Result ⊤ (RunFault F) → Type 0
-  Made layer names es r = Supplied names.out (begun layer names.flags) names.main names.adapters es r
+  Made layer names es r =
+      ((f : RunFault F) × (r ≡ Err f) × FilesRead names.main names.adapters es (Err f))
+      ⊎ ((read : Modules) × (reads : List Event) × (rest : List Event) × (es ≡ reads ++ rest) × FilesRead {F = F} names.main names.adapters reads (Ok read)
+      × Built names.out (begun layer names.flags) read rest r)
+
+  -- ---- steps
+
+  -- an encoder was given an adapter
+  abbrev pub GivesAdapter : Encoder L B → NamedModule → Encoder L B → Result ⊤ (EncodeFault F) → Type 0
+  GivesAdapter e a new (Ok x) = (new ≡ after_adapter l e a.name a.bytes None) × NoAdapterCause l e a.name a.bytes None
+  GivesAdapter e a new (Err f) = IsAdapterRefusal l e a.name a.bytes None f
+
+  -- an encoder was given adapters: what holds of it then holds of what it was given
+  abbrev pub SuppliesAdapters : Encoder L B → List NamedModule → Encoder L B → Result ⊤ (EncodeFault F) → Type 0
+  SuppliesAdapters e ms new (Ok x) = ((c : List ℕ) → IsMade new c → AdaptersMade e ms c) × ((f : EncodeFault F) → IsEncodeRefusal l new f → AdaptersRefused e ms f)
+  SuppliesAdapters e ms new (Err f) = AdaptersRefused e ms f
+
+  abbrev pub Supplies : Encoder L B → Modules → Encoder L B → Result ⊤ (EncodeFault F) → Type 0
+  Supplies e m new (Ok x) = ((c : List ℕ) → IsMade new c → ModulesMade e m c) × ((f : EncodeFault F) → IsEncodeRefusal l new f → ModulesRefused e m f)
+  Supplies e m new (Err f) = ModulesRefused e m f
+
+  abbrev pub Encodes : {C : Type 0} → (C → List ℕ) → Encoder L B → Modules → Result C (EncodeFault F) → Type 0
+  Encodes view e m (Ok c) = ModulesMade e m (view c)
+  Encodes view e m (Err f) = ModulesRefused e m f
+
+  abbrev pub Composes : {C : Type 0} → (C → List ℕ) → Encoder L B → Modules → Result C (RunFault F) → Type 0
+  Composes view e read (Ok c) = IsComponent e read (view c)
+  Composes view e read (Err f) = IsUnmade e read f

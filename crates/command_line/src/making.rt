@@ -1,21 +1,22 @@
 //! From files to a file.
 
-ghost use Rattle.std.specs.Prelude.{◌≡◌, ℕ, List, ◌∷◌, IfErr};
+ghost use Rattle.std.specs.Prelude.{◌≡◌, List, IfErr};
 ghost use Rattle.atomic_files.specs.Files.{Known};
-ghost use Rattle.atomic_files.specs.Steps.{Kept, Unchanged};
+ghost use Rattle.atomic_files.specs.Steps.{Kept};
 ghost use Rattle.command_line.specs.Events.{happen};
-ghost use Rattle.command_line.specs.declared.adapters.Adapter.{Adapter as GivenAdapter};
 ghost use Rattle.command_line.specs.declared.store.Event.{Event};
-ghost use Rattle.command_line.specs.Making.{begun, Encoded, Adapted, Supplied, Made, IsPut, Leads};
+ghost use Rattle.command_line.specs.Making.{begun, GivesAdapter, SuppliesAdapters, Supplies, Encodes};
+ghost use Rattle.command_line.specs.Making.{Composes, Made};
 
-use crate::adapters::Adapter;
 use crate::arguments::Arguments;
-use crate::fault::{RunFault, put_fault, read_fault};
+use crate::fault::{RunFault, fit_fault, put_fault};
 use crate::flags::Flags;
+use crate::reading::read_files;
 use crate::store::Store;
-use comp_encoder::ComponentEncoder;
-use comp_lists::{Seq, Text};
+use comp_encoder::{ComponentEncoder, EncodeFault};
+use comp_lists::Seq;
 use comp_worlds::Lower;
+use fitted_modules::{Modules, NamedModule, fit_modules};
 use std::alloc::Global;
 
 /// An encoder with the options that the flags ask for.
@@ -30,93 +31,77 @@ fn encoder_of<L: Lower>(alloc: Global, lower: L, flags: Flags) -> ComponentEncod
     encoder
 }
 
-/// Reads the main module, and gives it to the encoder.
-fn give_module<L: Lower, S: Store>(
-    alloc: Global,
+/// Gives an adapter to the encoder.
+fn give_adapter<L: Lower>(
     encoder: &mut ComponentEncoder<L>,
-    file: Text,
-    store: &mut S,
-) -> Result<(), RunFault<L::Fault>>
-    ensures given { (es : List Event) × (S.events store.new ≡ happen (S.events store.old) es) × ((out : List ℕ) (rest : List GivenAdapter) → Leads (Supplied L.Lower out encoder.old file rest) (λ _. Adapted L.Lower out encoder.new rest) es result) }
-    ensures files { Known Unchanged (S.files store.old) (S.files store.new) }
+    adapter: NamedModule,
+) -> Result<(), EncodeFault<L::Fault>>
+    ensures { GivesAdapter L.Lower encoder.old adapter encoder.new result }
 {
-    let bytes = match store.read(alloc, file.as_str()) {
-        Ok(bytes) => bytes,
-        Err(fault) => return Err(read_fault(false, fault, file)),
-    };
-    match encoder.add_module(bytes) {
+    let NamedModule { name, bytes } = adapter;
+    match encoder.add_adapter(name.as_str(), bytes.into_vec()) {
         Ok(()) => Ok(()),
-        Err(fault) => Err(RunFault::Encode(fault)),
+        Err(fault) => Err(fault),
     }
 }
 
-/// Reads an adapter, and gives it to the encoder.
-fn give_adapter<L: Lower, S: Store>(
-    alloc: Global,
+/// Gives the adapters to the encoder, one after the other.
+fn give_adapters<L: Lower>(
     encoder: &mut ComponentEncoder<L>,
-    adapter: Adapter,
-    store: &mut S,
-) -> Result<(), RunFault<L::Fault>>
-    ensures given { (es : List Event) × (S.events store.new ≡ happen (S.events store.old) es) × ((out : List ℕ) (rest : List GivenAdapter) → Leads (Adapted L.Lower out encoder.old (adapter ∷ rest)) (λ _. Adapted L.Lower out encoder.new rest) es result) }
-    ensures files { Known Unchanged (S.files store.old) (S.files store.new) }
-{
-    let Adapter { name, file } = adapter;
-    let bytes = match store.read(alloc, file.as_str()) {
-        Ok(bytes) => bytes,
-        Err(fault) => return Err(read_fault(false, fault, file)),
-    };
-    match encoder.add_adapter(name.as_str(), bytes) {
-        Ok(()) => Ok(()),
-        Err(fault) => Err(RunFault::Encode(fault)),
-    }
-}
-
-/// Reads the adapters, and gives them to the encoder, one after the other.
-fn give_adapters<L: Lower, S: Store>(
-    alloc: Global,
-    encoder: &mut ComponentEncoder<L>,
-    adapters: Seq<Adapter>,
-    store: &mut S,
-) -> Result<(), RunFault<L::Fault>>
-    ensures given { (es : List Event) × (S.events store.new ≡ happen (S.events store.old) es) × ((out : List ℕ) → Leads (Adapted L.Lower out encoder.old adapters) (λ _. Encoded L.Lower out encoder.new) es result) }
-    ensures files { Known Unchanged (S.files store.old) (S.files store.new) }
+    adapters: Seq<NamedModule>,
+) -> Result<(), EncodeFault<L::Fault>>
+    ensures { SuppliesAdapters L.Lower encoder.old adapters encoder.new result }
 {
     for adapter in adapters.into_vec() {
-        give_adapter(alloc, encoder, adapter, store)?;
+        give_adapter(encoder, adapter)?;
     }
     Ok(())
 }
 
-/// Reads the main module and the adapters, and gives them to the encoder.
-fn supply<L: Lower, S: Store>(
-    alloc: Global,
+/// Gives the main module and the adapters to the encoder.
+fn supply<L: Lower>(
     encoder: &mut ComponentEncoder<L>,
-    main: Text,
-    adapters: Seq<Adapter>,
-    store: &mut S,
-) -> Result<(), RunFault<L::Fault>>
-    ensures given { (es : List Event) × (S.events store.new ≡ happen (S.events store.old) es) × ((out : List ℕ) → Leads (Supplied L.Lower out encoder.old main adapters) (λ _. Encoded L.Lower out encoder.new) es result) }
-    ensures files { Known Unchanged (S.files store.old) (S.files store.new) }
+    modules: Modules,
+) -> Result<(), EncodeFault<L::Fault>>
+    ensures { Supplies L.Lower encoder.old modules encoder.new result }
 {
-    give_module(alloc, encoder, main, store)?;
-    give_adapters(alloc, encoder, adapters, store)
+    let Modules { main, adapters } = modules;
+    encoder.add_module(main.into_vec())?;
+    give_adapters(encoder, adapters)
 }
 
 /// The component of a main module and adapters, as the flags ask for it.
-fn component_of<L: Lower + Drop, S: Store>(
+fn encode<L: Lower + Drop>(
     alloc: Global,
     lower: L,
-    main: Text,
-    adapters: Seq<Adapter>,
     flags: Flags,
-    store: &mut S,
-) -> Result<Vec<u8>, RunFault<L::Fault>>
-    ensures given { (es : List Event) × (S.events store.new ≡ happen (S.events store.old) es) × ((out : List ℕ) → Leads (Supplied L.Lower out (begun L.Lower lower flags) main adapters) (λ component. IsPut out component.items) es result) }
-    ensures files { Known Unchanged (S.files store.old) (S.files store.new) }
+    modules: Modules,
+) -> Result<Vec<u8>, EncodeFault<L::Fault>>
+    ensures { Encodes L.Lower (λ v. v.items) (begun L.Lower lower flags) modules result }
 {
     let mut encoder = encoder_of(alloc, lower, flags);
-    supply(alloc, &mut encoder, main, adapters, store)?;
+    supply(&mut encoder, modules)?;
     match encoder.encode() {
+        Ok(component) => Ok(component),
+        Err(fault) => Err(fault),
+    }
+}
+
+/// The component of modules as they were read.
+fn component_of<L: Lower + Drop>(
+    alloc: Global,
+    lower: L,
+    flags: Flags,
+    read: Modules,
+) -> Result<Vec<u8>, RunFault<L::Fault>>
+    ensures { Composes L.Lower (λ v. v.items) (begun L.Lower lower flags) read result }
+{
+    let Modules { main, adapters } = read;
+    let modules = match fit_modules(alloc, main, adapters) {
+        Ok(modules) => modules,
+        Err(fault) => return Err(fit_fault(fault)),
+    };
+    match encode(alloc, lower, flags, modules) {
         Ok(component) => Ok(component),
         Err(fault) => Err(RunFault::Encode(fault)),
     }
@@ -138,7 +123,8 @@ pub(crate) fn make<L: Lower + Drop, S: Store>(
         adapters,
         flags,
     } = arguments;
-    let component = component_of(alloc, lower, main, adapters, flags, store)?;
+    let read = read_files(alloc, main, adapters, store)?;
+    let component = component_of(alloc, lower, flags, read)?;
     match store.put(out.as_str(), &component) {
         Ok(()) => Ok(()),
         Err(fault) => Err(put_fault(fault, out)),

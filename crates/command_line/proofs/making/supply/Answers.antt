@@ -1,15 +1,12 @@
-use Rattle.std.proofs.Common.{◌++◌}
-use Rattle.std.specs.Prelude.{⊤}
-use Rattle.command_line.specs.Making.{Encoded, Adapted, Supplied}
-use Rattle.command_line.proofs.Supplying.{two_happened, leads_on}
+use Rattle.std.proofs.Common.{refl}
+use Rattle.command_line.proofs.Supplying.{main_refused, main_given}
 use Rattle.command_line.proofs.making.supply.Goals as goal
 
-pub returns-clause-given : goal.returns-clause-given
-returns-clause-given g c =
-    let one = c.in_ok-give_module.ensures.given in
-    let two = c.give_adapters.ensures.given in (
-      one.0 ++ two.0,
-      two_happened _ _ _ one.0 two.0 one.1 two.1,
-      λ out. leads_on {V = ⊤} {W = ⊤} (Supplied g.L.Lower out c.args.encoder.now c.args.main c.args.adapters) (λ _. Adapted g.L.Lower out c.give_module.new.encoder c.args.adapters)
-          (λ _. Encoded g.L.Lower out c.give_adapters.new.encoder) tt one.0 two.0 c.give_adapters.result (one.2 out c.args.adapters) (two.2 out),
-    )
+pub returns-in_err-add_module : goal.returns-in_err-add_module
+returns-in_err-add_module g c =
+    main_refused g.L.Lower c.args.encoder.now c.add_module.new.self c.args.modules c.in_err-add_module.field-0.0 c.from_residual.result c.from_residual.ensures.1 (rw c.into_vec.ensures at c.in_err-add_module.ensures.cause)
+
+pub returns : goal.returns
+returns g c =
+    main_given g.L.Lower c.args.encoder.now c.add_module.new.self c.give_adapters.new.encoder c.args.modules c.give_adapters.result (rw c.into_vec.ensures at c.in_ok-add_module.ensures.ok) (rw c.into_vec.ensures at (c.in_ok-add_module.ensures.refused refl))
+    c.give_adapters.ensures
