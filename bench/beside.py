@@ -1,9 +1,10 @@
 """The times of `new` for worlds of two sizes, and beside them those of Rust's `wit-component`.
 
-A world is made by a function of a count, which answers the core module, the record, and the world and the interfaces as WIT. Modules
+A world is made by a function of a count, which answers the core module, the record, and the world and the interfaces as WIT; or a module
+with a WIT package, and nothing for the others. Modules
 for 1,000 and 10,000 are timed, each as the time of `new` and as the ratio of the two; ten times as many should take about ten times
 as long. The crate is in `wasm-component-ld` of Rust's own toolchain: it is given the same module, the world as WIT in place of a
-record, and a linker that links nothing. It has no time where it isn't there, or where it refuses the world, as it does with more
+record where there is one, and a linker that links nothing. It has no time where it isn't there, or where it refuses the world, as it does with more
 than 1,000 instances. Each time is the least of five.
 """
 import glob
@@ -41,15 +42,16 @@ def crate_command(folder, core, world, interfaces):
     linker = written(folder, "linker", LINKER.encode())
     os.chmod(linker, 0o755)
     os.environ["CORE"] = written(folder, "core.wasm", core)
-    wit = written(folder, "world.wit", f"package a:b;\n{interfaces}world w {{\n{world}}}\n".encode())
-    words = ["--wasm-ld-path", linker, "--wasi-adapter", "none", "--validate-component", "false", "--component-type", wit]
+    words = ["--wasm-ld-path", linker, "--wasi-adapter", "none", "--validate-component", "false"]
+    if world is not None:
+        words += ["--component-type", written(folder, "world.wit", f"package a:b;\n{interfaces}world w {{\n{world}}}\n".encode())]
     return [component_linker(), *words, "-o", os.path.join(folder, "other.wasm")]
 
 
 def seconds_of(program, folder, make, count):
     """The seconds of the program, and those of the crate where it is there."""
     core, record, world, interfaces = make(count)
-    main = written(folder, "main.wasm", with_record(core, record))
+    main = written(folder, "main.wasm", core if record is None else with_record(core, record))
     seconds = timed([program, "new", os.path.join(folder, "made.wasm"), main])
     if component_linker():
         command = crate_command(folder, core, world, interfaces)

@@ -131,16 +131,16 @@ def resources_of_an_interface(count):
     return core, record, "export i;", f"interface i {{\n{resources}}}\n"
 
 
-table(
-    *sys.argv[1:],
-    [
-        exported_functions,
-        functions_of_an_interface,
-        interfaces_with_a_function,
-        types_of_an_interface,
-        types_of_another_interface,
-        interfaces_that_use_a_type,
-        interfaces_that_use_an_exported_type,
-        resources_of_an_interface,
-    ],
-)
+WORLDS = [
+    exported_functions,
+    functions_of_an_interface,
+    interfaces_with_a_function,
+    types_of_an_interface,
+    types_of_another_interface,
+    interfaces_that_use_a_type,
+    interfaces_that_use_an_exported_type,
+    resources_of_an_interface,
+]
+
+if __name__ == "__main__":
+    table(*sys.argv[1:], WORLDS)

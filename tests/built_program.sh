@@ -75,6 +75,13 @@ expect 'all flags' 0 '' new flags_made.wasm main.wasm --validate --no-names --ca
 holds 'change nothing without interfaces' flags_made.wasm "$top/examples/component.wasm"
 expect 'one of three flags twice' 2 "$usage" new kept.wasm main.wasm --no-names --canonical --no-names
 
+# A module with a WIT package, and one whose package is cut short.
+cp "$top/examples/store/main.wasm" store.wasm
+expect 'a module with a package' 0 '' new store_made.wasm store.wasm --validate
+holds 'its component' store_made.wasm "$top/examples/store/component.wasm"
+printf '\0asm\001\0\0\0\0\027\016component-type\0asm\015\0\001\0' >cut_package.wasm
+expect 'a package that lacks its sections' 1 'error: E3 Lower: P4 PackageBinary section=0 reason=Encoding' new kept.wasm cut_package.wasm
+
 # The expected components with adapters are an independent encoder's.
 cp empty.wasm b=c.wasm
 echo 0061736d0d000100070501400001000a06010001660100012c0061736d01000000010401600000020b010524726f6f740166000003020100070501016700010a040102000b01290061736d01000000001f046e616d650018177769742d636f6d706f6e656e743a616461707465723a61080501010000000215030101016600000000010524726f6f74120000010006070100000101016708060100000100000b0701000167010100005a0e636f6d706f6e656e742d6e616d650109000002000166010167012200110200046d61696e01177769742d636f6d706f6e656e743a616461707465723a610113001203000524726f6f7401046d61696e02016101050101010167 | of_digits >adapter_want

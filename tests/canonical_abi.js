@@ -1,7 +1,8 @@
 // Calls between JavaScript and core functions, by the Canonical ABI: synchronous, of numbers, strings in UTF-8, lists,
-// records, and handles of resources that the component defines. A type is the name of a primitive one, `{ list: type }`,
-// `{ record: [{ name, type }] }`, `{ own: resource }` or `{ borrow: resource }`, the type of a function
-// `{ params: [{ name, type }], result: type or null }`. `options` are those of one call: `memory`, `realloc`, `postReturn`.
+// records, enums, options in memory, and handles of resources that the component defines. A type is the name of a primitive one,
+// `{ list: type }`, `{ record: [{ name, type }] }`, `{ enum: [label] }`, `{ option: type }`, `{ own: resource }` or
+// `{ borrow: resource }`, the type of a function `{ params: [{ name, type }], result: type or null }`. An option that is none is
+// null. `options` are those of one call: `memory`, `realloc`, `postReturn`.
 'use strict';
 
 const NUMBERS = {
@@ -11,23 +12,28 @@ const NUMBERS = {
 const isHandle = type => type.own !== undefined || type.borrow !== undefined;
 const MOST_PARAMETERS = 16;
 const MOST_RESULTS = 1;
+const MOST_LABELS = 256;
 const roundUp = (at, alignment) => Math.ceil(at / alignment) * alignment;
 
 const alignmentOf = type => {
   if (NUMBERS[type] !== undefined) return Number(type.slice(1)) / 8;
   if (type === 'string' || type.list !== undefined || isHandle(type)) return 4;
+  if (type.enum !== undefined && type.enum.length <= MOST_LABELS) return 1;
+  if (type.option !== undefined) return alignmentOf(type.option);
   if (type.record !== undefined) return Math.max(...type.record.map(field => alignmentOf(field.type)));
   throw new Error(`no values of the type ${JSON.stringify(type)} are passed here`);
 };
 const sizeOf = type => {
-  if (NUMBERS[type] !== undefined || isHandle(type)) return alignmentOf(type);
+  if (NUMBERS[type] !== undefined || isHandle(type) || type.enum !== undefined) return alignmentOf(type);
+  if (type.option !== undefined) return alignmentOf(type.option) + sizeOf(type.option);
   if (type === 'string' || type.list !== undefined) return 8;
   const end = type.record.reduce((at, field) => roundUp(at, alignmentOf(field.type)) + sizeOf(field.type), 0);
   return roundUp(end, alignmentOf(type));
 };
 // the number of core values that one is, outside memory
 const flatCount = type => {
-  if (NUMBERS[type] !== undefined || isHandle(type)) return 1;
+  if (NUMBERS[type] !== undefined || isHandle(type) || type.enum !== undefined) return 1;
+  if (type.option !== undefined) return 1 + flatCount(type.option);
   if (type === 'string' || type.list !== undefined) return 2;
   return type.record.reduce((count, field) => count + flatCount(field.type), 0);
 };
@@ -65,6 +71,12 @@ const read = (options, type, at) => {
   if (type.record !== undefined) {
     return Object.fromEntries(placed(type, at).map(field => [field.name, read(options, field.type, field.at)]));
   }
+  if (type.enum !== undefined) return lift(options, type, [viewOf(options).getUint8(at)]);
+  if (type.option !== undefined) {
+    const is = viewOf(options).getUint8(at);
+    if (is > 1) throw new Error(`an option has no case ${is}`);
+    return is === 0 ? null : read(options, type.option, at + alignmentOf(type.option));
+  }
   if (isHandle(type)) return lift(options, type, [viewOf(options).getUint32(at, true)]);
   return lift(options, type, [viewOf(options).getUint32(at, true), viewOf(options).getUint32(at + 4, true)]);
 };
@@ -78,6 +90,12 @@ const lift = (options, type, values) => {
   if (type.record !== undefined) {
     return Object.fromEntries(type.record.map(field => [field.name, lift(options, field.type, values)]));
   }
+  if (type.enum !== undefined) {
+    const label = type.enum[values.shift()];
+    if (label === undefined) throw new Error('an enum has no such case');
+    return label;
+  }
+  if (type.option !== undefined) throw new Error('no options are passed outside memory here');
   if (type.own !== undefined) return { of: type.own, represents: type.own.removed(values.shift()) };
   const [address, length] = [values.shift() >>> 0, values.shift() >>> 0];
   return type === 'string' ? readText(options, address, length) : readList(options, type.list, address, length);
@@ -116,6 +134,7 @@ const lower = (options, type, value) => {
   if (type === 'string') return writtenText(options, value);
   if (type.list !== undefined) return writtenList(options, type.list, value);
   if (isHandle(type)) return [lowerHandle(type, value)];
+  if (type.record === undefined) throw new Error(`no values of the type ${JSON.stringify(type)} are passed in here`);
   return type.record.flatMap(field => lower(options, field.type, value[field.name]));
 };
 

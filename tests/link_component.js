@@ -36,6 +36,8 @@ const resolved = (type, types) => {
   if (type === null || typeof type === 'string') return type;
   if (typeof type === 'number') return types[type];
   if (type.list !== undefined) return { list: resolved(type.list, types) };
+  if (type.option !== undefined) return { option: resolved(type.option, types) };
+  if (type.enum !== undefined) return type;
   if (type.record !== undefined) return { record: fields(type.record) };
   if (type.own !== undefined) return { own: types[type.own] };
   if (type.borrow !== undefined) return { borrow: types[type.borrow] };

@@ -92,6 +92,8 @@ const definedType = from => {
   if (form === 0x69) return { own: from.number() };
   if (form === 0x68) return { borrow: from.number() };
   if (form === 0x70) return { list: valueType(from) };
+  if (form === 0x6d) return { enum: from.list(() => from.name()) };
+  if (form === 0x6b) return { option: valueType(from) };
   if (form === 0x40) return { params: from.list(field), result: resultType(from) };
   if (form === 0x42) return { members: from.list(member) };
   if (form === 0x3f) return resourceType(from);

@@ -81,7 +81,7 @@ refuse_each 'error: E1 Memory' new "$made" "$main"
 refuse_each 'error: E1 Memory' new "$made" "$main" --validate
 # A module with all roles of core imports and exports, whose world isn't encoded yet.
 sed -n 's/^roles, imports world-func, .* more and exports .* <- //p' "$top/crates/record_cases/data/left_out.txt" | head -n 1 | of_digits >"$folder/roles.wasm"
-ends='error: E3 Lower: P8 LeftOut what="async"'
+ends='error: E3 Lower: P8 LeftOut what="task-return"'
 refuse_each 'error: E1 Memory' new "$made" "$folder/roles.wasm"
 # A module and two adapters, with the component that an independent encoder makes of them.
 printf '\0asm\001\0\0\0' >"$folder/empty.wasm"

@@ -142,7 +142,33 @@ const runLines = (name, file) => {
   holds(`${name}: how many calls of main's function it made`, counted(), 4);
 };
 
-const RUNS = { main: runMain, strings: runStrings, log: runLog, squares: runSquares, people: runPeople, search: runSearch, counters: runCounters, lines: runLines };
+// A module with a WIT package in place of a record.
+const runStore = (name, file) => {
+  let lines = [];
+  const since = () => {
+    const before = lines;
+    lines = [];
+    return before;
+  };
+  const outside = { 'example:store/log': { log: (level, text) => { lines.push([level, text]); } } };
+  const { exports } = linked(readComponent(fs.readFileSync(file)), outside);
+  holds(`${name}: what it exports`, Object.keys(exports), ['example:store/store']);
+  const { '[constructor]bucket': bucket, '[method]bucket.get': get, '[method]bucket.set': set } = exports['example:store/store'];
+  const [one, other] = [bucket('Grüße'), bucket('other')];
+  holds(`${name}: what is reported of two buckets`, since(), [['made', 'Grüße'], ['made', 'other']]);
+  holds(`${name}: a key that isn't there`, [get(one, 'key'), since()], [null, [['missing', 'key']]]);
+  set(one, 'key', [1, 2, 3]);
+  set(other, 'key', []);
+  holds(`${name}: each bucket has values of its own`, [get(one, 'key'), get(other, 'key')], [[1, 2, 3], []]);
+  for (let i = 0; i < 1000; i++) set(one, 'key', [i % 256]);
+  holds(`${name}: the last value that was set`, get(one, 'key'), [999 % 256]);
+  holds(`${name}: nothing is reported of that`, since(), []);
+  dropped(one);
+  holds(`${name}: the destructor reports`, since(), [['dropped', 'Grüße']]);
+  holds(`${name}: the other bucket is there`, get(other, 'key'), []);
+};
+
+const RUNS = { main: runMain, strings: runStrings, log: runLog, squares: runSquares, people: runPeople, search: runSearch, counters: runCounters, lines: runLines, store: runStore };
 for (const argument of process.argv.slice(2)) {
   const [name, file] = argument.split('=');
   try {

@@ -28,7 +28,7 @@ adapters() {
 }
 
 kept="main=$top/examples/component.wasm" anew=
-for example in strings log squares people search counters lines; do
+for example in strings log squares people search counters lines store; do
     from=$top/examples/$example made=$folder/$example
     mkdir "$made"
     check "$example: the kept module's component is made" "$program" new "$made/kept.wasm" "$from/main.wasm" $(adapters "$example" "$from")

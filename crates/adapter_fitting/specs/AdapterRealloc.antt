@@ -1,5 +1,5 @@
--- Main's realloc under the name that it has for adapters, and an adapter that imports it so. (This project's own, after the
--- tools that write such modules.)
+-- Main's realloc under the name that it has for adapters, and an adapter that imports it so. (This
+-- project's own, after the tools that write such modules.)
 use Rattle.std.specs.Prelude.{ℕ, Bool, ◌||◌, not, List, codes, Option, Some, None, Result, Ok, Err}
 use Rattle.byte_encoding.specs.Encoding.{Encoding}
 use Rattle.core_sections.specs.Sections.{Piece, pieces_of}

@@ -88,8 +88,8 @@ arguments = i32_const (small 0) ⊕ i32_const (small 0) ⊕ i32_const (small 8) 
 abbrev pub stack_end : ℕ → Encoding
 stack_end realloc = arguments ⊕ call realloc ⊕ (i32_const page ⊕ i32_add)
 
--- Where the state is 0: it is 1 while main's realloc is called; then the pointer is the end of what that returned, and the
--- state is 2.
+-- Where the state is 0: it is 1 while main's realloc is called; then the pointer is the end of what
+-- that returned, and the state is 2.
 abbrev pub allocation : ℕ → StackGlobals → Encoding
 allocation realloc g =
     no_locals ⊕ if_absent g.state ⊕ set_state 1 g.state ⊕ stack_end realloc ⊕ global_set g.pointer ⊕ set_state 2 g.state ⊕ (end_mark ⊕ end_mark)
@@ -104,8 +104,9 @@ realloc_type = record { params = I32 ∷ I32 ∷ I32 ∷ I32 ∷ []; results = I
 abbrev pub asserted : List ℕ → ℕ → Encoding
 asserted digits local_index = i32_const digits ⊕ local_get local_index ⊕ i32_ne ⊕ if_true ⊕ unreachable ⊕ end_mark
 
--- A page of memory, which is 64 KiB: it traps where something was there before, where another size is asked for, and where
--- the memory can't grow. The result is the address of the page: its number by 2^16.
+-- A page of memory, which is 64 KiB: it traps where something was there before, where another size
+-- is asked for, and where the memory can't grow. The result is the address of the page: its number
+-- by 2^16.
 abbrev pub page_realloc : Encoding
 page_realloc =
     one_local ⊕ asserted (small 0) 0 ⊕ asserted (small 0) 1 ⊕ asserted page 3

@@ -50,8 +50,9 @@ abbrev pub of_build : BuildFault → FitFault
 of_build builds.Memory = faults.Memory
 of_build (builds.TooMany n) = faults.TooMany n
 
--- A call that writes returned the bytes of this encoding, or nothing where there is nothing to write; or it was refused for
--- what reading refuses, or for a count, a size or an index of more than 32 bits.
+-- A call that writes returned the bytes of this encoding, or nothing where there is nothing to
+-- write; or it was refused for what reading refuses, or for a count, a size or an index of more
+-- than 32 bits.
 abbrev pub Fitted : {X : Type 0} → (X → List ℕ) → Result (Option X) FitFault → Result (Option Encoding) Refusal → Type 0
 Fitted view (Ok None) read = read ≡ Ok None
 Fitted view (Ok (Some x)) read = (e : Encoding) × (read ≡ Ok (Some e)) × (view x ≡ e.bytes) × Fits e.counts

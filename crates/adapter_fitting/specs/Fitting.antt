@@ -1,4 +1,5 @@
--- An adapter that gets its stack when it is first called. (This project's own, after the tools that write such adapters.)
+-- An adapter that gets its stack when it is first called. (This project's own, after the tools that
+-- write such adapters.)
 use Rattle.std.specs.Prelude.{ℕ, ◌-◌, ◌==◌, Bool, false, ◌&&◌, is_some, List, [], ◌∷◌, ◌++◌, length, Option, Some, None, Result, Ok, Err, if◌then◌else◌}
 use Rattle.std.specs.List.{slice_get, list_all}
 use Rattle.byte_encoding.specs.Encoding.{Encoding, ◌⊕◌}

@@ -1,5 +1,5 @@
--- A main module that gets a realloc, for an adapter that asks main for its stack. (This project's own, after the tools that
--- write such adapters.)
+-- A main module that gets a realloc, for an adapter that asks main for its stack. (This project's
+-- own, after the tools that write such adapters.)
 use Rattle.std.specs.Prelude.{ℕ, ◌==◌, Bool, ◌&&◌, ◌||◌, is_some, List, [], ◌∷◌, length, codes, Option, Some, None, Result, Ok, Err, if◌then◌else◌}
 use Rattle.comp_lists.specs.Found.{found}
 use Rattle.byte_encoding.specs.Encoding.{Encoding, ◌⊕◌, octet, number, named}

@@ -1,5 +1,5 @@
--- The sections of a module with their offsets, and their order (WebAssembly core specification, binary format, "Modules":
--- each section but a custom one occurs at most once, in this order).
+-- The sections of a module with their offsets, and their order (WebAssembly core specification,
+-- binary format, "Modules": each section but a custom one occurs at most once, in this order).
 use Rattle.std.specs.Prelude.{ℕ, ◌+◌, ◌==◌, nat_lt, Bool, false, List, [], ◌∷◌, length, Option, Some, None, if◌then◌else◌}
 use Rattle.core_sections.specs.Sections.{Body, custom, coded, Piece, view}
 use Rattle.adapter_fitting.specs.declared.places.PlacedSection.{PlacedSection}
@@ -31,8 +31,8 @@ abbrev pub first : ℕ → List Placed → Option Placed
 first id [] = None
 first id (s ∷ ss) = if has_id id s.piece.body then Some s else first id ss
 
--- the place of a section in their order, and 0 of an unknown one: that of tags is before globals, and that of the number of
--- data segments before code
+-- the place of a section in their order, and 0 of an unknown one: that of tags is before globals,
+-- and that of the number of data segments before code
 abbrev pub rank : ℕ → ℕ
 rank id =
     if nat_lt id 6 then id

@@ -1,6 +1,7 @@
--- The stack of an adapter: the globals that say where it is and whether it is there, by their names, and main's realloc, by
--- the names of its import. (The names are those that the tools for WebAssembly's components know; debug names: WebAssembly core
--- specification, appendix, custom sections.)
+-- The stack of an adapter: the globals that say where it is and whether it is there, by their
+-- names, and main's realloc, by the names of its import. (The names are those that the tools for
+-- WebAssembly's components know; debug names: WebAssembly core specification, appendix, custom
+-- sections.)
 use Rattle.std.specs.Prelude.{ℕ, ◌+◌, ◌==◌, nat_le, Bool, true, false, ◌&&◌, List, [], ◌∷◌, ◌++◌, length, map, filter, codes, Option, Some, None, Result, Ok, Err, if◌then◌else◌}
 use Rattle.std.specs.List.{slice_get, list_any}
 use Rattle.std.specs.Str.{bytes_eq}

@@ -29,8 +29,9 @@ fn is_for_adapters(alloc: Global, module: &CoreModule) -> Result<bool, AllocErro
     Ok(own || !general)
 }
 
-/// Whether the adapters of a main module are to import its realloc as `cabi_realloc_adapter`: it exports an item of that name, or none
-/// that counts as a realloc, so that [`crate::give_realloc`] gives it one.
+/// Whether the adapters of a main module are to import its realloc as `cabi_realloc_adapter`: it
+/// exports an item of that name, or none that counts as a realloc, so that [`crate::give_realloc`]
+/// gives it one.
 ///
 /// The fault is `NotModule` or `Section`, or out of memory.
 pub fn names_adapter_realloc(alloc: Global, bytes: &[u8]) -> Result<bool, FitFault>
@@ -91,10 +92,12 @@ fn rename_sections(
     }
 }
 
-/// An adapter that imports main's realloc as `cabi_realloc_adapter` in the place of `cabi_realloc`, or `None` where it doesn't import it.
+/// An adapter that imports main's realloc as `cabi_realloc_adapter` in the place of `cabi_realloc`,
+/// or `None` where it doesn't import it.
 ///
-/// All else is kept, byte for byte, but for the counts and sizes around the imports, which are written the shortest way. The fault
-/// is `NotModule` or `Section`, out of memory, or [`FitFault::TooMany`] for a count or a size.
+/// All else is kept, byte for byte, but for the counts and sizes around the imports, which are
+/// written the shortest way. The fault is `NotModule` or `Section`, out of memory, or
+/// [`FitFault::TooMany`] for a count or a size.
 pub fn name_adapter_realloc(alloc: Global, bytes: &[u8]) -> Result<Option<Vec<u8>>, FitFault>
     ensures { Fitted (λ v. v.items) result (with_adapter_realloc bytes.now) }
 {

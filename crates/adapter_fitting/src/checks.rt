@@ -115,8 +115,8 @@ fn exports_in(alloc: Global, exports: Option<PlacedSection<'_>>) -> Result<Vec<E
     }
 }
 
-/// The exports of a module, where its sections are in order and have a body for each function that isn't imported; `end` is
-/// where it ends.
+/// The exports of a module, where its sections are in order and have a body for each function that
+/// isn't imported; `end` is where it ends.
 pub(crate) fn exports_of(
     alloc: Global,
     end: usize,

@@ -62,8 +62,8 @@ fn active_in(alloc: Global, bytes: &[u8], sections: &[Section<'_>]) -> Result<bo
 
 /// Whether a module has an active data segment, which is copied into a memory when the module is instantiated.
 ///
-/// What follows the first one is not read. The fault is `NotModule`, `Section`, `Data` for a section of data that is malformed
-/// before the first active segment, or out of memory.
+/// What follows the first one is not read. The fault is `NotModule`, `Section`, `Data` for a
+/// section of data that is malformed before the first active segment, or out of memory.
 pub fn has_active_data(alloc: Global, bytes: &[u8]) -> Result<bool, FitFault>
     ensures { Told result (active_data bytes.now) }
 {

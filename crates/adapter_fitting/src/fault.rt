@@ -37,8 +37,8 @@ pub enum Refusal {
     /// The import of main's `cabi_realloc` has another type than a realloc.
     #[error("F9 ReallocType")]
     ReallocType,
-    /// The section of code at this offset is malformed, or hasn't one body for each function that isn't imported; or it isn't
-    /// there, and this is where the module ends.
+    /// The section of code at this offset is malformed, or hasn't one body for each function that
+    /// isn't imported; or it isn't there, and this is where the module ends.
     #[error("F10 Code place={place}")]
     Code { place: usize },
     /// The section of data at this offset is malformed.

@@ -119,17 +119,21 @@ fn fit_sections(
 
 /// An adapter with a stack of its own, or `None` where it needs none.
 ///
-/// One that imports no memory is not looked at. One that does must have no active data segment, which would be copied over what is there
-/// (`Refusal::ActiveData`). It needs a stack where its sections of names have names for two globals of 32 bits that it defines and that may
-/// be set, `__stack_pointer` and `allocation_state`, and it has functions of its own; the first without the second is refused
-/// (`Refusal::NoState`), as its stack would be in the other module's memory, wherever that has its own. Then it has one more function, the last: where the state is 0, that sets it to 1,
-/// the pointer to the end of 64 KiB that main's realloc answers with, and the state to 2. Main's realloc is the import
-/// `cabi_realloc` of `__main_module__`. Each exported function calls it before all that it does; one that is imported doesn't. All
-/// else is kept, byte for byte, but for the counts and sizes around what is added, which are written the shortest way.
+/// One that imports no memory is not looked at. One that does must have no active data segment,
+/// which would be copied over what is there (`Refusal::ActiveData`). It needs a stack where its
+/// sections of names have names for two globals of 32 bits that it defines and that may be set,
+/// `__stack_pointer` and `allocation_state`, and it has functions of its own; the first without the
+/// second is refused (`Refusal::NoState`), as its stack would be in the other module's memory,
+/// wherever that has its own. Then it has one more function, the last: where the state is 0, that
+/// sets it to 1, the pointer to the end of 64 KiB that main's realloc answers with, and the state
+/// to 2. Main's realloc is the import `cabi_realloc` of `__main_module__`. Each exported function
+/// calls it before all that it does; one that is imported doesn't. All else is kept, byte for byte,
+/// but for the counts and sizes around what is added, which are written the shortest way.
 ///
-/// The module is checked where it is read: its entries as by `read_module`, the names of globals, the order of the sections, and
-/// that each body begins with locals. Instructions are not read. The fault is a [`crate::Refusal`], out of memory, or
-/// [`FitFault::TooMany`] for a count, a size or an index that would exceed 2^32 - 1.
+/// The module is checked where it is read: its entries as by `read_module`, the names of globals,
+/// the order of the sections, and that each body begins with locals. Instructions are not read. The
+/// fault is a [`crate::Refusal`], out of memory, or [`FitFault::TooMany`] for a count, a size or an
+/// index that would exceed 2^32 - 1.
 pub fn fit_adapter(alloc: Global, bytes: &[u8]) -> Result<Option<Vec<u8>>, FitFault>
     ensures { Fitted (λ v. v.items) result (fit bytes.now) }
 {

@@ -181,12 +181,13 @@ fn give_to_sections(
     }
 }
 
-/// A main module with a realloc for its adapters, `cabi_realloc_adapter`, or `None` where it exports something of this name or
-/// `cabi_realloc`.
+/// A main module with a realloc for its adapters, `cabi_realloc_adapter`, or `None` where it
+/// exports something of this name or `cabi_realloc`.
 ///
-/// The realloc is one more function, the last, and its export the last one. It answers with a page of memory, 64 KiB, by which
-/// memory 0 grows. It traps where something was there before, where another size is asked for, and where the memory can't grow. All else is kept,
-/// byte for byte, but for the counts and sizes around what is added, which are written the shortest way.
+/// The realloc is one more function, the last, and its export the last one. It answers with a page
+/// of memory, 64 KiB, by which memory 0 grows. It traps where something was there before, where
+/// another size is asked for, and where the memory can't grow. All else is kept, byte for byte, but
+/// for the counts and sizes around what is added, which are written the shortest way.
 ///
 /// The module needs a memory, a function of its own, and exports. The faults are those of [`crate::fit_adapter`].
 pub fn give_realloc(alloc: Global, bytes: &[u8]) -> Result<Option<Vec<u8>>, FitFault>

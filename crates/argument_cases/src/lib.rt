@@ -1,6 +1,6 @@
-//! The arguments of libraries in the cases of test programs: a library is its name and then words `MODULE=INSTANCE`, with a blank before
-//! each. An instance is `*WHICH`, which is `main` or the name of an adapter, or a list of items `ALIAS:KIND:WHICH:NAME` with a comma
-//! between two of them.
+//! The arguments of libraries in the cases of test programs: a library is its name and then words
+//! `MODULE=INSTANCE`, with a blank before each. An instance is `*WHICH`, which is `main` or the
+//! name of an adapter, or a list of items `ALIAS:KIND:WHICH:NAME` with a comma between two of them.
 #![tactic(auto)]
 
 use comp_lists::{Seq, Text};

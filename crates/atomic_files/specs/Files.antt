@@ -2,7 +2,8 @@
 use Rattle.std.specs.Prelude.{◌≡◌, ℕ, List, Option, Some, None, ⊤, if◌then◌else◌}
 use Rattle.std.specs.Str.{bytes_eq}
 
--- what a name names: nothing, a regular file with these bytes, or another thing, such as a folder, a device or a symbolic link
+-- what a name names: nothing, a regular file with these bytes, or another thing, such as a folder,
+-- a device or a symbolic link
 pub data Node : Type 0 where
   Missing : Node
   Regular : (bytes : List ℕ) → Node

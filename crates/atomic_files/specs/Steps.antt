@@ -33,7 +33,8 @@ ReadsFile name (Err f) before after = Are after before
 abbrev pub WrittenTo : List ℕ → (List ℕ → Node) → (List ℕ → Node) → Type 0
 WrittenTo name before after = before name ≡ Other → Are after before
 
--- a name that named nothing names a regular file with these bytes; or, where the write was refused, with a front of them
+-- a name that named nothing names a regular file with these bytes; or, where the write was refused,
+-- with a front of them
 abbrev pub Created : List ℕ → List ℕ → Result ⊤ CreateFault → (List ℕ → Node) → (List ℕ → Node) → Type 0
 Created name bytes (Ok x) before after = (before name ≡ Missing) × Are after (with_node before name (Regular bytes))
 Created name bytes (Err create_faults.Taken) before after = Are after before

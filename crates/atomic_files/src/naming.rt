@@ -15,8 +15,8 @@ fn folder(name: &str) -> &str
     }
 }
 
-/// A name in the folder of this name. It is short whatever the name is, so that it is no longer than a file system takes.
-/// The only error is out of memory.
+/// A name in the folder of this name. It is short whatever the name is, so that it is no longer
+/// than a file system takes. The only error is out of memory.
 pub(crate) fn new_name(alloc: Global, name: &str, number: u32) -> Result<String, AllocError>
     ensures { IfOk result (λ new. string_bytes new ≡ new_name name.now number) }
 {

@@ -56,7 +56,8 @@ fn create_beside<S: FileSystem>(
 
 /// Renames a new file over the file of this name, and removes it where that is refused.
 fn rename_over<S: FileSystem>(system: &mut S, new: &str, name: &str) -> Result<(), PutFault>
-    ensures { Known (RenamedOver new.now name.now result) (S.files system.old) (S.files system.new) }
+    ensures { Known (RenamedOver new.now name.now result) (S.files system.old)
+        (S.files system.new) }
 {
     match system.rename(new, name) {
         Ok(()) => Ok(()),
@@ -98,15 +99,16 @@ fn write_in_place<S: FileSystem>(system: &mut S, name: &str, bytes: &[u8]) -> Re
     }
 }
 
-/// Makes the bytes the contents of the file of this name, whole or not at all. A thing that is not a regular file, such as
-/// a device, is written in place.
+/// Makes the bytes the contents of the file of this name, whole or not at all. A thing that is not
+/// a regular file, such as a device, is written in place.
 pub fn put<S: FileSystem>(
     alloc: Global,
     system: &mut S,
     name: &str,
     bytes: &[u8],
 ) -> Result<(), PutFault>
-    ensures { Known (PutLeaves name.now bytes.now result) (S.files system.old) (S.files system.new) }
+    ensures { Known (PutLeaves name.now bytes.now result) (S.files system.old)
+        (S.files system.new) }
 {
     match system.kind(name) {
         Ok(Kind::Missing) => replace(alloc, system, name, bytes, false),

@@ -62,7 +62,8 @@ pub fn next_count(count: u32) -> Result<u32, Excess>
 
 /// How many items both lists have together, refused exactly where these are more than 2^32 - 1.
 pub fn count_of<T, U>(first: &[T], second: &[U]) -> Result<u32, Excess>
-    ensures { MatchResult result (λ n. n ≡ length first.now + length second.now) (λ e. (e ≡ length first.now + length second.now) × (2 ^ 32 ≤ e)) }
+    ensures { MatchResult result (λ n. n ≡ length first.now + length second.now)
+        (λ e. (e ≡ length first.now + length second.now) × (2 ^ 32 ≤ e)) }
 {
     counted(first.len() as u128 + second.len() as u128)
 }

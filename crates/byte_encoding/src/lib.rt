@@ -1,8 +1,9 @@
 //! Numbers, names, lists and options as bytes, as the binary formats of WebAssembly have them.
 //!
 //! The encoding of a value is one value itself: its bytes, with each count and size among them
-//! (`specs/Encoding.antt`), so that one definition says what is written and what must be refused. [`Encode`] is the trait of
-//! values with one encoding; binary formats are made of its implementations.
+//! (`specs/Encoding.antt`), so that one definition says what is written and what must be refused.
+//! [`Encode`] is the trait of values with one encoding; binary formats are made of its
+//! implementations.
 //!
 //! Upward this crate promises: a call that writes appends the bytes of the value (`Writes`), a refusal other than
 //! out of memory names a count or a size that passes 2^32 - 1 (`Refused`), and no number, type index or name is the

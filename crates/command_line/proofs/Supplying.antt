@@ -70,8 +70,8 @@ module _ {L B F : Type 0} (l : lower.Ghosts L B F) where
       Leads {V = ⊤} {F = F} (Adapted l out e (adapter ∷ rest)) (λ _. Adapted l out new rest) (Read name bytes ∷ []) (Ok tt)
   adapter_given out rest e new adapter name bytes k h accepted = λ more r then. (k, inr (accepted, subst (λ now. Adapted l out now rest more r) h then))
 
-  -- What was given so far of a list of adapters: with these events the encoder came from one state to another, and what holds of the rest
-  -- holds of all.
+  -- What was given so far of a list of adapters: with these events the encoder came from one state
+  -- to another, and what holds of the rest holds of all.
   pub record GivenSoFar (e now : Encoder L B) (all rest : List Adapter) (before after : Option (List Event)) : Type 0 where
     pub events : List Event
     pub happened : after ≡ happen before events

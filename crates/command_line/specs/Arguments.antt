@@ -11,7 +11,8 @@ use Rattle.command_line.specs.declared.flags.Flags.{Flags}
 abbrev pub making : List ℕ → List ℕ → List Adapter → Flags → Request
 making out main adapters flags = requests.New (record { out = out; main = main; adapters = adapters; flags = flags })
 
--- what `new` asks for with the component's file, the module's and these words behind them: flags and adapters, in any order
+-- what `new` asks for with the component's file, the module's and these words behind them: flags
+-- and adapters, in any order
 abbrev pub of_new : List ℕ → List ℕ → List (List ℕ) → Option Request
 of_new out main words =
     option_and_then (λ adapters. option_map (making out main adapters) (flags_of (flag_words words))) (adapters_of (adapter_words words))
@@ -24,8 +25,8 @@ of_one_word word =
     else (if bytes_eq word (codes "help") then Some requests.Help
     else (if bytes_eq word (codes "--version") then Some requests.Version else None)))
 
--- what the words after the program's name ask for: help or the version; or `defs` with a file; or `new` with the component's
--- file and the module's, and then flags and adapters
+-- what the words after the program's name ask for: help or the version; or `defs` with a file; or
+-- `new` with the component's file and the module's, and then flags and adapters
 abbrev pub request_of : List (List ℕ) → Option Request
 request_of (word ∷ []) = of_one_word word
 request_of (command ∷ file ∷ []) = if bytes_eq command (codes "defs") then Some (requests.Defs file) else None

@@ -1,5 +1,5 @@
--- From files to a file: what is read, what is put, and when neither. (The program's own; that the bytes are the component of
--- what was read is said by the encoder's definitions.)
+-- From files to a file: what is read, what is put, and when neither. (The program's own; that the
+-- bytes are the component of what was read is said by the encoder's definitions.)
 use Rattle.std.specs.Prelude.{◌≡◌, ℕ, not, List, [], ◌∷◌, ◌++◌, ⊤, ◌⊎◌, None, Result, Ok, Err}
 use Rattle.comp_worlds.specs.declared.lower.Lower as lower
 use Rattle.comp_encoder.specs.Encoder.{Encoder}
@@ -38,8 +38,8 @@ module _ {F : Type 0} where
   IsPut out component _ r = ⊥
 
 module _ {V F : Type 0} where
-  -- These events are the beginning of a run: where they led to a value, whatever the rest makes of it is the rest of such a run; where
-  -- they led to a fault, the run is over.
+  -- These events are the beginning of a run: where they led to a value, whatever the rest makes of
+  -- it is the rest of such a run; where they led to a fault, the run is over.
   abbrev pub Leads : (List Event → Result ⊤ (RunFault F) → Type 0) → (V → List Event → Result ⊤ (RunFault F) → Type 0) → List Event → Result V (RunFault F) → Type 0
   Leads Whole Rest es (Ok v) = (more : List Event) (r : Result ⊤ (RunFault F)) → Rest v more r → Whole (es ++ more) r
   Leads Whole Rest es (Err f) = Whole es (Err f)
@@ -60,8 +60,9 @@ module _ {L B F : Type 0} (l : lower.Ghosts L B F) where
   abbrev pub Encoded : List ℕ → Encoder L B → List Event → Result ⊤ (RunFault F) → Type 0
   Encoded out e es r = IsRefused (IsEncodeRefusal l e) es r ⊎ ((component : List ℕ) × IsMade e component × IsPut out component es r)
 
-  -- The adapters are read one after the other, each is given to the encoder under its name before the next one is read, and then the
-  -- component is put. Where the encoder refuses one, nothing more is read or put.
+  -- The adapters are read one after the other, each is given to the encoder under its name before
+  -- the next one is read, and then the component is put. Where the encoder refuses one, nothing
+  -- more is read or put.
   abbrev pub Adapted : List ℕ → Encoder L B → List Adapter → List Event → Result ⊤ (RunFault F) → Type 0
   Adapted out e [] es r = Encoded out e es r
   Adapted out e (adapter ∷ adapters) es r =
@@ -76,7 +77,8 @@ module _ {L B F : Type 0} (l : lower.Ghosts L B F) where
       IsRefused (IsModuleRefusal l e bytes) more ended
       ⊎ (((f : F) → ¬ ModuleCause l e bytes f) × Adapted out (after_module l e bytes) adapters more ended)) es r
 
-  -- What was read and put, and how the run ended: MAIN and then the adapters are read, each once, in the order of the arguments; OUT is
-  -- put, once and last, where what was read has a component, which is what is put; nothing else is read or put.
+  -- What was read and put, and how the run ended: MAIN and then the adapters are read, each once,
+  -- in the order of the arguments; OUT is put, once and last, where what was read has a component,
+  -- which is what is put; nothing else is read or put.
   abbrev pub Made : L → Arguments → List Event → Result ⊤ (RunFault F) → Type 0
   Made layer names es r = Supplied names.out (begun layer names.flags) names.main names.adapters es r

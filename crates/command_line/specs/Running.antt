@@ -28,14 +28,16 @@ module _ {L B F : Type 0} (l : lower.Ghosts L B F) where
   Did layer (Some requests.Help) es before after r = (es ≡ []) × PrintsText help_text before after r
   Did layer (Some requests.Version) es before after r = (es ≡ []) × PrintsText version_line before after r
 
-  -- What was asked for was done, and this was the end of it: these events happened, each refusal of the device was reported.
+  -- What was asked for was done, and this was the end of it: these events happened, each refusal of
+  -- the device was reported.
   pub record Performed (layer : L) (request : Option Request) (before after : Option (List Event)) (out_before out_after : Option (List ℕ)) (ended : Result ⊤ (RunFault F)) : Type 0 where
     pub events : List Event
     pub happened : after ≡ happen before events
     pub did : Did layer request events out_before out_after ended
     pub counted : device_faults events ≡ reported_faults ended
 
-  -- A run on these words, with the history of the store before and after, what the two writers held before and after, and the exit status.
+  -- A run on these words, with the history of the store before and after, what the two writers held
+  -- before and after, and the exit status.
   pub record Ran (layer : L) (words : List (List ℕ)) (before after : Option (List Event)) (out_before out_after said_before said_after : Option (List ℕ)) (status : ℕ) : Type 0 where
     pub ended : Result ⊤ (RunFault F)
     pub performed : Performed layer (request_of words) before after out_before out_after ended

@@ -18,7 +18,8 @@ pub record NotRun (before after : Option (List Event)) (out_before out_after sai
   pub reported : Says said_before said_after IsLine
 
 module _ {L B F : Type 0} (l : lower.Ghosts L B F) where
-  -- a run where all arguments are UTF-8, or the line that says which is not, and status 2; or out of memory, before anything else
+  -- a run where all arguments are UTF-8, or the line that says which is not, and status 2; or out
+  -- of memory, before anything else
   abbrev pub StartedBy : Option ℕ → L → List (List ℕ) → Option (List Event) → Option (List Event) → Option (List ℕ) → Option (List ℕ) → Option (List ℕ) → Option (List ℕ) → ℕ → Type 0
   StartedBy None layer arguments before after out_before out_after said_before said_after status =
       Ran l layer arguments before after out_before out_after said_before said_after status
@@ -30,8 +31,3 @@ module _ {L B F : Type 0} (l : lower.Ghosts L B F) where
   -- a start of the program with these arguments
   abbrev pub Started : L → List (List ℕ) → Option (List Event) → Option (List Event) → Option (List ℕ) → Option (List ℕ) → Option (List ℕ) → Option (List ℕ) → ℕ → Type 0
   Started layer arguments = StartedBy (first_not_text 1 arguments) layer arguments
-
-  -- a start over some lower layer of the kind
-  pub record StartedOver (arguments : List (List ℕ)) (before after : Option (List Event)) (out_before out_after said_before said_after : Option (List ℕ)) (status : ℕ) : Type 0 where
-    pub layer : L
-    pub started : Started layer arguments before after out_before out_after said_before said_after status

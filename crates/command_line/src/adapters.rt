@@ -54,7 +54,8 @@ fn add_adapter(alloc: Global, adapters: &mut Seq<Adapter>, word: &str) -> Result
 
 /// The adapters that the words behind `--adapt` name, in order.
 pub(crate) fn adapters(alloc: Global, words: &[String]) -> Result<Seq<Adapter>, AllocError>
-    ensures { IfOk result (λ a. a ≡ filter_map adapter_of (adapter_words (map string_bytes words.now))) }
+    ensures { IfOk result
+        (λ a. a ≡ filter_map adapter_of (adapter_words (map string_bytes words.now))) }
 {
     let mut adapters = Seq::new(alloc);
     let mut rest = words;

@@ -10,7 +10,8 @@ use crate::flags::Flags;
 use comp_lists::{Seq, Text};
 use std::alloc::{AllocError, Global};
 
-/// The names of the files of a run of `new`: the file for the component, the module's, and those of the adapters; and the flags.
+/// The names of the files of a run of `new`: the file for the component, the module's, and those of
+/// the adapters; and the flags.
 #[derive(Drop)]
 pub(crate) struct Arguments {
     pub out: Text,
@@ -41,7 +42,9 @@ impl Request {
         words: &[String],
         flags: Flags,
     ) -> Result<Request, AllocError>
-        ensures { IfOk result (λ r. r ≡ making out.now main.now (filter_map adapter_of (adapter_words (map string_bytes words.now))) flags) }
+        ensures { IfOk result (λ r. r
+            ≡ making out.now main.now
+            (filter_map adapter_of (adapter_words (map string_bytes words.now))) flags) }
     {
         let adapters = adapters(alloc, words)?;
         let out = Text::from_str(alloc, out)?;
@@ -62,7 +65,8 @@ impl Request {
         words: &[String],
     ) -> Result<Option<Request>, AllocError>
         ensures ok { IfOk result (λ r. r ≡ of_new out.now main.now (map string_bytes words.now)) }
-        ensures err { IfErr result (λ _. NamesFiles (of_new out.now main.now (map string_bytes words.now))) }
+        ensures err { IfErr result
+            (λ _. NamesFiles (of_new out.now main.now (map string_bytes words.now))) }
     {
         if !are_adapters(words) {
             return Ok(None);

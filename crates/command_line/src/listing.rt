@@ -25,7 +25,9 @@ use std::io::Write;
 
 /// The lines of the definitions that the bytes of a component encode.
 fn lines_of(alloc: Global, bytes: &[u8]) -> Result<Vec<String>, CheckFault>
-    ensures ok { IfOk result (λ found. (ds : List Def) × Encodes bytes.now ds × (map string_bytes found.items ≡ lines ds)) }
+    ensures ok { IfOk result (λ found. (ds : List Def)
+        × Encodes bytes.now ds
+        × (map string_bytes found.items ≡ lines ds)) }
     ensures cause { IfErr result (λ e. IsUnread bytes.now e) }
 {
     let definitions = read_component(alloc, bytes)?;
@@ -38,7 +40,8 @@ fn lines_of(alloc: Global, bytes: &[u8]) -> Result<Vec<String>, CheckFault>
 
 /// Writes a line with its end.
 fn put_line<W: Write>(writer: &mut W, line: &str) -> Written
-    ensures { Puts (W.contents writer.old) (W.contents writer.new) (printed (line.now ∷ [])) (is_whole result) }
+    ensures { Puts (W.contents writer.old) (W.contents writer.new) (printed (line.now ∷ []))
+        (is_whole result) }
 {
     let written = put(writer, line.as_bytes());
     if written.is_whole() {
@@ -50,7 +53,8 @@ fn put_line<W: Write>(writer: &mut W, line: &str) -> Written
 
 /// Writes lines with their ends.
 fn put_lines<W: Write>(writer: &mut W, lines: &[String]) -> Written
-    ensures { Puts (W.contents writer.old) (W.contents writer.new) (printed (map string_bytes lines.now)) (is_whole result) }
+    ensures { Puts (W.contents writer.old) (W.contents writer.new)
+        (printed (map string_bytes lines.now)) (is_whole result) }
 {
     for line in lines {
         let written = put_line(writer, line.as_str());
@@ -68,7 +72,9 @@ pub(crate) fn list<S: Store, W: Write, F>(
     store: &mut S,
     out: &mut W,
 ) -> Result<(), RunFault<F>>
-    ensures listed { (es : List Event) × (S.events store.new ≡ happen (S.events store.old) es) × Listed file es (W.contents out.old) (W.contents out.new) result }
+    ensures listed { (es : List Event)
+        × (S.events store.new ≡ happen (S.events store.old) es)
+        × Listed file es (W.contents out.old) (W.contents out.new) result }
     ensures files { Known Unchanged (S.files store.old) (S.files store.new) }
 {
     let bytes = match store.read(alloc, file.as_str()) {

@@ -37,7 +37,11 @@ fn give_module<L: Lower, S: Store>(
     file: Text,
     store: &mut S,
 ) -> Result<(), RunFault<L::Fault>>
-    ensures given { (es : List Event) × (S.events store.new ≡ happen (S.events store.old) es) × ((out : List ℕ) (rest : List GivenAdapter) → Leads (Supplied L.Lower out encoder.old file rest) (λ _. Adapted L.Lower out encoder.new rest) es result) }
+    ensures given { (es : List Event)
+        × (S.events store.new ≡ happen (S.events store.old) es)
+        × ((out : List ℕ) (rest : List GivenAdapter)
+        → Leads (Supplied L.Lower out encoder.old file rest)
+        (λ _. Adapted L.Lower out encoder.new rest) es result) }
     ensures files { Known Unchanged (S.files store.old) (S.files store.new) }
 {
     let bytes = match store.read(alloc, file.as_str()) {
@@ -57,7 +61,11 @@ fn give_adapter<L: Lower, S: Store>(
     adapter: Adapter,
     store: &mut S,
 ) -> Result<(), RunFault<L::Fault>>
-    ensures given { (es : List Event) × (S.events store.new ≡ happen (S.events store.old) es) × ((out : List ℕ) (rest : List GivenAdapter) → Leads (Adapted L.Lower out encoder.old (adapter ∷ rest)) (λ _. Adapted L.Lower out encoder.new rest) es result) }
+    ensures given { (es : List Event)
+        × (S.events store.new ≡ happen (S.events store.old) es)
+        × ((out : List ℕ) (rest : List GivenAdapter)
+        → Leads (Adapted L.Lower out encoder.old (adapter ∷ rest))
+        (λ _. Adapted L.Lower out encoder.new rest) es result) }
     ensures files { Known Unchanged (S.files store.old) (S.files store.new) }
 {
     let Adapter { name, file } = adapter;
@@ -78,7 +86,11 @@ fn give_adapters<L: Lower, S: Store>(
     adapters: Seq<Adapter>,
     store: &mut S,
 ) -> Result<(), RunFault<L::Fault>>
-    ensures given { (es : List Event) × (S.events store.new ≡ happen (S.events store.old) es) × ((out : List ℕ) → Leads (Adapted L.Lower out encoder.old adapters) (λ _. Encoded L.Lower out encoder.new) es result) }
+    ensures given { (es : List Event)
+        × (S.events store.new ≡ happen (S.events store.old) es)
+        × ((out : List ℕ)
+        → Leads (Adapted L.Lower out encoder.old adapters)
+        (λ _. Encoded L.Lower out encoder.new) es result) }
     ensures files { Known Unchanged (S.files store.old) (S.files store.new) }
 {
     for adapter in adapters.into_vec() {
@@ -95,7 +107,11 @@ fn supply<L: Lower, S: Store>(
     adapters: Seq<Adapter>,
     store: &mut S,
 ) -> Result<(), RunFault<L::Fault>>
-    ensures given { (es : List Event) × (S.events store.new ≡ happen (S.events store.old) es) × ((out : List ℕ) → Leads (Supplied L.Lower out encoder.old main adapters) (λ _. Encoded L.Lower out encoder.new) es result) }
+    ensures given { (es : List Event)
+        × (S.events store.new ≡ happen (S.events store.old) es)
+        × ((out : List ℕ)
+        → Leads (Supplied L.Lower out encoder.old main adapters)
+        (λ _. Encoded L.Lower out encoder.new) es result) }
     ensures files { Known Unchanged (S.files store.old) (S.files store.new) }
 {
     give_module(alloc, encoder, main, store)?;
@@ -111,7 +127,11 @@ fn component_of<L: Lower + Drop, S: Store>(
     flags: Flags,
     store: &mut S,
 ) -> Result<Vec<u8>, RunFault<L::Fault>>
-    ensures given { (es : List Event) × (S.events store.new ≡ happen (S.events store.old) es) × ((out : List ℕ) → Leads (Supplied L.Lower out (begun L.Lower lower flags) main adapters) (λ component. IsPut out component.items) es result) }
+    ensures given { (es : List Event)
+        × (S.events store.new ≡ happen (S.events store.old) es)
+        × ((out : List ℕ)
+        → Leads (Supplied L.Lower out (begun L.Lower lower flags) main adapters)
+        (λ component. IsPut out component.items) es result) }
     ensures files { Known Unchanged (S.files store.old) (S.files store.new) }
 {
     let mut encoder = encoder_of(alloc, lower, flags);
@@ -129,7 +149,9 @@ pub(crate) fn make<L: Lower + Drop, S: Store>(
     arguments: Arguments,
     store: &mut S,
 ) -> Result<(), RunFault<L::Fault>>
-    ensures made { (es : List Event) × (S.events store.new ≡ happen (S.events store.old) es) × Made L.Lower lower arguments es result }
+    ensures made { (es : List Event)
+        × (S.events store.new ≡ happen (S.events store.old) es)
+        × Made L.Lower lower arguments es result }
     ensures files { IfErr result (λ _. Known Kept (S.files store.old) (S.files store.new)) }
 {
     let Arguments {

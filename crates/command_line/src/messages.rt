@@ -81,8 +81,8 @@ fn not_text_line(alloc: Global, number: usize) -> Result<String, AllocError>
     format!(in alloc; "error: argument {number} is not UTF-8\n")
 }
 
-/// Writes a front of the line for an argument that is not UTF-8, or of the line that reports out of memory, where there was
-/// no memory for the line.
+/// Writes a front of the line for an argument that is not UTF-8, or of the line that reports out of
+/// memory, where there was no memory for the line.
 pub(crate) fn say_not_text<W: Write>(alloc: Global, writer: &mut W, number: usize)
     ensures { Says (W.contents writer.old) (W.contents writer.new) (IsNotTextLine number) }
 {
@@ -128,7 +128,8 @@ pub(crate) fn print_fault<W: Write, F: Display>(
     listing: bool,
     fault: &RunFault<F>,
 )
-    ensures { Reports (memory_line_of listing) fault.now (W.contents writer.old) (W.contents writer.new) }
+    ensures { Reports (memory_line_of listing) fault.now (W.contents writer.old)
+        (W.contents writer.new) }
 {
     let memory = memory_line(listing);
     match fault {

@@ -27,7 +27,8 @@ fn perform<L: Lower + Drop, S: Store, W: Write>(
     store: &mut S,
     out: &mut W,
 ) -> Result<(), RunFault<L::Fault>>
-    ensures performed { Performed L.Lower lower (request_of (map string_bytes words.now)) (S.events store.old) (S.events store.new) (W.contents out.old) (W.contents out.new) result }
+    ensures performed { Performed L.Lower lower (request_of (map string_bytes words.now))
+        (S.events store.old) (S.events store.new) (W.contents out.old) (W.contents out.new) result }
     ensures files { IfErr result (λ _. Known Kept (S.files store.old) (S.files store.new)) }
 {
     match Request::read(alloc, words) {
@@ -47,7 +48,8 @@ fn report<W: Write, F: Display>(
     listing: bool,
     done: &Result<(), RunFault<F>>,
 )
-    ensures { Reported (memory_line_of listing) (W.contents writer.old) (W.contents writer.new) done.now }
+    ensures { Reported (memory_line_of listing) (W.contents writer.old) (W.contents writer.new)
+        done.now }
 {
     match done {
         Ok(()) => {}
@@ -76,7 +78,9 @@ pub fn run_with<L: Lower + Drop, S: Store, W: Write, E: Write>(
     out: &mut W,
     err: &mut E,
 ) -> u8
-    ensures ran { Ran L.Lower lower (map string_bytes words.now) (S.events store.old) (S.events store.new) (W.contents out.old) (W.contents out.new) (E.contents err.old) (E.contents err.new) result }
+    ensures ran { Ran L.Lower lower (map string_bytes words.now) (S.events store.old)
+        (S.events store.new) (W.contents out.old) (W.contents out.new) (E.contents err.old)
+        (E.contents err.new) result }
     ensures files { result ≢ 0 → Known Kept (S.files store.old) (S.files store.new) }
 {
     let done = perform(alloc, lower, words, store, out);

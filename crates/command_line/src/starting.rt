@@ -24,9 +24,12 @@ enum WordsFault {
 
 /// The arguments as texts, or the number of the first that is not UTF-8.
 fn words_of(alloc: Global, arguments: &[Vec<u8>]) -> Result<Vec<String>, WordsFault>
-    ensures ok { IfOk result (λ words. map string_bytes words.items ≡ map (λ a. a.items) arguments.now) }
+    ensures ok { IfOk result
+        (λ words. map string_bytes words.items ≡ map (λ a. a.items) arguments.now) }
     ensures texts { IsOk result → first_not_text 1 (map (λ a. a.items) arguments.now) ≡ None }
-    ensures cause { IfErr result (λ e. (n : ℕ) → e ≡ faults.NotText n → first_not_text 1 (map (λ a. a.items) arguments.now) ≡ Some n) }
+    ensures cause { IfErr result (λ e. (n : ℕ)
+        → e ≡ faults.NotText n
+        → first_not_text 1 (map (λ a. a.items) arguments.now) ≡ Some n) }
 {
     let mut words = Vec::new(alloc);
     let mut number = 1;
@@ -55,7 +58,9 @@ pub fn start_with<L: Lower + Drop, S: Store, W: Write, E: Write>(
     out: &mut W,
     err: &mut E,
 ) -> u8
-    ensures started { Started L.Lower lower (map (λ a. a.items) arguments.now) (S.events store.old) (S.events store.new) (W.contents out.old) (W.contents out.new) (E.contents err.old) (E.contents err.new) result }
+    ensures started { Started L.Lower lower (map (λ a. a.items) arguments.now) (S.events store.old)
+        (S.events store.new) (W.contents out.old) (W.contents out.new) (E.contents err.old)
+        (E.contents err.new) result }
     ensures files { result ≢ 0 → Known Kept (S.files store.old) (S.files store.new) }
 {
     match words_of(alloc, arguments) {

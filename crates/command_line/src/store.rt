@@ -61,12 +61,16 @@ pub trait Store {
 
     /// All bytes of a file.
     fn read(&mut self, alloc: Global, name: &str) -> Result<Vec<u8>, StoreFault>
-        ensures event { events self.new ≡ happen (events self.old) (events_of_read name.now result) }
+        ensures event { events self.new
+            ≡ happen (events self.old) (events_of_read name.now result) }
         ensures file { Known (ReadsFile name.now result) (files self.old) (files self.new) };
 
-    /// Replaces the contents of a file with these bytes: it has all of them where the call succeeds, and is as it was where the
-    /// call fails. No other file that is there is changed. What is not a regular file, such as a device, is written in place.
+    /// Replaces the contents of a file with these bytes: it has all of them where the call
+    /// succeeds, and is as it was where the call fails. No other file that is there is changed.
+    /// What is not a regular file, such as a device, is written in place.
     fn put(&mut self, name: &str, bytes: &[u8]) -> Result<(), StoreFault>
-        ensures event { events self.new ≡ happen (events self.old) (events_of_put name.now bytes.now result) }
-        ensures file { Known (StorePut name.now bytes.now result) (files self.old) (files self.new) };
+        ensures event { events self.new
+            ≡ happen (events self.old) (events_of_put name.now bytes.now result) }
+        ensures file { Known (StorePut name.now bytes.now result) (files self.old)
+            (files self.new) };
 }

@@ -46,7 +46,8 @@ fn push_both<T: Drop, N: Drop>(
     item: T,
     name: Option<N>,
 ) -> Result<(), AllocError>
-    ensures ok { OnOk result ((items.new ≡ items.old ++ item ∷ []) × (names.new.items ≡ names.old.items ++ option_to_list name)) }
+    ensures ok { OnOk result ((items.new ≡ items.old ++ item ∷ [])
+        × (names.new.items ≡ names.old.items ++ option_to_list name)) }
     ensures err { OnErr result ((items.new ≡ items.old) × (names.new.items ≡ names.old.items)) }
 {
     match name {
@@ -122,7 +123,8 @@ fn push_item(
     index: u32,
     debug: Option<&str>,
 ) -> Result<u32, BuildFault>
-    ensures ok { OnOk result ((defs.new ≡ defs.old ++ def ∷ []) × (names.new.items ≡ names.old.items ++ name_of space index (option_now debug.entry))) }
+    ensures ok { OnOk result ((defs.new ≡ defs.old ++ def ∷ [])
+        × (names.new.items ≡ names.old.items ++ name_of space index (option_now debug.entry))) }
     ensures count { IfOk result (λ count. count ≡ index + 1) }
     ensures err { OnErr result ((defs.new ≡ defs.old) × (names.new.items ≡ names.old.items)) }
     ensures full { IfErr result (Passes (index + 1)) }

@@ -30,8 +30,10 @@ impl ComponentBuilder {
         bytes: &SharedBytes,
     ) -> Result<u32, BuildFault>
         requires { IsCoreModule bytes.now }
-        ensures adds { Adds self.old self.new result Space.CoreModule (Def.Item (Item.CoreModule bytes.now)) (option_now debug.entry) }
-        ensures at { IfOk result (λ answer. IsAt self.new.defs Space.CoreModule answer (Def.Item (Item.CoreModule bytes.now))) }
+        ensures adds { Adds self.old self.new result Space.CoreModule
+            (Def.Item (Item.CoreModule bytes.now)) (option_now debug.entry) }
+        ensures at { IfOk result (λ answer. IsAt self.new.defs Space.CoreModule answer
+            (Def.Item (Item.CoreModule bytes.now))) }
     {
         let Some(module) = CoreModule::from_bytes(bytes.share()?) else {
             unreachable!()
@@ -51,8 +53,10 @@ impl ComponentBuilder {
         module: u32,
         args: Seq<CoreArgument>,
     ) -> Result<u32, BuildFault>
-        ensures adds { Adds self.old self.new result Space.CoreInstance (Def.Item (Item.CoreInstantiate «module» args)) (option_now debug.entry) }
-        ensures at { IfOk result (λ answer. IsAt self.new.defs Space.CoreInstance answer (Def.Item (Item.CoreInstantiate «module» args))) }
+        ensures adds { Adds self.old self.new result Space.CoreInstance
+            (Def.Item (Item.CoreInstantiate «module» args)) (option_now debug.entry) }
+        ensures at { IfOk result (λ answer. IsAt self.new.defs Space.CoreInstance answer
+            (Def.Item (Item.CoreInstantiate «module» args))) }
     {
         self.define(
             debug,
@@ -67,8 +71,10 @@ impl ComponentBuilder {
         debug: Option<&str>,
         exports: Seq<CoreInlineExport>,
     ) -> Result<u32, BuildFault>
-        ensures adds { Adds self.old self.new result Space.CoreInstance (Def.Item (Item.CoreExports exports)) (option_now debug.entry) }
-        ensures at { IfOk result (λ answer. IsAt self.new.defs Space.CoreInstance answer (Def.Item (Item.CoreExports exports))) }
+        ensures adds { Adds self.old self.new result Space.CoreInstance
+            (Def.Item (Item.CoreExports exports)) (option_now debug.entry) }
+        ensures at { IfOk result (λ answer. IsAt self.new.defs Space.CoreInstance answer
+            (Def.Item (Item.CoreExports exports))) }
     {
         self.define(
             debug,
@@ -85,8 +91,11 @@ impl ComponentBuilder {
         name: &str,
         kind: ExportKind,
     ) -> Result<u32, BuildFault>
-        ensures adds { Adds self.old self.new result (kind_space kind) (Def.Item (Item.Alias (Alias.CoreExport kind instance name.now))) (option_now debug.entry) }
-        ensures at { IfOk result (λ answer. IsAt self.new.defs (kind_space kind) answer (Def.Item (Item.Alias (Alias.CoreExport kind instance name.now)))) }
+        ensures adds { Adds self.old self.new result (kind_space kind)
+            (Def.Item (Item.Alias (Alias.CoreExport kind instance name.now)))
+            (option_now debug.entry) }
+        ensures at { IfOk result (λ answer. IsAt self.new.defs (kind_space kind) answer
+            (Def.Item (Item.Alias (Alias.CoreExport kind instance name.now)))) }
     {
         let name = Text::from_str(self.allocator(), name)?;
         let alias = Alias::CoreExport {
@@ -104,8 +113,10 @@ impl ComponentBuilder {
         name: &str,
         kind: ComponentExportKind,
     ) -> Result<u32, BuildFault>
-        ensures adds { Adds self.old self.new result (export_space kind) (Def.Item (Item.Alias (Alias.Export kind instance name.now))) None }
-        ensures at { IfOk result (λ answer. IsAt self.new.defs (export_space kind) answer (Def.Item (Item.Alias (Alias.Export kind instance name.now)))) }
+        ensures adds { Adds self.old self.new result (export_space kind)
+            (Def.Item (Item.Alias (Alias.Export kind instance name.now))) None }
+        ensures at { IfOk result (λ answer. IsAt self.new.defs (export_space kind) answer
+            (Def.Item (Item.Alias (Alias.Export kind instance name.now)))) }
     {
         let name = Text::from_str(self.allocator(), name)?;
         let alias = Alias::Export {
@@ -118,8 +129,10 @@ impl ComponentBuilder {
 
     /// A nested component, by its definitions, which have no debug names (`component`).
     pub fn component(&mut self, debug: Option<&str>, items: Seq<Item>) -> Result<u32, BuildFault>
-        ensures adds { Adds self.old self.new result Space.Component (Def.Component items) (option_now debug.entry) }
-        ensures at { IfOk result (λ answer. IsAt self.new.defs Space.Component answer (Def.Component items)) }
+        ensures adds { Adds self.old self.new result Space.Component (Def.Component items)
+            (option_now debug.entry) }
+        ensures at { IfOk result
+            (λ answer. IsAt self.new.defs Space.Component answer (Def.Component items)) }
     {
         self.define(debug, Space::Component, Def::Component(items))
     }
@@ -132,8 +145,10 @@ impl ComponentBuilder {
         component: u32,
         args: Seq<Argument>,
     ) -> Result<u32, BuildFault>
-        ensures adds { Adds self.old self.new result Space.Instance (Def.Item (Item.Instantiate component args)) (option_now debug.entry) }
-        ensures at { IfOk result (λ answer. IsAt self.new.defs Space.Instance answer (Def.Item (Item.Instantiate component args))) }
+        ensures adds { Adds self.old self.new result Space.Instance
+            (Def.Item (Item.Instantiate component args)) (option_now debug.entry) }
+        ensures at { IfOk result (λ answer. IsAt self.new.defs Space.Instance answer
+            (Def.Item (Item.Instantiate component args))) }
     {
         self.define(
             debug,
@@ -144,16 +159,20 @@ impl ComponentBuilder {
 
     /// A type of functions (`functype`).
     pub fn type_function(&mut self, debug: Option<&str>, ty: FuncTypeDef) -> Result<u32, BuildFault>
-        ensures adds { Adds self.old self.new result Space.Type (Def.Item (Item.Type (TypeDef.Func ty))) (option_now debug.entry) }
-        ensures at { IfOk result (λ answer. IsAt self.new.defs Space.Type answer (Def.Item (Item.Type (TypeDef.Func ty)))) }
+        ensures adds { Adds self.old self.new result Space.Type
+            (Def.Item (Item.Type (TypeDef.Func ty))) (option_now debug.entry) }
+        ensures at { IfOk result (λ answer. IsAt self.new.defs Space.Type answer
+            (Def.Item (Item.Type (TypeDef.Func ty)))) }
     {
         self.define(debug, Space::Type, Def::Item(Item::Type(TypeDef::Func(ty))))
     }
 
     /// A type of values (`defvaltype`).
     pub fn type_defined(&mut self, debug: Option<&str>, ty: DefinedType) -> Result<u32, BuildFault>
-        ensures adds { Adds self.old self.new result Space.Type (Def.Item (Item.Type (TypeDef.Defined ty))) (option_now debug.entry) }
-        ensures at { IfOk result (λ answer. IsAt self.new.defs Space.Type answer (Def.Item (Item.Type (TypeDef.Defined ty)))) }
+        ensures adds { Adds self.old self.new result Space.Type
+            (Def.Item (Item.Type (TypeDef.Defined ty))) (option_now debug.entry) }
+        ensures at { IfOk result (λ answer. IsAt self.new.defs Space.Type answer
+            (Def.Item (Item.Type (TypeDef.Defined ty)))) }
     {
         self.define(
             debug,
@@ -168,8 +187,10 @@ impl ComponentBuilder {
         debug: Option<&str>,
         ty: InstanceType,
     ) -> Result<u32, BuildFault>
-        ensures adds { Adds self.old self.new result Space.Type (Def.Item (Item.InstanceType ty)) (option_now debug.entry) }
-        ensures at { IfOk result (λ answer. IsAt self.new.defs Space.Type answer (Def.Item (Item.InstanceType ty))) }
+        ensures adds { Adds self.old self.new result Space.Type (Def.Item (Item.InstanceType ty))
+            (option_now debug.entry) }
+        ensures at { IfOk result
+            (λ answer. IsAt self.new.defs Space.Type answer (Def.Item (Item.InstanceType ty))) }
     {
         self.define(debug, Space::Type, Def::Item(Item::InstanceType(ty)))
     }
@@ -180,8 +201,10 @@ impl ComponentBuilder {
         debug: Option<&str>,
         destructor: Option<u32>,
     ) -> Result<u32, BuildFault>
-        ensures adds { Adds self.old self.new result Space.Type (Def.Item (Item.Type (TypeDef.Resource destructor))) (option_now debug.entry) }
-        ensures at { IfOk result (λ answer. IsAt self.new.defs Space.Type answer (Def.Item (Item.Type (TypeDef.Resource destructor)))) }
+        ensures adds { Adds self.old self.new result Space.Type
+            (Def.Item (Item.Type (TypeDef.Resource destructor))) (option_now debug.entry) }
+        ensures at { IfOk result (λ answer. IsAt self.new.defs Space.Type answer
+            (Def.Item (Item.Type (TypeDef.Resource destructor)))) }
     {
         self.define(
             debug,
@@ -192,8 +215,10 @@ impl ComponentBuilder {
 
     /// An import, which makes an item as described (`import`).
     pub fn import(&mut self, name: ExternName, description: Description) -> Result<u32, BuildFault>
-        ensures adds { Adds self.old self.new result (description_space description) (Def.Item (Item.Import name description)) None }
-        ensures at { IfOk result (λ answer. IsAt self.new.defs (description_space description) answer (Def.Item (Item.Import name description))) }
+        ensures adds { Adds self.old self.new result (description_space description)
+            (Def.Item (Item.Import name description)) None }
+        ensures at { IfOk result (λ answer. IsAt self.new.defs (description_space description)
+            answer (Def.Item (Item.Import name description))) }
     {
         self.define(
             None,
@@ -211,8 +236,10 @@ impl ComponentBuilder {
         index: u32,
         description: Option<Description>,
     ) -> Result<u32, BuildFault>
-        ensures adds { Adds self.old self.new result (sort_space sort) (Def.Item (Item.Export name sort index description)) None }
-        ensures at { IfOk result (λ answer. IsAt self.new.defs (sort_space sort) answer (Def.Item (Item.Export name sort index description))) }
+        ensures adds { Adds self.old self.new result (sort_space sort)
+            (Def.Item (Item.Export name sort index description)) None }
+        ensures at { IfOk result (λ answer. IsAt self.new.defs (sort_space sort) answer
+            (Def.Item (Item.Export name sort index description))) }
     {
         self.define(
             None,
@@ -233,8 +260,10 @@ impl ComponentBuilder {
         func: u32,
         options: Seq<CanonicalOption>,
     ) -> Result<u32, BuildFault>
-        ensures adds { Adds self.old self.new result Space.CoreFunc (Def.Item (Item.Lower func options)) (option_now debug.entry) }
-        ensures at { IfOk result (λ answer. IsAt self.new.defs Space.CoreFunc answer (Def.Item (Item.Lower func options))) }
+        ensures adds { Adds self.old self.new result Space.CoreFunc
+            (Def.Item (Item.Lower func options)) (option_now debug.entry) }
+        ensures at { IfOk result (λ answer. IsAt self.new.defs Space.CoreFunc answer
+            (Def.Item (Item.Lower func options))) }
     {
         self.define(
             debug,
@@ -251,8 +280,10 @@ impl ComponentBuilder {
         ty: u32,
         options: Seq<CanonicalOption>,
     ) -> Result<u32, BuildFault>
-        ensures adds { Adds self.old self.new result Space.Func (Def.Item (Item.Lift func options ty)) (option_now debug.entry) }
-        ensures at { IfOk result (λ answer. IsAt self.new.defs Space.Func answer (Def.Item (Item.Lift func options ty))) }
+        ensures adds { Adds self.old self.new result Space.Func
+            (Def.Item (Item.Lift func options ty)) (option_now debug.entry) }
+        ensures at { IfOk result (λ answer. IsAt self.new.defs Space.Func answer
+            (Def.Item (Item.Lift func options ty))) }
     {
         self.define(
             debug,
@@ -263,8 +294,10 @@ impl ComponentBuilder {
 
     /// A core function of the runtime (`canon`, all other forms).
     pub fn intrinsic(&mut self, intrinsic: Intrinsic) -> Result<u32, BuildFault>
-        ensures adds { Adds self.old self.new result Space.CoreFunc (Def.Item (Item.Intrinsic intrinsic)) None }
-        ensures at { IfOk result (λ answer. IsAt self.new.defs Space.CoreFunc answer (Def.Item (Item.Intrinsic intrinsic))) }
+        ensures adds { Adds self.old self.new result Space.CoreFunc
+            (Def.Item (Item.Intrinsic intrinsic)) None }
+        ensures at { IfOk result (λ answer. IsAt self.new.defs Space.CoreFunc answer
+            (Def.Item (Item.Intrinsic intrinsic))) }
     {
         self.define(None, Space::CoreFunc, Def::Item(Item::Intrinsic(intrinsic)))
     }

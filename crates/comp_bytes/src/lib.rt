@@ -6,11 +6,12 @@
 //! lists every count and size that is written, so that one definition says what is written and what
 //! must be refused.
 //!
-//! Upward this crate promises: the bytes that [`component_bytes`] returns encode the definitions that were given
-//! (`Encodes`), a refusal other than out of memory names a count or a size that exceeds 2^32 - 1
-//! (`Refused`), [`component_size`] answers how many these bytes are, and takes no memory (`IsSize`), and bytes encode at
-//! most one list of definitions ([`one_list`]). How numbers, names, lists and bytes are written is in `measured_bytes`:
-//! the calls that write a value both measure it and fill a buffer.
+//! Upward this crate promises: the bytes that [`component_bytes`] returns encode the definitions
+//! that were given (`Encodes`), a refusal other than out of memory names a count or a size that
+//! exceeds 2^32 - 1 (`Refused`), [`component_size`] answers how many these bytes are, and takes no
+//! memory (`IsSize`), and bytes encode at most one list of definitions ([`one_list`]). How numbers,
+//! names, lists and bytes are written is in `measured_bytes`: the calls that write a value both
+//! measure it and fill a buffer.
 //!
 //! For crates above that are about indices and names: `specs/References.antt` (what a definition names by
 //! index), `specs/Scopes.antt` (that all of it comes before it), `specs/ScopeNames.antt` (the lists of

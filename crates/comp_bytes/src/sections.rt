@@ -41,7 +41,9 @@ fn run_len<T: Definition>(items: &[T]) -> usize
     requires { 0 < length items.now }
     ensures some { 0 < result }
     ensures within { result ≤ length items.now }
-    ensures run { sections (map T.entry items.now) ≡ section_of (map T.entry (take result items.now)) ∷ sections (map T.entry (drop result items.now)) }
+    ensures run { sections (map T.entry items.now)
+        ≡ section_of (map T.entry (take result items.now))
+        ∷ sections (map T.entry (drop result items.now)) }
 {
     let id = items[0].section_id();
     if !is_shared(id) {
@@ -142,7 +144,8 @@ fn put_instantiate(out: &mut Output, component: u32, args: &Seq<Argument>)
 }
 
 fn put_lower(out: &mut Output, func: u32, options: &Seq<CanonicalOption>)
-    ensures { Puts out.old out.new (octet 0x01 ⊕ octet 0x00 ⊕ number func ⊕ listed option_bytes options.now) }
+    ensures { Puts out.old out.new
+        (octet 0x01 ⊕ octet 0x00 ⊕ number func ⊕ listed option_bytes options.now) }
 {
     put_bytes(out, &[0x01, 0x00]);
     put_index(out, func);
@@ -150,7 +153,8 @@ fn put_lower(out: &mut Output, func: u32, options: &Seq<CanonicalOption>)
 }
 
 fn put_lift(out: &mut Output, func: u32, options: &Seq<CanonicalOption>, ty: u32)
-    ensures { Puts out.old out.new (octet 0x00 ⊕ octet 0x00 ⊕ number func ⊕ listed option_bytes options.now ⊕ number ty) }
+    ensures { Puts out.old out.new
+        (octet 0x00 ⊕ octet 0x00 ⊕ number func ⊕ listed option_bytes options.now ⊕ number ty) }
 {
     put_bytes(out, &[0x00, 0x00]);
     put_index(out, func);
@@ -165,7 +169,8 @@ fn put_export(
     index: u32,
     description: &Option<Description>,
 )
-    ensures { Puts out.old out.new (extern_name name.now ⊕ sort_bytes sort ⊕ number index ⊕ optional description_bytes description.now) }
+    ensures { Puts out.old out.new (extern_name name.now ⊕ sort_bytes sort ⊕ number index
+        ⊕ optional description_bytes description.now) }
 {
     name.emit(out);
     sort.emit(out);

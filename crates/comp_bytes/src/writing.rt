@@ -128,7 +128,8 @@ fn put_twice_tagged(out: &mut Output, first: u8, second: u8, index: u32)
 }
 
 fn put_result_type(out: &mut Output, ok: &Option<ComponentValType>, err: &Option<ComponentValType>)
-    ensures { Puts out.old out.new (octet 0x6a ⊕ optional value_type ok.now ⊕ optional value_type err.now) }
+    ensures { Puts out.old out.new
+        (octet 0x6a ⊕ optional value_type ok.now ⊕ optional value_type err.now) }
 {
     put_tagged(out, 0x6a, ok);
     err.emit(out);
@@ -144,7 +145,8 @@ fn put_result(out: &mut Output, ty: &Option<ComponentValType>)
 }
 
 fn put_function(out: &mut Output, tag: u8, params: &Seq<Field>, returned: &Option<ComponentValType>)
-    ensures { Puts out.old out.new (octet tag ⊕ listed field params.now ⊕ function_result returned.now) }
+    ensures { Puts out.old out.new
+        (octet tag ⊕ listed field params.now ⊕ function_result returned.now) }
 {
     put_tagged(out, tag, params);
     put_result(out, returned);
@@ -253,7 +255,8 @@ pub(crate) fn put_extern(out: &mut Output, name: &ExternName, description: Descr
 }
 
 fn put_tagged_extern(out: &mut Output, name: &ExternName, description: Description)
-    ensures { Puts out.old out.new (octet 0x04 ⊕ extern_name name.now ⊕ description_bytes description) }
+    ensures { Puts out.old out.new
+        (octet 0x04 ⊕ extern_name name.now ⊕ description_bytes description) }
 {
     put_tagged(out, 0x04, name);
     description.emit(out);
@@ -289,7 +292,8 @@ impl Emit for CanonicalOption {
 }
 
 fn put_task_return(out: &mut Output, ty: &Option<ComponentValType>, options: &Seq<CanonicalOption>)
-    ensures { Puts out.old out.new (octet 0x09 ⊕ function_result ty.now ⊕ listed option_bytes options.now) }
+    ensures { Puts out.old out.new
+        (octet 0x09 ⊕ function_result ty.now ⊕ listed option_bytes options.now) }
 {
     put_bytes(out, &[0x09]);
     put_result(out, ty);

@@ -14,7 +14,8 @@ fn check_result_and_options(
     ty: &Option<ComponentValType>,
     options: &[CanonicalOption],
 ) -> Result<(), Lack>
-    ensures { Finds result (lacking scopes.now (where_some value_references ty.now ++ options_references options.now)) }
+    ensures { Finds result (lacking scopes.now
+        (where_some value_references ty.now ++ options_references options.now)) }
 {
     check_optional(scopes, ty)?;
     check_each(scopes, options)

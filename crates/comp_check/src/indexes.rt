@@ -19,7 +19,8 @@ use comp_bytes::{Def, Defs, Item, Member};
 
 /// The members of an instance type, in these scopes.
 fn check_members(outer: &[Counts], members: &[Member]) -> Result<(), Lack>
-    ensures ok { IfOk result (λ _. EachIn member_space (MemberScoped (map counted outer.now)) [] members.now) }
+    ensures ok { IfOk result
+        (λ _. EachIn member_space (MemberScoped (map counted outer.now)) [] members.now) }
     ensures cause { IfErr result (λ e. MembersFault (map counted outer.now) members.now e) }
 {
     let mut own = Counts::new();
@@ -33,7 +34,8 @@ fn check_members(outer: &[Counts], members: &[Member]) -> Result<(), Lack>
 /// The members of an instance type, in these scopes: they have a scope of their own.
 fn check_instance_type(scopes: &Scopes, inner: &[Member]) -> Result<(), Lack>
     requires { length scopes.now ≤ 2 }
-    ensures ok { IfOk result (λ _. EachIn member_space (MemberScoped (map counted scopes.now)) [] inner.now) }
+    ensures ok { IfOk result
+        (λ _. EachIn member_space (MemberScoped (map counted scopes.now)) [] inner.now) }
     ensures cause { IfErr result (λ e. MembersFault (map counted scopes.now) inner.now e) }
 {
     let (own, outer) = scopes.parts();
@@ -47,7 +49,8 @@ fn check_instance_type(scopes: &Scopes, inner: &[Member]) -> Result<(), Lack>
 fn check_inside(scopes: &Scopes, item: &Item) -> Result<(), Lack>
     requires { length scopes.now ≤ 2 }
     ensures ok { IfOk result (λ _. InsideScoped (map counted scopes.now) item.now) }
-    ensures cause { IfErr result (λ e. InsideFault (map counted scopes.now) e.space e.index item.now) }
+    ensures cause { IfErr result
+        (λ e. InsideFault (map counted scopes.now) e.space e.index item.now) }
 {
     match item {
         Item::InstanceType(ty) => check_instance_type(scopes, ty.members.as_slice()),
@@ -70,9 +73,11 @@ fn check_inside(scopes: &Scopes, item: &Item) -> Result<(), Lack>
 #[tactic(auto, using(crate::proofs::CheckedPrefix::all_there, crate::proofs::CheckedPrefix::one_missing))]
 fn check_item(scopes: &Scopes, item: &Item) -> Result<(), Lack>
     requires { length scopes.now ≤ 2 }
-    ensures named { IfOk result (λ _. AllByRecursion (InScope (map counted scopes.now)) (item_references item.now)) }
+    ensures named { IfOk result
+        (λ _. AllByRecursion (InScope (map counted scopes.now)) (item_references item.now)) }
     ensures within { IfOk result (λ _. InsideScoped (map counted scopes.now) item.now) }
-    ensures cause { IfErr result (λ e. AroundFault (map counted scopes.now) item.now e.space e.index) }
+    ensures cause { IfErr result
+        (λ e. AroundFault (map counted scopes.now) item.now e.space e.index) }
 {
     items::check_named(scopes, item)?;
     check_inside(scopes, item)
@@ -81,9 +86,11 @@ fn check_item(scopes: &Scopes, item: &Item) -> Result<(), Lack>
 /// An item on a line, in these scopes.
 fn check_item_on(line: u128, scopes: &Scopes, item: &Item) -> Result<(), IndexFault>
     requires { length scopes.now ≤ 2 }
-    ensures named { IfOk result (λ _. AllByRecursion (InScope (map counted scopes.now)) (item_references item.now)) }
+    ensures named { IfOk result
+        (λ _. AllByRecursion (InScope (map counted scopes.now)) (item_references item.now)) }
     ensures within { IfOk result (λ _. InsideScoped (map counted scopes.now) item.now) }
-    ensures cause { IfErr result (λ e. AroundFault (map counted scopes.now) item.now e.space e.index × (e.definition ≡ line)) }
+    ensures cause { IfErr result (λ e. AroundFault (map counted scopes.now) item.now e.space e.index
+        × (e.definition ≡ line)) }
 {
     match check_item(scopes, item) {
         Ok(()) => Ok(()),
@@ -98,7 +105,8 @@ fn check_item_on(line: u128, scopes: &Scopes, item: &Item) -> Result<(), IndexFa
 /// The items of a component nested on a line; each has a line after that one.
 fn check_component(line: u128, top: &Counts, inner: &[Item]) -> Result<(), IndexFault>
     requires { line + 2 ^ 64 < 2 ^ 128 }
-    ensures ok { IfOk result (λ _. EachIn item_space (ItemScoped (counted top.now ∷ [])) [] inner.now) }
+    ensures ok { IfOk result
+        (λ _. EachIn item_space (ItemScoped (counted top.now ∷ [])) [] inner.now) }
     ensures cause { IfErr result (λ e. NestedFault line (counted top.now) inner.now e) }
 {
     let outer = [*top];

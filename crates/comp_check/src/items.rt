@@ -67,7 +67,8 @@ pub(crate) fn space_of(def: &Def) -> Option<Space>
 
 #[tactic(auto, using(crate::proofs::Lacks::chained))]
 fn check_core_instantiate(scopes: &Scopes, made: u32, args: &[CoreArgument]) -> Result<(), Lack>
-    ensures { Finds result (lacking scopes.now (own spaces.CoreModule made ∷ flat_map (λ a. own spaces.CoreInstance a.instance ∷ []) args.now)) }
+    ensures { Finds result (lacking scopes.now (own spaces.CoreModule made
+        ∷ flat_map (λ a. own spaces.CoreInstance a.instance ∷ []) args.now)) }
 {
     scopes.check(Space::CoreModule, made)?;
     check_each(scopes, args)
@@ -75,7 +76,8 @@ fn check_core_instantiate(scopes: &Scopes, made: u32, args: &[CoreArgument]) -> 
 
 #[tactic(auto, using(crate::proofs::Lacks::chained))]
 fn check_instantiate(scopes: &Scopes, component: u32, args: &[Argument]) -> Result<(), Lack>
-    ensures { Finds result (lacking scopes.now (own spaces.Component component ∷ flat_map (λ a. own (sort_space a.sort) a.index ∷ []) args.now)) }
+    ensures { Finds result (lacking scopes.now (own spaces.Component component
+        ∷ flat_map (λ a. own (sort_space a.sort) a.index ∷ []) args.now)) }
 {
     scopes.check(Space::Component, component)?;
     check_each(scopes, args)
@@ -83,7 +85,8 @@ fn check_instantiate(scopes: &Scopes, component: u32, args: &[Argument]) -> Resu
 
 #[tactic(auto, using(crate::proofs::Lacks::chained))]
 fn check_lift(scopes: &Scopes, func: u32, options: &[CanonicalOption], ty: u32) -> Result<(), Lack>
-    ensures { Finds result (lacking scopes.now (core_func_at func ++ options_references options.now ++ type_at ty)) }
+    ensures { Finds result
+        (lacking scopes.now (core_func_at func ++ options_references options.now ++ type_at ty)) }
 {
     scopes.check(Space::CoreFunc, func)?;
     check_each(scopes, options)?;
@@ -92,7 +95,8 @@ fn check_lift(scopes: &Scopes, func: u32, options: &[CanonicalOption], ty: u32) 
 
 #[tactic(auto, using(crate::proofs::Lacks::chained))]
 fn check_lower(scopes: &Scopes, func: u32, options: &[CanonicalOption]) -> Result<(), Lack>
-    ensures { Finds result (lacking scopes.now (own spaces.Func func ∷ options_references options.now)) }
+    ensures { Finds result
+        (lacking scopes.now (own spaces.Func func ∷ options_references options.now)) }
 {
     scopes.check(Space::Func, func)?;
     check_each(scopes, options)
@@ -105,7 +109,8 @@ fn check_export(
     index: u32,
     description: &Option<Description>,
 ) -> Result<(), Lack>
-    ensures { Finds result (lacking scopes.now (own (sort_space sort) index ∷ where_some description_references description.now)) }
+    ensures { Finds result (lacking scopes.now
+        (own (sort_space sort) index ∷ where_some description_references description.now)) }
 {
     scopes.check(sort.space(), index)?;
     check_optional(scopes, description)

@@ -91,7 +91,8 @@ impl<'a> Scopes<'a> {
     /// An index of the scope that is so many scopes outward.
     #[tactic(auto, unfolding(crate::specs::Lacking::lacking))]
     pub(crate) fn check_outward(&self, outward: u32, space: Space, index: u32) -> Result<(), Lack>
-        ensures { Finds result (lacking self.now (record { outward = outward; space = space; index = index } ∷ [])) }
+        ensures { Finds result
+            (lacking self.now (record { outward = outward; space = space; index = index } ∷ [])) }
     {
         if outward == 0 {
             return check_in(self.own, space, index);

@@ -15,7 +15,8 @@ fn check_result(
     ok: &Option<ComponentValType>,
     err: &Option<ComponentValType>,
 ) -> Result<(), Lack>
-    ensures { Finds result (lacking scopes.now (where_some value_references ok.now ++ where_some value_references err.now)) }
+    ensures { Finds result (lacking scopes.now
+        (where_some value_references ok.now ++ where_some value_references err.now)) }
 {
     check_optional(scopes, ok)?;
     check_optional(scopes, err)
@@ -42,7 +43,8 @@ fn check_defined(scopes: &Scopes, ty: &DefinedType) -> Result<(), Lack>
 
 #[tactic(auto, using(crate::proofs::Lacks::chained))]
 fn check_func(scopes: &Scopes, func: &FuncTypeDef) -> Result<(), Lack>
-    ensures { Finds result (lacking scopes.now (flat_map (λ f. value_references f.ty) func.now.params ++ where_some value_references func.now.result)) }
+    ensures { Finds result (lacking scopes.now (flat_map (λ f. value_references f.ty)
+        func.now.params ++ where_some value_references func.now.result)) }
 {
     check_each(scopes, func.params.as_slice())?;
     check_optional(scopes, &func.result)

@@ -1,5 +1,6 @@
--- The names in a component that was built for a world: those of its imports and exports are the stated ones, those of its
--- types of instances and of its nested components are as the world says, and all other names are distinct in their lists.
+-- The names in a component that was built for a world: those of its imports and exports are the
+-- stated ones, those of its types of instances and of its nested components are as the world says,
+-- and all other names are distinct in their lists.
 use Rattle.comp_links.specs.Naming.{Naming}
 use Rattle.std.proofs.Common.{◌≡◌, ℕ, zero, suc, ◌⊎◌, Option, Some, None, Bool, false, IsTrue, List, [], ◌∷◌, ◌++◌, refl, sym, ap₂, subst, map, inl, inr, arith}
 use Rattle.std.specs.Prelude.{Contains, codes}
@@ -103,8 +104,8 @@ module _ (w : ComponentWorld) (valid : IsWorld w) where
   user_module_apart zero of e = subst ImportsApart (same_Some (record { of = Main; found = w.main }) of e) valid.main.modules_apart
   user_module_apart (suc number) of e = adapter_apart w w.adapters valid.adapters number of e
 
-  -- what holds of distinct names, of those of each type of instances, and of those that each nested component exports, holds of
-  -- each list of names of the definitions
+  -- what holds of distinct names, of those of each type of instances, and of those that each nested
+  -- component exports, holds of each list of names of the definitions
   module _ (P : Names → Type 0) (apart : (list : Names) → IsDistinct bytes_eq list → P list) where
     item_lists : (earlier : List Def) (i : Item) → IsItemRight w earlier i → AllByRecursion P (item_type_names i) → AllByRecursion P (item_names i)
     item_lists earlier (items.CoreInstantiate number arguments) (inl h) k =
@@ -183,8 +184,8 @@ all_imported P given s (items.Import name descriptions.SubResource ∷ is) r f t
 all_imported P given s (items.Import name (descriptions.Instance index) ∷ is) r f t = absurd r.0
 all_imported P given s (i ∷ is) r f t = all_imported P given (with_item given s i) is r.1 f t
 
--- what holds of each name in these lists, and of the types that nested components import, holds of all names of imports and exports;
--- and the other way round
+-- what holds of each name in these lists, and of the types that nested components import, holds of
+-- all names of imports and exports; and the other way round
 module _ (P : List ℕ → Type 0) where
   inner_externs : (is : List Item) → AllByRecursion P (flat_map item_import is) → AllByRecursion P (flat_map item_export is) → AllByRecursion (AllByRecursion P) (flat_map item_names is) →
       AllByRecursion P (flat_map item_extern_names is)

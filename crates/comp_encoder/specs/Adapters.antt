@@ -14,8 +14,8 @@ use Rattle.comp_encoder.specs.declared.fault.EncodeFault.TheVariants.{Memory, Lo
 abbrev pub Adapters : Type 0 → Type 0
 Adapters B = List (List ℕ × GatheredAdapter B)
 
--- A refusal of an adapter of this name for the adapters that were added before is out of memory, or has its cause: an argument
--- names one that wasn't added.
+-- A refusal of an adapter of this name for the adapters that were added before is out of memory, or
+-- has its cause: an argument names one that wasn't added.
 abbrev pub IsAddRefusal : {B F : Type 0} → Adapters B → List ℕ → Option LibraryInfo → EncodeFault F → Type 0
 IsAddRefusal adapters name info Memory = ⊤
 IsAddRefusal adapters name info (UnknownAdapter library unknown) = (library ≡ name) × (absent_argument adapters info ≡ Some unknown)

@@ -1,5 +1,6 @@
--- What the calls of an encoder make of it: its initial state, and its state after each call that succeeds. The rules are this
--- project's own: the component model's standard defines components, and not how they are made.
+-- What the calls of an encoder make of it: its initial state, and its state after each call that
+-- succeeds. The rules are this project's own: the component model's standard defines components,
+-- and not how they are made.
 use Rattle.std.specs.Prelude.{Bool, List, [], ℕ, ◌++◌, Option, Some, None, true, false}
 use Rattle.std.specs.Str.{bytes_eq}
 use Rattle.indexmap.specs.IndexMap.{insert_entry}
@@ -45,15 +46,17 @@ module _ {L B F : Type 0} (l : lower.Ghosts L B F) where
         };
       }
 
-  -- a further module as the lower layer reads it, with the keys that it has to export, and the metadata of all modules with its own
+  -- a further module as the lower layer reads it, with the keys that it has to export, and the
+  -- metadata of all modules with its own
   abbrev pub read_part : Encoder L B → List ℕ → Part B × B
   read_part e bytes =
       let decoded : List ℕ × B = l.decoded e.lower bytes in
       let merged = l.merged e.lower e.gathered.combined decoded.1 in
       (record { bytes = decoded.0; own = decoded.1; required = merged.exports }, merged.combined)
 
-  -- The state after an accepted adapter, which is a library where it has arguments: it takes the place of one of its name, or comes
-  -- after those that were added before. The keys of this module alone are required of it, and its metadata is merged with theirs.
+  -- The state after an accepted adapter, which is a library where it has arguments: it takes the
+  -- place of one of its name, or comes after those that were added before. The keys of this module
+  -- alone are required of it, and its metadata is merged with theirs.
   abbrev pub after_adapter : Encoder L B → List ℕ → List ℕ → Option LibraryInfo → Encoder L B
   after_adapter e name bytes info =
       let read = read_part e bytes in

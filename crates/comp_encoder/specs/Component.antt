@@ -12,9 +12,10 @@ use Rattle.comp_encoder.specs.Encoder.{Encoder, naming}
 use Rattle.link_laws.specs.Composition.{GeneratedModules, IsComposed}
 use Rattle.link_laws.specs.Linking.{Links}
 
--- These bytes are the component of a validated world: they encode a list of definitions, in which each index
--- names an earlier item, which is composed as the world says, with names that are made in this way, and which links when it is
--- run. Where `validate` is on, no name occurs twice in its list, and names of imports and exports are well formed.
+-- These bytes are the component of a validated world: they encode a list of definitions, in which
+-- each index names an earlier item, which is composed as the world says, with names that are made
+-- in this way, and which links when it is run. Where `validate` is on, no name occurs twice in its
+-- list, and names of imports and exports are well formed.
 pub record IsComponentOf (n : Naming) (w : ComponentWorld) (validate : Bool) (bytes : List ℕ) : Type 0 where
   pub defs : List Def
   pub encodes : Encodes bytes defs
@@ -25,8 +26,8 @@ pub record IsComponentOf (n : Naming) (w : ComponentWorld) (validate : Bool) (by
   pub named : IsTrue validate → NamesOk defs
 
 module _ {L B F : Type 0} (l : lower.Ghosts L B F) where
-  -- these bytes are the component of the world that the lower layer prepares from what was gathered, under the names that
-  -- were asked for; its modules are the gathered ones
+  -- these bytes are the component of the world that the lower layer prepares from what was
+  -- gathered, under the names that were asked for; its modules are the gathered ones
   pub record IsEncoding (e : Encoder L B) (bytes : List ℕ) : Type 0 where
     pub component : IsComponentOf (naming e) (l.prepared e.lower e.gathered) e.gathered.options.validate bytes
     pub modules : HasModules e.gathered (l.prepared e.lower e.gathered)

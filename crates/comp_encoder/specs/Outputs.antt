@@ -32,8 +32,9 @@ import_names n w = stated_names (stated_imports n w)
 abbrev pub export_names : Naming → ComponentWorld → Names
 export_names n w = stated_names (stated_exports n w)
 
--- the lists of names of imports and exports that the component has: of its imports, of its exports, of what each type of
--- instances exports, and of the functions that each nested component imports, and of what it exports
+-- the lists of names of imports and exports that the component has: of its imports, of its exports,
+-- of what each type of instances exports, and of the functions that each nested component imports,
+-- and of what it exports
 abbrev pub name_lists : Naming → ComponentWorld → List Names
 name_lists n w = import_names n w ∷ export_names n w ∷ (instance_type_names w ++ nested_names w)
 
@@ -43,7 +44,8 @@ IsNameCause n w (checks.NameTwice name) = (list : Names) × Contains (name_lists
 IsNameCause n w (checks.NameForm name) = (list : Names) × Contains (name_lists n w) list × Contains list name × (IsFormed name → ⊥)
 IsNameCause n w _ = ⊥
 
--- a name under which the nested component of an exported interface may import a type, of the interface or of another one
+-- a name under which the nested component of an exported interface may import a type, of the
+-- interface or of another one
 pub record ImportsTypeAs (w : ComponentWorld) (name : List ℕ) : Type 0 where
   pub key : WorldKey
   pub id : InterfaceId

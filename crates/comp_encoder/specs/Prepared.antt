@@ -1,5 +1,5 @@
--- The validated world of what an encoder holds. The rules are this project's own: the component model's standard defines
--- components, and not how they are made.
+-- The validated world of what an encoder holds. The rules are this project's own: the component
+-- model's standard defines components, and not how they are made.
 use Rattle.std.specs.Prelude.{◌≡◌}
 use Rattle.comp_worlds.specs.Encodable.{IsEncodable}
 use Rattle.comp_worlds.specs.Gathering.{HasModules}

@@ -28,7 +28,8 @@ fn meet_name(
     met: &mut Keyed<Text, Text>,
     id: &IdName,
 ) -> Result<Option<SharedName>, AllocError>
-    ensures { IfOk result (Meets ((canonical_id_text id.now, id_text id.now) ∷ []) met.old met.new) }
+    ensures { IfOk result
+        (Meets ((canonical_id_text id.now, id_text id.now) ∷ []) met.old met.new) }
 {
     let name = id.canonical_text(alloc)?;
     let whole = id.text(alloc)?;
@@ -111,7 +112,8 @@ pub(crate) fn shared_name(
     shared_among(alloc, resolve, &world.exports)
 }
 
-/// Checks that no two imports of a world that are keyed by interfaces have one canonical name, and that no two exports have.
+/// Checks that no two imports of a world that are keyed by interfaces have one canonical name, and
+/// that no two exports have.
 ///
 /// `E5` with the first two that have; the only other refusal is out of memory.
 pub fn check_duplicate_canonical_names<F>(
@@ -121,7 +123,9 @@ pub fn check_duplicate_canonical_names<F>(
 ) -> Result<(), EncodeFault<F>>
     requires sound { IsSound resolve.now }
     requires present { world.index < length resolve.now.worlds }
-    ensures refused { IsOk result → (first second name : List ℕ) → ¬ IsShared resolve.now world first second name }
+    ensures refused { IsOk result
+        → (first second name : List ℕ)
+        → ¬ IsShared resolve.now world first second name }
     ensures cause { IfErr result (IsCanonicalRefusal resolve.now world) }
 {
     let shared = shared_name(alloc, resolve, world)?;

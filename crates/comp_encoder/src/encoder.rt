@@ -23,8 +23,9 @@ use world_values::{EncoderOptions, Gathered, GatheredAdapter, Part};
 
 /// What was gathered so far, and the lower layer that reads it.
 ///
-/// An encoder makes a component of a main module and its adapters. `module` gives it the module, `adapter` and `library` give it
-/// adapters, `encode` returns the component's bytes, and a call that refuses leaves the encoder unchanged.
+/// An encoder makes a component of a main module and its adapters. `module` gives it the module,
+/// `adapter` and `library` give it adapters, `encode` returns the component's bytes, and a call
+/// that refuses leaves the encoder unchanged.
 pub struct ComponentEncoder<L: Lower> {
     alloc: Global,
     lower: L,
@@ -54,7 +55,8 @@ impl<L: Lower> Model for ComponentEncoder<L> {
 
 /// A fault of the lower layer as one of the encoder: out of memory is reported as `Memory`.
 fn fault_of<L: Lower>(lower: &L, fault: L::Fault) -> EncodeFault<L::Fault>
-    ensures { result ≡ (if L.memory_fault lower.now fault then EncodeFault.Memory else EncodeFault.Lower fault) }
+    ensures { result
+        ≡ (if L.memory_fault lower.now fault then EncodeFault.Memory else EncodeFault.Lower fault) }
 {
     if lower.is_memory(&fault) {
         EncodeFault::Memory
@@ -100,8 +102,8 @@ impl<L: Lower> ComponentEncoder<L> {
         self
     }
 
-    /// Whether the core modules that are generated have names of their functions, for debuggers. It is off at first. The names of
-    /// a component's own items are written either way.
+    /// Whether the core modules that are generated have names of their functions, for debuggers. It
+    /// is off at first. The names of a component's own items are written either way.
     pub fn debug_names(&mut self, on: bool) -> &mut Self
         ensures same_reference { result.ghost_name ≡ self.entry.ghost_name }
         ensures set { result.now ≡ naming_generated L.Lower self.old on }
@@ -120,8 +122,8 @@ impl<L: Lower> ComponentEncoder<L> {
         self
     }
 
-    /// Whether names of interfaces have the part of their version alone that compatible versions share, with the rest as
-    /// a version suffix. It is off at first.
+    /// Whether names of interfaces have the part of their version alone that compatible versions
+    /// share, with the rest as a version suffix. It is off at first.
     pub fn emit_canonical_names(&mut self, on: bool) -> &mut Self
         ensures same_reference { result.ghost_name ≡ self.entry.ghost_name }
         ensures set { result.now ≡ emitting_canonical_names L.Lower self.old on }
@@ -130,9 +132,10 @@ impl<L: Lower> ComponentEncoder<L> {
         self
     }
 
-    /// Gives imported interfaces other names. An interface whose name with its whole version is a key of the table is imported
-    /// under the name that is there, without a version suffix, also where canonical names are on. Neither types nor functions
-    /// at the root nor exports are renamed. At first the table is empty.
+    /// Gives imported interfaces other names. An interface whose name with its whole version is a
+    /// key of the table is imported under the name that is there, without a version suffix, also
+    /// where canonical names are on. Neither types nor functions at the root nor exports are
+    /// renamed. At first the table is empty.
     pub fn import_name_map(&mut self, names: Keyed<Text, Text>) -> &mut Self
         ensures same_reference { result.ghost_name ≡ self.entry.ghost_name }
         ensures set { result.now ≡ renaming_imports L.Lower self.old names }
@@ -151,8 +154,8 @@ impl<L: Lower> ComponentEncoder<L> {
         self
     }
 
-    /// Whether reallocs that adapters need grow the memory. It is off at first. The lower layer may refuse adapters that are no
-    /// libraries where it is on.
+    /// Whether reallocs that adapters need grow the memory. It is off at first. The lower layer may
+    /// refuse adapters that are no libraries where it is on.
     pub fn realloc_via_memory_grow(&mut self, on: bool) -> &mut Self
         ensures same_reference { result.ghost_name ≡ self.entry.ghost_name }
         ensures set { result.now ≡ growing_memory L.Lower self.old on }
@@ -161,8 +164,9 @@ impl<L: Lower> ComponentEncoder<L> {
         self
     }
 
-    /// Takes the main module: a core module with the metadata that the lower layer reads from it. It replaces one
-    /// that was given before, but the exports that one required are still required. The buffer of its bytes becomes the encoder's.
+    /// Takes the main module: a core module with the metadata that the lower layer reads from it.
+    /// It replaces one that was given before, but the exports that one required are still required.
+    /// The buffer of its bytes becomes the encoder's.
     ///
     /// It refuses when out of memory, and where the lower layer refuses the bytes, or their metadata
     /// together with the earlier modules'. A refusal leaves the encoder unchanged.
@@ -198,8 +202,8 @@ impl<L: Lower> ComponentEncoder<L> {
         Ok(())
     }
 
-    /// [`add_module`](ComponentEncoder::add_module) with a copy of the bytes, returning the encoder, so that calls can be
-    /// chained. The state after a refusal is in that call's contract.
+    /// [`add_module`](ComponentEncoder::add_module) with a copy of the bytes, returning the
+    /// encoder, so that calls can be chained. The state after a refusal is in that call's contract.
     pub fn module(&mut self, bytes: &[u8]) -> Result<&mut Self, EncodeFault<L::Fault>>
         ensures same_reference { IfOk result (λ r. r.ghost_name ≡ self.entry.ghost_name) }
         ensures ok { IfOk result (λ r. r.now ≡ after_module L.Lower self.old bytes.now) }
@@ -211,7 +215,8 @@ impl<L: Lower> ComponentEncoder<L> {
         Ok(self)
     }
 
-    /// A further module as the lower layer reads it, with the keys that it has to export, and the metadata of all modules with its own.
+    /// A further module as the lower layer reads it, with the keys that it has to export, and the
+    /// metadata of all modules with its own.
     fn read(&self, bytes: Vec<u8>) -> Result<(Part<L::Bindgen>, L::Bindgen), EncodeFault<L::Fault>>
         ensures ok { IfOk result (λ r. r ≡ read_part L.Lower self.now bytes.items) }
         ensures refused { IsOk result → (f : L.Fault) → ¬ ModuleCause L.Lower self.now bytes.items f }
@@ -240,10 +245,13 @@ impl<L: Lower> ComponentEncoder<L> {
         bytes: Vec<u8>,
         library_info: Option<LibraryInfo>,
     ) -> Result<(), EncodeFault<L::Fault>>
-        ensures ok { OnOk result (self.new ≡ after_adapter L.Lower self.old name.now bytes.items library_info) }
+        ensures ok { OnOk result
+            (self.new ≡ after_adapter L.Lower self.old name.now bytes.items library_info) }
         ensures err { OnErr result (self.new ≡ self.old) }
-        ensures refused { IsOk result → NoAdapterCause L.Lower self.old name.now bytes.items library_info }
-        ensures cause { IfErr result (IsAdapterRefusal L.Lower self.old name.now bytes.items library_info) }
+        ensures refused { IsOk result
+            → NoAdapterCause L.Lower self.old name.now bytes.items library_info }
+        ensures cause { IfErr result
+            (IsAdapterRefusal L.Lower self.old name.now bytes.items library_info) }
     {
         let (part, combined) = self.read(bytes)?;
         check_arguments(self.alloc, &self.gathered.adapters, name, &library_info)?;
@@ -253,13 +261,15 @@ impl<L: Lower> ComponentEncoder<L> {
         Ok(())
     }
 
-    /// Takes an adapter under a name: a further core module with the metadata that the lower layer reads from it. It comes after
-    /// those that were added before; where an adapter or a library of this name was added before, it takes that one's place.
+    /// Takes an adapter under a name: a further core module with the metadata that the lower layer
+    /// reads from it. It comes after those that were added before; where an adapter or a library of
+    /// this name was added before, it takes that one's place.
     ///
-    /// It refuses when out of memory, and where the lower layer refuses the bytes, or their metadata together with the earlier
-    /// modules'. A refusal leaves the encoder unchanged.
+    /// It refuses when out of memory, and where the lower layer refuses the bytes, or their
+    /// metadata together with the earlier modules'. A refusal leaves the encoder unchanged.
     pub fn add_adapter(&mut self, name: &str, bytes: Vec<u8>) -> Result<(), EncodeFault<L::Fault>>
-        ensures ok { OnOk result (self.new ≡ after_adapter L.Lower self.old name.now bytes.items None) }
+        ensures ok { OnOk result
+            (self.new ≡ after_adapter L.Lower self.old name.now bytes.items None) }
         ensures err { OnErr result (self.new ≡ self.old) }
         ensures refused { IsOk result → NoAdapterCause L.Lower self.old name.now bytes.items None }
         ensures cause { IfErr result (IsAdapterRefusal L.Lower self.old name.now bytes.items None) }
@@ -267,11 +277,12 @@ impl<L: Lower> ComponentEncoder<L> {
         self.add(name, bytes, None)
     }
 
-    /// [`add_adapter`](ComponentEncoder::add_adapter) with a copy of the bytes, returning the encoder, so that calls can be chained.
-    /// The state after a refusal is in that call's contract.
+    /// [`add_adapter`](ComponentEncoder::add_adapter) with a copy of the bytes, returning the
+    /// encoder, so that calls can be chained. The state after a refusal is in that call's contract.
     pub fn adapter(&mut self, name: &str, bytes: &[u8]) -> Result<&mut Self, EncodeFault<L::Fault>>
         ensures same_reference { IfOk result (λ r. r.ghost_name ≡ self.entry.ghost_name) }
-        ensures ok { IfOk result (λ r. r.now ≡ after_adapter L.Lower self.old name.now bytes.now None) }
+        ensures ok { IfOk result
+            (λ r. r.now ≡ after_adapter L.Lower self.old name.now bytes.now None) }
         ensures refused { IsOk result → NoAdapterCause L.Lower self.old name.now bytes.now None }
         ensures cause { IfErr result (IsAdapterRefusal L.Lower self.old name.now bytes.now None) }
     {
@@ -282,25 +293,29 @@ impl<L: Lower> ComponentEncoder<L> {
 
     /// Takes a library under a name: an adapter with the arguments that satisfy its imports.
     ///
-    /// It refuses as [`add_adapter`](ComponentEncoder::add_adapter) does, and where an argument names an adapter that wasn't added
-    /// before: the first such name is reported, arguments and the items of each in order. Where the lower layer refuses too, that is
-    /// reported. A refusal leaves the encoder unchanged.
+    /// It refuses as [`add_adapter`](ComponentEncoder::add_adapter) does, and where an argument
+    /// names an adapter that wasn't added before: the first such name is reported, arguments and
+    /// the items of each in order. Where the lower layer refuses too, that is reported. A refusal
+    /// leaves the encoder unchanged.
     pub fn add_library(
         &mut self,
         name: &str,
         bytes: Vec<u8>,
         info: LibraryInfo,
     ) -> Result<(), EncodeFault<L::Fault>>
-        ensures ok { OnOk result (self.new ≡ after_adapter L.Lower self.old name.now bytes.items (Some info)) }
+        ensures ok { OnOk result
+            (self.new ≡ after_adapter L.Lower self.old name.now bytes.items (Some info)) }
         ensures err { OnErr result (self.new ≡ self.old) }
-        ensures refused { IsOk result → NoAdapterCause L.Lower self.old name.now bytes.items (Some info) }
-        ensures cause { IfErr result (IsAdapterRefusal L.Lower self.old name.now bytes.items (Some info)) }
+        ensures refused { IsOk result
+            → NoAdapterCause L.Lower self.old name.now bytes.items (Some info) }
+        ensures cause { IfErr result
+            (IsAdapterRefusal L.Lower self.old name.now bytes.items (Some info)) }
     {
         self.add(name, bytes, Some(info))
     }
 
-    /// [`add_library`](ComponentEncoder::add_library) with a copy of the bytes, returning the encoder, so that calls can be chained.
-    /// The state after a refusal is in that call's contract.
+    /// [`add_library`](ComponentEncoder::add_library) with a copy of the bytes, returning the
+    /// encoder, so that calls can be chained. The state after a refusal is in that call's contract.
     pub fn library(
         &mut self,
         name: &str,
@@ -308,9 +323,12 @@ impl<L: Lower> ComponentEncoder<L> {
         info: LibraryInfo,
     ) -> Result<&mut Self, EncodeFault<L::Fault>>
         ensures same_reference { IfOk result (λ r. r.ghost_name ≡ self.entry.ghost_name) }
-        ensures ok { IfOk result (λ r. r.now ≡ after_adapter L.Lower self.old name.now bytes.now (Some info)) }
-        ensures refused { IsOk result → NoAdapterCause L.Lower self.old name.now bytes.now (Some info) }
-        ensures cause { IfErr result (IsAdapterRefusal L.Lower self.old name.now bytes.now (Some info)) }
+        ensures ok { IfOk result
+            (λ r. r.now ≡ after_adapter L.Lower self.old name.now bytes.now (Some info)) }
+        ensures refused { IsOk result
+            → NoAdapterCause L.Lower self.old name.now bytes.now (Some info) }
+        ensures cause { IfErr result
+            (IsAdapterRefusal L.Lower self.old name.now bytes.now (Some info)) }
     {
         let bytes = Vec::from_slice(self.alloc, bytes)?;
         self.add_library(name, bytes, info)?;
@@ -319,7 +337,8 @@ impl<L: Lower> ComponentEncoder<L> {
 
     /// Whether there is a main module whose bytes are not empty.
     fn has_main(&self) -> bool
-        ensures { MatchBool result (main_bytes self.now.gathered.main ≢ []) (main_bytes self.now.gathered.main ≡ []) }
+        ensures { MatchBool result (main_bytes self.now.gathered.main ≢ [])
+            (main_bytes self.now.gathered.main ≡ []) }
     {
         match &self.gathered.main {
             Some(part) => !part.bytes.is_empty(),
@@ -345,9 +364,12 @@ impl<L: Lower> ComponentEncoder<L> {
     /// The component of the world, checked where `validate` is on.
     fn output(&self, world: &ComponentWorld) -> Result<Vec<u8>, OutputFault>
         requires { IsEncodable world.now }
-        ensures ok { IfOk result (λ bytes. IsComponentOf (naming self.now) world.now self.now.gathered.options.validate bytes.items) }
-        ensures refused { IsOk result → NoOutputCause (naming self.now) world.now self.now.gathered.options.validate }
-        ensures cause { IfErr result (IsOutputRefusal (naming self.now) world.now self.now.gathered.options.validate) }
+        ensures ok { IfOk result (λ bytes. IsComponentOf (naming self.now) world.now
+            self.now.gathered.options.validate bytes.items) }
+        ensures refused { IsOk result
+            → NoOutputCause (naming self.now) world.now self.now.gathered.options.validate }
+        ensures cause { IfErr result
+            (IsOutputRefusal (naming self.now) world.now self.now.gathered.options.validate) }
     {
         let names = ImportNames {
             canonical: self.gathered.options.emit_canonical_names,

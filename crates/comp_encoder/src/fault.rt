@@ -33,23 +33,25 @@ pub enum EncodeFault<F> {
         library: Text,
         name: Text,
     },
-    /// Canonical names are on, and two imports, or two exports, both keyed by an interface, have one canonical name: `name`.
-    /// `first` and `second` are their names with the whole version.
+    /// Canonical names are on, and two imports, or two exports, both keyed by an interface, have
+    /// one canonical name: `name`. `first` and `second` are their names with the whole version.
     #[error("E5 CanonicalNames first={first} second={second} name={name}")]
     CanonicalNames {
         first: Text,
         second: Text,
         name: Text,
     },
-    /// A function is lowered or lifted with a memory, or a module imports main's, and main has none. `place` is `indirect-module-field`
-    /// for a function that is imported, `module::field` for a memory, and the function's name for an export (Canonical ABI, `memory`).
+    /// A function is lowered or lifted with a memory, or a module imports main's, and main has
+    /// none. `place` is `indirect-module-field` for a function that is imported, `module::field`
+    /// for a memory, and the function's name for an export (Canonical ABI, `memory`).
     #[error("E7 NoMemory place={place}")]
     NoMemory {
         place: Text,
     },
-    /// A function is lowered or lifted with a realloc, and there is none for calls of the module's imports, or of its exports. `place` is
-    /// `indirect-module-field` for a core import, or `module::field` where main imports its memory, and the function's name for an
-    /// export (Canonical ABI, `realloc`).
+    /// A function is lowered or lifted with a realloc, and there is none for calls of the module's
+    /// imports, or of its exports. `place` is `indirect-module-field` for a core import, or
+    /// `module::field` where main imports its memory, and the function's name for an export
+    /// (Canonical ABI, `realloc`).
     #[error("E8 NoRealloc place={place}")]
     NoRealloc {
         place: Text,
@@ -60,15 +62,16 @@ pub enum EncodeFault<F> {
     NoEncoding {
         place: Text,
     },
-    /// An adapter names another one that is not instantiated before it: in the arguments of a library, used or not. `module` is the one
-    /// that names, and `name` the other (component model: instance definitions).
+    /// An adapter names another one that is not instantiated before it: in the arguments of a
+    /// library, used or not. `module` is the one that names, and `name` the other (component model:
+    /// instance definitions).
     #[error("E10 NotYetMade module={module} name={name}")]
     NotYetMade {
         module: Text,
         name: Text,
     },
-    /// A required interface uses types of another exported one, which main doesn't export before it: it comes later, or is not
-    /// required. Both are named as exports, with their whole version.
+    /// A required interface uses types of another exported one, which main doesn't export before
+    /// it: it comes later, or is not required. Both are named as exports, with their whole version.
     #[error("E11 LaterExport interface={interface} used={used}")]
     LaterExport {
         interface: Text,

@@ -19,9 +19,10 @@
 //! the world says, and links when it is run (`link_laws`; the machine is in `comp_runs`, over the core code
 //! of `core_runs`). A refusal leaves the encoder unchanged.
 //!
-//! In reading order: `fault` (why a call refuses), `adapters` (the table of adapters, and the names in a library's arguments),
-//! `canonical_names` (whether two interfaces have one canonical name), `output` (the component of a world, as bytes), `encoder` (the
-//! calls). Nothing here depends on files, nor on how a lower layer gets its results.
+//! In reading order: `fault` (why a call refuses), `adapters` (the table of adapters, and the names
+//! in a library's arguments), `canonical_names` (whether two interfaces have one canonical name),
+//! `output` (the component of a world, as bytes), `encoder` (the calls). Nothing here depends on
+//! files, nor on how a lower layer gets its results.
 #![tactic(auto)]
 
 mod adapters;

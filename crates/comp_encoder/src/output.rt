@@ -99,8 +99,8 @@ fn check_if(alloc: Global, validate: bool, component: &ComponentBuilder) -> Resu
     Ok(())
 }
 
-/// The bytes of a world's component, whose imported interfaces have the names that `names` makes, and whose core modules have names for
-/// debuggers if it says so.
+/// The bytes of a world's component, whose imported interfaces have the names that `names` makes,
+/// and whose core modules have names for debuggers if it says so.
 pub(crate) fn component_bytes(
     alloc: Global,
     world: &ComponentWorld,
@@ -108,7 +108,8 @@ pub(crate) fn component_bytes(
     validate: bool,
 ) -> Result<Vec<u8>, OutputFault>
     requires { IsEncodable world.now }
-    ensures ok { IfOk result (λ bytes. IsComponentOf (naming_of names.entry) world.now validate bytes.items) }
+    ensures ok { IfOk result
+        (λ bytes. IsComponentOf (naming_of names.entry) world.now validate bytes.items) }
     ensures refused { IsOk result → NoOutputCause (naming_of names.entry) world.now validate }
     ensures cause { IfErr result (IsOutputRefusal (naming_of names.entry) world.now validate) }
 {

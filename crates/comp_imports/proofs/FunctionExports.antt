@@ -122,7 +122,7 @@ pub exports_used : (w : ComponentWorld) (id : InterfaceId) (s : Surroundings) (t
 exports_used w id s t ms used types origin plain names h = record {
   each = λ name f e u.
       let there : is_some (found name used) ≡ true = names.each name ∙ any_found (functions_of w.resolve id) (is_used_of w id) name f e u in
-      let is = used_found t (member_trees s [] ms) used name (functions_of w.resolve id) (function_exports ms) (AllByRecursion-weaker (λ e (p : IsNamedFunction e). p.0) (functions_of w.resolve id) plain) h.each f e there in
+      let is = used_found t (member_trees s [] ms) used name (functions_of w.resolve id) (function_exports ms) plain h.each f e there in
       record {
         there = exports_are ms name ∙ ap is_some is.at;
         typed = exported_is (member_trees s [] ms) ms name ∙ (ap (denoted (member_trees s [] ms)) is.at ∙ (is.denotes.tree ∙ ap₂ (λ o ts. OfFunctions (wit_function_tree o ts f)) origin types));

@@ -233,7 +233,7 @@ named_functions r (keys.Interface other) id h = h
 
 -- functions have their names
 pub named_only : (types : List TypeDef) (fs : List (List ℕ × Function)) → AllByRecursion IsNamedFunction fs → AllByRecursion (λ e. e.0 ≡ e.1.name) fs
-named_only types fs h = AllByRecursion-weaker (λ e (p : IsNamedFunction e). p.0) fs h
+named_only types fs h = h
 
 entry_used : (key : WorldKey) (id : InterfaceId) (names : List (List ℕ)) → names ≢ [] → unless_empty names (ImportedInterface key id) ≡ ImportedInterface key id ∷ []
 entry_used key id [] some = absurd (some refl)

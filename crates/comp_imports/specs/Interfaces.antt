@@ -1,5 +1,5 @@
--- What is known while interfaces are imported: what is used of them, what their types are made of, and which is the next one.
--- (The rules are this project's own.)
+-- What is known while interfaces are imported: what is used of them, what their types are made of,
+-- and which is the next one. (The rules are this project's own.)
 use Rattle.std.specs.Prelude.{◌≡◌, ◌≢◌, ◌<◌, ℕ, nat_eq, Bool, true, List, [], Some, slice_get, is_some, IsSome}
 use Rattle.std.specs.List.{AllByRecursion, flat_map, list_any}
 use Rattle.std.specs.Map.{lookup}
@@ -84,8 +84,8 @@ pub record AreTypesOffered (w : ComponentWorld) (ds : List Def) (id : InterfaceI
 pub record AreEarlierFound (w : ComponentWorld) (instances : List (InterfaceId × ℕ)) (id : InterfaceId) : Type 0 where
   pub each : (other : InterfaceId) → place_in (items_of w).imports other < place_in (items_of w).imports id → IsFoundInterface w instances other
 
--- The interface is the next import, if something of it is needed, and has no other number among the imports. Interfaces that
--- are imported before it are found.
+-- The interface is the next import, if something of it is needed, and has no other number among the
+-- imports. Interfaces that are imported before it are found.
 pub record IsNextInterface (w : ComponentWorld) (ds : List Def) (instances : List (InterfaceId × ℕ)) (key : WorldKey) (id : InterfaceId) : Type 0 where
   pub has_key : HasKey w.resolve key
   pub present : HasInterface w.resolve id

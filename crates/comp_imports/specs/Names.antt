@@ -1,5 +1,6 @@
--- The names under which a program imports interfaces: whether they are canonical, and a table of other names (component model,
--- explainer: `interfacename`, `canonversion`; binary format: `versionsuffix`); and whether core modules have names for debuggers.
+-- The names under which a program imports interfaces: whether they are canonical, and a table of
+-- other names (component model, explainer: `interfacename`, `canonversion`; binary format:
+-- `versionsuffix`); and whether core modules have names for debuggers.
 use Rattle.std.specs.Prelude.{ℕ, Bool, List}
 use Rattle.comp_lists.specs.Found.{found}
 use Rattle.comp_links.specs.Naming.{Naming}

@@ -49,7 +49,11 @@ fn canonical_name(
 ) -> Result<ExternName, AllocError>
     requires sound { IsSound resolve.now }
     requires present { HasKey resolve.now key.now }
-    ensures { IfOk result (λ name. name ≡ record { name = canonical_key_text resolve.now key.now; version_suffix = suffix_of resolve.now key.now }) }
+    ensures { IfOk result (λ name. name
+        ≡ record {
+          name = canonical_key_text resolve.now key.now;
+          version_suffix = suffix_of resolve.now key.now;
+        }) }
 {
     let name = resolve.name_canonicalized_world_key(alloc, key)?;
     let version_suffix = version_suffix_of(alloc, resolve, key)?;
@@ -60,8 +64,9 @@ fn canonical_name(
 }
 
 impl ImportNames<'_> {
-    /// The name of a key: with the part of its version that compatible versions share, and the rest as a suffix, where names are
-    /// canonical, or else with its whole version. The only error is out of memory.
+    /// The name of a key: with the part of its version that compatible versions share, and the rest
+    /// as a suffix, where names are canonical, or else with its whole version. The only error is
+    /// out of memory.
     pub fn key_name(
         &self,
         alloc: Global,
@@ -79,8 +84,8 @@ impl ImportNames<'_> {
         }
     }
 
-    /// The name under which the interface of a key is imported: the one that is given for its name with the whole version, or
-    /// else that of the key. The only error is out of memory.
+    /// The name under which the interface of a key is imported: the one that is given for its name
+    /// with the whole version, or else that of the key. The only error is out of memory.
     pub fn name(
         &self,
         alloc: Global,
@@ -89,7 +94,8 @@ impl ImportNames<'_> {
     ) -> Result<ExternName, AllocError>
         requires sound { IsSound resolve.now }
         requires present { HasKey resolve.now key.now }
-        ensures { IfOk result (λ name. name ≡ import_name (naming_of self.now) resolve.now key.now) }
+        ensures { IfOk result
+            (λ name. name ≡ import_name (naming_of self.now) resolve.now key.now) }
     {
         let whole = resolve.name_world_key(alloc, key)?;
         match self.renamed.get(&whole) {

@@ -17,9 +17,10 @@ use comp_lists::{Keyed, Text};
 use comp_worlds::ComponentWorld;
 use root_imports::RootScope;
 
-/// Imports the interfaces of which the component needs something, then the types of the world, and then the root functions
-/// that imports of user modules use, each in the order of the world and under its name; the names of interfaces are made by `names`.
-/// Returns the indices of the functions by their names. What the scope knew before of types and instances is forgotten.
+/// Imports the interfaces of which the component needs something, then the types of the world, and
+/// then the root functions that imports of user modules use, each in the order of the world and
+/// under its name; the names of interfaces are made by `names`. Returns the indices of the
+/// functions by their names. What the scope knew before of types and instances is forgotten.
 ///
 /// Refused when out of memory, and where a space would have more than 2^32 - 1 items.
 pub fn import_all(
@@ -30,8 +31,10 @@ pub fn import_all(
     requires first { imports_in root.old.items.defs ≡ 0 }
     ensures world { root.new.world ≡ root.old.world }
     ensures extends { Extends root.old.items root.new.items }
-    ensures grows { OnOk result (Grows root.old.world.now root.old.items.defs root.new.items.defs (imports_marked (naming_of names.now) root.old.world.now)) }
-    ensures tables { OnOk result (AreTablesRight root.old.world.now root.new.met root.new.instances root.new.items.defs root.new.maps) }
+    ensures grows { OnOk result (Grows root.old.world.now root.old.items.defs root.new.items.defs
+        (imports_marked (naming_of names.now) root.old.world.now)) }
+    ensures tables { OnOk result (AreTablesRight root.old.world.now root.new.met root.new.instances
+        root.new.items.defs root.new.maps) }
     ensures passed { OnOk result (ArePassed root.old.world.now root.new.met) }
     ensures imports { IfOk result (FindsImports root.old.world.now root.new.items.defs) }
     ensures found { IfOk result (FindsUsed root.old.world.now) }

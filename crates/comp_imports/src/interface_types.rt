@@ -33,7 +33,8 @@ fn add_outer_type(
     requires offered { AreOffered root.old.world.now root.old.items.defs table.old }
     ensures same { root.new ≡ record root.old { items = root.new.items } }
     ensures extends { Extends root.old.items root.new.items }
-    ensures grows { OnOk result (Grows root.old.world.now root.old.items.defs root.new.items.defs []) }
+    ensures grows { OnOk result
+        (Grows root.old.world.now root.old.items.defs root.new.items.defs []) }
     ensures finds { FindsInterfaces root.old.world.now root.new.items.defs root.old.instances }
     ensures offered { OnOk result (AreOffered root.old.world.now root.new.items.defs table.new) }
     ensures added { OnOk result (AddsType table.old table.new ty) }
@@ -49,14 +50,17 @@ fn add_outer_types(
     root: &mut RootScope<'_, ComponentWorld>,
     met: &Keyed<OuterType, ()>,
 ) -> Result<Keyed<OuterType, u32>, BuildFault>
-    requires offerable { AllByRecursion (λ e. IsOfferable root.old.world.now root.old.instances e.0) met.now }
+    requires offerable { AllByRecursion (λ e. IsOfferable root.old.world.now root.old.instances e.0)
+        met.now }
     requires finds { FindsInterfaces root.old.world.now root.old.items.defs root.old.instances }
     ensures same { root.new ≡ record root.old { items = root.new.items } }
     ensures extends { Extends root.old.items root.new.items }
-    ensures grows { OnOk result (Grows root.old.world.now root.old.items.defs root.new.items.defs []) }
+    ensures grows { OnOk result
+        (Grows root.old.world.now root.old.items.defs root.new.items.defs []) }
     ensures finds { FindsInterfaces root.old.world.now root.new.items.defs root.old.instances }
     ensures offered { IfOk result (AreOffered root.old.world.now root.new.items.defs) }
-    ensures all { IfOk result (λ table. AllByRecursion (λ e. is_some (lookup (same_type.eq-value.it e.0) table) ≡ true) met.now) }
+    ensures all { IfOk result (λ table. AllByRecursion
+        (λ e. is_some (lookup (same_type.eq-value.it e.0) table) ≡ true) met.now) }
     ensures cause { IfErr result IsRefusal }
 {
     let mut table = Keyed::new(root.items.allocator());
@@ -84,9 +88,11 @@ pub(crate) fn outer_types(
     requires finds { FindsInterfaces root.old.world.now root.old.items.defs root.old.instances }
     ensures same { root.new ≡ record root.old { items = root.new.items } }
     ensures extends { Extends root.old.items root.new.items }
-    ensures grows { OnOk result (Grows root.old.world.now root.old.items.defs root.new.items.defs []) }
+    ensures grows { OnOk result
+        (Grows root.old.world.now root.old.items.defs root.new.items.defs []) }
     ensures finds { FindsInterfaces root.old.world.now root.new.items.defs root.old.instances }
-    ensures offered { IfOk result (AreTypesOffered root.old.world.now root.new.items.defs interface used.now) }
+    ensures offered { IfOk result
+        (AreTypesOffered root.old.world.now root.new.items.defs interface used.now) }
     ensures cause { IfErr result IsRefusal }
 {
     let alloc = root.items.allocator();

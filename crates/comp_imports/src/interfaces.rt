@@ -55,17 +55,23 @@ fn interface_type(
     ghost place: { Place }
     requires valid { IsEncodable root.now.world.now }
     requires place { place ≡ next_place root.now.world.now root.now.items.defs }
-    requires number { number_of_interface interface (import_entries root.now.world.now) ≡ imports_in root.now.items.defs }
+    requires number { number_of_interface interface (import_entries root.now.world.now)
+        ≡ imports_in root.now.items.defs }
     requires imported { IsImported root.now.world.now interface }
     requires present { HasInterface root.now.world.now.resolve interface }
-    requires plain { AllByRecursion IsNamedFunction (functions_of root.now.world.now.resolve interface) }
+    requires plain { AllByRecursion IsNamedFunction
+        (functions_of root.now.world.now.resolve interface) }
     requires used { AreUsedNames root.now.world.now interface used.now }
     requires functions { AreFunctionsApart root.now.world.now interface }
-    requires offered { AreTypesOffered root.now.world.now root.now.items.defs interface used.now outer.now }
+    requires offered { AreTypesOffered root.now.world.now root.now.items.defs interface used.now
+        outer.now }
     ensures members { IfOk result (λ ty. AreMembersRight place.surroundings [] ty.members) }
-    ensures functions { IfOk result (λ ty. ExportsUsed root.now.world.now interface place.surroundings ty.members) }
-    ensures types { IfOk result (λ ty. ExportsNeeded root.now.world.now interface place.surroundings ty.members) }
-    ensures names { IfOk result (λ ty. flat_map member_export ty.members ≡ names_of_interface root.now.world.now interface) }
+    ensures functions { IfOk result
+        (λ ty. ExportsUsed root.now.world.now interface place.surroundings ty.members) }
+    ensures types { IfOk result
+        (λ ty. ExportsNeeded root.now.world.now interface place.surroundings ty.members) }
+    ensures names { IfOk result (λ ty. flat_map member_export ty.members
+        ≡ names_of_interface root.now.world.now interface) }
     ensures cause { IfErr result IsRefusal }
 {
     let alloc = root.items.allocator();
@@ -75,8 +81,9 @@ fn interface_type(
     encode_interface_type(alloc, resolve, outer, interface, needed, used, functions)
 }
 
-/// Imports an interface under the name that `names` gives it, as an instance whose type comes before it, where the types of other
-/// interfaces of which this is made are those of the table. Returns the instance's index.
+/// Imports an interface under the name that `names` gives it, as an instance whose type comes
+/// before it, where the types of other interfaces of which this is made are those of the table.
+/// Returns the instance's index.
 fn add_instance(
     root: &mut RootScope<'_, ComponentWorld>,
     names: &ImportNames<'_>,
@@ -86,15 +93,20 @@ fn add_instance(
     outer: &Keyed<OuterType, u32>,
 ) -> Result<u32, BuildFault>
     requires valid { IsEncodable root.old.world.now }
-    requires next { IsNextInterface root.old.world.now root.old.items.defs root.old.instances key.now interface }
+    requires next { IsNextInterface root.old.world.now root.old.items.defs root.old.instances
+        key.now interface }
     requires used { AreUsedNames root.old.world.now interface used.now }
     requires functions { AreFunctionsApart root.old.world.now interface }
     requires some { names_of_interface root.old.world.now interface ≢ [] }
-    requires offered { AreTypesOffered root.old.world.now root.old.items.defs interface used.now outer.now }
+    requires offered { AreTypesOffered root.old.world.now root.old.items.defs interface used.now
+        outer.now }
     ensures same { root.new ≡ record root.old { items = root.new.items } }
     ensures extends { Extends root.old.items root.new.items }
-    ensures grows { OnOk result (Grows root.old.world.now root.old.items.defs root.new.items.defs (import_marked (naming_of names.now) root.old.world.now (ImportedInterface key.now interface))) }
-    ensures imported { IfOk result (IsInterfaceImport root.old.world.now root.new.items.defs interface) }
+    ensures grows { OnOk result (Grows root.old.world.now root.old.items.defs root.new.items.defs
+        (import_marked (naming_of names.now) root.old.world.now
+        (ImportedInterface key.now interface))) }
+    ensures imported { IfOk result
+        (IsInterfaceImport root.old.world.now root.new.items.defs interface) }
     ensures cause { IfErr result IsRefusal }
 {
     let world = root.world;
@@ -107,9 +119,10 @@ fn add_instance(
     Ok(instance)
 }
 
-/// Imports an interface under the name that `names` gives it, as an instance that exports those of its types that the component
-/// needs, and those of its functions whose names are used. Returns the instance's index. Before it come aliases of the
-/// types of other interfaces of which the type of the instance is made, and this type.
+/// Imports an interface under the name that `names` gives it, as an instance that exports those of
+/// its types that the component needs, and those of its functions whose names are used. Returns the
+/// instance's index. Before it come aliases of the types of other interfaces of which the type of
+/// the instance is made, and this type.
 fn import_instance(
     root: &mut RootScope<'_, ComponentWorld>,
     names: &ImportNames<'_>,
@@ -118,15 +131,19 @@ fn import_instance(
     used: &Keyed<Text, ()>,
 ) -> Result<u32, BuildFault>
     requires valid { IsEncodable root.old.world.now }
-    requires next { IsNextInterface root.old.world.now root.old.items.defs root.old.instances key.now interface }
+    requires next { IsNextInterface root.old.world.now root.old.items.defs root.old.instances
+        key.now interface }
     requires used { AreUsedNames root.old.world.now interface used.now }
     requires functions { AreFunctionsApart root.old.world.now interface }
     requires some { names_of_interface root.old.world.now interface ≢ [] }
     requires finds { FindsInterfaces root.old.world.now root.old.items.defs root.old.instances }
     ensures same { root.new ≡ record root.old { items = root.new.items } }
     ensures extends { Extends root.old.items root.new.items }
-    ensures grows { OnOk result (Grows root.old.world.now root.old.items.defs root.new.items.defs (import_marked (naming_of names.now) root.old.world.now (ImportedInterface key.now interface))) }
-    ensures imported { IfOk result (IsInterfaceImport root.old.world.now root.new.items.defs interface) }
+    ensures grows { OnOk result (Grows root.old.world.now root.old.items.defs root.new.items.defs
+        (import_marked (naming_of names.now) root.old.world.now
+        (ImportedInterface key.now interface))) }
+    ensures imported { IfOk result
+        (IsInterfaceImport root.old.world.now root.new.items.defs interface) }
     ensures cause { IfErr result IsRefusal }
 {
     let needed = needed_types(root.world, interface);
@@ -145,15 +162,20 @@ fn import_interface(
 ) -> Result<(), BuildFault>
     requires valid { IsEncodable root.old.world.now }
     requires uses { AreInterfaceUses root.old.world.now uses.now }
-    requires next { IsNextInterface root.old.world.now root.old.items.defs root.old.instances key.now interface }
+    requires next { IsNextInterface root.old.world.now root.old.items.defs root.old.instances
+        key.now interface }
     requires finds { FindsInterfaces root.old.world.now root.old.items.defs root.old.instances }
     ensures world { root.new.world ≡ root.old.world }
     ensures met { root.new.met ≡ root.old.met }
     ensures extends { Extends root.old.items root.new.items }
-    ensures grows { OnOk result (Grows root.old.world.now root.old.items.defs root.new.items.defs (flat_map (import_marked (naming_of names.now) root.old.world.now) (interface_entry root.old.world.now (key.now, world_items.Interface interface)))) }
-    ensures finds { OnOk result (FindsInterfaces root.old.world.now root.new.items.defs root.new.instances) }
+    ensures grows { OnOk result (Grows root.old.world.now root.old.items.defs root.new.items.defs
+        (flat_map (import_marked (naming_of names.now) root.old.world.now)
+        (interface_entry root.old.world.now (key.now, world_items.Interface interface)))) }
+    ensures finds { OnOk result
+        (FindsInterfaces root.old.world.now root.new.items.defs root.new.instances) }
     ensures still { FindsInterfacesStill root.old.instances root.new.instances }
-    ensures found { OnOk result (IsFoundItem root.old.world.now root.new.instances (key.now, world_items.Interface interface)) }
+    ensures found { OnOk result (IsFoundItem root.old.world.now root.new.instances
+        (key.now, world_items.Interface interface)) }
     ensures cause { IfErr result IsRefusal }
 {
     let used = used_names(root.items.allocator(), root.world, uses, interface)?;
@@ -176,15 +198,20 @@ fn import_interface_item(
 ) -> Result<(), BuildFault>
     requires valid { IsEncodable root.old.world.now }
     requires uses { AreInterfaceUses root.old.world.now uses.now }
-    requires next { IsNextInterfaceItem root.old.world.now root.old.items.defs root.old.instances (key.now, item.now) }
+    requires next { IsNextInterfaceItem root.old.world.now root.old.items.defs root.old.instances
+        (key.now, item.now) }
     requires finds { FindsInterfaces root.old.world.now root.old.items.defs root.old.instances }
     ensures world { root.new.world ≡ root.old.world }
     ensures met { root.new.met ≡ root.old.met }
     ensures extends { Extends root.old.items root.new.items }
-    ensures grows { OnOk result (Grows root.old.world.now root.old.items.defs root.new.items.defs (flat_map (import_marked (naming_of names.now) root.old.world.now) (interface_entry root.old.world.now (key.now, item.now)))) }
-    ensures finds { OnOk result (FindsInterfaces root.old.world.now root.new.items.defs root.new.instances) }
+    ensures grows { OnOk result (Grows root.old.world.now root.old.items.defs root.new.items.defs
+        (flat_map (import_marked (naming_of names.now) root.old.world.now)
+        (interface_entry root.old.world.now (key.now, item.now)))) }
+    ensures finds { OnOk result
+        (FindsInterfaces root.old.world.now root.new.items.defs root.new.instances) }
     ensures still { FindsInterfacesStill root.old.instances root.new.instances }
-    ensures found { OnOk result (IsFoundItem root.old.world.now root.new.instances (key.now, item.now)) }
+    ensures found { OnOk result
+        (IsFoundItem root.old.world.now root.new.instances (key.now, item.now)) }
     ensures cause { IfErr result IsRefusal }
 {
     match item {
@@ -194,8 +221,8 @@ fn import_interface_item(
     }
 }
 
-/// Imports the interfaces of which the component needs something, in the order of the world. They are the first imports of
-/// the component.
+/// Imports the interfaces of which the component needs something, in the order of the world. They
+/// are the first imports of the component.
 pub(crate) fn import_interfaces(
     root: &mut RootScope<'_, ComponentWorld>,
     names: &ImportNames<'_>,
@@ -205,8 +232,10 @@ pub(crate) fn import_interfaces(
     ensures world { root.new.world ≡ root.old.world }
     ensures met { root.new.met ≡ root.old.met }
     ensures extends { Extends root.old.items root.new.items }
-    ensures grows { OnOk result (Grows root.old.world.now root.old.items.defs root.new.items.defs (interfaces_marked (naming_of names.now) root.old.world.now)) }
-    ensures known { OnOk result (AreInstancesKnown root.old.world.now root.new.items.defs root.new.instances) }
+    ensures grows { OnOk result (Grows root.old.world.now root.old.items.defs root.new.items.defs
+        (interfaces_marked (naming_of names.now) root.old.world.now)) }
+    ensures known { OnOk result
+        (AreInstancesKnown root.old.world.now root.new.items.defs root.new.instances) }
     ensures cause { IfErr result IsRefusal }
 {
     let world = root.world;

@@ -23,7 +23,10 @@ fn add_interface_functions(
     uses: &mut Keyed<InterfaceFunction, ()>,
     fields: &Keyed<Text, Import>,
 ) -> Result<(), AllocError>
-    ensures { OnOk result ((k : InterfaceFunction) → is_some (lookup (is_same_function k) uses.new) ≡ (is_some (lookup (is_same_function k) uses.old) || list_any (λ f. is_named k.name (interface_function k.interface f.1)) fields.now)) }
+    ensures { OnOk result ((k : InterfaceFunction)
+        → is_some (lookup (is_same_function k) uses.new)
+        ≡ (is_some (lookup (is_same_function k) uses.old) || list_any
+        (λ f. is_named k.name (interface_function k.interface f.1)) fields.now)) }
 {
     for (_, import) in fields.iter() {
         match import {
@@ -50,7 +53,10 @@ fn add_uses_by(
     uses: &mut Keyed<InterfaceFunction, ()>,
     modules: &Keyed<Text, ImportInstance>,
 ) -> Result<(), AllocError>
-    ensures { OnOk result ((k : InterfaceFunction) → is_some (lookup (is_same_function k) uses.new) ≡ (is_some (lookup (is_same_function k) uses.old) || list_any (uses_function k) modules.now)) }
+    ensures { OnOk result ((k : InterfaceFunction)
+        → is_some (lookup (is_same_function k) uses.new)
+        ≡ (is_some (lookup (is_same_function k) uses.old)
+        || list_any (uses_function k) modules.now)) }
 {
     for (_, instance) in modules.iter() {
         if let ImportInstance::Names(fields) = instance {
@@ -85,7 +91,12 @@ fn add_if_used(
     interface: InterfaceId,
     function: &Text,
 ) -> Result<(), AllocError>
-    ensures { OnOk result ((text : List ℕ) → is_some (found text used.new) ≡ (is_some (found text used.old) || (bytes_eq text function.now && is_some (lookup (is_same_function (record { interface = interface; name = function.now })) uses.now)))) }
+    ensures { OnOk result ((text : List ℕ)
+        → is_some (found text used.new)
+        ≡ (is_some (found text used.old) || (bytes_eq text function.now
+        && is_some (lookup (is_same_function
+        (record { interface = interface; name = function.now }))
+        uses.now)))) }
 {
     let name = function.clone(alloc)?;
     let key = InterfaceFunction { interface, name };
@@ -119,7 +130,8 @@ pub(crate) fn used_names(
 
 /// Whether nothing of an interface is needed: none of its types, and none of its functions.
 pub(crate) fn is_unneeded(needed: &[TypeId], used: &Keyed<Text, ()>) -> bool
-    ensures { MatchBool result ((needed.now ≡ []) × (used.now ≡ [])) (needed.now ≡ [] → used.now ≢ []) }
+    ensures { MatchBool result ((needed.now ≡ []) × (used.now ≡ []))
+        (needed.now ≡ [] → used.now ≢ []) }
 {
     needed.is_empty() && used.iter().next().is_none()
 }

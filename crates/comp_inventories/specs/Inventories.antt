@@ -1,5 +1,6 @@
--- What the types, functions, instances and nested components of a component's definitions are (component model, explainer: index
--- spaces; instance, import and export definitions). It is computed from the list alone: nothing is run.
+-- What the types, functions, instances and nested components of a component's definitions are
+-- (component model, explainer: index spaces; instance, import and export definitions). It is
+-- computed from the list alone: nothing is run.
 use Rattle.std.specs.Prelude.{ℕ, suc, ◌&&◌, List, [], ◌∷◌, ◌++◌, get_or, map, Option, Some, None, if◌then◌else◌}
 use Rattle.std.specs.Str.{bytes_eq}
 use Rattle.comp_bytes.specs.Spaces.{is_space, sort_space}
@@ -39,8 +40,8 @@ pub data InstanceEntry : Type 0 where
   NestedInstance : (exported : List NestedExport) → InstanceEntry
   OtherInstance : InstanceEntry
 
--- the number of imports, that of the resources that are defined, and the items of these four index spaces; a nested component is
--- its definitions
+-- the number of imports, that of the resources that are defined, and the items of these four index
+-- spaces; a nested component is its definitions
 pub record Inventory : Type 0 where
   pub imports : ℕ
   pub resources : ℕ

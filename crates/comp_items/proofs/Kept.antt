@@ -7,6 +7,7 @@ use Rattle.comp_lists.proofs.Lists.{AllZip-weaker}
 use Rattle.comp_bytes.specs.ItemIndices.{IsAt}
 use Rattle.comp_bytes.specs.Spaces.{items_in}
 use Rattle.comp_bytes.proofs.ItemIndices.{IsAt-append, in_range}
+use Rattle.comp_bytes.specs.declared.canon.Intrinsic.{Intrinsic}
 use Rattle.comp_bytes.specs.declared.canon.CanonicalOption.{CanonicalOption}
 use Rattle.comp_bytes.specs.declared.canon.CanonicalOption.TheVariants as options
 use Rattle.comp_bytes.specs.declared.space.Space.{Space}
@@ -24,7 +25,7 @@ use Rattle.comp_inventories.specs.Inventories.{TypeEntry, entry_tree, types_made
 use Rattle.comp_inventories.proofs.InventoryGrowth.{denotes_kept, function_kept, scope_counted, denotes_made, function_made}
 use Rattle.comp_inventories.proofs.Counting.{functions-counted}
 use Rattle.comp_builder.specs.Built.{Built, and_then}
-use Rattle.comp_terms.specs.Terms.{CoreExport, TermOption, Term, IsFunctionType, IsResource, IsImportedFunction, IsInstanceOf, IsExported, IsOption, IsLowering, IsOfResource, intrinsic_of, IsLifting, Is, imports_in}
+use Rattle.comp_terms.specs.Terms.{CoreExport, TermOption, Term, IsFunctionType, IsResource, IsImportedFunction, IsInstanceOf, IsExported, IsOption, IsLowering, IsOfResource, intrinsic_of, IsBuiltIn, IsLifting, Is, imports_in}
 use Rattle.comp_terms.specs.Terms as terms
 use Rattle.comp_links.specs.Targets.{ResourceFunction}
 
@@ -73,6 +74,9 @@ module _ (old new : List Def) (g : Longer old new) where
   of_resource-kept : {i : ℕ} {function : ResourceFunction} {resource : Resource} → IsOfResource old i function resource → IsOfResource new i function resource
   of_resource-kept h = record { type = h.type; made = at-kept g h.made; of = resource-kept g h.of }
 
+  built_in-kept : {i : ℕ} {intrinsic : Intrinsic} → IsBuiltIn old i intrinsic → IsBuiltIn new i intrinsic
+  built_in-kept h = record { made = at-kept g h.made; plain = h.plain }
+
   lifting-kept : {i : ℕ} {e : CoreExport} {os : List TermOption} {type : FunctionTree} → IsLifting old i e os type → IsLifting new i e os type
   lifting-kept {i} {e} {os} {type} h = record {
     core = h.core;
@@ -91,6 +95,7 @@ module _ (old new : List Def) (g : Longer old new) where
   term-kept spaces.CoreInstance i (terms.InstanceOf number) h = instance-kept g h
   term-kept spaces.CoreFunc i (terms.Lowering origin type os) h = lowering-kept h
   term-kept spaces.CoreFunc i (terms.OfResource function resource) h = of_resource-kept h
+  term-kept spaces.CoreFunc i (terms.BuiltIn intrinsic) h = built_in-kept h
   term-kept spaces.Func i (terms.Lifting entry os type) h = lifting-kept h
   term-kept space i (terms.Exported e) h = (h.0, exported-kept g h.1)
   term-kept space i t h = h
@@ -109,6 +114,7 @@ term_in_range ds spaces.Func index (terms.ImportedFunction origin type) h = func
 term_in_range ds spaces.CoreInstance index (terms.InstanceOf number) h = in_range h.made
 term_in_range ds spaces.CoreFunc index (terms.Lowering origin type os) h = in_range h.made
 term_in_range ds spaces.CoreFunc index (terms.OfResource function resource) h = in_range h.made
+term_in_range ds spaces.CoreFunc index (terms.BuiltIn intrinsic) h = in_range h.made
 term_in_range ds spaces.Func index (terms.Lifting entry os type) h = in_range h.made
 term_in_range ds space index (terms.Exported e) h = subst (λ s. index < items_in s ds) (sym h.0) (in_range h.1.made)
 term_in_range ds space index t h = absurd h

@@ -1,5 +1,5 @@
--- How a component under construction changes, and what it remembers of its items. (The rules are this project's own: the
--- standard defines components, and not how they are made.)
+-- How a component under construction changes, and what it remembers of its items. (The rules are
+-- this project's own: the standard defines components, and not how they are made.)
 use Rattle.std.specs.Prelude.{◌≡◌, ◌++◌, [], ◌∷◌, ◌⊎◌, ℕ, List, Some}
 use Rattle.std.specs.Map.{lookup}
 use Rattle.comp_bytes.specs.ItemIndices.{IsAt}

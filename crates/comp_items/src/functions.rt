@@ -20,8 +20,12 @@ use comp_lists::Seq;
 impl ComponentItems {
     /// Adds an import of a function of the type with this index. It is known by how many imports are before it.
     pub fn import_function(&mut self, name: ExternName, ty: u32) -> Result<u32, BuildFault>
-        ensures adds { Adds self.old self.new result Space.Func (Def.Item (Item.Import name (Description.Func ty))) None }
-        ensures imported { IfOk result (λ index. (type : FunctionTree) → IsFunctionType self.old.defs ty type → IsImportedFunction self.new.defs index (record { number = imports_in self.old.defs; inner = None }) type) }
+        ensures adds { Adds self.old self.new result Space.Func
+            (Def.Item (Item.Import name (Description.Func ty))) None }
+        ensures imported { IfOk result (λ index. (type : FunctionTree)
+            → IsFunctionType self.old.defs ty type
+            → IsImportedFunction self.new.defs index
+            (record { number = imports_in self.old.defs; inner = None }) type) }
     {
         let index = self.component.import(name, Description::Func(ty))?;
         Ok(index)
@@ -34,8 +38,13 @@ impl ComponentItems {
         function: u32,
         options: Seq<CanonicalOption>,
     ) -> Result<u32, BuildFault>
-        ensures adds { Adds self.old self.new result Space.CoreFunc (Def.Item (Item.Lower function options)) (option_now debug.entry) }
-        ensures lowered { IfOk result (λ index. (origin : Origin) (type : FunctionTree) (written : List TermOption) → IsImportedFunction self.old.defs function origin type → AllZip (IsOption self.old.defs) options written → IsLowering self.new.defs index origin type written) }
+        ensures adds { Adds self.old self.new result Space.CoreFunc
+            (Def.Item (Item.Lower function options)) (option_now debug.entry) }
+        ensures lowered { IfOk result (λ index. (origin : Origin) (type : FunctionTree)
+            (written : List TermOption)
+            → IsImportedFunction self.old.defs function origin type
+            → AllZip (IsOption self.old.defs) options written
+            → IsLowering self.new.defs index origin type written) }
     {
         let index = self.component.lower_func(debug, function, options)?;
         Ok(index)
@@ -49,9 +58,19 @@ impl ComponentItems {
         ty: u32,
         options: Seq<CanonicalOption>,
     ) -> Result<u32, BuildFault>
-        ensures adds { Adds self.old self.new result Space.Func (Def.Item (Item.Lift core options ty)) (option_now debug.entry) }
-        ensures lifted { IfOk result (λ index. (entry : CoreExport) (written : List TermOption) (type : FunctionTree) → entry.kind ≡ kinds.Func → IsExported self.old.defs core entry → AllZip (IsOption self.old.defs) options written → IsFunctionType self.old.defs ty type → IsLifting self.new.defs index entry written type) }
-        ensures typed { IfOk result (λ index. (type : FunctionTree) → IsFunctionType self.old.defs ty type → slice_get (inventory self.new.defs).functions index ≡ Some (record { origin = None; type = OfFunctions type })) }
+        ensures adds { Adds self.old self.new result Space.Func
+            (Def.Item (Item.Lift core options ty)) (option_now debug.entry) }
+        ensures lifted { IfOk result (λ index. (entry : CoreExport) (written : List TermOption)
+            (type : FunctionTree)
+            → entry.kind ≡ kinds.Func
+            → IsExported self.old.defs core entry
+            → AllZip (IsOption self.old.defs) options written
+            → IsFunctionType self.old.defs ty type
+            → IsLifting self.new.defs index entry written type) }
+        ensures typed { IfOk result (λ index. (type : FunctionTree)
+            → IsFunctionType self.old.defs ty type
+            → slice_get (inventory self.new.defs).functions index
+            ≡ Some (record { origin = None; type = OfFunctions type })) }
     {
         let index = self.component.lift_func(debug, core, ty, options)?;
         Ok(index)
@@ -59,7 +78,8 @@ impl ComponentItems {
 
     /// Adds an export of an item, with a name of its own, and with no description.
     pub fn export(&mut self, name: ExternName, sort: Sort, index: u32) -> Result<u32, BuildFault>
-        ensures adds { Adds self.old self.new result (sort_space sort) (Def.Item (Item.Export name sort index None)) None }
+        ensures adds { Adds self.old self.new result (sort_space sort)
+            (Def.Item (Item.Export name sort index None)) None }
     {
         let index = self.component.export(name, sort, index, None)?;
         Ok(index)

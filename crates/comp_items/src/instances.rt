@@ -22,8 +22,12 @@ use comp_lists::Text;
 impl ComponentItems {
     /// Adds an import of an instance of the type with this index. It is known by how many imports are before it.
     pub fn import_instance(&mut self, name: ExternName, ty: u32) -> Result<u32, BuildFault>
-        ensures adds { Adds self.old self.new result Space.Instance (Def.Item (Item.Import name (Description.Instance ty))) None }
-        ensures imported { IfOk result (λ index. (outer : List TypeTree) (members : List Member) → slice_get (inventory self.old.defs).types ty ≡ Some (OfInstances outer members) → slice_get (inventory self.new.defs).instances index ≡ Some (ImportedInstance (imports_in self.old.defs) outer members)) }
+        ensures adds { Adds self.old self.new result Space.Instance
+            (Def.Item (Item.Import name (Description.Instance ty))) None }
+        ensures imported { IfOk result (λ index. (outer : List TypeTree) (members : List Member)
+            → slice_get (inventory self.old.defs).types ty ≡ Some (OfInstances outer members)
+            → slice_get (inventory self.new.defs).instances index
+            ≡ Some (ImportedInstance (imports_in self.old.defs) outer members)) }
     {
         let index = self.component.import(name, Description::Instance(ty))?;
         Ok(index)
@@ -32,8 +36,17 @@ impl ComponentItems {
     /// Adds an alias of the function that an instance exports under this name. Of an imported instance it is an
     /// imported function, known by the import of the instance and by this name.
     pub fn alias_function(&mut self, instance: u32, name: &Text) -> Result<u32, BuildFault>
-        ensures adds { Adds self.old self.new result Space.Func (Def.Item (Item.Alias (Alias.Export ComponentExportKind.Func instance name.now))) None }
-        ensures imported { IfOk result (λ index. (number : ℕ) (outer : List TypeTree) (members : List Member) (type : FunctionTree) → slice_get (inventory self.old.defs).instances instance ≡ Some (ImportedInstance number outer members) → function_exported (member_trees (surroundings_of number outer) [] members) name.now members ≡ OfFunctions type → IsImportedFunction self.new.defs index (record { number = number; inner = Some name.now }) type) }
+        ensures adds { Adds self.old self.new result Space.Func
+            (Def.Item (Item.Alias (Alias.Export ComponentExportKind.Func instance name.now))) None }
+        ensures imported { IfOk result (λ index. (number : ℕ) (outer : List TypeTree)
+            (members : List Member) (type : FunctionTree)
+            → slice_get (inventory self.old.defs).instances instance
+            ≡ Some (ImportedInstance number outer members)
+            → function_exported (member_trees (surroundings_of number outer) [] members) name.now
+            members
+            ≡ OfFunctions type
+            → IsImportedFunction self.new.defs index
+            (record { number = number; inner = Some name.now }) type) }
     {
         let index = self
             .component
@@ -44,8 +57,14 @@ impl ComponentItems {
     /// Adds an alias of the type that an instance exports under this name. Of an imported instance it is what the
     /// members of the instance's type say; a resource is known by the import of the instance and by this name.
     pub fn alias_type(&mut self, instance: u32, name: &Text) -> Result<u32, BuildFault>
-        ensures adds { Adds self.old self.new result Space.Type (Def.Item (Item.Alias (Alias.Export ComponentExportKind.Type instance name.now))) None }
-        ensures denotes { IfOk result (λ index. (number : ℕ) (outer : List TypeTree) (members : List Member) → slice_get (inventory self.old.defs).instances instance ≡ Some (ImportedInstance number outer members) → Denotes (scope_of self.new.defs) index (type_exported (surroundings_of number outer) (member_trees (surroundings_of number outer) [] members) name.now members)) }
+        ensures adds { Adds self.old self.new result Space.Type
+            (Def.Item (Item.Alias (Alias.Export ComponentExportKind.Type instance name.now))) None }
+        ensures denotes { IfOk result (λ index. (number : ℕ) (outer : List TypeTree)
+            (members : List Member)
+            → slice_get (inventory self.old.defs).instances instance
+            ≡ Some (ImportedInstance number outer members)
+            → Denotes (scope_of self.new.defs) index (type_exported (surroundings_of number outer)
+            (member_trees (surroundings_of number outer) [] members) name.now members)) }
     {
         let index = self
             .component

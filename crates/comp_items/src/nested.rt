@@ -20,8 +20,10 @@ impl ComponentItems {
         debug: Option<&str>,
         items: Seq<Item>,
     ) -> Result<u32, BuildFault>
-        ensures adds { Adds self.old self.new result Space.Component (Def.Component items) (option_now debug.entry) }
-        ensures at { IfOk result (λ index. IsAt self.new.defs Space.Component index (Def.Component items)) }
+        ensures adds { Adds self.old self.new result Space.Component (Def.Component items)
+            (option_now debug.entry) }
+        ensures at { IfOk result
+            (λ index. IsAt self.new.defs Space.Component index (Def.Component items)) }
     {
         let index = self.component.component(debug, items)?;
         Ok(index)
@@ -34,8 +36,10 @@ impl ComponentItems {
         component: u32,
         arguments: Seq<Argument>,
     ) -> Result<u32, BuildFault>
-        ensures adds { Adds self.old self.new result Space.Instance (Def.Item (Item.Instantiate component arguments)) (option_now debug.entry) }
-        ensures at { IfOk result (λ index. IsAt self.new.defs Space.Instance index (Def.Item (Item.Instantiate component arguments))) }
+        ensures adds { Adds self.old self.new result Space.Instance
+            (Def.Item (Item.Instantiate component arguments)) (option_now debug.entry) }
+        ensures at { IfOk result (λ index. IsAt self.new.defs Space.Instance index
+            (Def.Item (Item.Instantiate component arguments))) }
     {
         let index = self.component.instantiate(debug, component, arguments)?;
         Ok(index)

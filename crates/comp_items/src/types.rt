@@ -18,8 +18,10 @@ use comp_bytes::{
 impl ComponentItems {
     /// Adds a type of values.
     pub fn defined_type(&mut self, ty: DefinedType) -> Result<u32, BuildFault>
-        ensures adds { Adds self.old self.new result Space.Type (Def.Item (Item.Type (TypeDef.Defined ty))) None }
-        ensures denotes { IfOk result (λ index. Denotes (scope_of self.new.defs) index (OfValues (defined_tree (scope_of self.old.defs) ty))) }
+        ensures adds { Adds self.old self.new result Space.Type
+            (Def.Item (Item.Type (TypeDef.Defined ty))) None }
+        ensures denotes { IfOk result (λ index. Denotes (scope_of self.new.defs) index
+            (OfValues (defined_tree (scope_of self.old.defs) ty))) }
     {
         let index = self.component.type_defined(None, ty)?;
         Ok(index)
@@ -27,22 +29,26 @@ impl ComponentItems {
 
     /// Adds a type of functions.
     pub fn function_type(&mut self, ty: FuncTypeDef) -> Result<u32, BuildFault>
-        ensures adds { Adds self.old self.new result Space.Type (Def.Item (Item.Type (TypeDef.Func ty))) None }
-        ensures denotes { IfOk result (λ index. Denotes (scope_of self.new.defs) index (OfFunctions (function_tree (scope_of self.old.defs) ty))) }
+        ensures adds { Adds self.old self.new result Space.Type
+            (Def.Item (Item.Type (TypeDef.Func ty))) None }
+        ensures denotes { IfOk result (λ index. Denotes (scope_of self.new.defs) index
+            (OfFunctions (function_tree (scope_of self.old.defs) ty))) }
     {
         let index = self.component.type_function(None, ty)?;
         Ok(index)
     }
 
-    /// Adds a resource, which the component defines, with the core function that is its destructor, if it has one. It is known by
-    /// how many resources were defined before it.
+    /// Adds a resource, which the component defines, with the core function that is its destructor,
+    /// if it has one. It is known by how many resources were defined before it.
     pub fn resource_type(
         &mut self,
         debug: Option<&str>,
         destructor: Option<u32>,
     ) -> Result<u32, BuildFault>
-        ensures adds { Adds self.old self.new result Space.Type (Def.Item (Item.Type (TypeDef.Resource destructor))) (option_now debug.entry) }
-        ensures defined { IfOk result (λ index. IsResource self.new.defs index (DefinedAt (inventory self.old.defs).resources)) }
+        ensures adds { Adds self.old self.new result Space.Type
+            (Def.Item (Item.Type (TypeDef.Resource destructor))) (option_now debug.entry) }
+        ensures defined { IfOk result (λ index. IsResource self.new.defs index
+            (DefinedAt (inventory self.old.defs).resources)) }
     {
         let index = self.component.type_resource(debug, destructor)?;
         Ok(index)
@@ -54,8 +60,10 @@ impl ComponentItems {
         debug: Option<&str>,
         ty: InstanceType,
     ) -> Result<u32, BuildFault>
-        ensures adds { Adds self.old self.new result Space.Type (Def.Item (Item.InstanceType ty)) (option_now debug.entry) }
-        ensures made { IfOk result (λ index. slice_get (inventory self.new.defs).types index ≡ Some (OfInstances (scope_of self.old.defs) ty.members)) }
+        ensures adds { Adds self.old self.new result Space.Type (Def.Item (Item.InstanceType ty))
+            (option_now debug.entry) }
+        ensures made { IfOk result (λ index. slice_get (inventory self.new.defs).types index
+            ≡ Some (OfInstances (scope_of self.old.defs) ty.members)) }
     {
         let index = self.component.type_instance(debug, ty)?;
         Ok(index)
@@ -63,8 +71,10 @@ impl ComponentItems {
 
     /// Adds an import of the type with this index, under a name of its own.
     pub fn import_type(&mut self, name: ExternName, ty: u32) -> Result<u32, BuildFault>
-        ensures adds { Adds self.old self.new result Space.Type (Def.Item (Item.Import name (Description.TypeEqual ty))) None }
-        ensures denotes { IfOk result (λ index. Denotes (scope_of self.new.defs) index (get_or (scope_of self.old.defs) ty OfOthers)) }
+        ensures adds { Adds self.old self.new result Space.Type
+            (Def.Item (Item.Import name (Description.TypeEqual ty))) None }
+        ensures denotes { IfOk result (λ index. Denotes (scope_of self.new.defs) index
+            (get_or (scope_of self.old.defs) ty OfOthers)) }
     {
         let index = self.component.import(name, Description::TypeEqual(ty))?;
         Ok(index)
@@ -72,8 +82,11 @@ impl ComponentItems {
 
     /// Adds an import of a resource. It is known by how many imports are before it.
     pub fn import_resource(&mut self, name: ExternName) -> Result<u32, BuildFault>
-        ensures adds { Adds self.old self.new result Space.Type (Def.Item (Item.Import name Description.SubResource)) None }
-        ensures denotes { IfOk result (λ index. Denotes (scope_of self.new.defs) index (OfValues (ResourceAt (ImportedAt (record { number = imports_in self.old.defs; inner = None }))))) }
+        ensures adds { Adds self.old self.new result Space.Type
+            (Def.Item (Item.Import name Description.SubResource)) None }
+        ensures denotes { IfOk result (λ index. Denotes (scope_of self.new.defs) index
+            (OfValues (ResourceAt (ImportedAt
+            (record { number = imports_in self.old.defs; inner = None }))))) }
     {
         let index = self.component.import(name, Description::SubResource)?;
         Ok(index)

@@ -24,7 +24,8 @@ use std::alloc::Global;
 
 /// Writes a size in bytes.
 fn put_size(out: &mut String, bytes: usize) -> Result<(), BuildFault>
-    ensures { Puts (string_bytes out.old) (string_bytes out.new) result (decimal bytes ++ codes " bytes") [] }
+    ensures { Puts (string_bytes out.old) (string_bytes out.new) result
+        (decimal bytes ++ codes " bytes") [] }
 {
     put_number(out, bytes as u64)?;
     out.push_str(" bytes")?;
@@ -38,7 +39,8 @@ fn put_with_each<T: Printable>(
     number: u32,
     items: &[T],
 ) -> Result<(), BuildFault>
-    ensures { Puts (string_bytes out.old) (string_bytes out.new) result (word.now ++ decimal number ++ flat_map T.text items.now) [] }
+    ensures { Puts (string_bytes out.old) (string_bytes out.new) result
+        (word.now ++ decimal number ++ flat_map T.text items.now) [] }
 {
     put_numbered(out, word, number)?;
     put_each(out, items)?;
@@ -51,13 +53,15 @@ fn put_instantiate<T: Printable>(
     made: u32,
     args: &Seq<T>,
 ) -> Result<(), BuildFault>
-    ensures { Puts (string_bytes out.old) (string_bytes out.new) result (codes "instantiate " ++ decimal made ++ flat_map T.text args.now) [] }
+    ensures { Puts (string_bytes out.old) (string_bytes out.new) result
+        (codes "instantiate " ++ decimal made ++ flat_map T.text args.now) [] }
 {
     put_with_each(out, "instantiate ", made, args.as_slice())
 }
 
 fn put_exports(out: &mut String, exports: &[CoreInlineExport]) -> Result<(), BuildFault>
-    ensures { Puts (string_bytes out.old) (string_bytes out.new) result (codes "exports" ++ flat_map core_export exports.now) [] }
+    ensures { Puts (string_bytes out.old) (string_bytes out.new) result
+        (codes "exports" ++ flat_map core_export exports.now) [] }
 {
     out.push_str("exports")?;
     put_each(out, exports)?;
@@ -66,7 +70,8 @@ fn put_exports(out: &mut String, exports: &[CoreInlineExport]) -> Result<(), Bui
 
 /// Writes which export of an instance is aliased.
 fn put_alias_of(out: &mut String, instance: u32, name: &Text) -> Result<(), BuildFault>
-    ensures { Puts (string_bytes out.old) (string_bytes out.new) result (codes "alias " ++ decimal instance ++ codes " " ++ quoted name.now) [] }
+    ensures { Puts (string_bytes out.old) (string_bytes out.new) result
+        (codes "alias " ++ decimal instance ++ codes " " ++ quoted name.now) [] }
 {
     put_numbered(out, "alias ", instance)?;
     out.push_str(" ")?;
@@ -75,7 +80,8 @@ fn put_alias_of(out: &mut String, instance: u32, name: &Text) -> Result<(), Buil
 }
 
 fn put_outer(out: &mut String, count: u32, index: u32) -> Result<(), BuildFault>
-    ensures { Puts (string_bytes out.old) (string_bytes out.new) result (codes "outer " ++ decimal count ++ codes " " ++ decimal index) [] }
+    ensures { Puts (string_bytes out.old) (string_bytes out.new) result
+        (codes "outer " ++ decimal count ++ codes " " ++ decimal index) [] }
 {
     put_numbered(out, "outer ", count)?;
     put_numbered(out, " ", index)?;
@@ -98,7 +104,9 @@ fn put_lift(
     options: &[CanonicalOption],
     ty: u32,
 ) -> Result<(), BuildFault>
-    ensures { Puts (string_bytes out.old) (string_bytes out.new) result (codes "lift " ++ decimal func ++ codes " " ++ decimal ty ++ flat_map option options.now) [] }
+    ensures { Puts (string_bytes out.old) (string_bytes out.new) result
+        (codes "lift " ++ decimal func ++ codes " " ++ decimal ty ++ flat_map option options.now)
+        [] }
 {
     put_numbered(out, "lift ", func)?;
     put_numbered(out, " ", ty)?;
@@ -108,7 +116,8 @@ fn put_lift(
 
 /// Writes the bytes that encode a value.
 fn put_encoded<T: Emit>(alloc: Global, out: &mut String, value: &T) -> Result<(), BuildFault>
-    ensures { Puts (string_bytes out.old) (string_bytes out.new) result (encode_lower (T.encoding value.now).bytes) (T.encoding value.now).counts }
+    ensures { Puts (string_bytes out.old) (string_bytes out.new) result
+        (encode_lower (T.encoding value.now).bytes) (T.encoding value.now).counts }
 {
     let bytes = encoded(alloc, value)?;
     put_hex(out, bytes.as_slice())?;
@@ -116,7 +125,9 @@ fn put_encoded<T: Emit>(alloc: Global, out: &mut String, value: &T) -> Result<()
 }
 
 fn put_intrinsic(alloc: Global, out: &mut String, intrinsic: &Intrinsic) -> Result<(), BuildFault>
-    ensures { Puts (string_bytes out.old) (string_bytes out.new) result (codes "canon " ++ encode_lower (intrinsic_bytes intrinsic.now).bytes) (intrinsic_bytes intrinsic.now).counts }
+    ensures { Puts (string_bytes out.old) (string_bytes out.new) result
+        (codes "canon " ++ encode_lower (intrinsic_bytes intrinsic.now).bytes)
+        (intrinsic_bytes intrinsic.now).counts }
 {
     out.push_str("canon ")?;
     put_encoded(alloc, out, intrinsic)?;
@@ -129,7 +140,10 @@ fn put_import(
     name: &ExternName,
     description: &Description,
 ) -> Result<(), BuildFault>
-    ensures { Puts (string_bytes out.old) (string_bytes out.new) result (codes "import " ++ extern name.now ++ codes " " ++ encode_lower (description_bytes description.now).bytes) (description_bytes description.now).counts }
+    ensures { Puts (string_bytes out.old) (string_bytes out.new) result (codes "import "
+        ++ extern name.now ++ codes " "
+        ++ encode_lower (description_bytes description.now).bytes)
+        (description_bytes description.now).counts }
 {
     out.push_str("import ")?;
     put_extern(out, name)?;
@@ -139,7 +153,9 @@ fn put_import(
 }
 
 fn put_export(out: &mut String, name: &ExternName, sort: Sort, index: u32) -> Result<(), BuildFault>
-    ensures { Puts (string_bytes out.old) (string_bytes out.new) result (codes "export " ++ extern name.now ++ codes " " ++ space_word (sort_space sort) ++ codes " " ++ decimal index) [] }
+    ensures { Puts (string_bytes out.old) (string_bytes out.new) result (codes "export "
+        ++ extern name.now ++ codes " " ++ space_word (sort_space sort) ++ codes " "
+        ++ decimal index) [] }
 {
     out.push_str("export ")?;
     put_extern(out, name)?;
@@ -149,7 +165,8 @@ fn put_export(out: &mut String, name: &ExternName, sort: Sort, index: u32) -> Re
 }
 
 fn put_custom(out: &mut String, name: &Text, bytes: usize) -> Result<(), BuildFault>
-    ensures { Puts (string_bytes out.old) (string_bytes out.new) result (codes "custom " ++ quoted name.now ++ codes " " ++ decimal bytes ++ codes " bytes") [] }
+    ensures { Puts (string_bytes out.old) (string_bytes out.new) result
+        (codes "custom " ++ quoted name.now ++ codes " " ++ decimal bytes ++ codes " bytes") [] }
 {
     out.push_str("custom ")?;
     put_quoted(out, name.as_str())?;
@@ -160,7 +177,8 @@ fn put_custom(out: &mut String, name: &Text, bytes: usize) -> Result<(), BuildFa
 
 /// Writes what an item is made of.
 fn put_made_of(alloc: Global, out: &mut String, item: &Item) -> Result<(), BuildFault>
-    ensures { Puts (string_bytes out.old) (string_bytes out.new) result (made_of item.now) (shown item.now).counts }
+    ensures { Puts (string_bytes out.old) (string_bytes out.new) result (made_of item.now)
+        (shown item.now).counts }
 {
     match item {
         Item::CoreModule(bytes) => put_size(out, bytes.len()),
@@ -233,7 +251,8 @@ pub(crate) fn put_item_line(
     index: u64,
     item: &Item,
 ) -> Result<(), BuildFault>
-    ensures { Puts (string_bytes out.old) (string_bytes out.new) result (item_line index item.now) (shown item.now).counts }
+    ensures { Puts (string_bytes out.old) (string_bytes out.new) result (item_line index item.now)
+        (shown item.now).counts }
 {
     put_left(out, space_of_item(item), index)?;
     put_made_of(alloc, out, item)?;
@@ -246,7 +265,8 @@ pub(crate) fn put_component_line(
     index: u64,
     definitions: usize,
 ) -> Result<(), BuildFault>
-    ensures { Puts (string_bytes out.old) (string_bytes out.new) result (left (Some Component) index ++ decimal definitions ++ codes " definitions") [] }
+    ensures { Puts (string_bytes out.old) (string_bytes out.new) result
+        (left (Some Component) index ++ decimal definitions ++ codes " definitions") [] }
 {
     put_left(out, Some(Space::Component), index)?;
     put_number(out, definitions as u64)?;

@@ -29,7 +29,9 @@ fn space_index(space: Space) -> usize
 fn count(counters: &mut Counters, space: Option<Space>) -> u64
     requires { (s : Space) → get_or counters.old (ordinal s) 0 < 2 ^ 64 - 1 }
     ensures result { result ≡ elim space [ None ↦ 0 | Some s ↦ get_or counters.old (ordinal s) 0 ] }
-    ensures counted { (s : Space) → get_or counters.new (ordinal s) 0 ≡ get_or counters.old (ordinal s) 0 + (if is_space s space then 1 else 0) }
+    ensures counted { (s : Space)
+        → get_or counters.new (ordinal s) 0
+        ≡ get_or counters.old (ordinal s) 0 + (if is_space s space then 1 else 0) }
 {
     match space {
         None => 0,
@@ -55,14 +57,16 @@ trait Listed {
 
     /// Adds its lines, given the index of its item.
     fn put_lines(&self, alloc: Global, index: u64, out: &mut Vec<String>) -> Result<(), BuildFault>
-        ensures ok { OnOk result (map string_bytes out.new.items ≡ map string_bytes out.old.items ++ lines index self.now) }
+        ensures ok { OnOk result (map string_bytes out.new.items
+            ≡ map string_bytes out.old.items ++ lines index self.now) }
         ensures fits { OnOk result (Fits (counts self.now)) }
         ensures refused { IfErr result (Refused (counts self.now)) };
 }
 
 /// Adds the lines of a scope's definitions.
 fn put_scope<T: Listed>(alloc: Global, items: &[T], out: &mut Vec<String>) -> Result<(), BuildFault>
-    ensures ok { OnOk result (map string_bytes out.new.items ≡ map string_bytes out.old.items ++ scope_lines T.space T.lines [] items.now) }
+    ensures ok { OnOk result (map string_bytes out.new.items
+        ≡ map string_bytes out.old.items ++ scope_lines T.space T.lines [] items.now) }
     ensures fits { OnOk result (Fits (flat_map T.counts items.now)) }
     ensures refused { IfErr result (Refused (flat_map T.counts items.now)) }
 {
@@ -82,7 +86,8 @@ fn put_line(
     item: &Item,
     out: &mut Vec<String>,
 ) -> Result<(), BuildFault>
-    ensures ok { OnOk result (map string_bytes out.new.items ≡ map string_bytes out.old.items ++ (margin.now ++ item_line index item.now) ∷ []) }
+    ensures ok { OnOk result (map string_bytes out.new.items
+        ≡ map string_bytes out.old.items ++ (margin.now ++ item_line index item.now) ∷ []) }
     ensures fits { OnOk result (Fits (shown item.now).counts) }
     ensures refused { IfErr result (Refused (shown item.now).counts) }
 {
@@ -120,7 +125,8 @@ fn put_component(
     inner: &[Item],
     out: &mut Vec<String>,
 ) -> Result<(), BuildFault>
-    ensures ok { OnOk result (map string_bytes out.new.items ≡ map string_bytes out.old.items ++ definition_lines index (defs.Component inner.now)) }
+    ensures ok { OnOk result (map string_bytes out.new.items
+        ≡ map string_bytes out.old.items ++ definition_lines index (defs.Component inner.now)) }
     ensures fits { OnOk result (Fits (shown_counts (defs.Component inner.now))) }
     ensures refused { IfErr result (Refused (shown_counts (defs.Component inner.now))) }
 {
@@ -176,7 +182,8 @@ pub fn describe(alloc: Global, definitions: &Defs) -> Result<Vec<String>, BuildF
     ensures ok { IfOk result (λ found. map string_bytes found.items ≡ lines definitions.now) }
     ensures fits { OnOk result (Fits (flat_map shown_counts definitions.now)) }
     ensures refused { IfErr result (Refused (flat_map shown_counts definitions.now)) }
-    ensures memory { IfErr result (λ e. (bytes : List ℕ) → Encodes bytes definitions.now → e ≡ BuildFault.Memory) }
+    ensures memory { IfErr result
+        (λ e. (bytes : List ℕ) → Encodes bytes definitions.now → e ≡ BuildFault.Memory) }
 {
     let mut out = Vec::new(alloc);
     put_scope(alloc, definitions.as_slice(), &mut out)?;

@@ -44,7 +44,8 @@ fn word_of_kind(kind: ExportKind) -> &'static str
 
 /// Writes a word, and a number after it.
 pub(crate) fn put_numbered(out: &mut String, word: &str, number: u32) -> Result<(), AllocError>
-    ensures { OnOk result (string_bytes out.new ≡ string_bytes out.old ++ (word.now ++ decimal number)) }
+    ensures { OnOk result
+        (string_bytes out.new ≡ string_bytes out.old ++ (word.now ++ decimal number)) }
 {
     out.push_str(word)?;
     put_number(out, u64::from(number))?;
@@ -53,7 +54,8 @@ pub(crate) fn put_numbered(out: &mut String, word: &str, number: u32) -> Result<
 
 /// Writes the word of an item's space and its index there.
 pub(crate) fn put_item(out: &mut String, space: Space, index: u64) -> Result<(), AllocError>
-    ensures { OnOk result (string_bytes out.new ≡ string_bytes out.old ++ (space_word space ++ codes " " ++ decimal index)) }
+    ensures { OnOk result (string_bytes out.new
+        ≡ string_bytes out.old ++ (space_word space ++ codes " " ++ decimal index)) }
 {
     out.push_str(word_of_space(space))?;
     out.push_str(" ")?;
@@ -63,7 +65,8 @@ pub(crate) fn put_item(out: &mut String, space: Space, index: u64) -> Result<(),
 
 /// Writes a space, a name in quotes and the sign after it.
 fn put_given(out: &mut String, name: &Text) -> Result<(), AllocError>
-    ensures { OnOk result (string_bytes out.new ≡ string_bytes out.old ++ (codes " " ++ quoted name.now ++ codes "=")) }
+    ensures { OnOk result (string_bytes out.new
+        ≡ string_bytes out.old ++ (codes " " ++ quoted name.now ++ codes "=")) }
 {
     out.push_str(" ")?;
     put_quoted(out, name.as_str())?;
@@ -92,7 +95,8 @@ pub(crate) trait Printable {
 }
 
 pub(crate) fn put_each<T: Printable>(out: &mut String, items: &[T]) -> Result<(), AllocError>
-    ensures { OnOk result (string_bytes out.new ≡ string_bytes out.old ++ flat_map T.text items.now) }
+    ensures { OnOk result
+        (string_bytes out.new ≡ string_bytes out.old ++ flat_map T.text items.now) }
 {
     for item in items {
         item.put(out)?;

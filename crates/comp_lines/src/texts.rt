@@ -50,7 +50,8 @@ fn put_escaped_ascii(out: &mut String, byte: u8) -> Result<(), AllocError>
 /// Writes a character of a text in quotes.
 #[tactic(auto, using(crate::proofs::Wide::escapes))]
 fn put_escaped(out: &mut String, c: char) -> Result<(), AllocError>
-    ensures { OnOk result (string_bytes out.new ≡ string_bytes out.old ++ flat_map escaped (encode_utf8 c)) }
+    ensures { OnOk result
+        (string_bytes out.new ≡ string_bytes out.old ++ flat_map escaped (encode_utf8 c)) }
 {
     if c.is_ascii() {
         put_escaped_ascii(out, c as u32 as u8)
@@ -60,7 +61,8 @@ fn put_escaped(out: &mut String, c: char) -> Result<(), AllocError>
 }
 
 fn put_escaped_all(out: &mut String, text: &str) -> Result<(), AllocError>
-    ensures { OnOk result (string_bytes out.new ≡ string_bytes out.old ++ flat_map escaped text.now) }
+    ensures { OnOk result
+        (string_bytes out.new ≡ string_bytes out.old ++ flat_map escaped text.now) }
 {
     for c in text.chars() {
         put_escaped(out, c)?;

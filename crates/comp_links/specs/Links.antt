@@ -12,7 +12,9 @@ use Rattle.comp_worlds.specs.WorldContents.{items_of, function_exported, core_na
 use Rattle.wit_data.specs.declared.functions.AbiVariant.TheVariants.{GuestExport}
 use Rattle.wit_data.specs.declared.worlds.WorldKey.{WorldKey}
 use Rattle.wit_data.specs.declared.worlds.WorldKey.TheVariants as keys
-use Rattle.comp_options.specs.Options.{needs, import_set, export_set}
+use Rattle.comp_bytes.specs.declared.canon.Intrinsic.{Intrinsic}
+use Rattle.built_ins.specs.BuiltIns.{plain_intrinsic}
+use Rattle.comp_options.specs.Options.{needs, import_set, export_set, memory_bit, realloc_bit, encoding_bit, async_bit}
 use Rattle.comp_roles.specs.FunctionExports.{is_dtor}
 use Rattle.comp_roles.specs.Functions.{of_function}
 use Rattle.comp_roles.specs.Lookups.{first_export}
@@ -26,7 +28,7 @@ use Rattle.comp_roles.specs.declared.libraries.MainOrAdapter.TheVariants as modu
 use Rattle.comp_worlds.specs.declared.world.ComponentWorld.{ComponentWorld}
 use Rattle.comp_worlds.specs.declared.world.ValidatedModule.{ValidatedModule}
 use Rattle.comp_roles.specs.declared.exports.Export.{Export}
-use Rattle.comp_links.specs.Targets.{UserModule, Main, Adapter, ExportRef, TargetOption, Memory, Realloc, Encoding, Async, PostReturn, Target, OfRoot, OfInterface, Lowered, ExportOf, MainMemory, New, Rep, Drop, OfResource, Lifted, Unlinked}
+use Rattle.comp_links.specs.Targets.{UserModule, Main, Adapter, ExportRef, TargetOption, Memory, Realloc, Encoding, Async, PostReturn, Target, OfRoot, OfInterface, Lowered, ExportOf, MainMemory, New, Rep, Drop, OfResource, BuiltIn, Lifted, Unlinked}
 use Rattle.comp_links.specs.Modules.{WorldModule, module_found}
 use Rattle.comp_links.specs.Lists.{RequiredFunction, ProvidedType}
 use Rattle.comp_links.specs.Roles.{import_encoding, export_encoding}
@@ -39,7 +41,7 @@ if_needed needed option = []
 -- the options of a set, in order, where there are these a realloc and a string encoding
 abbrev pub options_in : ℕ → Option ExportRef → Option StringEncoding → List TargetOption
 options_in set realloc encoding =
-    if_needed (needs set 1) (Some Memory) ++ (if_needed (needs set 2) (option_map Realloc realloc) ++ (if_needed (needs set 4) (option_map Encoding encoding) ++ if_needed (needs set 8) (Some Async)))
+    if_needed (needs set memory_bit) (Some Memory) ++ (if_needed (needs set realloc_bit) (option_map Realloc realloc) ++ (if_needed (needs set encoding_bit) (option_map Encoding encoding) ++ if_needed (needs set async_bit) (Some Async)))
 
 -- ---- lowerings
 
@@ -58,7 +60,8 @@ abbrev pub export_at : Option (List ℕ) × List ℕ → ExportRef
 export_at (None, name) = record { of = Main; name = name }
 export_at (Some adapter, name) = record { of = Adapter adapter; name = name }
 
--- the realloc of calls with these exports in view: one of the module's own, or, for a library that has none, main's general one
+-- the realloc of calls with these exports in view: one of the module's own, or, for a library that
+-- has none, main's general one
 abbrev pub realloc_of : ComponentWorld → UserModule → (Export → Bool) → Option ExportRef
 realloc_of w of test = option_and_then (λ (m : ValidatedModule). option_map export_at (resolved_realloc w (name_of_user of) (realloc_for test m.exports.exports))) (module_found w of)
 
@@ -83,8 +86,8 @@ lift_realloc w of = realloc_of w of is_export_realloc
 abbrev pub export_of : UserModule → List ℕ → ExportRef
 export_of m name = record { of = m; name = name }
 
--- the core export that implements a required function, its post-return, and the destructor of a resource, among the exports of the
--- module that has to export it: the first export with that role
+-- the core export that implements a required function, its post-return, and the destructor of a
+-- resource, among the exports of the module that has to export it: the first export with that role
 abbrev pub core_name : ComponentWorld → RequiredFunction → Option (List ℕ)
 core_name w r = option_and_then (λ (m : ValidatedModule). core_name_in m.exports.exports r.key r.function) (module_found w r.of)
 
@@ -108,8 +111,14 @@ abbrev pub module_of : MainOrAdapter → UserModule
 module_of modules.Main = Main
 module_of (modules.Adapter name) = Adapter name
 
--- what an import of a user module is to be given, by its role: a function of the world is lowered, a resource has functions for
--- its handles, and what another module exports is given as it is
+-- a built-in function without operands, where the role has one
+abbrev pub link_of_intrinsic : Option Intrinsic → Target
+link_of_intrinsic (Some i) = BuiltIn i
+link_of_intrinsic None = Unlinked
+
+-- what an import of a user module is to be given, by its role: a function of the world is lowered,
+-- a resource has functions for its handles, what another module exports is given as it is, and a
+-- built-in function is that
 abbrev pub link_of : ComponentWorld → UserModule → Import → Target
 link_of w m (imports.WorldFunc (keys.Name text) function abi) = Lowered (OfRoot text) (lower_options w m (imports.WorldFunc (keys.Name text) function abi))
 link_of w m (imports.InterfaceFunc key id function abi) = Lowered (OfInterface id function) (lower_options w m (imports.InterfaceFunc key id function abi))
@@ -121,10 +130,10 @@ link_of w m (imports.MainModuleMemory type) = MainMemory
 link_of w m (imports.MainModuleExport name kind) = ExportOf (record { of = Main; name = name })
 link_of w m (imports.AdapterExport adapter name type) = ExportOf (record { of = Adapter adapter; name = name })
 link_of w m (imports.Item item) = ExportOf (record { of = module_of item.which; name = item.name })
-link_of w m role = Unlinked
+link_of w m role = link_of_intrinsic (plain_intrinsic w.can_use_context_slot_1 role)
 
--- the same by the names of its module and field: a module whose imports from one other are all given by a whole instance
--- gets what that exports under these names
+-- the same by the names of its module and field: a module whose imports from one other are all
+-- given by a whole instance gets what that exports under these names
 abbrev pub link_in : ComponentWorld → UserModule → List ℕ → ImportInstance → Option Target
 link_in w m field (instances.Names fields) = option_map (link_of w m) (found field fields)
 link_in w m field (instances.Whole which) = Some (ExportOf (record { of = module_of which; name = field }))

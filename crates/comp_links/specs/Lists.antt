@@ -1,5 +1,5 @@
--- What a component imports and exports, in order, and the section of its names (component model: the imports and exports
--- of a component; binary format: name section).
+-- What a component imports and exports, in order, and the section of its names (component model:
+-- the imports and exports of a component; binary format: name section).
 use Rattle.std.specs.Prelude.{◌≡◌, ◌==◌, ◌++◌, ◌⊎◌, ℕ, suc, Bool, true, false, List, [], ◌∷◌, codes, map, Option, Some, None, Contains, filter, slice_get, if◌then◌else◌, unwrap_or}
 use Rattle.std.specs.List.{flat_map}
 use Rattle.std.specs.Map.{lookup}
@@ -64,8 +64,8 @@ needed_types w id = unwrap_or (lookup (λ (other : InterfaceId). id.index == oth
 abbrev pub type_name : ComponentWorld → TypeId → List ℕ
 type_name w id = text_of (name_at w.resolve.types id.index)
 
--- the names that the instance type of an imported interface exports: those of its types that are needed, then those of its
--- functions that core imports use
+-- the names that the instance type of an imported interface exports: those of its types that are
+-- needed, then those of its functions that core imports use
 abbrev pub names_of_interface : ComponentWorld → InterfaceId → List (List ℕ)
 names_of_interface w id = map (type_name w) (needed_types w id) ++ used_functions_of w id
 
@@ -150,8 +150,8 @@ provided_resources w = filter (λ p. is_resource (kind_at w.resolve.types p.id.i
 abbrev pub own_resources : ComponentWorld → List TypeId
 own_resources w = map (λ p. p.id) (provided_resources w)
 
--- The resource that a type of the world is, where it is one: the component defines it, and then it is known by its number among
--- these, from n on; or it is imported.
+-- The resource that a type of the world is, where it is one: the component defines it, and then it
+-- is known by its number among these, from n on; or it is imported.
 abbrev pub resource_among : Origin → TypeId → ℕ → List TypeId → Resource
 resource_among origin id n [] = ImportedAt origin
 resource_among origin id n (own ∷ ids) = if id.index == own.index then DefinedAt n else resource_among origin id (suc n) ids
@@ -262,9 +262,10 @@ pub record IsExportedType (w : ComponentWorld) (type : TypeId) : Type 0 where
   pub item : exported_item w key ≡ Some (items.Interface other)
   pub owner : interface_at w.resolve.types type.index ≡ Some other
 
--- A name under which its nested component may import a type of the interface, or one of an imported interface or of another exported
--- one: that of the type, with as many numbers behind it as it takes. (Which types are imported, no definition here says: those of
--- other interfaces of which the interface is made, and of its own those of which functions are made.)
+-- A name under which its nested component may import a type of the interface, or one of an imported
+-- interface or of another exported one: that of the type, with as many numbers behind it as it
+-- takes. (Which types are imported, no definition here says: those of other interfaces of which the
+-- interface is made, and of its own those of which functions are made.)
 pub record IsTypeImport (w : ComponentWorld) (id : InterfaceId) (name : List ℕ) : Type 0 where
   pub type : TypeId
   pub of : List ℕ
@@ -273,8 +274,8 @@ pub record IsTypeImport (w : ComponentWorld) (id : InterfaceId) (name : List ℕ
   pub count : ℕ
   pub same : name ≡ numbered count (type_import_name of)
 
--- The lists of names of the nested component that an item is exported by: of the functions that it imports, and of its exports. A
--- function is exported as it is.
+-- The lists of names of the nested component that an item is exported by: of the functions that it
+-- imports, and of its exports. A function is exported as it is.
 abbrev pub nested_lists : ComponentWorld → Option WorldItem → List (List (List ℕ))
 nested_lists w (Some (items.Interface id)) = import_names (functions_of_interface w id) ∷ nested_export_names w id ∷ []
 nested_lists w item = []

@@ -1,8 +1,9 @@
 -- What an import of a core module is to be given, and what a required export is to be lifted from
--- (Canonical ABI: `canon lower`, `canon lift` and their options, `canon resource.new` and its neighbours). A target names modules, functions and
--- exports, and never an index.
+-- (Canonical ABI: `canon lower`, `canon lift` and their options, `canon resource.new` and its
+-- neighbours). A target names modules, functions and exports, and never an index.
 use Rattle.std.specs.Prelude.{ℕ, List}
 use Rattle.standard_kinds.specs.declared.kinds.StringEncoding.{StringEncoding}
+use Rattle.comp_bytes.specs.declared.canon.Intrinsic.{Intrinsic}
 use Rattle.wit_data.specs.declared.ids.InterfaceId.{InterfaceId}
 use Rattle.wit_data.specs.declared.ids.TypeId.{TypeId}
 
@@ -30,8 +31,8 @@ pub data TargetOption : Type 0 where
   PostReturn : (export_ref : ExportRef) → TargetOption
   Callback : (export_ref : ExportRef) → TargetOption
 
--- `resource.new` makes a handle of a representation, `resource.rep` finds the representation of a handle, and `resource.drop`
--- drops a handle
+-- `resource.new` makes a handle of a representation, `resource.rep` finds the representation of a
+-- handle, and `resource.drop` drops a handle
 pub data ResourceFunction : Type 0 where
   New : ResourceFunction
   Rep : ResourceFunction
@@ -44,6 +45,8 @@ pub data Target : Type 0 where
   MainMemory : Target
   -- a function of the handles of a resource of the world
   OfResource : (function : ResourceFunction) (resource : TypeId) → Target
+  -- a built-in function without operands and options
+  BuiltIn : (intrinsic : Intrinsic) → Target
   Lifted : (entry : ExportRef) (options : List TargetOption) → Target
   -- of a role that no world has so far: no item meets it
   Unlinked : Target

@@ -93,8 +93,8 @@ impl<K: Eq + Hash + Drop, V: Drop> Keyed<K, V> {
         self.insert(key, value)
     }
 
-    /// Sets the value of a key. A key that is there keeps its place, and a new one comes last. Where memory is refused, the table is
-    /// as it was.
+    /// Sets the value of a key. A key that is there keeps its place, and a new one comes last.
+    /// Where memory is refused, the table is as it was.
     pub fn set(&mut self, key: K, new_value: V) -> Result<(), AllocError>
         ensures ok { OnOk result (self.new ≡ insert_entry K.eq self.old key new_value) }
         ensures err { OnErr result (self.new ≡ self.old) }

@@ -4,10 +4,11 @@
 //! [`Text`] and [`Bytes`] is itself the value that definitions speak of: equality of values is
 //! equality of lists, and no second copy of a type is needed in `specs/`.
 //!
-//! In reading order: `try_clone` (copies that may fail with out of memory), `seq` (lists), `shared_bytes` (bytes that are held
-//! once), `text` (texts), `shared_text` (texts that are held once), `splits` (texts split at a character), `keyed` (tables by key).
-//! `specs/Found.antt` has look-ups by name in a list of pairs; `proofs/` has the lemmas on lists that
-//! the standard library lacks, for every crate above.
+//! In reading order: `try_clone` (copies that may fail with out of memory), `seq` (lists),
+//! `shared_bytes` (bytes that are held once), `text` (texts), `shared_text` (texts that are held
+//! once), `splits` (texts split at a character), `keyed` (tables by key). `specs/Found.antt` has
+//! look-ups by name in a list of pairs; `proofs/` has the lemmas on lists that the standard library
+//! lacks, for every crate above.
 #![tactic(auto)]
 
 mod keyed;

@@ -9,8 +9,8 @@ use std::alloc::AllocError;
 use std::marker::Model;
 use std::rc::Rc;
 
-/// Bytes that don't change, which contracts see as their list. All that share them are equal values, and hold them in one buffer,
-/// which is given back with the last of these.
+/// Bytes that don't change, which contracts see as their list. All that share them are equal
+/// values, and hold them in one buffer, which is given back with the last of these.
 #[derive(Debug, Drop)]
 pub struct SharedBytes {
     bytes: Rc<Vec<u8>>,
@@ -33,8 +33,8 @@ impl SharedBytes {
         Ok(SharedBytes { bytes })
     }
 
-    /// The same bytes, for one more owner. It copies none of them. The only error is out of memory, where there are too many owners
-    /// to count.
+    /// The same bytes, for one more owner. It copies none of them. The only error is out of memory,
+    /// where there are too many owners to count.
     pub fn share(&self) -> Result<SharedBytes, AllocError>
         ensures { IfOk result (λ b. b ≡ self.now) }
     {

@@ -64,7 +64,8 @@ impl Named for Member {
 
 /// Whether the names of an instance type are right.
 fn instance_type(alloc: Global, ty: &InstanceType) -> Result<(), NameFault>
-    ensures { Judges (flat_map member_export ty.now.members ∷ []) (flat_map member_export ty.now.members) result }
+    ensures { Judges (flat_map member_export ty.now.members ∷ [])
+        (flat_map member_export ty.now.members) result }
 {
     let members = ty.members.as_slice();
     apart::<Member, Exports>(alloc, members)?;

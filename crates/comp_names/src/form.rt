@@ -48,7 +48,8 @@ fn is_unversioned(name: &str) -> bool
 }
 
 fn is_versioned(alloc: Global, name: &str) -> Result<bool, AllocError>
-    ensures { IfOk result (λ holds. IsTrue holds ↔ Joined IsUnversioned at_sign IsVersionText name.now) }
+    ensures { IfOk result
+        (λ holds. IsTrue holds ↔ Joined IsUnversioned at_sign IsVersionText name.now) }
 {
     match split_once(name, '@') {
         Some((interface, version)) => {

@@ -44,7 +44,8 @@ fn begins_with_letter(text: &str) -> bool
 
 /// Whether the parts between hyphens are words.
 fn are_words(text: &str) -> bool
-    ensures { IsTrue result ↔ AllByRecursion IsWord (slice_split (λ byte. byte == hyphen) text.now) }
+    ensures { IsTrue result
+        ↔ AllByRecursion IsWord (slice_split (λ byte. byte == hyphen) text.now) }
 {
     let mut rest = text;
     while let Some((word, after)) = split_once(rest, '-') {

@@ -4,7 +4,7 @@ use Rattle.comp_bytes.specs.declared.canon.CanonicalOption.{CanonicalOption}
 use Rattle.comp_bytes.specs.declared.canon.CanonicalOption.TheVariants as canonical
 use Rattle.standard_kinds.specs.declared.kinds.StringEncoding.{StringEncoding}
 use Rattle.standard_kinds.specs.declared.kinds.StringEncoding.TheVariants as encodings
-use Rattle.comp_options.specs.Options.{needs}
+use Rattle.comp_options.specs.Options.{needs, memory_bit, realloc_bit, encoding_bit, async_bit}
 
 -- a value, if there is one, as one option
 abbrev pub one_if : {A : Type 0} → (A → CanonicalOption) → Option A → List CanonicalOption
@@ -31,11 +31,11 @@ when false x = None
 
 -- memory, realloc, encoding, asynchronous: each if it is in the set
 abbrev pub options_of : ℕ → StringEncoding → Option ℕ → Option ℕ → List CanonicalOption
-options_of set encoding memory realloc = in_order (when (needs set 1) memory) (when (needs set 2) realloc) (when (needs set 4) (Some encoding)) (needs set 8)
+options_of set encoding memory realloc = in_order (when (needs set memory_bit) memory) (when (needs set realloc_bit) realloc) (when (needs set encoding_bit) (Some encoding)) (needs set async_bit)
 
 -- an option that is needed and missing
 abbrev pub lacks_memory : ℕ → Option ℕ → Bool
-lacks_memory set memory = needs set 1 && not (is_some memory)
+lacks_memory set memory = needs set memory_bit && not (is_some memory)
 
 abbrev pub lacks_realloc : ℕ → Option ℕ → Bool
-lacks_realloc set realloc = needs set 2 && not (is_some realloc)
+lacks_realloc set realloc = needs set realloc_bit && not (is_some realloc)

@@ -15,6 +15,18 @@ use Rattle.comp_options.specs.declared.required.Direction.TheVariants as ways
 
 -- ---- sets
 
+abbrev pub memory_bit : ℕ
+memory_bit = 1
+
+abbrev pub realloc_bit : ℕ
+realloc_bit = 2
+
+abbrev pub encoding_bit : ℕ
+encoding_bit = 4
+
+abbrev pub async_bit : ℕ
+async_bit = 8
+
 -- whether the set has the bit
 abbrev pub needs : ℕ → ℕ → Bool
 needs set bit = bit_and set bit == bit
@@ -24,13 +36,22 @@ abbrev pub with_if : Bool → ℕ → ℕ → ℕ
 with_if true bits set = bit_or set bits
 with_if false bits set = set
 
+-- the bits of the contents of values: a text, or something else that is passed in memory
+abbrev pub text_inside : ℕ
+text_inside = 1
+
+abbrev pub list_inside : ℕ
+list_inside = 2
+
 -- what lifting needs: a memory for a list; for a text its encoding too
 abbrev pub lifted : ℕ → ℕ → ℕ
-lifted contents set = with_if (needs contents 1) 4 (with_if (needs contents 1) 1 (with_if (needs contents 2) 1 set))
+lifted contents set =
+    with_if (needs contents text_inside) encoding_bit
+    (with_if (needs contents text_inside) memory_bit (with_if (needs contents list_inside) memory_bit set))
 
 -- what lowering needs: what lifting needs, and a realloc for either
 abbrev pub lowered : ℕ → ℕ → ℕ
-lowered contents set = with_if (needs contents 2 || needs contents 1) 2 (lifted contents set)
+lowered contents set = with_if (needs contents list_inside || needs contents text_inside) realloc_bit (lifted contents set)
 
 -- what passing values of these contents one way needs
 abbrev pub passed : Direction → ℕ → ℕ → ℕ
@@ -62,9 +83,9 @@ is_async_export _ = false
 -- the options of a call of an imported function: it lifts its parameters and lowers its result
 abbrev pub import_set : AbiVariant → List TypeDef → Function → ℕ
 import_set abi types f =
-    with_if (is_async_import abi) 8 (with_if (passes_memory abi types f) 1 (lowered (contents_bits types f.result) (pass_all ways.Lift (param_contents types f.params) 0)))
+    with_if (is_async_import abi) async_bit (with_if (passes_memory abi types f) memory_bit (lowered (contents_bits types f.result) (pass_all ways.Lift (param_contents types f.params) 0)))
 
--- a set without the realloc
+-- a set without the realloc: 13 has all other bits
 abbrev pub without_realloc : ℕ → ℕ
 without_realloc set = bit_and set 13
 
@@ -75,4 +96,5 @@ task_return_set types f = without_realloc (import_set abis.GuestImport types f)
 -- a call of an exported function lowers its parameters, into memory where they are many, and lifts its result
 abbrev pub export_set : AbiVariant → List TypeDef → Function → ℕ
 export_set abi types f =
-    with_if (is_async_export abi) (task_return_set types f) (with_if (is_async_export abi) 8 (with_if (is_indirect abi types f) 2 (with_if (passes_memory abi types f) 1 (lifted (contents_bits types f.result) (pass_all ways.Lower (param_contents types f.params) 0)))))
+    with_if (is_async_export abi) (task_return_set types f)
+    (with_if (is_async_export abi) async_bit (with_if (is_indirect abi types f) realloc_bit (with_if (passes_memory abi types f) memory_bit (lifted (contents_bits types f.result) (pass_all ways.Lower (param_contents types f.params) 0)))))

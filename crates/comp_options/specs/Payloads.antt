@@ -1,5 +1,5 @@
--- The options of the built-in functions that read and write the elements of streams and futures (Canonical ABI: `stream.read`,
--- `stream.write`, `future.read`, `future.write`).
+-- The options of the built-in functions that read and write the elements of streams and futures
+-- (Canonical ABI: `stream.read`, `stream.write`, `future.read`, `future.write`).
 use Rattle.std.specs.Prelude.{ℕ, List, Bool, Option, Some, None}
 use Rattle.std.specs.Int.RustNames.{bit_or}
 use Rattle.wit_data.specs.declared.types.Type.{«Type» as Ty}
@@ -14,7 +14,7 @@ use Rattle.comp_roles.specs.declared.payloads.PayloadFuncKind.{PayloadFuncKind}
 use Rattle.comp_roles.specs.declared.payloads.PayloadFuncKind.TheVariants as ends
 use Rattle.comp_options.specs.declared.required.Direction.{Direction}
 use Rattle.comp_options.specs.declared.required.Direction.TheVariants as ways
-use Rattle.comp_options.specs.Options.{with_if, passed}
+use Rattle.comp_options.specs.Options.{with_if, passed, memory_bit, async_bit}
 
 -- the type of its elements
 abbrev pub carried : List TypeDef → PayloadType → Option Ty
@@ -30,7 +30,7 @@ way_of ends.StreamRead = ways.Lower
 
 -- elements are passed in memory
 abbrev pub payload_set : List TypeDef → PayloadType → PayloadFuncKind → Bool → ℕ
-payload_set types payload kind is_async = with_if is_async 8 (bit_or (passed (way_of kind) (contents_bits types (carried types payload)) 0) 1)
+payload_set types payload kind is_async = with_if is_async async_bit (bit_or (passed (way_of kind) (contents_bits types (carried types payload)) 0) memory_bit)
 
 -- its type exists in the resolve
 abbrev pub HasPayload : Resolve → PayloadType → Type 0

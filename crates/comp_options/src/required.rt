@@ -176,7 +176,8 @@ impl RequiredOptions {
     ) -> Result<Options, OptionFault>
         ensures ok { IfOk result (λ options. options ≡ options_of self.0 encoding memory realloc) }
         ensures no_memory { IsErrOf result NoMemory ↔ IsTrue (lacks_memory self.0 memory) }
-        ensures no_realloc { IsErrOf result NoRealloc ↔ IsTrue (not (lacks_memory self.0 memory) && lacks_realloc self.0 realloc) }
+        ensures no_realloc { IsErrOf result NoRealloc
+            ↔ IsTrue (not (lacks_memory self.0 memory) && lacks_realloc self.0 realloc) }
     {
         let memory = if self.contains(RequiredOptions::MEMORY) {
             Some(memory.ok_or(OptionFault::NoMemory)?)

@@ -1,5 +1,6 @@
--- What every value of the program has, and a list of mere numbers may lack: its texts are UTF-8, its indices are
--- below 2 ^ 32, and its core modules have their preamble. Core standard, binary format: values (integers, names), modules.
+-- What every value of the program has, and a list of mere numbers may lack: its texts are UTF-8,
+-- its indices are below 2 ^ 32, and its core modules have their preamble. Core standard, binary
+-- format: values (integers, names), modules.
 use Rattle.std.specs.Prelude.{List}
 use Rattle.std.specs.List.{AllByRecursion}
 use Rattle.std.specs.Str.{IsUtf8}

@@ -4,9 +4,9 @@
 //! that it encodes. It shares no code with the writer, and allocates nothing by a count that it
 //! has only read.
 //!
-//! It reads the encoding that this repository's encoder writes: one section for a run of one kind of definition,
-//! shortest numbers, nesting one deep, no core types, no start section. Other encodings of components, though valid, are
-//! refused.
+//! It reads the encoding that this repository's encoder writes: one section for a run of one kind
+//! of definition, shortest numbers, nesting one deep, no core types, no start section. Other
+//! encodings of components, though valid, are refused.
 //!
 //! Its clauses say three things. The bytes encode the result (`Encodes` of `comp_bytes`). Where it
 //! refuses for another reason than out of memory, the bytes encode no list that a program can hold

@@ -1,5 +1,5 @@
--- The core exports that belong to a function or a resource (Canonical ABI: `canon lift`, `post-return`, `callback`; component
--- model, explainer: the destructor of a resource type).
+-- The core exports that belong to a function or a resource (Canonical ABI: `canon lift`,
+-- `post-return`, `callback`; component model, explainer: the destructor of a resource type).
 use Rattle.std.specs.Prelude.{ℕ, nat_eq, Bool, false, ◌&&◌, if◌then◌else◌, List, Option, Some, None}
 use Rattle.std.specs.Str.{bytes_eq}
 use Rattle.wit_data.specs.Keys.{is_same_key}

@@ -30,9 +30,9 @@ bounded_by None offered = true
 bounded_by (Some m) None = false
 bounded_by (Some m) (Some n) = nat_le n m
 
--- Limits that are required, and limits that are offered: at least the required minimum, and no larger than the required maximum.
--- (An offered minimum is no larger than the offered maximum, so that it is at most the required one too; limits of a module that
--- isn't valid may break that.)
+-- Limits that are required, and limits that are offered: at least the required minimum, and no
+-- larger than the required maximum. (An offered minimum is no larger than the offered maximum, so
+-- that it is at most the required one too; limits of a module that isn't valid may break that.)
 abbrev pub limits_match : ℕ → Option ℕ → ℕ → Option ℕ → Bool
 limits_match least most minimum maximum = nat_le least minimum && (bounded_by most maximum && at_most most minimum)
 

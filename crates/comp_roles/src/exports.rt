@@ -110,7 +110,8 @@ impl ExportMap {
     /// The names of all reallocs, in order: the general ones, and those for imports and for exports.
     /// The only error is out of memory.
     pub fn reallocs(&self, alloc: Global) -> Result<Vec<&str>, AllocError>
-        ensures { IfOk result (λ names. map (λ n. n.now) names.items ≡ realloc_names self.now.exports) }
+        ensures { IfOk result
+            (λ names. map (λ n. n.now) names.items ≡ realloc_names self.now.exports) }
     {
         let mut names = Vec::new(alloc);
         for (name, export) in self.exports.iter() {
@@ -152,7 +153,8 @@ impl ExportMap {
     /// The function that is called with the core results of a function once they were read (Canonical ABI:
     /// `post-return`).
     pub fn post_return(&self, key: &WorldKey, function: &Function) -> Option<&str>
-        ensures { option_copied result ≡ first_export (is_post_return key.now function.now.name) self.now.exports }
+        ensures { option_copied result
+            ≡ first_export (is_post_return key.now function.now.name) self.now.exports }
     {
         let function = function.name.as_str();
         first(&self.exports, &PostReturn { key, function })
@@ -160,7 +162,8 @@ impl ExportMap {
 
     /// The function that continues an asynchronous function (Canonical ABI: `callback`).
     pub fn callback(&self, key: &WorldKey, function: &Function) -> Option<&str>
-        ensures { option_copied result ≡ first_export (is_callback key.now function.now.name) self.now.exports }
+        ensures { option_copied result
+            ≡ first_export (is_callback key.now function.now.name) self.now.exports }
     {
         let function = function.name.as_str();
         first(&self.exports, &Callback { key, function })

@@ -199,7 +199,8 @@ impl ImportMap {
     /// The imports whose fields are listed one by one, module by module, in order. The only error is
     /// out of memory.
     pub fn imports(&self, alloc: Global) -> Result<Vec<NamedImport<'_>>, AllocError>
-        ensures { IfOk result (λ list. map core_import list.items ≡ flat_map imports_from self.now.modules) }
+        ensures { IfOk result
+            (λ list. map core_import list.items ≡ flat_map imports_from self.now.modules) }
     {
         let mut list = Vec::new(alloc);
         self.add_imports(&mut list)?;
@@ -210,7 +211,8 @@ impl ImportMap {
     /// error is out of memory.
     #[tactic(auto, using(crate::proofs::Walking::item_step))]
     pub fn add_imports<'a>(&'a self, list: &mut Vec<NamedImport<'a>>) -> Result<(), AllocError>
-        ensures { OnOk result (map core_import list.new.items ≡ map core_import list.old.items ++ flat_map imports_from self.now.modules) }
+        ensures { OnOk result (map core_import list.new.items
+            ≡ map core_import list.old.items ++ flat_map imports_from self.now.modules) }
     {
         for (from, instance) in self.modules.iter() {
             add_group(list, from.as_str(), instance)?;
@@ -252,7 +254,8 @@ fn add_fields<'a>(
     from: &'a str,
     fields: &'a Keyed<Text, Import>,
 ) -> Result<(), AllocError>
-    ensures { OnOk result (map core_import list.new.items ≡ map core_import list.old.items ++ field_imports from.now fields.now) }
+    ensures { OnOk result (map core_import list.new.items
+        ≡ map core_import list.old.items ++ field_imports from.now fields.now) }
 {
     for (field, role) in fields.iter() {
         let field = field.as_str();
@@ -267,7 +270,8 @@ fn add_group<'a>(
     from: &'a str,
     instance: &'a ImportInstance,
 ) -> Result<(), AllocError>
-    ensures { OnOk result (map core_import list.new.items ≡ map core_import list.old.items ++ imports_from (from.now, instance.now)) }
+    ensures { OnOk result (map core_import list.new.items
+        ≡ map core_import list.old.items ++ imports_from (from.now, instance.now)) }
 {
     match instance {
         ImportInstance::Names(fields) => add_fields(list, from, fields),

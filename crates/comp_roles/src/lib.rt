@@ -2,8 +2,9 @@
 //!
 //! Values alone, by the keys and indices of a world, and look-ups in them. Nothing here knows the
 //! world itself, which options a call needs, or how an import is satisfied: that belongs to the
-//! crates above. Upward this crate promises that its look-ups return what `specs/Lookups.antt`, `specs/Reallocs.antt` and
-//! `specs/FunctionExports.antt` say: the first matching entry, in the order of the module.
+//! crates above. Upward this crate promises that its look-ups return what `specs/Lookups.antt`,
+//! `specs/Reallocs.antt` and `specs/FunctionExports.antt` say: the first matching entry, in the
+//! order of the module.
 //!
 //! In reading order: `libraries` (the arguments of
 //! libraries), `payloads` (streams and futures), `imports` and `exports` (the roles of imports and exports of a

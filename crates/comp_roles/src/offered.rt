@@ -42,8 +42,8 @@ impl ExternType {
         }
     }
 
-    /// Whether an item of the offered type may be given where one of this type is imported: functions and globals of the
-    /// same type, tables and memories whose limits match.
+    /// Whether an item of the offered type may be given where one of this type is imported:
+    /// functions and globals of the same type, tables and memories whose limits match.
     ///
     /// Core standard, validation: import matching.
     pub fn is_matched_by(&self, offered: &ExternType) -> bool

@@ -1,12 +1,11 @@
 -- The core types of canonical functions (Canonical ABI: flattening, `canon` built-ins).
 use Rattle.std.specs.Prelude.{Bool, true, false, List, [], ◌∷◌, Option, Some, None, if◌then◌else◌}
 use Rattle.std.specs.List.{list_any}
+use Rattle.std.specs.Option.{unwrap_or}
+use Rattle.built_ins.specs.BuiltIns.{plain_type}
 use Rattle.comp_bytes.specs.declared.types.ComponentValType.{ComponentValType}
-use Rattle.comp_bytes.specs.declared.canon.ContextType.{ContextType}
-use Rattle.comp_bytes.specs.declared.canon.ContextType.TheVariants as contexts
 use Rattle.comp_bytes.specs.declared.canon.Intrinsic.{Intrinsic}
 use Rattle.comp_bytes.specs.declared.canon.Intrinsic.TheVariants as intrinsics
-use Rattle.core_types.specs.declared.types.ValType.{ValType}
 use Rattle.core_types.specs.declared.types.ValType.TheVariants.{I32, I64}
 use Rattle.core_types.specs.declared.types.FuncType.{FuncType}
 use Rattle.wit_data.specs.declared.functions.AbiVariant.{AbiVariant}
@@ -28,29 +27,20 @@ form_of options = if list_any is_async options then abis.GuestImportAsync else a
 abbrev pub core_signature : FunctionTree → List HeldOption → FuncType
 core_signature f options = core_type (tree_signature (form_of options) f)
 
--- the core type of a context slot
-abbrev pub context_type : ContextType → ValType
-context_type contexts.I32 = I32
-context_type contexts.I64 = I64
-
 -- The core type of `task.return`, which takes the result's core values as a function takes its parameters.
 module _ (tree_of : ComponentValType → Tree) where
   abbrev pub returned : Option ComponentValType → FunctionTree
   returned None = record { is_async = false; params = []; result = None }
   returned (Some result) = record { is_async = false; params = record { name = []; tree = tree_of result } ∷ []; result = None }
 
--- The core type of an intrinsic, where `tree_of` is what a type of values denotes. Handles, pointers, lengths and codes
--- are `i32`; both ends of a new stream or future are packed in one `i64`.
+-- The core type of an intrinsic, where `tree_of` is what a type of values denotes. Handles,
+-- pointers, lengths and codes are `i32`; both ends of a new stream or future are packed in one
+-- `i64`. Functions without operands have a table of their own.
 abbrev pub intrinsic_signature : (ComponentValType → Tree) → Intrinsic → FuncType
 intrinsic_signature tree_of (intrinsics.ResourceNew type) = function_type (I32 ∷ []) (I32 ∷ [])
 intrinsic_signature tree_of (intrinsics.ResourceDrop type) = function_type (I32 ∷ []) []
 intrinsic_signature tree_of (intrinsics.ResourceRep type) = function_type (I32 ∷ []) (I32 ∷ [])
-intrinsic_signature tree_of intrinsics.TaskCancel = function_type [] []
-intrinsic_signature tree_of (intrinsics.SubtaskCancel async_) = function_type (I32 ∷ []) (I32 ∷ [])
 intrinsic_signature tree_of (intrinsics.TaskReturn result options) = core_signature (returned tree_of result) []
-intrinsic_signature tree_of (intrinsics.ContextGet type slot) = function_type [] (context_type type ∷ [])
-intrinsic_signature tree_of (intrinsics.ContextSet type slot) = function_type (context_type type ∷ []) []
-intrinsic_signature tree_of intrinsics.SubtaskDrop = function_type (I32 ∷ []) []
 intrinsic_signature tree_of (intrinsics.StreamNew type) = function_type [] (I64 ∷ [])
 intrinsic_signature tree_of (intrinsics.StreamRead type options) = function_type (I32 ∷ I32 ∷ I32 ∷ []) (I32 ∷ [])
 intrinsic_signature tree_of (intrinsics.StreamWrite type options) = function_type (I32 ∷ I32 ∷ I32 ∷ []) (I32 ∷ [])
@@ -67,11 +57,6 @@ intrinsic_signature tree_of (intrinsics.FutureDropReadable type) = function_type
 intrinsic_signature tree_of (intrinsics.FutureDropWritable type) = function_type (I32 ∷ []) []
 intrinsic_signature tree_of (intrinsics.ErrorContextNew options) = function_type (I32 ∷ I32 ∷ []) (I32 ∷ [])
 intrinsic_signature tree_of (intrinsics.ErrorContextDebugMessage options) = function_type (I32 ∷ I32 ∷ []) []
-intrinsic_signature tree_of intrinsics.ErrorContextDrop = function_type (I32 ∷ []) []
-intrinsic_signature tree_of intrinsics.WaitableSetNew = function_type [] (I32 ∷ [])
 intrinsic_signature tree_of (intrinsics.WaitableSetWait memory) = function_type (I32 ∷ I32 ∷ []) (I32 ∷ [])
 intrinsic_signature tree_of (intrinsics.WaitableSetPoll memory) = function_type (I32 ∷ I32 ∷ []) (I32 ∷ [])
-intrinsic_signature tree_of intrinsics.WaitableSetDrop = function_type (I32 ∷ []) []
-intrinsic_signature tree_of intrinsics.WaitableJoin = function_type (I32 ∷ I32 ∷ []) []
-intrinsic_signature tree_of intrinsics.BackpressureInc = function_type [] []
-intrinsic_signature tree_of intrinsics.BackpressureDec = function_type [] []
+intrinsic_signature tree_of i = unwrap_or (plain_type i) (function_type [] [])

@@ -43,9 +43,9 @@ pub data Function : Type 0 where
   Imported : (origin : Origin) (type : FunctionTree) → Function
   Lifting : (core : ℕ) (options : List HeldOption) (type : FunctionTree) → Function
 
--- A type of values or of functions is a tree. An imported resource is known by where it is imported, one that the component
--- defines by its number among those, with the core function that is its destructor, if it has one; and an instance type says what
--- an import of it exports.
+-- A type of values or of functions is a tree. An imported resource is known by where it is
+-- imported, one that the component defines by its number among those, with the core function that
+-- is its destructor, if it has one; and an instance type says what an import of it exports.
 pub data TypeItem : Type 0 where
   TreeOf : (tree : TypeTree) → TypeItem
   ImportedResource : (origin : Origin) → TypeItem

@@ -1,4 +1,5 @@
--- The items of a right nested component name earlier items of its own scope (component model, binary format: index spaces).
+-- The items of a right nested component name earlier items of its own scope (component model,
+-- binary format: index spaces).
 use Rattle.std.proofs.Common.{◌≡◌, ◌∙◌, ◌+◌, ◌<◌, ℕ, zero, suc, cond, List, [], ◌∷◌, ◌++◌, length, get_or, refl, ap, sym, subst, arith, Some, None}
 use Rattle.std.proofs.lemmas.List.{length-append}
 use Rattle.std.proofs.lemmas.List.Sums.{sum_by_push}

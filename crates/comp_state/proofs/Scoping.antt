@@ -1,6 +1,6 @@
 -- A list that keeps the rules names earlier items, each by its index and space.
 use Rattle.comp_links.specs.Naming.{Naming}
-use Rattle.std.proofs.Common.{ℕ, ◌<◌, length, List, [], ◌∷◌, ◌++◌, sym, subst, append-nil, Option, Some, None, inl, inr}
+use Rattle.std.proofs.Common.{ℕ, ◌<◌, length, List, [], ◌∷◌, ◌++◌, sym, subst, append-nil, Option, Some, None, inl, inr, true≢false}
 use Rattle.std.specs.List.{AllByRecursion, AllZip, flat_map}
 use Rattle.std.proofs.lemmas.List.{length-map}
 use Rattle.std.proofs.lemmas.Option.{slice_get_within}
@@ -9,7 +9,6 @@ use Rattle.comp_bytes.specs.References.{Reference, own, type_references, options
 use Rattle.comp_bytes.specs.declared.canon.Intrinsic.{Intrinsic}
 use Rattle.comp_bytes.specs.declared.canon.Intrinsic.TheVariants as intrinsics
 use Rattle.comp_bytes.specs.Scopes.{InScope, EachIn, DefScoped, Scoped, scope_of}
-use Rattle.comp_lists.proofs.Lists.{AllByRecursion-weaker}
 use Rattle.comp_bytes.proofs.ItemIndices.{in_range}
 use Rattle.comp_bytes.specs.declared.canon.CanonicalOption.{CanonicalOption}
 use Rattle.comp_bytes.specs.declared.canon.CanonicalOption.TheVariants as canonical
@@ -44,7 +43,7 @@ use Rattle.comp_trees.proofs.MemberScopes.{members_scoped}
 use Rattle.comp_items.proofs.Kept.{function_in_range}
 use Rattle.comp_state.proofs.Nesting.{nested_scoped}
 use Rattle.comp_terms.specs.Instances.{ImportsInterface}
-use Rattle.comp_terms.specs.Rules.{AliasesImported, AliasesType, InstantiatesModule, IsOptionRight, IsLowerOptionRight, IsTypeRight, IsDestructorRight, IsIntrinsicRight, IsRight, RightAfter, IsEntry, IsFixupSource, IsFixupArgument, IsBuilt}
+use Rattle.comp_terms.specs.Rules.{AliasesImported, AliasesType, InstantiatesModule, IsOptionRight, IsTypeRight, IsDestructorRight, IsIntrinsicRight, IsRight, RightAfter, IsEntry, IsFixupSource, IsFixupArgument, IsBuilt}
 use Rattle.fixup_modules.specs.declared.instances.ImportedInstance.{ImportedInstance as FixupInstance}
 use Rattle.fixup_modules.specs.declared.instances.ImportedInstance.TheVariants as sources
 
@@ -86,12 +85,8 @@ options_within earlier (canonical.Callback index ∷ os) rest h k = (h.0, option
 options_within earlier (o ∷ os) rest h k = options_within earlier os rest h.1 k
 
 -- so do those of a lowering
-lower_right : (earlier : List Def) (o : CanonicalOption) → IsLowerOptionRight earlier o → IsOptionRight earlier o
-lower_right earlier canonical.Async h = absurd h
-lower_right earlier o h = h
-
-lower_within : (earlier : List Def) (os : List CanonicalOption) → AllByRecursion (IsLowerOptionRight earlier) os → AllByRecursion (Within earlier) (options_references os)
-lower_within earlier os h = subst (AllByRecursion (Within earlier)) (append-nil (options_references os)) (options_within earlier os [] (AllByRecursion-weaker (lower_right earlier) os h) tt)
+lower_within : (earlier : List Def) (os : List CanonicalOption) → AllByRecursion (IsOptionRight earlier) os → AllByRecursion (Within earlier) (options_references os)
+lower_within earlier os h = subst (AllByRecursion (Within earlier)) (append-nil (options_references os)) (options_within earlier os [] h tt)
 
 -- what the fixup imports from is there
 source_within : (w : ComponentWorld) (earlier : List Def) (index : ℕ) (source : FixupInstance) → IsFixupSource w earlier index source → Within earlier (own spaces.CoreInstance index)
@@ -133,7 +128,18 @@ intrinsic_within : (earlier : List Def) (i : Intrinsic) → IsIntrinsicRight ear
 intrinsic_within earlier (intrinsics.ResourceNew type) h = (type_named earlier type h.is.denotes.within, tt)
 intrinsic_within earlier (intrinsics.ResourceRep type) h = (type_named earlier type h.is.denotes.within, tt)
 intrinsic_within earlier (intrinsics.ResourceDrop type) h = (type_named earlier type h.is.denotes.within, tt)
-intrinsic_within earlier i h = absurd h
+intrinsic_within earlier intrinsics.TaskCancel h = tt
+intrinsic_within earlier intrinsics.BackpressureInc h = tt
+intrinsic_within earlier intrinsics.BackpressureDec h = tt
+intrinsic_within earlier intrinsics.WaitableSetNew h = tt
+intrinsic_within earlier intrinsics.WaitableSetDrop h = tt
+intrinsic_within earlier intrinsics.WaitableJoin h = tt
+intrinsic_within earlier intrinsics.SubtaskDrop h = tt
+intrinsic_within earlier (intrinsics.SubtaskCancel is_async) h = tt
+intrinsic_within earlier intrinsics.ErrorContextDrop h = tt
+intrinsic_within earlier (intrinsics.ContextGet type slot) h = tt
+intrinsic_within earlier (intrinsics.ContextSet type slot) h = tt
+intrinsic_within earlier i h = absurd (true≢false (sym h))
 
 -- an alias names an instance of the list, since one is imported there
 instance_in_range : (earlier : List Def) (space : Space) (instance : ℕ) (name : List ℕ) → AliasesImported earlier space instance name → instance < items_in spaces.Instance earlier

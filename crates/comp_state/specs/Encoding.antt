@@ -8,8 +8,8 @@ use Rattle.comp_imports.specs.Names.{naming_by}
 use Rattle.comp_state.specs.declared.state.Step.{Step}
 use Rattle.comp_state.specs.declared.state.Step.TheVariants.{Started, Imported, Instantiated}
 
--- the world, how the names of interfaces are made (whether they are canonical, and a table of other names), whether core modules have
--- names for debuggers, what was built so far, and how far it is
+-- the world, how the names of interfaces are made (whether they are canonical, and a table of other
+-- names), whether core modules have names for debuggers, what was built so far, and how far it is
 pub record Encoding : Type 0 where
   pub world : ComponentWorld
   pub canonical : Bool

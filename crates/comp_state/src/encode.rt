@@ -47,7 +47,8 @@ impl EncodingState<'_> {
         requires started { self.old.step ≡ Started }
         requires empty { self.old.built.defs ≡ [] }
         ensures world { self.new.world ≡ self.old.world }
-        ensures built { OnOk result (IsUnnamed (naming_in self.old) self.old.world self.new.built.defs) }
+        ensures built { OnOk result
+            (IsUnnamed (naming_in self.old) self.old.world self.new.built.defs) }
         ensures encoded { OnOk result (IsEncoded self.old.world) }
         ensures cause { IfErr result (IsCause self.old.world) }
     {
@@ -59,25 +60,35 @@ impl EncodingState<'_> {
     }
 }
 
-/// The component of a validated world, definition by definition, with the names of its items. Interfaces are imported under the
-/// names that `names` makes; core modules have names for debuggers if it says so.
+/// The component of a validated world, definition by definition, with the names of its items.
+/// Interfaces are imported under the names that `names` makes; core modules have names for
+/// debuggers if it says so.
 ///
-/// Refused when out of memory, where a function is lowered or lifted with a memory and main has none, or a realloc that there
-/// isn't for the module (`E7`, `E8`, with the name of the import's shim, the import itself where main imports its memory, or the
-/// function that is lifted), where a function that is imported or exported has no string encoding (`E9`, with the import, or the
-/// function), where an adapter names another that is not instantiated before it (`E10`, with both), where an interface uses types of
-/// another exported one that isn't exported before it (`E11`, with both), and where a space would have more than 2^32 - 1 items, or
-/// a count or a size among the names, or in a module that is generated or given a name, would pass that (`E16`).
+/// Refused when out of memory, where a function is lowered or lifted with a memory and main has
+/// none, or a realloc that there isn't for the module (`E7`, `E8`, with the name of the import's
+/// shim, the import itself where main imports its memory, or the function that is lifted), where a
+/// function that is imported or exported has no string encoding (`E9`, with the import, or the
+/// function), where an adapter names another that is not instantiated before it (`E10`, with both),
+/// where an interface uses types of another exported one that isn't exported before it (`E11`, with
+/// both), and where a space would have more than 2^32 - 1 items, or a count or a size among the
+/// names, or in a module that is generated or given a name, would pass that (`E16`).
 pub fn encode_world(
     alloc: Global,
     world: &ComponentWorld,
     names: ImportNames<'_>,
 ) -> Result<ComponentBuilder, StateFault>
     requires { IsEncodable world.now }
-    ensures ok { IfOk result (λ component. Scoped component.defs × IsBuilt (naming_of names.entry) world.now component.defs) }
+    ensures ok { IfOk result (λ component. Scoped component.defs
+        × IsBuilt (naming_of names.entry) world.now component.defs) }
     ensures refused { IsOk result → (place : List ℕ) → LacksEncoding world.now place → ⊥ }
-    ensures memory { IsOk result → (place : List ℕ) → LacksMemory world.now (user_imports world.now) (required_functions world.now) place → ⊥ }
-    ensures realloc { IsOk result → (place : List ℕ) → LacksRealloc world.now (user_imports world.now) (required_functions world.now) place → ⊥ }
+    ensures memory { IsOk result
+        → (place : List ℕ)
+        → LacksMemory world.now (user_imports world.now) (required_functions world.now) place
+        → ⊥ }
+    ensures realloc { IsOk result
+        → (place : List ℕ)
+        → LacksRealloc world.now (user_imports world.now) (required_functions world.now) place
+        → ⊥ }
     ensures made { IsOk result → (adapter name : List ℕ) → IsNotYetMade world.now adapter name → ⊥ }
     ensures order { IsOk result → (interface used : List ℕ) → ExportsLater world.now interface used → ⊥ }
     ensures cause { IfErr result (IsCause world.now) }

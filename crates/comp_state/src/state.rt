@@ -88,7 +88,15 @@ impl<'a> EncodingState<'a> {
         names: ImportNames<'a>,
     ) -> Result<EncodingState<'a>, AllocError>
         requires { IsEncodable world.now }
-        ensures { IfOk result (λ s. s ≡ record { world = world.entry.now; canonical = names.entry.canonical; renamed = names.entry.renamed.now; debug_names = names.entry.debug_names; built = nothing_built; step = Started }) }
+        ensures { IfOk result (λ s. s
+            ≡ record {
+              world = world.entry.now;
+              canonical = names.entry.canonical;
+              renamed = names.entry.renamed.now;
+              debug_names = names.entry.debug_names;
+              built = nothing_built;
+              step = Started;
+            }) }
     {
         Ok(EncodingState {
             root: RootScope::new(alloc, world),
@@ -124,7 +132,8 @@ impl EncodingState<'_> {
         ensures names { naming_in self.new ≡ naming_in self.old }
         ensures step { OnOk result (self.new.step ≡ Imported) }
         ensures extends { Extends self.old.built self.new.built }
-        ensures grows { OnOk result (Grows self.old.world self.old.built.defs self.new.built.defs (imports_marked (naming_in self.old) self.old.world)) }
+        ensures grows { OnOk result (Grows self.old.world self.old.built.defs self.new.built.defs
+            (imports_marked (naming_in self.old) self.old.world)) }
         ensures cause { IfErr result (IsCause self.old.world) }
     {
         let functions = import_all(&mut self.root, &self.names)?;
@@ -133,13 +142,15 @@ impl EncodingState<'_> {
         Ok(())
     }
 
-    /// Appends the core modules of the user modules, main's and then those of the adapters in order: they are the first ones of the
-    /// component.
+    /// Appends the core modules of the user modules, main's and then those of the adapters in
+    /// order: they are the first ones of the component.
     pub fn encode_core_modules(&mut self) -> Result<(), StateFault>
-        requires { landmarks self.old.built.defs ≡ imports_marked (naming_in self.old) self.old.world }
+        requires { landmarks self.old.built.defs
+            ≡ imports_marked (naming_in self.old) self.old.world }
         ensures same { self.new ≡ record self.old { built = self.new.built } }
         ensures extends { Extends self.old.built self.new.built }
-        ensures grows { OnOk result (Grows self.old.world self.old.built.defs self.new.built.defs (bytes_marked self.old.debug_names self.old.world)) }
+        ensures grows { OnOk result (Grows self.old.world self.old.built.defs self.new.built.defs
+            (bytes_marked self.old.debug_names self.old.world)) }
         ensures users { OnOk result (AreUserModules self.old.world self.new.built.defs) }
         ensures cause { IfErr result (IsCause self.old.world) }
     {
@@ -147,12 +158,14 @@ impl EncodingState<'_> {
         Ok(())
     }
 
-    /// Makes the instances of the user modules; before them that of the module of shims, where a module needs shims or main imports
-    /// its memory, and after them that of the fixup, where a module needs shims.
+    /// Makes the instances of the user modules; before them that of the module of shims, where a
+    /// module needs shims or main imports its memory, and after them that of the fixup, where a
+    /// module needs shims.
     ///
-    /// `E9` where an import of a function has no string encoding, `E7` where a function is lowered with a memory and main has none,
-    /// `E8` where it is lowered with a realloc and there is none for the module, `E10` where an adapter names one that is not
-    /// instantiated before it, and `E11` where an exported interface uses types of another one that isn't exported before it.
+    /// `E9` where an import of a function has no string encoding, `E7` where a function is lowered
+    /// with a memory and main has none, `E8` where it is lowered with a realloc and there is none
+    /// for the module, `E10` where an adapter names one that is not instantiated before it, and
+    /// `E11` where an exported interface uses types of another one that isn't exported before it.
     pub fn encode_core_instantiation(&mut self) -> Result<(), StateFault>
         requires users { AreUserModules self.old.world self.old.built.defs }
         requires imported { self.old.step ≡ Imported }
@@ -162,9 +175,13 @@ impl EncodingState<'_> {
         ensures extends { Extends self.old.built self.new.built }
         ensures ordered { OnOk result (AreExportsInOrder self.old.world) }
         ensures in_order { OnOk result (AreMadeInOrder self.old.world) }
-        ensures added { OnOk result (AddsInstances self.old.world self.old.debug_names self.old.built.defs self.new.built.defs) }
-        ensures encoded { OnOk result (AllByRecursion (λ (i : UserImport). IsSuppliedImport self.old.world i.of i.core.role) (user_imports self.old.world)) }
-        ensures lowered { OnOk result (AllByRecursion (HasLowerOptions self.old.world) (user_imports self.old.world)) }
+        ensures added { OnOk result (AddsInstances self.old.world self.old.debug_names
+            self.old.built.defs self.new.built.defs) }
+        ensures encoded { OnOk result (AllByRecursion
+            (λ (i : UserImport). IsSuppliedImport self.old.world i.of i.core.role)
+            (user_imports self.old.world)) }
+        ensures lowered { OnOk result
+            (AllByRecursion (HasLowerOptions self.old.world) (user_imports self.old.world)) }
         ensures cause { IfErr result (IsCause self.old.world) }
     {
         let users = encode_core_instantiation(
@@ -183,9 +200,12 @@ impl EncodingState<'_> {
         requires none { exports_in self.old.built.defs ≡ 0 }
         ensures same { self.new ≡ record self.old { built = self.new.built } }
         ensures extends { Extends self.old.built self.new.built }
-        ensures grows { OnOk result (Grows self.old.world self.old.built.defs self.new.built.defs (exports_marked (naming_in self.old) self.old.world)) }
-        ensures encoded { OnOk result (AllByRecursion (IsEncodedExport self.old.world) (required_functions self.old.world)) }
-        ensures has { OnOk result (AllByRecursion (HasLiftOptions self.old.world) (required_functions self.old.world)) }
+        ensures grows { OnOk result (Grows self.old.world self.old.built.defs self.new.built.defs
+            (exports_marked (naming_in self.old) self.old.world)) }
+        ensures encoded { OnOk result
+            (AllByRecursion (IsEncodedExport self.old.world) (required_functions self.old.world)) }
+        ensures has { OnOk result
+            (AllByRecursion (HasLiftOptions self.old.world) (required_functions self.old.world)) }
         ensures cause { IfErr result (IsCause self.old.world) }
     {
         match &self.users {

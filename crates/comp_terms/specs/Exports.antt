@@ -27,8 +27,8 @@ use Rattle.comp_links.specs.Targets.{Target}
 use Rattle.comp_terms.specs.Instances.{InstantiatesNested}
 use Rattle.comp_terms.specs.Planned.{type_of_function, IsLiftFor}
 
--- A nested component is one of an exported interface: the types that it imports are named after types of the interface or of others
--- that it may use, and no two of its imports have one name.
+-- A nested component is one of an exported interface: the types that it imports are named after
+-- types of the interface or of others that it may use, and no two of its imports have one name.
 pub record IsNestedFor (w : ComponentWorld) (definitions : List Item) : Type 0 where
   pub key : WorldKey
   pub id : InterfaceId
@@ -58,8 +58,8 @@ pub record ExportsFunction (w : ComponentWorld) (earlier : List Def) (index : �
   pub item : exported_item w required.key ≡ Some (world_items.Function function)
   pub lifted : IsRequiredLift w earlier (record { of = required.of; key = required.key; function = function.name }) index
 
--- an instance of a nested component that was given these arguments, and exports this, exports the lift of a required function
--- under the name of the function
+-- an instance of a nested component that was given these arguments, and exports this, exports the
+-- lift of a required function under the name of the function
 pub record PassesOn (w : ComponentWorld) (ds : List Def) (arguments : List Argument) (exported : List NestedExport) (r : RequiredFunction) : Type 0 where
   pub function : NestedFunction
   pub argument : Argument
@@ -71,8 +71,8 @@ pub record PassesOn (w : ComponentWorld) (ds : List Def) (arguments : List Argum
 abbrev pub ExportsTypes : ComponentWorld → InterfaceId → List NestedExport → Type 0
 ExportsTypes w id exported = AllByRecursion (λ t. type_named t.0 exported ≡ Some (type_of_world w t.1)) (named_types w.resolve id)
 
--- the next required export is an interface, and the instance of this index exports each of its types, and the lift of each of its
--- functions
+-- the next required export is an interface, and the instance of this index exports each of its
+-- types, and the lift of each of its functions
 pub record ExportsInterface (w : ComponentWorld) (earlier : List Def) (index : ℕ) : Type 0 where
   pub required : RequiredKey
   pub id : InterfaceId

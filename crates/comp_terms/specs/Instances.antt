@@ -1,5 +1,6 @@
--- What instances have: what the type of an imported interface exports, what stands in a nested component, and what an instance of it is
--- given (component model, explainer: instance types, component definitions, instance definitions).
+-- What instances have: what the type of an imported interface exports, what stands in a nested
+-- component, and what an instance of it is given (component model, explainer: instance types,
+-- component definitions, instance definitions).
 use Rattle.std.specs.Prelude.{◌≡◌, ◌<◌, ◌++◌, ℕ, List, [], map, get_or, slice_get, Some}
 use Rattle.std.specs.List.{AllByRecursion, IsDistinct, flat_map}
 use Rattle.std.specs.Str.{bytes_eq}
@@ -30,8 +31,8 @@ use Rattle.comp_links.specs.Lists.{ImportedInterface, import_entries, needed_typ
 abbrev pub HasNeededTypes : ComponentWorld → InterfaceId → Surroundings → List Member → Type 0
 HasNeededTypes w id s members = AllByRecursion (λ t. type_exported s (member_trees s [] members) (type_name w t) members ≡ type_of_world w t) (needed_types w id)
 
--- The next import is, in the world, an interface, and the index names a type of instances with members that are right in this
--- import, and that export the types which are needed.
+-- The next import is, in the world, an interface, and the index names a type of instances with
+-- members that are right in this import, and that export the types which are needed.
 pub record ImportsInterface (w : ComponentWorld) (earlier : List Def) (index : ℕ) : Type 0 where
   pub key : WorldKey
   pub id : InterfaceId
@@ -74,8 +75,9 @@ IsArgumentIn earlier sort index = ⊥
 abbrev pub IsArgumentRight : List Def → Argument → Type 0
 IsArgumentRight earlier a = IsArgumentIn earlier a.sort a.index
 
--- A nested component is instantiated: it is right, and each of its imports is given an argument of its type. There are no more arguments
--- than imports: they are named after the functions and then the types that it imports, under distinct names.
+-- A nested component is instantiated: it is right, and each of its imports is given an argument of
+-- its type. There are no more arguments than imports: they are named after the functions and then
+-- the types that it imports, under distinct names.
 pub record InstantiatesNested (earlier : List Def) (component : ℕ) (arguments : List Argument) : Type 0 where
   pub definitions : List Item
   pub given : List ℕ → TypeTree

@@ -1,5 +1,5 @@
--- Which terms the link table of a world asks for (Canonical ABI: `canon lower`, `canon lift`; component model, explainer:
--- core instances), and what the instances of its modules are given.
+-- Which terms the link table of a world asks for (Canonical ABI: `canon lower`, `canon lift`;
+-- component model, explainer: core instances), and what the instances of its modules are given.
 use Rattle.std.specs.Prelude.{◌≡◌, ◌⊎◌, ℕ, List, Option, Some, None, codes, slice_get, IsTrue}
 use Rattle.std.specs.Fmt.{decimal}
 use Rattle.std.specs.List.{AllZip}
@@ -45,8 +45,8 @@ pub record IsExportFor (w : ComponentWorld) (e : CoreExport) (export_ref : Expor
   pub of : IsModule w e.of export_ref.of
   pub named : e.name ≡ export_ref.name
 
--- main's memory: what the module of shims exports for the first one that main imports, or, where it imports none, the first that main
--- exports
+-- main's memory: what the module of shims exports for the first one that main imports, or, where it
+-- imports none, the first that main exports
 abbrev pub memory_from : ComponentWorld → Option MemoryType → Option (List ℕ × MemoryType) → Option CoreExport
 memory_from w (Some imported) exported = Some (record { of = shims_number w; kind = kinds.Memory; name = codes "$memory" })
 memory_from w None (Some (name, type)) = Some (record { of = 0; kind = kinds.Memory; name = name })
@@ -76,7 +76,8 @@ pub record IsShimExport (w : ComponentWorld) (e : CoreExport) (target : Target) 
   pub stands : IsShimPlace w place target
   pub is : e ≡ shim_export w place
 
--- the realloc of calls: the export itself, or a shim for it, where the calls are made before the module that exports it is instantiated
+-- the realloc of calls: the export itself, or a shim for it, where the calls are made before the
+-- module that exports it is instantiated
 abbrev pub IsReallocFor : ComponentWorld → CoreExport → ExportRef → Type 0
 IsReallocFor w e export_ref = IsExportFor w e export_ref ⊎ IsShimExport w e (targets.ExportOf export_ref)
 
@@ -105,6 +106,7 @@ IsTermFor w (targets.Lowered function options) (terms.Lowering origin type writt
 IsTermFor w (targets.ExportOf export_ref) (terms.Exported e) = IsExportFor w e export_ref
 IsTermFor w targets.MainMemory (terms.Exported e) = IsMemoryFor w e × (e.kind ≡ kinds.Memory)
 IsTermFor w (targets.OfResource function id) (terms.OfResource same resource) = (same ≡ function) × (resource ≡ resource_of w id)
+IsTermFor w (targets.BuiltIn intrinsic) (terms.BuiltIn same) = same ≡ intrinsic
 IsTermFor w (targets.Lifted entry options) (terms.Lifting e written type) = IsExportFor w e entry × AllZip (IsOptionFor w) written options
 IsTermFor w target term = ⊥
 
@@ -132,7 +134,8 @@ pub record IsCallShim (w : ComponentWorld) (of : UserModule) (ds : List Def) (sp
   pub of_kind : role_of_kind w shim.stands.shim.kind ≡ Some (of, role)
   pub shimmed : IsTrue (has_shim w role)
 
--- the item of this index is the shim of an import: that of the function which an adapter exports, or of its own lowering
+-- the item of this index is the shim of an import: that of the function which an adapter exports,
+-- or of its own lowering
 abbrev pub IsOwnShim : ComponentWorld → UserModule → List Def → Space → ℕ → Import → Type 0
 IsOwnShim w of ds space index (imports.AdapterExport adapter name type) =
     IsShimOfKind w ds space index (link_of w of (imports.AdapterExport adapter name type)) (shim_kinds.Adapter adapter name)

@@ -31,6 +31,7 @@ use Rattle.comp_bytes.specs.declared.def.Item.{Item}
 use Rattle.comp_bytes.specs.declared.def.Item.TheVariants as items
 use Rattle.comp_bytes.specs.declared.def.Def.{Def}
 use Rattle.comp_bytes.specs.declared.def.Def.TheVariants as defs
+use Rattle.built_ins.specs.BuiltIns.{plain_type}
 use Rattle.comp_lists.specs.Found.{found}
 use Rattle.wit_data.specs.declared.ids.TypeId.{TypeId}
 use Rattle.comp_trees.specs.Trees.{Origin, Resource, ImportedAt, DefinedAt, ResourceAt, FunctionTree, is_known, is_known_function}
@@ -140,7 +141,8 @@ pub record IsFixupArgument (w : ComponentWorld) (earlier : List Def) (a : CoreAr
   pub named : a.name ≡ source.0
   pub serves : IsFixupSource w earlier a.instance source.1
 
--- the fixup is instantiated, after the shims and the user modules, with an argument for each instance that it imports from, in order
+-- the fixup is instantiated, after the shims and the user modules, with an argument for each
+-- instance that it imports from, in order
 pub record InstantiatesFixup (w : ComponentWorld) (earlier : List Def) (number : ℕ) (arguments : List CoreArgument) : Type 0 where
   pub numbered : number ≡ fixup_number w
   pub any : has_fixup w ≡ true
@@ -252,7 +254,8 @@ IsTypeRight scope (types.Func f) = is_known_function (function_tree scope f) ≡
 IsTypeRight scope (types.Defined t) = is_known (defined_tree scope t) ≡ true
 IsTypeRight scope (types.Resource destructor) = ⊥
 
--- the destructor of a resource that the component defines is a shim for the one that a user module exports, where it does
+-- the destructor of a resource that the component defines is a shim for the one that a user module
+-- exports, where it does
 abbrev pub IsDestructorRight : ComponentWorld → List Def → Option ℕ → Option ExportRef → Type 0
 IsDestructorRight w earlier None None = Unit {0}
 IsDestructorRight w earlier (Some index) (Some e) = IsShimFor w earlier spaces.CoreFunc index (ExportOf e)
@@ -269,7 +272,7 @@ pub record IsInstanceTypeRight (earlier : List Def) (members : List Member) : Ty
   pub number : ℕ
   pub right : AreMembersRight (surroundings_of number (scope_of earlier)) [] members
 
--- an option of a lift names an earlier item
+-- an option of a lift or of a lowering names an earlier item
 abbrev pub IsOptionRight : List Def → CanonicalOption → Type 0
 IsOptionRight earlier (options.Memory index) = index < items_in spaces.CoreMemory earlier
 IsOptionRight earlier (options.Realloc index) = index < items_in spaces.CoreFunc earlier
@@ -277,18 +280,13 @@ IsOptionRight earlier (options.PostReturn index) = index < items_in spaces.CoreF
 IsOptionRight earlier (options.Callback index) = index < items_in spaces.CoreFunc earlier
 IsOptionRight earlier option = Unit {0}
 
--- an option of a lowering, which is synchronous
-abbrev pub IsLowerOptionRight : List Def → CanonicalOption → Type 0
-IsLowerOptionRight earlier options.Async = ⊥
-IsLowerOptionRight earlier option = IsOptionRight earlier option
-
--- an intrinsic: so far, a function of the handles of a resource. `resource.new` and `resource.rep` are of one that the component
--- defines
+-- an intrinsic: so far, a function of the handles of a resource, or one without operands and
+-- options. `resource.new` and `resource.rep` are of one that the component defines
 abbrev pub IsIntrinsicRight : List Def → Intrinsic → Type 0
 IsIntrinsicRight earlier (intrinsics.ResourceNew type) = HasOwnResource earlier type
 IsIntrinsicRight earlier (intrinsics.ResourceRep type) = HasOwnResource earlier type
 IsIntrinsicRight earlier (intrinsics.ResourceDrop type) = HasResource earlier type
-IsIntrinsicRight earlier _ = ⊥
+IsIntrinsicRight earlier i = IsSome (plain_type i)
 
 -- an export is the next required one; its name is a landmark
 abbrev pub IsExportRight : ComponentWorld → List Def → Sort → ℕ → Option Description → Type 0
@@ -307,7 +305,7 @@ IsItemRight w earlier (items.Type (types.Resource destructor)) = DefinesResource
 IsItemRight w earlier (items.Type t) = IsTypeRight (scope_of earlier) t
 IsItemRight w earlier (items.InstanceType t) = IsInstanceTypeRight earlier t.members
 IsItemRight w earlier (items.Lift core options kind) = (core < items_in spaces.CoreFunc earlier) × AllByRecursion (IsOptionRight earlier) options × HasFunctionType earlier kind
-IsItemRight w earlier (items.Lower function options) = HasImportedFunction earlier function × AllByRecursion (IsLowerOptionRight earlier) options
+IsItemRight w earlier (items.Lower function options) = HasImportedFunction earlier function × AllByRecursion (IsOptionRight earlier) options
 IsItemRight w earlier (items.Intrinsic i) = IsIntrinsicRight earlier i
 IsItemRight w earlier (items.Import name description) = IsDescriptionRight w earlier name.name description
 IsItemRight w earlier (items.Export name sort index description) = IsExportRight w earlier sort index description
@@ -374,8 +372,8 @@ abbrev pub fixup_marked : ComponentWorld → Option (List ℕ) → List Landmark
 fixup_marked w None = []
 fixup_marked w (Some bytes) = ModuleIs bytes ∷ InstanceOf (fixup_number w) ∷ []
 
--- the landmarks of the core modules and their instances, where these modules are generated. The resources are defined before the user
--- modules are instantiated, and after the shims
+-- the landmarks of the core modules and their instances, where these modules are generated. The
+-- resources are defined before the user modules are instantiated, and after the shims
 abbrev pub modules_marked : Bool → ComponentWorld → GeneratedBytes → List Landmark
 modules_marked debug_names w g =
     bytes_marked debug_names w ++ (shims_marked w g.shims ++ (resources_marked w ++ (users_marked w ++ fixup_marked w g.fixup)))

@@ -1,9 +1,10 @@
--- Which imports of user modules are given a shim (this project's own; Canonical ABI: `memory`). All others are given what the link
--- table names as it is, so that it works from the moment that it is given.
+-- Which imports of user modules are given a shim (this project's own; Canonical ABI: `memory`). All
+-- others are given what the link table names as it is, so that it works from the moment that it is
+-- given.
 use Rattle.std.specs.Prelude.{◌&&◌, ℕ, Bool, true, false, List, not, is_some}
 use Rattle.std.specs.Option.{option_map_or}
 use Rattle.comp_lists.specs.Found.{found}
-use Rattle.comp_options.specs.Options.{needs}
+use Rattle.comp_options.specs.Options.{needs, memory_bit}
 use Rattle.comp_roles.specs.declared.imports.Import.{Import}
 use Rattle.comp_roles.specs.declared.imports.Import.TheVariants as imports
 use Rattle.comp_roles.specs.declared.imports.ImportInstance.{ImportInstance}
@@ -13,11 +14,11 @@ use Rattle.comp_worlds.specs.declared.world.ComponentWorld.{ComponentWorld}
 use Rattle.comp_links.specs.Links.{lower_needs}
 use Rattle.comp_links.specs.Modules.{WorldModule}
 
--- a function that an adapter exports has one, and a lowering with main's memory, unless that is there before main is instantiated,
--- since main imports it
+-- a function that an adapter exports has one, and a lowering with main's memory, unless that is
+-- there before main is instantiated, since main imports it
 abbrev pub has_shim : ComponentWorld → Import → Bool
 has_shim w (imports.AdapterExport adapter name type) = true
-has_shim w role = needs (lower_needs w role) 1 && not (is_some (imported_memory w.main.imports.modules))
+has_shim w role = needs (lower_needs w role) memory_bit && not (is_some (imported_memory w.main.imports.modules))
 
 -- the same by the names of the import's module and field: what a whole instance gives has none
 abbrev pub has_shim_in : ComponentWorld → List ℕ → ImportInstance → Bool

@@ -1,5 +1,5 @@
--- The bytes of the user modules in a component: those that were given, and, where core modules have names for debuggers, with a name
--- for each adapter (core standard, appendix: name section).
+-- The bytes of the user modules in a component: those that were given, and, where core modules have
+-- names for debuggers, with a name for each adapter (core standard, appendix: name section).
 use Rattle.std.specs.Prelude.{ℕ, Bool, if◌then◌else◌, List, ◌∷◌, ◌++◌, map, codes, is_some}
 use Rattle.core_bytes.specs.Renaming.{with_module_name}
 use Rattle.comp_worlds.specs.declared.world.ComponentWorld.{ComponentWorld}

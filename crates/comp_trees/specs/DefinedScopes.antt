@@ -1,4 +1,5 @@
--- What the types of a component denote that are defined one after the other (component model, explainer: type definitions).
+-- What the types of a component denote that are defined one after the other (component model,
+-- explainer: type definitions).
 use Rattle.std.specs.Prelude.{ℕ, ◌≡◌, ◌<◌, List, [], ◌∷◌, ◌++◌, length, get_or}
 use Rattle.comp_bytes.specs.declared.types.TypeDef.{TypeDef}
 use Rattle.comp_bytes.specs.declared.types.TypeDef.TheVariants as types

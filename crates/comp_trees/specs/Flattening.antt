@@ -10,9 +10,9 @@ use Rattle.wit_data.specs.Flat.{flat_primitive, join_lists}
 use Rattle.wit_data.specs.Signatures.{most_params, result_pointer, core_results}
 use Rattle.comp_trees.specs.Trees.{Tree, Trees, Absent, PrimitiveOf, RecordOf, TupleOf, VariantOf, EnumOf, FlagsOf, ListOf, OptionOf, ResultOf, OwnOf, BorrowOf, StreamOf, FutureOf, ResourceAt, Unknown, Nil, Cons, ParamTree, FunctionTree}
 
--- Members come one after the other. A variant, an option and a result have a number for the case, and then values that
--- hold those of any case. Handles, streams and futures are numbers, whatever they refer to; a resource, which is no type
--- of values, is given the number of its handles.
+-- Members come one after the other. A variant, an option and a result have a number for the case,
+-- and then values that hold those of any case. Handles, streams and futures are numbers, whatever
+-- they refer to; a resource, which is no type of values, is given the number of its handles.
 abbrev mutual
   pub flat_tree : Tree → List WasmType
   flat_tree Absent = []

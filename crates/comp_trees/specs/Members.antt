@@ -46,8 +46,9 @@ pub record IsOfFunctions (scope : List TypeTree) (index : ℕ) : Type 0 where
   pub type : FunctionTree
   pub tree : get_or scope index OfOthers ≡ OfFunctions type
 
--- A member of an instance type that may be imported: a type of values or functions whose parts are types of values, a type
--- of the next scope out, or an export of a type or of a function, by an earlier index, or of a resource. No other is written.
+-- A member of an instance type that may be imported: a type of values or functions whose parts are
+-- types of values, a type of the next scope out, or an export of a type or of a function, by an
+-- earlier index, or of a resource. No other is written.
 abbrev pub IsMemberRight : Surroundings → List TypeTree → Member → Type 0
 IsMemberRight s scope (members.Type (types.Func f)) = is_known_function (function_tree scope f) ≡ true
 IsMemberRight s scope (members.Type (types.Defined t)) = is_known (defined_tree scope t) ≡ true
@@ -67,8 +68,8 @@ abbrev pub exports_name : Space → List ℕ → Member → Bool
 exports_name space name (members.Export n description) = is_space space (Some (description_space description)) && bytes_eq name n.name
 exports_name space name member = false
 
--- the type, and the type of the function, that an instance exports under a name, where `all` is what the type indices of
--- its instance type denote
+-- the type, and the type of the function, that an instance exports under a name, where `all` is
+-- what the type indices of its instance type denote
 abbrev pub type_exported : Surroundings → List TypeTree → List ℕ → List Member → TypeTree
 type_exported s all name [] = OfOthers
 type_exported s all name (members.Export n (descriptions.TypeEqual index) ∷ ms) =

@@ -1,4 +1,5 @@
--- What is known of the adapters that a module names, where none of them is absent from a table, and of the first that is.
+-- What is known of the adapters that a module names, where none of them is absent from a table, and
+-- of the first that is.
 use Rattle.std.proofs.Common.{◌≡◌, ℕ, List, [], ◌∷◌, ◌++◌, map, Option, Some, None, refl, subst, arith, Contains}
 use Rattle.std.proofs.lemmas.List.Elements.{Contains-append_left, Contains-append_right}
 use Rattle.std.specs.List.{AllByRecursion, flat_map}

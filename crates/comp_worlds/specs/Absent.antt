@@ -1,5 +1,6 @@
--- Which adapters a module names that are not in a table: those that the arguments of a library name, and those whose instances, whole
--- or item by item, its imports are given. (Rules of this project's own.)
+-- Which adapters a module names that are not in a table: those that the arguments of a library
+-- name, and those whose instances, whole or item by item, its imports are given. (Rules of this
+-- project's own.)
 use Rattle.std.specs.Prelude.{ℕ, List, Option, Some, None, is_some, if◌then◌else◌}
 use Rattle.std.specs.Option.{option_or}
 use Rattle.comp_lists.specs.Found.{found}

@@ -37,15 +37,15 @@ use Rattle.comp_worlds.specs.declared.world.ComponentWorld.{ComponentWorld}
 abbrev pub Entries : Type 0
 Entries = List (WorldKey × WorldItem)
 
--- The place of an interface: how many imports of the world come before it. The root is behind all of them, and an interface
--- that is not imported is behind the root.
+-- The place of an interface: how many imports of the world come before it. The root is behind all
+-- of them, and an interface that is not imported is behind the root.
 abbrev pub place_in : Entries → InterfaceId → ℕ
 place_in [] id = 1
 place_in ((key, items.Interface other) ∷ es) id = if id.index == other.index then 0 else suc (place_in es id)
 place_in (e ∷ es) id = suc (place_in es id)
 
--- the place of a type: that of its interface or, where it has a name, of the root; of a type without a name, the last place
--- of those of which it is made
+-- the place of a type: that of its interface or, where it has a name, of the root; of a type
+-- without a name, the last place of those of which it is made
 abbrev pub place_of_name : Entries → Option (List ℕ) → List ℕ → ℕ
 place_of_name es (Some name) places = length es
 place_of_name es None places = greatest places
@@ -78,8 +78,8 @@ abbrev pub AscendFrom : ℕ → List ℕ → Type 0
 AscendFrom k [] = Unit {0}
 AscendFrom k (n ∷ ns) = (k ≤ n) × AscendFrom (suc n) ns
 
--- the types that the world imports come in the order of the resolve, and each resource that belongs to no interface is one
--- of them
+-- the types that the world imports come in the order of the resolve, and each resource that belongs
+-- to no interface is one of them
 pub record ImportsResources (w : ComponentWorld) : Type 0 where
   pub ordered : AscendFrom 0 (map (λ t. t.1.index) (imported_types w))
   pub each : (n : ℕ) → IsResource w.resolve.types n → interface_at w.resolve.types n ≡ None → Contains (map (λ t. t.1.index) (imported_types w)) n
@@ -123,8 +123,8 @@ is_resource_kind kind = false
 abbrev pub is_lent : World → InterfaceId → Bool
 is_lent world id = list_any (same_interface id) (interfaces_of world.imports) || list_any (same_interface id) (interfaces_of world.exports)
 
--- Whether a type belongs to this interface, or belongs under a name to another one whose types exported interfaces may use, or to none,
--- has no name and is no resource.
+-- Whether a type belongs to this interface, or belongs under a name to another one whose types
+-- exported interfaces may use, or to none, has no name and is no resource.
 abbrev pub is_of_interface : List TypeDef → (InterfaceId → Bool) → InterfaceId → ℕ → TypeDefKind → Bool
 is_of_interface types lent here n kind = elim (interface_at types n) [
   | Some id ↦ here.index == id.index || (lent id && is_some (name_at types n))
@@ -138,8 +138,9 @@ staying_in types lent here = record { absent = true; simple = λ p. true; made =
 abbrev pub stays_in : List TypeDef → (InterfaceId → Bool) → InterfaceId → Option Ty → Bool
 stays_in types lent here part = value (staying_in types lent here) types part
 
--- an exported interface lists types of its own, in the order of the resolve; they and its functions are made of these, of named types
--- of interfaces that are imported or exported, and of types without names
+-- an exported interface lists types of its own, in the order of the resolve; they and its functions
+-- are made of these, of named types of interfaces that are imported or exported, and of types
+-- without names
 pub record IsExportedPlaced (r : Resolve) (world : World) (id : InterfaceId) : Type 0 where
   pub own : AllByRecursion (IsOwnType r.types id) (named_types r id)
   pub ordered : AscendFrom 0 (map (λ t. t.1.index) (named_types r id))

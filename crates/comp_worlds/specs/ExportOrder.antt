@@ -1,5 +1,6 @@
--- The order in which exported interfaces are exported: one that uses types of another exported interface comes after it (WIT: `use`;
--- component model, explainer: a definition refers to earlier ones alone).
+-- The order in which exported interfaces are exported: one that uses types of another exported
+-- interface comes after it (WIT: `use`; component model, explainer: a definition refers to earlier
+-- ones alone).
 use Rattle.std.specs.Prelude.{◌≡◌, ℕ, true, false, List, [], ◌∷◌, Option, Some, Contains, slice_get, take, unwrap_or}
 use Rattle.std.specs.List.{AllByRecursion, flat_map, list_any}
 use Rattle.std.specs.Map.{lookup}

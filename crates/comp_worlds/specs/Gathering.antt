@@ -14,8 +14,8 @@ gathered_module a = (a.0, a.1.part.bytes)
 abbrev pub world_module : List ℕ × WorldAdapter → List ℕ × List ℕ
 world_module a = (a.0, a.1.info.bytes)
 
--- main has the bytes of the main module that was gathered, and the adapters have the names and the bytes of the gathered
--- ones, in order
+-- main has the bytes of the main module that was gathered, and the adapters have the names and the
+-- bytes of the gathered ones, in order
 pub record HasModules {B : Type 0} (g : Gathered B) (w : ComponentWorld) : Type 0 where
   pub main : option_map (λ (p : Part B). p.bytes) g.main ≡ Some w.main.bytes
   pub adapters : map gathered_module g.adapters ≡ map world_module w.adapters

@@ -18,7 +18,7 @@ use Rattle.wit_data.specs.declared.worlds.WorldItem.{WorldItem}
 use Rattle.wit_data.specs.declared.worlds.WorldItem.TheVariants as items
 use Rattle.wit_data.specs.declared.worlds.WorldKey.{WorldKey}
 use Rattle.comp_worlds.specs.Lowerings.{is_same_lowering}
-use Rattle.comp_options.specs.Options.{needs, import_set}
+use Rattle.comp_options.specs.Options.{needs, import_set, memory_bit}
 use Rattle.comp_worlds.specs.Uses.{Used, call_at}
 use Rattle.comp_worlds.specs.declared.lowerings.ImportedInterface.{ImportedInterface}
 use Rattle.comp_worlds.specs.declared.lowerings.Lowering.{Lowering}
@@ -34,7 +34,7 @@ Lowerings = List (LoweringKey × Lowering)
 abbrev pub lowering_of : Bool → AbiVariant → List TypeDef → Function → Lowering
 lowering_of shares abi types f =
     if shares then Direct (record { 0 = import_set abi types f })
-    else (if needs (import_set abi types f) 1 then Indirect (signature abi types f) (record { 0 = import_set abi types f }) else Direct (record { 0 = import_set abi types f }))
+    else (if needs (import_set abi types f) memory_bit then Indirect (signature abi types f) (record { 0 = import_set abi types f }) else Direct (record { 0 = import_set abi types f }))
 
 -- a function in one form, if the role of some core import is this call
 abbrev pub called_as : Used → List TypeDef → WorldKey → Function → AbiVariant → Lowerings

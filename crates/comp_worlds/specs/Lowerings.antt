@@ -15,6 +15,12 @@ abi_number abis.GuestImportAsync = 2
 abi_number abis.GuestExportAsync = 3
 abi_number abis.GuestExportAsyncStackful = 4
 
+-- the forms in which core modules call functions that the world imports
+abbrev pub IsImportForm : AbiVariant → Type 0
+IsImportForm abis.GuestImport = Unit {0}
+IsImportForm abis.GuestImportAsync = Unit {0}
+IsImportForm abi = ⊥
+
 -- lowerings of the same name and form are the same
 abbrev pub is_same_lowering : LoweringKey → LoweringKey → Bool
 is_same_lowering = eq_of_both (on (λ k. k.name) bytes_eq) (on (λ k. abi_number k.abi) nat_eq)

@@ -1,5 +1,6 @@
--- Which modules' instances a library is given, whole or item by item, and which of these are made before it (component model,
--- explainer: a core instance is made before it is an argument of another one).
+-- Which modules' instances a library is given, whole or item by item, and which of these are made
+-- before it (component model, explainer: a core instance is made before it is an argument of
+-- another one).
 use Rattle.std.specs.Prelude.{◌≡◌, ◌++◌, ℕ, List, [], ◌∷◌, Option, Some, None, map, take, slice_get, Contains}
 use Rattle.std.specs.List.{AllByRecursion, flat_map}
 use Rattle.std.specs.Map.{keys_of}
@@ -46,7 +47,8 @@ abbrev pub IsMadeBefore : List (List ℕ) → MainOrAdapter → Type 0
 IsMadeBefore names modules.Main = Unit {0}
 IsMadeBefore names (modules.Adapter name) = Contains names name
 
--- the modules that each of these adapters names are made before it, where the adapters of these names are made before all of them
+-- the modules that each of these adapters names are made before it, where the adapters of these
+-- names are made before all of them
 abbrev pub AreMadeAfter : List (List ℕ) → List (List ℕ × WorldAdapter) → Type 0
 AreMadeAfter names [] = Unit {0}
 AreMadeAfter names ((name, a) ∷ adapters) = AllByRecursion (IsMadeBefore names) (modules_named a) × AreMadeAfter (names ++ name ∷ []) adapters

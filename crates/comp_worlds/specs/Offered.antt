@@ -1,5 +1,6 @@
--- What user modules give to each other: main its exports and its memory to all others, an adapter its functions, and any module its
--- exports to the libraries that name it in their arguments (core standard: imports and exports; validation: import matching).
+-- What user modules give to each other: main its exports and its memory to all others, an adapter
+-- its functions, and any module its exports to the libraries that name it in their arguments (core
+-- standard: imports and exports; validation: import matching).
 use Rattle.std.specs.Prelude.{◌≡◌, ℕ, List, Option, Some, true}
 use Rattle.std.specs.Option.{option_map, option_or}
 use Rattle.comp_lists.specs.Found.{found}

@@ -1,5 +1,6 @@
--- The core types that roles require, and the types of a module's imports and exports as validation found them (Canonical
--- ABI: `canon lower`, `canon lift`; core standard, validation: imports and exports).
+-- The core types that roles require, and the types of a module's imports and exports as validation
+-- found them (Canonical ABI: `canon lower`, `canon lift`; core standard, validation: imports and
+-- exports).
 use Rattle.std.specs.Prelude.{◌≡◌, ◌⊎◌, ℕ, List, [], ◌∷◌, map, Option, Some, None, option_map}
 use Rattle.std.specs.Map.{lookup}
 use Rattle.comp_lists.specs.Found.{found}
@@ -9,6 +10,7 @@ use Rattle.wit_data.specs.declared.resolve.Resolve.{Resolve}
 use Rattle.wit_data.specs.declared.functions.Function.{Function}
 use Rattle.wit_data.specs.declared.functions.AbiVariant.TheVariants.{GuestExport}
 use Rattle.wit_data.specs.Signatures.{signature}
+use Rattle.built_ins.specs.BuiltIns.{plain_import_type}
 use Rattle.comp_roles.specs.CoreImports.{role_at}
 use Rattle.comp_roles.specs.CoreTypes.{function_type, value_type, called_type}
 use Rattle.comp_roles.specs.declared.imports.Import.{Import}
@@ -51,8 +53,9 @@ initialize_type = externs.Func (function_type [] [])
 abbrev pub post_return_type : Resolve → Function → ExternType
 post_return_type r f = externs.Func (function_type (map value_type (signature GuestExport r.types f).results) [])
 
--- the type that the role of an import, or of an export, requires, as far as such roles are encoded; an export of main and an item of an
--- argument are given where they match the import
+-- the type that the role of an import, or of an export, requires, as far as such roles are encoded:
+-- of a built-in function without operands too; an export of main and an item of an argument are
+-- given where they match the import
 abbrev pub type_of_import : Resolve → World → Import → Option ExternType
 type_of_import r items (imports.WorldFunc key function abi) = option_map (called_type r abi) (root_function_at items.imports key)
 type_of_import r items (imports.InterfaceFunc key id function abi) = option_map (called_type r abi) (found function (functions_of r id))
@@ -62,7 +65,7 @@ type_of_import r items (imports.ExportedResourceRep key id) = Some handle_type
 type_of_import r items (imports.ExportedResourceNew key id) = Some handle_type
 type_of_import r items (imports.MainModuleMemory type) = Some (externs.Memory type)
 type_of_import r items (imports.AdapterExport adapter name type) = Some (externs.Func type)
-type_of_import r items role = None
+type_of_import r items role = option_map externs.Func (plain_import_type role)
 
 abbrev pub type_of_export : Resolve → World → Export → Option ExternType
 type_of_export r items (exports.WorldFunc key function abi) = option_map (called_type r abi) (root_function_at items.exports key)

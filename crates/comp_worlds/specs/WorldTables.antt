@@ -1,6 +1,7 @@
--- The tables of a validated world, which follow from its parts: how what it imports is lowered, which of the types that it
--- imports are live, and which exported interfaces name which (Canonical ABI: `canon lower`; component model, binary
--- format: an instance type declares each type that its functions and types name).
+-- The tables of a validated world, which follow from its parts: how what it imports is lowered,
+-- which of the types that it imports are live, and which exported interfaces name which (Canonical
+-- ABI: `canon lower`; component model, binary format: an instance type declares each type that its
+-- functions and types name).
 use Rattle.std.specs.Prelude.{◌≡◌, ℕ, List, get_or, is_some}
 use Rattle.wit_data.specs.declared.resolve.Resolve.{Resolve}
 use Rattle.wit_data.specs.declared.worlds.World.{World}

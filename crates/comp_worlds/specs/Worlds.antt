@@ -6,9 +6,7 @@ use Rattle.std.specs.Map.{keys_of}
 use Rattle.std.specs.Str.{bytes_eq}
 use Rattle.core_types.specs.Core.{IsCoreModule}
 use Rattle.wit_data.specs.declared.functions.Function.{Function}
-use Rattle.wit_data.specs.declared.functions.FunctionKind.{FunctionKind}
-use Rattle.wit_data.specs.declared.functions.FunctionKind.TheVariants as functions
-use Rattle.wit_data.specs.declared.functions.AbiVariant.TheVariants.{GuestImport, GuestExport}
+use Rattle.wit_data.specs.declared.functions.AbiVariant.TheVariants.{GuestExport}
 use Rattle.wit_data.specs.declared.ids.InterfaceId.{InterfaceId}
 use Rattle.wit_data.specs.declared.ids.TypeId.{TypeId}
 use Rattle.wit_data.specs.declared.types.TypeDef.{TypeDef}
@@ -21,6 +19,7 @@ use Rattle.wit_data.specs.declared.worlds.WorldItem.TheVariants as items
 use Rattle.wit_data.specs.Keys.{is_same_key}
 use Rattle.wit_data.specs.Names.{id_name_of, key_text}
 use Rattle.wit_data.specs.Values.{kind_at}
+use Rattle.built_ins.specs.BuiltIns.{plain_intrinsic}
 use Rattle.comp_roles.specs.declared.imports.Import.{Import}
 use Rattle.comp_roles.specs.declared.imports.Import.TheVariants as imports
 use Rattle.comp_roles.specs.declared.imports.ImportInstance.{ImportInstance}
@@ -31,23 +30,17 @@ use Rattle.comp_worlds.specs.declared.world.ComponentWorld.{ComponentWorld}
 use Rattle.comp_worlds.specs.declared.world.ValidatedModule.{ValidatedModule}
 use Rattle.world_values.specs.Items.{functions_of, functions_in}
 use Rattle.comp_worlds.specs.Lookups.{found_module}
+use Rattle.comp_worlds.specs.Lowerings.{IsImportForm}
 use Rattle.comp_worlds.specs.Offered.{OffersItem, NamedOffers, AdapterOffers, MemoryMatches}
 use Rattle.comp_worlds.specs.Typed.{FitsImport, FitsExport}
 use Rattle.comp_worlds.specs.Uses.{imports_of}
 use Rattle.comp_worlds.specs.WorldContents.{items_of, imported_functions, exported_functions, exported_item, core_name_in, interface_at, keys_required}
 
--- a kind of function that is called synchronously
-abbrev pub IsSynchronous : FunctionKind → Type 0
-IsSynchronous functions.AsyncFreestanding = ⊥
-IsSynchronous (functions.AsyncMethod id) = ⊥
-IsSynchronous (functions.AsyncStatic id) = ⊥
-IsSynchronous kind = Unit {0}
-
--- a synchronous function under its name
+-- a function under its name
 abbrev pub IsNamedFunction : List ℕ × Function → Type 0
-IsNamedFunction e = (e.0 ≡ e.1.name) × IsSynchronous e.1.kind
+IsNamedFunction e = e.0 ≡ e.1.name
 
--- the world imports synchronous functions at its root, each under its name, types, and interfaces of such functions
+-- the world imports functions at its root, each under its name, types, and interfaces of such functions
 abbrev pub IsImportItem : Resolve → WorldKey × WorldItem → Type 0
 IsImportItem r (keys.Name text, items.Function f) = IsNamedFunction (text, f)
 IsImportItem r (keys.Name text, items.NamedType id) = Unit {0}
@@ -55,7 +48,7 @@ IsImportItem r (keys.Name text, items.Interface id) = AllByRecursion IsNamedFunc
 IsImportItem r (keys.Interface other, items.Interface id) = AllByRecursion IsNamedFunction (functions_of r id)
 IsImportItem r entry = ⊥
 
--- it exports synchronous functions at its root, each under its name, and interfaces of such functions
+-- it exports functions at its root, each under its name, and interfaces of such functions
 abbrev pub IsExportItem : Resolve → WorldKey × WorldItem → Type 0
 IsExportItem r (keys.Name text, items.Function f) = IsNamedFunction (text, f)
 IsExportItem r (keys.Name text, items.Interface id) = AllByRecursion IsNamedFunction (functions_of r id)
@@ -86,12 +79,13 @@ pub record IsOwnResource (w : ComponentWorld) (key : WorldKey) (id : TypeId) : T
   pub exported : exported_item w key ≡ Some (items.Interface interface)
   pub required : Contains (keys_required w) key
 
--- the role of an import is a function that the world imports, at its root or in an interface, called in the right form, the drop of a
--- resource, `resource.drop`, `resource.rep` or `resource.new` of a resource of an exported interface, main's memory, what main or an
--- adapter offers, or an item of an argument of a library
+-- the role of an import is a function that the world imports, at its root or in an interface,
+-- called in either form, the drop of a resource, `resource.drop`, `resource.rep` or `resource.new`
+-- of a resource of an exported interface, main's memory, what main or an adapter offers, an item of
+-- an argument of a library, or a built-in function without operands
 abbrev pub IsImportRole : ComponentWorld → Import → Type 0
-IsImportRole w (imports.WorldFunc (keys.Name text) function abi) = Contains (imported_functions w) text × (function ≡ text) × (abi ≡ GuestImport)
-IsImportRole w (imports.InterfaceFunc key id function abi) = Contains (items_of w).imports (key, items.Interface id) × Contains (map (λ e. e.0) (functions_of w.resolve id)) function × (abi ≡ GuestImport)
+IsImportRole w (imports.WorldFunc (keys.Name text) function abi) = Contains (imported_functions w) text × (function ≡ text) × IsImportForm abi
+IsImportRole w (imports.InterfaceFunc key id function abi) = Contains (items_of w).imports (key, items.Interface id) × Contains (map (λ e. e.0) (functions_of w.resolve id)) function × IsImportForm abi
 IsImportRole w (imports.ImportedResourceDrop key interface id) = IsResource w.resolve.types id.index
 IsImportRole w (imports.ExportedResourceDrop key id) = IsOwnResource w key id
 IsImportRole w (imports.ExportedResourceRep key id) = IsOwnResource w key id
@@ -100,7 +94,7 @@ IsImportRole w (imports.MainModuleMemory type) = MemoryMatches w type
 IsImportRole w (imports.MainModuleExport name kind) = OffersItem w.main name kind
 IsImportRole w (imports.AdapterExport adapter name type) = AdapterOffers w adapter name type
 IsImportRole w (imports.Item item) = NamedOffers w item.which item.name item.kind
-IsImportRole w role = ⊥
+IsImportRole w role = IsSome (plain_intrinsic w.can_use_context_slot_1 role)
 
 -- a function of the handles of an exported resource is for the module that has to export its interface
 abbrev pub IsForOwnKey : List WorldKey → Import → Type 0
@@ -129,8 +123,9 @@ pub record ExportsFunctionOf (w : ComponentWorld) (key : WorldKey) (id : Interfa
   pub exported : exported_item w key ≡ Some (items.Interface id)
   pub has : Contains (map (λ e. e.0) (functions_of w.resolve id)) name
 
--- the role of an export is a function that the world exports, at its root or in an interface, called in the right form, the
--- post-return of one, the destructor of a resource, the memory, or a realloc
+-- the role of an export is a function that the world exports, at its root or in an interface,
+-- called in the right form, the post-return of one, the destructor of a resource, the memory, or a
+-- realloc
 abbrev pub IsExportRole : ComponentWorld → Export → Type 0
 IsExportRole w (exports.WorldFunc (keys.Name text) function abi) = Contains (exported_functions w) text × (function ≡ text) × (abi ≡ GuestExport)
 IsExportRole w (exports.InterfaceFunc key id function abi) = ExportsFunctionOf w key id function × (abi ≡ GuestExport)
@@ -150,8 +145,8 @@ pub record IsRequired (w : ComponentWorld) (m : ValidatedModule) (key : WorldKey
   pub exported : Contains (map (λ e. e.0) (items_of w).exports) key
   pub present : AllByRecursion (λ name. IsSome (core_name_in m.exports.exports key name)) (functions_in w.resolve (exported_item w key))
 
--- What holds of each user module, main and adapters alike: its imports and exports have the roles and the types that are
--- said of them, and these exports are required of it.
+-- What holds of each user module, main and adapters alike: its imports and exports have the roles
+-- and the types that are said of them, and these exports are required of it.
 pub record IsUserModule (w : ComponentWorld) (m : ValidatedModule) (keys : List WorldKey) : Type 0 where
   pub core : IsCoreModule m.bytes
   pub modules_apart : IsDistinct bytes_eq (map (λ g. g.0) m.imports.modules)

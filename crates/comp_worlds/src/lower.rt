@@ -48,7 +48,8 @@ pub trait Lower {
     fn empty(&self, alloc: Global) -> Self::Bindgen
         ensures { result ≡ empty_is self.now };
 
-    /// Reads a module's metadata from its bytes, which it takes over: the bytes that it returns can stay in their buffer.
+    /// Reads a module's metadata from its bytes, which it takes over: the bytes that it returns can
+    /// stay in their buffer.
     fn decode(
         &self,
         alloc: Global,
@@ -56,7 +57,8 @@ pub trait Lower {
     ) -> Result<(SharedBytes, Self::Bindgen), Self::Fault>
         ensures ok { IfOk result (λ p. p ≡ decoded self.now bytes.items) }
         ensures refused { IsOk result → (f : Self.Fault) → ¬ decode_cause self.now bytes.items f }
-        ensures cause { IfErr result (λ f. memory_fault self.now f ≡ false → decode_cause self.now bytes.items f) };
+        ensures cause { IfErr result
+            (λ f. memory_fault self.now f ≡ false → decode_cause self.now bytes.items f) };
 
     /// Merges the metadata so far with that of a further module.
     fn merge(
@@ -67,7 +69,8 @@ pub trait Lower {
     ) -> Result<Merged<Self::Bindgen>, Self::Fault>
         ensures ok { IfOk result (λ m. m ≡ merged self.now first.now second.now) }
         ensures refused { IsOk result → (f : Self.Fault) → ¬ merge_cause self.now first.now second.now f }
-        ensures cause { IfErr result (λ f. memory_fault self.now f ≡ false → merge_cause self.now first.now second.now f) };
+        ensures cause { IfErr result
+            (λ f. memory_fault self.now f ≡ false → merge_cause self.now first.now second.now f) };
 
     /// The validated world of what was gathered: its modules are the gathered ones, byte for byte, and its tables are
     /// those that follow from its parts.
@@ -82,7 +85,8 @@ pub trait Lower {
         ensures tables { IfOk result HasTables }
         ensures modules { IfOk result (HasModules gathered.now) }
         ensures refused { IsOk result → (f : Self.Fault) → ¬ prepare_cause self.now gathered.now f }
-        ensures cause { IfErr result (λ f. memory_fault self.now f ≡ false → prepare_cause self.now gathered.now f) };
+        ensures cause { IfErr result
+            (λ f. memory_fault self.now f ≡ false → prepare_cause self.now gathered.now f) };
 
     /// Whether a fault is out of memory.
     fn is_memory(&self, fault: &Self::Fault) -> bool

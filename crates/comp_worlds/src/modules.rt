@@ -26,7 +26,8 @@ impl ComponentWorld {
         which: CustomModule<'a>,
         own: Option<&'a str>,
     ) -> Option<(CustomModule<'a>, &'a str)>
-        ensures { lent_export result ≡ resolved_realloc self.now (module_name which.entry) (option_copied own.entry) }
+        ensures { lent_export result
+            ≡ resolved_realloc self.now (module_name which.entry) (option_copied own.entry) }
     {
         if let Some(name) = own {
             return Some((which, name));
@@ -38,7 +39,8 @@ impl ComponentWorld {
     }
 
     fn library_realloc<'a>(&'a self, adapter: &str) -> Option<(CustomModule<'a>, &'a str)>
-        ensures { lent_export result ≡ main_realloc_if (is_library self.now adapter.now) self.now.main.exports.exports }
+        ensures { lent_export result
+            ≡ main_realloc_if (is_library self.now adapter.now) self.now.main.exports.exports }
     {
         if !self.is_library(adapter) {
             return None;

@@ -1,4 +1,5 @@
-//! The adapters that a user module names: in the arguments of a library, and as modules whose instances its imports are given.
+//! The adapters that a user module names: in the arguments of a library, and as modules whose
+//! instances its imports are given.
 
 ghost use Rattle.std.specs.Prelude.{◌≡◌};
 ghost use Rattle.std.specs.Option.{option_copied};
@@ -29,7 +30,8 @@ fn absent_module<'a, V>(table: &Keyed<Text, V>, which: &'a MainOrAdapter) -> Opt
 
 /// The first such name in these items.
 fn absent_in_items<'a, V>(table: &Keyed<Text, V>, items: &'a [Item]) -> Option<&'a Text>
-    ensures { option_copied result ≡ first_some (λ i. specs.absent_module table.now i.which) items.now }
+    ensures { option_copied result
+        ≡ first_some (λ i. specs.absent_module table.now i.which) items.now }
 {
     for item in items {
         if let Some(name) = absent_module(table, &item.which) {
@@ -54,7 +56,8 @@ fn absent_in_arguments<'a, V>(
     table: &Keyed<Text, V>,
     arguments: &'a [LibraryArgument],
 ) -> Option<&'a Text>
-    ensures { option_copied result ≡ first_some (λ a. specs.absent_in_instance table.now a.instance) arguments.now }
+    ensures { option_copied result
+        ≡ first_some (λ a. specs.absent_in_instance table.now a.instance) arguments.now }
 {
     for argument in arguments {
         if let Some(name) = absent_in_instance(table, &argument.instance) {
@@ -124,8 +127,8 @@ fn absent_in_imports<'a, V>(table: &Keyed<Text, V>, imports: &'a ImportMap) -> O
     None
 }
 
-/// The first adapter that an adapter names and that is not in a table: in its arguments, or as a module whose instance, or an item of
-/// that, its imports are given.
+/// The first adapter that an adapter names and that is not in a table: in its arguments, or as a
+/// module whose instance, or an item of that, its imports are given.
 pub fn absent_adapter<'a, V>(table: &Keyed<Text, V>, adapter: &'a WorldAdapter) -> Option<&'a Text>
     ensures { option_copied result ≡ specs.absent_adapter table.now adapter.now }
 {

@@ -53,9 +53,9 @@ impl Drop for WorldAdapter {
 }
 
 /// The validated world: the items that the component imports and exports, its main module with the
-/// keys of the exports that it has to have, its adapters, in order, and the tables that follow from these.
-/// `IsWorld` says what holds of it, `IsEncodable` what the encoder takes of it beside that, and `HasTables` what the tables
-/// are.
+/// keys of the exports that it has to have, its adapters, in order, and the tables that follow from
+/// these. `IsWorld` says what holds of it, `IsEncodable` what the encoder takes of it beside that,
+/// and `HasTables` what the tables are.
 pub struct ComponentWorld {
     pub resolve: Resolve,
     /// The world of the resolve whose items these are.
@@ -131,7 +131,18 @@ impl WorldParts {
         live_type_imports: Keyed<InterfaceId, Seq<TypeId>>,
         exports_used: Keyed<InterfaceId, Seq<InterfaceId>>,
     ) -> ComponentWorld
-        ensures { result ≡ record { resolve = self.resolve; world = self.world; main = self.main; main_exports = self.main_exports; adapters = self.adapters; import_map = import_map; live_type_imports = live_type_imports; exports_used = exports_used; can_use_context_slot_1 = self.can_use_context_slot_1 } }
+        ensures { result
+            ≡ record {
+              resolve = self.resolve;
+              world = self.world;
+              main = self.main;
+              main_exports = self.main_exports;
+              adapters = self.adapters;
+              import_map = import_map;
+              live_type_imports = live_type_imports;
+              exports_used = exports_used;
+              can_use_context_slot_1 = self.can_use_context_slot_1;
+            } }
     {
         let WorldParts {
             resolve,

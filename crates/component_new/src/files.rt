@@ -29,8 +29,8 @@ fn fault_of(error: &io::Error) -> SystemFault {
     }
 }
 
-/// All bytes of a file. Room is made for its size at once, and the bytes come through a small buffer: `fs::read` would grow its own, and
-/// fill all of it with zeros first.
+/// All bytes of a file. Room is made for its size at once, and the bytes come through a small
+/// buffer: `fs::read` would grow its own, and fill all of it with zeros first.
 fn read<R: SystemFiles + AllocGlobal>(rt: &R, name: &str) -> io::Result<Vec<u8>> {
     let mut file = File::open(rt, name)?;
     let size = file.metadata()?.len();
@@ -39,8 +39,8 @@ fn read<R: SystemFiles + AllocGlobal>(rt: &R, name: &str) -> io::Result<Vec<u8>>
     Ok(bytes)
 }
 
-/// What a name names; a symbolic link is itself, and not what it leads to. A regular file is opened for writing, so that one
-/// that can't be written is refused.
+/// What a name names; a symbolic link is itself, and not what it leads to. A regular file is opened
+/// for writing, so that one that can't be written is refused.
 fn kind_of<R: SystemFiles>(rt: &R, name: &str) -> io::Result<Kind> {
     match fs::symlink_metadata(rt, name) {
         Ok(metadata) if metadata.is_file() => {

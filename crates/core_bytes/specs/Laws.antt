@@ -1,5 +1,5 @@
--- Bytes encode at most one list of sections, so that what is read is what was written; and a module that is given a name
--- is a module whose other sections are kept.
+-- Bytes encode at most one list of sections, so that what is read is what was written; and a module
+-- that is given a name is a module whose other sections are kept.
 use Rattle.std.specs.Prelude.{ℕ, ◌≡◌, List, ◌∷◌, ◌++◌, take, drop, true, Some}
 use Rattle.byte_encoding.specs.Encoding.{Fits}
 use Rattle.core_sections.specs.Sections.{Piece}

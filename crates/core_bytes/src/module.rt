@@ -30,7 +30,8 @@ fn put_names(out: &mut Vec<u8>, id: u8, names: &Option<NameMap>) -> Result<(), B
 
 /// Writes the name of the section, and that of the module.
 fn put_own_name(out: &mut Vec<u8>, name: &Text) -> Result<(), BuildFault>
-    ensures { Writes out.old.items out.new.items result (named name_section ⊕ with_id 0x00 (named name.now)) }
+    ensures { Writes out.old.items out.new.items result
+        (named name_section ⊕ with_id 0x00 (named name.now)) }
 {
     put_blob(out, &[0x6e, 0x61, 0x6d, 0x65])?;
     put_with_id(out, 0x00, name)?;

@@ -47,7 +47,8 @@ fn put_others(out: &mut Vec<u8>, parts: &[Part<'_>]) -> Result<(), AllocError>
 
 /// Writes these parts with another name of the module.
 fn put_with_own(out: &mut Vec<u8>, name: &Text, parts: &[Part<'_>]) -> Result<(), BuildFault>
-    ensures { Writes out.old.items out.new.items result (with_own name.now (map part_view parts.now)) }
+    ensures { Writes out.old.items out.new.items result
+        (with_own name.now (map part_view parts.now)) }
 {
     let (before, rest) = parts.split_at(own_index(parts));
     put_others(out, before)?;
@@ -57,7 +58,8 @@ fn put_with_own(out: &mut Vec<u8>, name: &Text, parts: &[Part<'_>]) -> Result<()
 }
 
 fn put_names(out: &mut Vec<u8>, name: &Text, parts: &[Part<'_>]) -> Result<(), BuildFault>
-    ensures { Writes out.old.items out.new.items result (named name_section ⊕ with_own name.now (map part_view parts.now)) }
+    ensures { Writes out.old.items out.new.items result
+        (named name_section ⊕ with_own name.now (map part_view parts.now)) }
 {
     put_blob(out, &NAME)?;
     put_with_own(out, name, parts)?;
@@ -66,7 +68,8 @@ fn put_names(out: &mut Vec<u8>, name: &Text, parts: &[Part<'_>]) -> Result<(), B
 
 /// Writes a section of names.
 fn put_section(out: &mut Vec<u8>, name: &Text, parts: &[Part<'_>]) -> Result<(), BuildFault>
-    ensures { Writes out.old.items out.new.items result (names_with name.now (map part_view parts.now)) }
+    ensures { Writes out.old.items out.new.items result
+        (names_with name.now (map part_view parts.now)) }
 {
     let mut buffer = Vec::new(*out.allocator());
     put_names(&mut buffer, name, parts)?;
@@ -111,7 +114,8 @@ fn parts_in_front<'a>(
     alloc: Global,
     sections: &[Section<'a>],
 ) -> Result<Option<Vec<Part<'a>>>, AllocError>
-    ensures { IfOk result (λ o. option_map (λ v. map part_view v.items) o ≡ parts_in_front (map view sections.now)) }
+    ensures { IfOk result
+        (λ o. option_map (λ v. map part_view v.items) o ≡ parts_in_front (map view sections.now)) }
 {
     match sections.first() {
         Some(section) => read_parts(alloc, bytes_in(section.content)),
@@ -146,7 +150,8 @@ fn put_module(
     sections: &[Section<'_>],
     parts: &[Part<'_>],
 ) -> Result<(), BuildFault>
-    ensures { Writes out.old.items out.new.items result (renamed name.now (map view sections.now) (map part_view parts.now)) }
+    ensures { Writes out.old.items out.new.items result
+        (renamed name.now (map view sections.now) (map part_view parts.now)) }
 {
     let (before, rest) = sections.split_at(names_index(sections));
     put_bytes(out, &[0x00, 0x61, 0x73, 0x6d, 0x01, 0x00, 0x00, 0x00])?;
@@ -161,7 +166,8 @@ fn names_parts<'a>(
     alloc: Global,
     sections: &[Section<'a>],
 ) -> Result<Option<Vec<Part<'a>>>, AllocError>
-    ensures { IfOk result (λ o. option_map (λ v. map part_view v.items) o ≡ parts_in_front (drop (names_index (map view sections.now)) (map view sections.now))) }
+    ensures { IfOk result (λ o. option_map (λ v. map part_view v.items) o
+        ≡ parts_in_front (drop (names_index (map view sections.now)) (map view sections.now))) }
 {
     let (_, front) = sections.split_at(names_index(sections));
     parts_in_front(alloc, front)
@@ -174,7 +180,9 @@ fn put_by_parts(
     name: &Text,
     sections: &[Section<'_>],
 ) -> Result<(), BuildFault>
-    ensures { Writes out.old.items out.new.items result (by_parts bytes.now name.now (map view sections.now) (parts_in_front (drop (names_index (map view sections.now)) (map view sections.now)))) }
+    ensures { Writes out.old.items out.new.items result (by_parts bytes.now name.now
+        (map view sections.now)
+        (parts_in_front (drop (names_index (map view sections.now)) (map view sections.now)))) }
 {
     match names_parts(*out.allocator(), sections)? {
         None => put_bytes(out, bytes),

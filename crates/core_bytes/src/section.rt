@@ -95,7 +95,8 @@ impl Drop for Section {
 impl Entries<FuncType> {
     /// Appends the type of a function. Where memory is refused, the section is as it was.
     pub fn function(&mut self, params: &[ValType], results: &[ValType]) -> Result<(), AllocError>
-        ensures ok { OnOk result (self.new ≡ self.old ++ record { params = params.now; results = results.now } ∷ []) }
+        ensures ok { OnOk result
+            (self.new ≡ self.old ++ record { params = params.now; results = results.now } ∷ []) }
         ensures err { OnErr result (self.new ≡ self.old) }
     {
         let params = Seq::from_vec(Vec::from_slice(self.allocator(), params)?);
@@ -112,7 +113,10 @@ impl Entries<Import> {
         field: &str,
         entity: EntityType,
     ) -> Result<(), AllocError>
-        ensures ok { OnOk result (self.new ≡ self.old ++ record { module_name = module_name.now; field = field.now; entity = entity } ∷ []) }
+        ensures ok { OnOk result (self.new
+            ≡ self.old
+            ++ record { module_name = module_name.now; field = field.now; entity = entity }
+            ∷ []) }
         ensures err { OnErr result (self.new ≡ self.old) }
     {
         let module_name = Text::from_str(self.allocator(), module_name)?;
@@ -158,7 +162,8 @@ impl Entries<MemoryType> {
 impl Entries<DefinedGlobal> {
     /// Appends a global that is `init` at first. Where memory is refused, the section is as it was.
     pub fn global(&mut self, global_type: GlobalType, init: ConstExpr) -> Result<(), AllocError>
-        ensures ok { OnOk result (self.new ≡ self.old ++ record { global_type = global_type; init = init } ∷ []) }
+        ensures ok { OnOk result
+            (self.new ≡ self.old ++ record { global_type = global_type; init = init } ∷ []) }
         ensures err { OnErr result (self.new ≡ self.old) }
     {
         self.add(DefinedGlobal { global_type, init })
@@ -169,7 +174,8 @@ impl Entries<Export> {
     /// Appends an export, of the item of this index among those of its kind. Where memory is refused,
     /// the section is as it was.
     pub fn export(&mut self, name: &str, kind: ExportKind, index: u32) -> Result<(), AllocError>
-        ensures ok { OnOk result (self.new ≡ self.old ++ record { name = name.now; kind = kind; index = index } ∷ []) }
+        ensures ok { OnOk result
+            (self.new ≡ self.old ++ record { name = name.now; kind = kind; index = index } ∷ []) }
         ensures err { OnErr result (self.new ≡ self.old) }
     {
         let name = Text::from_str(self.allocator(), name)?;
@@ -186,7 +192,8 @@ impl Entries<ElementSegment> {
         offset: i32,
         functions: &[u32],
     ) -> Result<(), AllocError>
-        ensures ok { OnOk result (self.new ≡ self.old ++ segments.Active table offset functions.now ∷ []) }
+        ensures ok { OnOk result
+            (self.new ≡ self.old ++ segments.Active table offset functions.now ∷ []) }
         ensures err { OnErr result (self.new ≡ self.old) }
     {
         let functions = Seq::from_vec(Vec::from_slice(self.allocator(), functions)?);
@@ -211,7 +218,8 @@ impl Entries<ElementSegment> {
 impl Entries<DataSegment> {
     /// Appends bytes for memory 0 from `offset` on. Where memory is refused, the section is as it was.
     pub fn active(&mut self, offset: i32, bytes: &[u8]) -> Result<(), AllocError>
-        ensures ok { OnOk result (self.new ≡ self.old ++ record { offset = offset; bytes = bytes.now } ∷ []) }
+        ensures ok { OnOk result
+            (self.new ≡ self.old ++ record { offset = offset; bytes = bytes.now } ∷ []) }
         ensures err { OnErr result (self.new ≡ self.old) }
     {
         let bytes = Seq::from_vec(Vec::from_slice(self.allocator(), bytes)?);
@@ -227,7 +235,9 @@ impl Entries<Body> {
         locals: &[LocalRun],
         instructions: &[Instruction],
     ) -> Result<(), AllocError>
-        ensures ok { OnOk result (self.new ≡ self.old ++ record { locals = locals.now; instructions = instructions.now } ∷ []) }
+        ensures ok { OnOk result (self.new
+            ≡ self.old ++ record { locals = locals.now; instructions = instructions.now }
+            ∷ []) }
         ensures err { OnErr result (self.new ≡ self.old) }
     {
         let locals = Seq::from_vec(Vec::from_slice(self.allocator(), locals)?);
@@ -242,7 +252,8 @@ impl Entries<Body> {
 impl Entries<Naming> {
     /// Appends the name of the item of this index. Where memory is refused, the map is as it was.
     pub fn append(&mut self, index: u32, name: &str) -> Result<(), AllocError>
-        ensures ok { OnOk result (self.new ≡ self.old ++ record { index = index; name = name.now } ∷ []) }
+        ensures ok { OnOk result
+            (self.new ≡ self.old ++ record { index = index; name = name.now } ∷ []) }
         ensures err { OnErr result (self.new ≡ self.old) }
     {
         let name = Text::from_str(self.allocator(), name)?;

@@ -50,7 +50,8 @@ fn put_constant(out: &mut Vec<u8>, opcode: u8, value: i64) -> Result<(), BuildFa
 }
 
 fn put_call_indirect(out: &mut Vec<u8>, type_index: u32, table: u32) -> Result<(), BuildFault>
-    ensures { Writes out.old.items out.new.items result (octet 0x11 ⊕ number type_index ⊕ number table) }
+    ensures { Writes out.old.items out.new.items result
+        (octet 0x11 ⊕ number type_index ⊕ number table) }
 {
     put_tagged(out, 0x11, &type_index)?;
     put_index(out, table)?;
@@ -83,7 +84,8 @@ impl Encode for Instruction {
 }
 
 fn put_ended_constant(out: &mut Vec<u8>, opcode: u8, value: i64) -> Result<(), BuildFault>
-    ensures { Writes out.old.items out.new.items result (octet opcode ⊕ raw (signed value) ⊕ octet 0x0b) }
+    ensures { Writes out.old.items out.new.items result
+        (octet opcode ⊕ raw (signed value) ⊕ octet 0x0b) }
 {
     put_constant(out, opcode, value)?;
     put_bytes(out, &[0x0b])?;
@@ -91,7 +93,8 @@ fn put_ended_constant(out: &mut Vec<u8>, opcode: u8, value: i64) -> Result<(), B
 }
 
 fn put_ended_function(out: &mut Vec<u8>, function: u32) -> Result<(), BuildFault>
-    ensures { Writes out.old.items out.new.items result (octet 0xd2 ⊕ number function ⊕ octet 0x0b) }
+    ensures { Writes out.old.items out.new.items result
+        (octet 0xd2 ⊕ number function ⊕ octet 0x0b) }
 {
     put_tagged(out, 0xd2, &function)?;
     put_bytes(out, &[0x0b])?;
@@ -143,7 +146,8 @@ impl Encode for Export {
 }
 
 fn put_on_first(out: &mut Vec<u8>, offset: i32, functions: &Seq<u32>) -> Result<(), BuildFault>
-    ensures { Writes out.old.items out.new.items result (octet 0x00 ⊕ constant (constants.I32 offset) ⊕ listed number functions.now) }
+    ensures { Writes out.old.items out.new.items result
+        (octet 0x00 ⊕ constant (constants.I32 offset) ⊕ listed number functions.now) }
 {
     put_tagged(out, 0x00, &ConstExpr::I32(offset))?;
     functions.put(out)?;
@@ -156,7 +160,8 @@ fn put_on_table(
     offset: i32,
     functions: &Seq<u32>,
 ) -> Result<(), BuildFault>
-    ensures { Writes out.old.items out.new.items result (octet 0x02 ⊕ number table ⊕ constant (constants.I32 offset) ⊕ octet 0x00 ⊕ listed number functions.now) }
+    ensures { Writes out.old.items out.new.items result (octet 0x02 ⊕ number table
+        ⊕ constant (constants.I32 offset) ⊕ octet 0x00 ⊕ listed number functions.now) }
 {
     put_tagged(out, 0x02, &table)?;
     ConstExpr::I32(offset).put(out)?;
@@ -166,7 +171,8 @@ fn put_on_table(
 }
 
 fn put_declared(out: &mut Vec<u8>, functions: &Seq<u32>) -> Result<(), BuildFault>
-    ensures { Writes out.old.items out.new.items result (octet 0x03 ⊕ octet 0x00 ⊕ listed number functions.now) }
+    ensures { Writes out.old.items out.new.items result
+        (octet 0x03 ⊕ octet 0x00 ⊕ listed number functions.now) }
 {
     put_bytes(out, &[0x03, 0x00])?;
     functions.put(out)?;

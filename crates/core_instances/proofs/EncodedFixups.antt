@@ -1,4 +1,5 @@
--- The fixup of a world: there is one where there is something to do, and its arguments are the instances that it imports from.
+-- The fixup of a world: there is one where there is something to do, and its arguments are the
+-- instances that it imports from.
 use Rattle.std.proofs.Common.{◌≡◌, ◌∙◌, ◌<◌, ◌^◌, ℕ, Bool, true, false, List, [], ◌∷◌, ◌++◌, length, Option, Some, None, refl, sym, ap₂, subst}
 use Rattle.std.specs.Prelude.{Result, Ok, Err, OnOk, IfErr}
 use Rattle.std.specs.List.{AllByRecursion, range_with_len}

@@ -28,7 +28,6 @@ use Rattle.shim_targets.proofs.FoundShims.{found_shim}
 use Rattle.shim_targets.proofs.GivenShims.{given_shim}
 use Rattle.shim_targets.proofs.NeededShims.{shim_there}
 use Rattle.shim_targets.proofs.NoOptions.{role_without}
-use Rattle.shim_targets.proofs.Roles.{import_role}
 use Rattle.world_shims.specs.WorldShims.{shims_of}
 use Rattle.core_options.specs.MainOptions.{HasLowerOptions}
 use Rattle.main_fixup.specs.Filling.{HasShimOptions}
@@ -43,11 +42,11 @@ known (Some x) h = (x, refl)
 known None h = absurd (true≢false (sym h))
 
 module _ (w : ComponentWorld) (ok : IsEncodable w) (has : AllByRecursion (HasShimOptions w) (shims_of w)) where
-  -- no options
-  without : (i : UserImport) → Contains (user_imports w) i → needs (lower_needs w i.core.role) 1 ≡ false → HasLowerOptions w i
-  without i there e =
-      let none : lower_needs w i.core.role ≡ 0 = role_without w i.core.role (import_role w ok i there) e in
-      record { memory = λ h. absurd (true≢false (sym h ∙ e)); realloc = λ h. absurd (true≢false (sym h ∙ ap (λ n. needs n 2) none)) }
+  -- options that name nothing that a module exports
+  without : (i : UserImport) → needs (lower_needs w i.core.role) 1 ≡ false → HasLowerOptions w i
+  without i e =
+      let none = role_without w i.core.role e in
+      record { memory = λ h. absurd (true≢false (sym h ∙ e)); realloc = λ h. absurd (true≢false (sym h ∙ none.realloc)) }
 
   -- those of a shim
   through : shared_memory w ≡ None → (i : UserImport) → Contains (user_imports w) i → needs (lower_needs w i.core.role) 1 ≡ true → (encoding : StringEncoding) → import_encoding w i.of i.core.role ≡ Some encoding → (kind : ShimKind) → kind_of_import i.of i.core.role encoding ≡ Some kind → HasLowerOptions w i
@@ -68,7 +67,7 @@ module _ (w : ComponentWorld) (ok : IsEncodable w) (has : AllByRecursion (HasShi
   -- where main imports no memory
   unshared_one : shared_memory w ≡ None → (of : UserModule) (name field : List ℕ) (role : Import) → Contains (user_imports w) (record { of = of; core = record { module_name = name; field = field; role = role } }) → IsSuppliedImport w of role → (b : Bool) →
       needs (lower_needs w role) 1 ≡ b → HasLowerOptions w (record { of = of; core = record { module_name = name; field = field; role = role } })
-  unshared_one unshared of name field role there encoded false e = without (record { of = of; core = record { module_name = name; field = field; role = role } }) there e
+  unshared_one unshared of name field role there encoded false e = without (record { of = of; core = record { module_name = name; field = field; role = role } }) e
   unshared_one unshared of name field (imports.WorldFunc key function abi) there encoded true e =
       let i : UserImport = record { of = of; core = record { module_name = name; field = field; role = imports.WorldFunc key function abi } } in
       let n = known (import_encoding w of i.core.role) (encoded.encoding refl) in

@@ -1,5 +1,5 @@
--- What the core instances add to a component, and what is taken as given (component model, explainer: core instances; this
--- project's own).
+-- What the core instances add to a component, and what is taken as given (component model,
+-- explainer: core instances; this project's own).
 use Rattle.std.specs.Prelude.{◌≡◌, ◌<◌, ◌≤◌, ◌^◌, ◌⊎◌, ℕ, suc, Bool, List, [], ◌∷◌, ◌++◌, length, map, slice_get, Option, Some, None, true, false}
 use Rattle.std.specs.List.{AllByRecursion, IsDistinct, range_with_len}
 use Rattle.std.specs.Map.{keys_of}
@@ -97,8 +97,8 @@ pub record AllAdapters (w : ComponentWorld) (old new : List Def) (table : List (
 
 -- ---- what is added
 
--- the landmarks of the core instances and of the modules that are generated for them, and of the resources that are defined before
--- the user modules are instantiated
+-- the landmarks of the core instances and of the modules that are generated for them, and of the
+-- resources that are defined before the user modules are instantiated
 abbrev pub instances_marked : ComponentWorld → GeneratedBytes → List Landmark
 instances_marked w g = shims_marked w g.shims ++ (resources_marked w ++ (users_marked w ++ fixup_marked w g.fixup))
 
@@ -108,8 +108,9 @@ pub record AddsInstances (w : ComponentWorld) (debug_names : Bool) (old new : Li
   pub are_generated : AreGenerated w debug_names generated
   pub grows : Grows w old new (instances_marked w generated)
 
--- the fixup's module is the next one, its instance comes after those of the shims and of the user modules, and the instance of the
--- shims is there, where there are any, so few that they can be counted
+-- the fixup's module is the next one, its instance comes after those of the shims and of the user
+-- modules, and the instance of the shims is there, where there are any, so few that they can be
+-- counted
 pub record IsFixupNext (w : ComponentWorld) (ds : List Def) (shim_instance : Option ℕ) : Type 0 where
   pub room : length (shims_of w) < 2 ^ 32
   pub made : (shims_of w ≡ [] → ⊥) → IsShimsAt w ds shim_instance

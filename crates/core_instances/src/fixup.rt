@@ -18,8 +18,8 @@ use world_shims::fixup_of_shims;
 
 /// Adds the fixup's module and its instance, where there are shims to fill, or main is to be initialized.
 ///
-/// `E7` where what a shim stands for is lowered with a memory and main has none, `E8` where it is lowered with a realloc and
-/// there is none for the module.
+/// `E7` where what a shim stands for is lowered with a memory and main has none, `E8` where it is
+/// lowered with a realloc and there is none for the module.
 pub(crate) fn encode_indirect_lowerings(
     root: &mut RootScope<'_, ComponentWorld>,
     sources: &FillSources<'_>,
@@ -27,13 +27,16 @@ pub(crate) fn encode_indirect_lowerings(
     shim_instance: Option<u32>,
     debug_names: bool,
 ) -> Result<(), StateFault>
-    requires sources { AreFillSources root.old.world.now sources.now root.old.met root.old.items.defs root.old.maps root.old.instances }
+    requires sources { AreFillSources root.old.world.now sources.now root.old.met
+        root.old.items.defs root.old.maps root.old.instances }
     requires shims { shims.now ≡ shims_of root.old.world.now }
     requires next { IsFixupNext root.old.world.now root.old.items.defs shim_instance }
     ensures same { root.new ≡ record root.old { items = root.new.items } }
     ensures extends { Extends root.old.items root.new.items }
-    ensures added { OnOk result (MayAddFixup root.old.world.now debug_names root.old.items.defs root.new.items.defs) }
-    ensures offered { OnOk result (AllByRecursion (HasShimOptions root.old.world.now) (shims_of root.old.world.now)) }
+    ensures added { OnOk result
+        (MayAddFixup root.old.world.now debug_names root.old.items.defs root.new.items.defs) }
+    ensures offered { OnOk result
+        (AllByRecursion (HasShimOptions root.old.world.now) (shims_of root.old.world.now)) }
     ensures cause { IfErr result (IsCause root.old.world.now) }
 {
     let alloc = root.items.allocator();

@@ -38,31 +38,36 @@ fn fill_sources<'a>(
     }
 }
 
-/// Adds the module of shims and its instance, the types of exported interfaces, the instances of the user modules, and the fixup's
-/// module and its instance; without the fixup where no module needs shims, and then also without the module of shims, unless main
-/// imports its memory. It returns the instances of the user modules.
-/// `functions` has the root functions that were imported, by their names. After a refusal the definitions that were made until then
-/// stay.
+/// Adds the module of shims and its instance, the types of exported interfaces, the instances of
+/// the user modules, and the fixup's module and its instance; without the fixup where no module
+/// needs shims, and then also without the module of shims, unless main imports its memory. It
+/// returns the instances of the user modules. `functions` has the root functions that were
+/// imported, by their names. After a refusal the definitions that were made until then stay.
 ///
-/// `E9` where an import of a function has no string encoding, `E7` where a function is lowered with a memory, or an import is main's
-/// memory, and main has none,
-/// `E8` where it is lowered with a realloc and there is none for the module, `E10` where an adapter names one that is not instantiated
-/// before it, and `E11` where an exported interface uses types of another
-/// one that isn't exported before it.
+/// `E9` where an import of a function has no string encoding, `E7` where a function is lowered with
+/// a memory, or an import is main's memory, and main has none, `E8` where it is lowered with a
+/// realloc and there is none for the module, `E10` where an adapter names one that is not
+/// instantiated before it, and `E11` where an exported interface uses types of another one that
+/// isn't exported before it.
 pub fn encode_core_instantiation(
     root: &mut RootScope<'_, ComponentWorld>,
     functions: &Keyed<Text, u32>,
     debug_names: bool,
 ) -> Result<UserInstances, StateFault>
-    requires made { AreImportsMade root.old.world.now functions.now root.old.met root.old.items.defs root.old.maps root.old.instances }
+    requires made { AreImportsMade root.old.world.now functions.now root.old.met root.old.items.defs
+        root.old.maps root.old.instances }
     requires users { AreUserModules root.old.world.now root.old.items.defs }
     ensures moved { RootMoved root.old.world.now root.old root.new }
-    ensures added { OnOk result (AddsInstances root.old.world.now debug_names root.old.items.defs root.new.items.defs) }
+    ensures added { OnOk result
+        (AddsInstances root.old.world.now debug_names root.old.items.defs root.new.items.defs) }
     ensures ordered { OnOk result (AreExportsInOrder root.old.world.now) }
     ensures met { OnOk result (AreExportsMet root.old.world.now root.new.met) }
     ensures made { IfOk result (AreUserInstances root.old.world.now root.new.items.defs) }
-    ensures supplied { OnOk result (AllByRecursion (λ (i : UserImport). IsSuppliedImport root.old.world.now i.of i.core.role) (user_imports root.old.world.now)) }
-    ensures lowered { OnOk result (AllByRecursion (HasLowerOptions root.old.world.now) (user_imports root.old.world.now)) }
+    ensures supplied { OnOk result (AllByRecursion
+        (λ (i : UserImport). IsSuppliedImport root.old.world.now i.of i.core.role)
+        (user_imports root.old.world.now)) }
+    ensures lowered { OnOk result
+        (AllByRecursion (HasLowerOptions root.old.world.now) (user_imports root.old.world.now)) }
     ensures in_order { OnOk result (AreMadeInOrder root.old.world.now) }
     ensures cause { IfErr result (IsCause root.old.world.now) }
 {

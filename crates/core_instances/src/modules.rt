@@ -30,7 +30,8 @@ fn add_module(
     requires { IsCoreModule bytes.now }
     ensures same { root.new ≡ record root.old { items = root.new.items } }
     ensures extends { Extends root.old.items root.new.items }
-    ensures grows { OnOk result (Grows root.old.world.now root.old.items.defs root.new.items.defs (ModuleIs bytes.now ∷ [])) }
+    ensures grows { OnOk result (Grows root.old.world.now root.old.items.defs root.new.items.defs
+        (ModuleIs bytes.now ∷ [])) }
     ensures room { OnOk result (items_in spaces.CoreModule root.new.items.defs ≤ 2 ^ 32) }
     ensures cause { IfErr result IsRefusal }
 {
@@ -62,7 +63,8 @@ fn add_adapter(
     requires { IsCoreModule adapter.now.info.bytes }
     ensures same { root.new ≡ record root.old { items = root.new.items } }
     ensures extends { Extends root.old.items root.new.items }
-    ensures grows { OnOk result (Grows root.old.world.now root.old.items.defs root.new.items.defs (ModuleIs (adapter_bytes debug_names (name.now, adapter.now)) ∷ [])) }
+    ensures grows { OnOk result (Grows root.old.world.now root.old.items.defs root.new.items.defs
+        (ModuleIs (adapter_bytes debug_names (name.now, adapter.now)) ∷ [])) }
     ensures room { OnOk result (items_in spaces.CoreModule root.new.items.defs ≤ 2 ^ 32) }
     ensures cause { IfErr result IsRefusal }
 {
@@ -77,8 +79,9 @@ fn add_adapter(
     }
 }
 
-/// Adds the core modules of the user modules: main's, and then those of the adapters in order. They are the first core modules of a
-/// component. Those of adapters get names for debuggers if `debug_names` says so.
+/// Adds the core modules of the user modules: main's, and then those of the adapters in order. They
+/// are the first core modules of a component. Those of adapters get names for debuggers if
+/// `debug_names` says so.
 pub fn encode_core_modules(
     root: &mut RootScope<'_, ComponentWorld>,
     debug_names: bool,
@@ -87,7 +90,8 @@ pub fn encode_core_modules(
     requires none { items_in spaces.CoreModule root.old.items.defs ≡ 0 }
     ensures same { root.new ≡ record root.old { items = root.new.items } }
     ensures extends { Extends root.old.items root.new.items }
-    ensures grows { OnOk result (Grows root.old.world.now root.old.items.defs root.new.items.defs (bytes_marked debug_names root.old.world.now)) }
+    ensures grows { OnOk result (Grows root.old.world.now root.old.items.defs root.new.items.defs
+        (bytes_marked debug_names root.old.world.now)) }
     ensures room { OnOk result (length (user_modules root.old.world.now) ≤ 2 ^ 32) }
     ensures cause { IfErr result IsRefusal }
 {

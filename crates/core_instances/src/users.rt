@@ -40,8 +40,9 @@ pub(crate) fn main_user(world: &ComponentWorld) -> UserModule<'_>
     }
 }
 
-/// What the imports of a user module are given: root functions that were imported, shims with their instance, main's memory, as far as it
-/// is there, and the instances of main and of the adapters that were made before.
+/// What the imports of a user module are given: root functions that were imported, shims with their
+/// instance, main's memory, as far as it is there, and the instances of main and of the adapters
+/// that were made before.
 pub(crate) fn sources_of<'a>(
     user: UserModule<'a>,
     functions: &'a Keyed<Text, u32>,
@@ -85,20 +86,25 @@ fn next_user<'a>(last: u32, name: &'a Text, adapter: &'a WorldAdapter) -> UserMo
 
 /// Makes the instance of a user module. `debug` is its debug name.
 ///
-/// `E7` where an import is main's memory and main has none, `E8` where a function is lowered with a realloc before main is instantiated
-/// and there is none for the module, `E9` where an import of a function has no string encoding.
+/// `E7` where an import is main's memory and main has none, `E8` where a function is lowered with a
+/// realloc before main is instantiated and there is none for the module, `E9` where an import of a
+/// function has no string encoding.
 fn instantiate_user(
     root: &mut RootScope<'_, ComponentWorld>,
     sources: &ImportSources<'_>,
     debug: &str,
 ) -> Result<u32, StateFault>
-    requires sources { AreSources root.old.world.now sources.now root.old.met root.old.items.defs root.old.maps root.old.instances }
+    requires sources { AreSources root.old.world.now sources.now root.old.met root.old.items.defs
+        root.old.maps root.old.instances }
     requires there { sources.now.user.number < items_in spaces.CoreModule root.old.items.defs }
     ensures same { root.new ≡ record root.old { items = root.new.items } }
     ensures extends { Extends root.old.items root.new.items }
-    ensures grows { OnOk result (Grows root.old.world.now root.old.items.defs root.new.items.defs (InstanceOf sources.now.user.number ∷ [])) }
-    ensures made { IfOk result (λ index. IsInstanceOf root.new.items.defs index sources.now.user.number) }
-    ensures supplied { OnOk result (IsSuppliedUser root.old.world.now (user_of sources.now.user.which) sources.now.user.found.now) }
+    ensures grows { OnOk result (Grows root.old.world.now root.old.items.defs root.new.items.defs
+        (InstanceOf sources.now.user.number ∷ [])) }
+    ensures made { IfOk result
+        (λ index. IsInstanceOf root.new.items.defs index sources.now.user.number) }
+    ensures supplied { OnOk result (IsSuppliedUser root.old.world.now
+        (user_of sources.now.user.which) sources.now.user.found.now) }
     ensures cause { IfErr result (IsCause root.old.world.now) }
 {
     let arguments = sources.arguments(root)?;
@@ -115,7 +121,8 @@ struct MainInstance {
     memory: Option<u32>,
 }
 
-/// Main's memory, if it has one: the one that it imports (`shared`), or else the first that it exports. `instance` is main's.
+/// Main's memory, if it has one: the one that it imports (`shared`), or else the first that it
+/// exports. `instance` is main's.
 fn memory_of_main(
     root: &mut RootScope<'_, ComponentWorld>,
     shared: Option<u32>,
@@ -126,7 +133,8 @@ fn memory_of_main(
     requires shared { IsMemoryIf root.old.items.defs (shared_export root.old.world.now) shared }
     ensures same { root.new ≡ record root.old { items = root.new.items } }
     ensures extends { Extends root.old.items root.new.items }
-    ensures grows { OnOk result (Grows root.old.world.now root.old.items.defs root.new.items.defs []) }
+    ensures grows { OnOk result
+        (Grows root.old.world.now root.old.items.defs root.new.items.defs []) }
     ensures memory { IfOk result (IsMemoryIf root.new.items.defs (main_memory root.old.world.now)) }
     ensures cause { IfErr result IsRefusal }
 {
@@ -144,15 +152,19 @@ fn instantiate_main(
     root: &mut RootScope<'_, ComponentWorld>,
     sources: &ImportSources<'_>,
 ) -> Result<MainInstance, StateFault>
-    requires sources { AreSources root.old.world.now sources.now root.old.met root.old.items.defs root.old.maps root.old.instances }
+    requires sources { AreSources root.old.world.now sources.now root.old.met root.old.items.defs
+        root.old.maps root.old.instances }
     requires main { IsMainUser root.old.world.now sources.now.user }
     requires there { HasUserModules root.old.world.now root.old.items.defs }
     ensures same { root.new ≡ record root.old { items = root.new.items } }
     ensures extends { Extends root.old.items root.new.items }
-    ensures grows { OnOk result (Grows root.old.world.now root.old.items.defs root.new.items.defs (InstanceOf 0 ∷ [])) }
+    ensures grows { OnOk result
+        (Grows root.old.world.now root.old.items.defs root.new.items.defs (InstanceOf 0 ∷ [])) }
     ensures made { IfOk result (λ main. IsInstanceOf root.new.items.defs main.index 0) }
-    ensures memory { IfOk result (λ main. IsMemoryIf root.new.items.defs (main_memory root.old.world.now) main.memory) }
-    ensures supplied { OnOk result (IsSuppliedUser root.old.world.now Main root.old.world.now.main) }
+    ensures memory { IfOk result
+        (λ main. IsMemoryIf root.new.items.defs (main_memory root.old.world.now) main.memory) }
+    ensures supplied { OnOk result
+        (IsSuppliedUser root.old.world.now Main root.old.world.now.main) }
     ensures cause { IfErr result (IsCause root.old.world.now) }
 {
     let index = instantiate_user(root, sources, "main")?;
@@ -168,13 +180,15 @@ fn instantiate_adapters(
     sources: &ImportSources<'_>,
     main: MainInstance,
 ) -> Result<Keyed<Text, u32>, StateFault>
-    requires sources { AreSources root.old.world.now sources.now root.old.met root.old.items.defs root.old.maps root.old.instances }
+    requires sources { AreSources root.old.world.now sources.now root.old.met root.old.items.defs
+        root.old.maps root.old.instances }
     requires made { IsInstanceOf root.old.items.defs main.index 0 }
     requires memory { IsMemoryIf root.old.items.defs (main_memory root.old.world.now) main.memory }
     requires there { HasUserModules root.old.world.now root.old.items.defs }
     ensures same { root.new ≡ record root.old { items = root.new.items } }
     ensures extends { Extends root.old.items root.new.items }
-    ensures all { IfOk result (AllAdapters root.old.world.now root.old.items.defs root.new.items.defs) }
+    ensures all { IfOk result
+        (AllAdapters root.old.world.now root.old.items.defs root.new.items.defs) }
     ensures cause { IfErr result (IsCause root.old.world.now) }
 {
     let world = root.world;
@@ -204,24 +218,29 @@ fn instantiate_adapters(
     Ok(table)
 }
 
-/// Makes the instances of the user modules: main's, with an alias of the memory that it exports, if it imports none and exports one, and
-/// then those of the adapters in order.
+/// Makes the instances of the user modules: main's, with an alias of the memory that it exports, if
+/// it imports none and exports one, and then those of the adapters in order.
 ///
-/// `E7` where an import is main's memory and main has none, `E8` where a function is lowered with a realloc before main is instantiated and
-/// there is none for the module, `E9` where an import of a function has no string encoding, `E10` where an
-/// adapter names one that is not instantiated before it.
+/// `E7` where an import is main's memory and main has none, `E8` where a function is lowered with a
+/// realloc before main is instantiated and there is none for the module, `E9` where an import of a
+/// function has no string encoding, `E10` where an adapter names one that is not instantiated
+/// before it.
 pub(crate) fn instantiate_users(
     root: &mut RootScope<'_, ComponentWorld>,
     sources: &ImportSources<'_>,
 ) -> Result<UserInstances, StateFault>
-    requires sources { AreSources root.old.world.now sources.now root.old.met root.old.items.defs root.old.maps root.old.instances }
+    requires sources { AreSources root.old.world.now sources.now root.old.met root.old.items.defs
+        root.old.maps root.old.instances }
     requires main { IsMainUser root.old.world.now sources.now.user }
     requires there { HasUserModules root.old.world.now root.old.items.defs }
     ensures same { root.new ≡ record root.old { items = root.new.items } }
     ensures extends { Extends root.old.items root.new.items }
-    ensures grows { OnOk result (Grows root.old.world.now root.old.items.defs root.new.items.defs (users_marked root.old.world.now)) }
+    ensures grows { OnOk result (Grows root.old.world.now root.old.items.defs root.new.items.defs
+        (users_marked root.old.world.now)) }
     ensures made { IfOk result (AreUserInstances root.old.world.now root.new.items.defs) }
-    ensures supplied { OnOk result (AllByRecursion (λ (i : UserImport). IsSuppliedImport root.old.world.now i.of i.core.role) (user_imports root.old.world.now)) }
+    ensures supplied { OnOk result (AllByRecursion
+        (λ (i : UserImport). IsSuppliedImport root.old.world.now i.of i.core.role)
+        (user_imports root.old.world.now)) }
     ensures in_order { OnOk result (AreMadeInOrder root.old.world.now) }
     ensures cause { IfErr result (IsCause root.old.world.now) }
 {

@@ -1,7 +1,6 @@
 pub mod Refusals
 pub mod Offered
 pub mod OptionTerms
-pub mod LoweredOptions
 pub mod Aliases
 pub mod Memories
 pub mod Reallocs

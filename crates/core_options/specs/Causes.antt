@@ -1,6 +1,8 @@
--- When the encoding of a world is refused: out of memory, where a function has no string encoding, no memory or no realloc, or an import
--- of main's memory finds none (Canonical ABI: `string-encoding`, `memory`, `realloc`), where an adapter is instantiated before one that it
--- names, where an interface is exported before one that it uses, and where a count passes 32 bits (core standard, binary format: vectors).
+-- When the encoding of a world is refused: out of memory, where a function has no string encoding,
+-- no memory or no realloc, or an import of main's memory finds none (Canonical ABI:
+-- `string-encoding`, `memory`, `realloc`), where an adapter is instantiated before one that it
+-- names, where an interface is exported before one that it uses, and where a count passes 32 bits
+-- (core standard, binary format: vectors).
 use Rattle.std.specs.Prelude.{◌≡◌, ◌≤◌, ◌^◌, ◌⊎◌, ◌++◌, ℕ, true, codes, List, Option, Some, None, is_some, if◌then◌else◌, Contains, IsSome, IsTrue}
 use Rattle.std.specs.List.{AllByRecursion}
 use Rattle.comp_roles.specs.CoreImports.{CoreImport}
@@ -19,7 +21,7 @@ use Rattle.byte_encoding.specs.declared.fault.BuildFault.{BuildFault}
 use Rattle.byte_encoding.specs.declared.fault.BuildFault.TheVariants as build
 use Rattle.core_options.specs.declared.fault.StateFault.{StateFault}
 use Rattle.core_options.specs.declared.fault.StateFault.TheVariants as faults
-use Rattle.comp_options.specs.Options.{needs}
+use Rattle.comp_options.specs.Options.{needs, memory_bit, realloc_bit}
 use Rattle.comp_options.specs.OptionLists.{lacks_memory, lacks_realloc}
 use Rattle.comp_options.specs.declared.required.OptionFault.{OptionFault}
 use Rattle.comp_options.specs.declared.required.OptionFault.TheVariants as missing
@@ -60,8 +62,8 @@ pub record LacksExportEncoding (w : ComponentWorld) (functions : List RequiredFu
 abbrev pub indirect_name : CoreImport → List ℕ
 indirect_name i = codes "indirect-" ++ (i.module_name ++ (codes "-" ++ i.field))
 
--- what names the lowering of a core import in faults: the import, where main imports its memory, so that the function is lowered before
--- main is instantiated; else its shim
+-- what names the lowering of a core import in faults: the import, where main imports its memory, so
+-- that the function is lowered before main is instantiated; else its shim
 abbrev pub lowering_place : ComponentWorld → CoreImport → List ℕ
 lowering_place w i = if is_some (shared_memory w) then field_path i.module_name i.field else indirect_name i
 
@@ -109,7 +111,8 @@ pub record IsExportName (w : ComponentWorld) (id : InterfaceId) (name : List ℕ
   pub item : exported_item w key ≡ Some (items.Interface id)
   pub named : name ≡ key_text w.resolve key
 
--- an interface that main has to export uses types of another exported one, which main doesn't export before it; these are their names
+-- an interface that main has to export uses types of another exported one, which main doesn't
+-- export before it; these are their names
 pub record ExportsLater (w : ComponentWorld) (interface used : List ℕ) : Type 0 where
   pub id : InterfaceId
   pub other : InterfaceId
@@ -138,8 +141,8 @@ IsListRefusal set memory realloc name fault = ⊥
 abbrev pub IsOptionRefusal : ComponentWorld → ℕ → Option ExportRef → List ℕ → StateFault → Type 0
 IsOptionRefusal w set realloc name faults.Memory = Unit {0}
 IsOptionRefusal w set realloc name (faults.TooMany excess) = 2 ^ 32 ≤ excess
-IsOptionRefusal w set realloc name (faults.NoMemory place) = IsTrue (needs set 1) × (memory_of_main w.main ≡ None) × (place ≡ name)
-IsOptionRefusal w set realloc name (faults.NoRealloc place) = IsTrue (needs set 2) × (realloc ≡ None) × (place ≡ name)
+IsOptionRefusal w set realloc name (faults.NoMemory place) = IsTrue (needs set memory_bit) × (memory_of_main w.main ≡ None) × (place ≡ name)
+IsOptionRefusal w set realloc name (faults.NoRealloc place) = IsTrue (needs set realloc_bit) × (realloc ≡ None) × (place ≡ name)
 IsOptionRefusal w set realloc name (faults.NoEncoding place) = ⊥
 IsOptionRefusal w set realloc name (faults.NotYetMade adapter other) = ⊥
 IsOptionRefusal w set realloc name (faults.LaterExport interface used) = ⊥
@@ -151,7 +154,8 @@ IsMemoryRefusal w path (faults.TooMany excess) = 2 ^ 32 ≤ excess
 IsMemoryRefusal w path (faults.NoMemory place) = (memory_of_main w.main ≡ None) × (place ≡ path)
 IsMemoryRefusal w path fault = ⊥
 
--- the cause of a fault where the adapter of a name is to be instantiated after those of a table: it names one that is none of them
+-- the cause of a fault where the adapter of a name is to be instantiated after those of a table: it
+-- names one that is none of them
 abbrev pub IsMadeRefusal : {V : Type 0} → List (List ℕ × V) → List ℕ → WorldAdapter → StateFault → Type 0
 IsMadeRefusal made name adapter faults.Memory = Unit {0}
 IsMadeRefusal made name adapter (faults.NotYetMade of other) = (of ≡ name) × (absent_adapter made adapter ≡ Some other)
@@ -169,9 +173,9 @@ IsCause w = IsCauseAmong w (user_imports w) (required_functions w)
 abbrev pub IsEncodedExport : ComponentWorld → RequiredFunction → Type 0
 IsEncodedExport w r = IsSome (export_encoding w r.of r.key r.function)
 
--- each core import has the string encoding or the memory that it needs, each required function has a string encoding, there is what
--- lowerings and lifts need, adapters are instantiated behind those that they name, and interfaces are exported behind those that they
--- use
+-- each core import has the string encoding or the memory that it needs, each required function has
+-- a string encoding, there is what lowerings and lifts need, adapters are instantiated behind those
+-- that they name, and interfaces are exported behind those that they use
 pub record IsEncoded (w : ComponentWorld) : Type 0 where
   pub imports : AllByRecursion (λ i. IsSuppliedImport w i.of i.core.role) (user_imports w)
   pub exports : AllByRecursion (IsEncodedExport w) (required_functions w)

@@ -1,5 +1,5 @@
--- What the options of lowerings and lifts name (Canonical ABI: `canon lower`, `canon lift` and their options): exports of the
--- instances of user modules.
+-- What the options of lowerings and lifts name (Canonical ABI: `canon lower`, `canon lift` and
+-- their options): exports of the instances of user modules.
 use Rattle.std.specs.Prelude.{◌≡◌, ℕ, List, Option, Some, None, IsTrue, IfSome, IsSome, slice_get}
 use Rattle.std.specs.List.{AllZip}
 use denote.Ref.{Bor}
@@ -9,7 +9,7 @@ use Rattle.comp_bytes.specs.declared.canon.CanonicalOption.{CanonicalOption}
 use Rattle.comp_bytes.specs.declared.def.Def.{Def}
 use Rattle.core_types.specs.declared.types.FuncType.{FuncType}
 use Rattle.core_types.specs.declared.types.MemoryType.{MemoryType}
-use Rattle.comp_options.specs.Options.{needs}
+use Rattle.comp_options.specs.Options.{needs, memory_bit, realloc_bit}
 use Rattle.comp_roles.specs.Lookups.{first_memory}
 use Rattle.comp_roles.specs.declared.offered.ExternType.TheVariants as externs
 use Rattle.comp_worlds.specs.declared.world.ComponentWorld.{ComponentWorld}
@@ -153,10 +153,10 @@ pub record NameOptions (w : ComponentWorld) (ds : List Def) (written : List Cano
 
 -- main has the memory, and there is the realloc, that a lift of a required function needs
 pub record HasLiftOptions (w : ComponentWorld) (r : RequiredFunction) : Type 0 where
-  pub memory : IsTrue (needs (lift_needs w r.key r.function) 1) → IsSome (memory_of_main w.main)
-  pub realloc : IsTrue (needs (lift_needs w r.key r.function) 2) → IsSome (lift_realloc w r.of)
+  pub memory : IsTrue (needs (lift_needs w r.key r.function) memory_bit) → IsSome (memory_of_main w.main)
+  pub realloc : IsTrue (needs (lift_needs w r.key r.function) realloc_bit) → IsSome (lift_realloc w r.of)
 
 -- and that a call of an imported function needs
 pub record HasLowerOptions (w : ComponentWorld) (i : UserImport) : Type 0 where
-  pub memory : IsTrue (needs (lower_needs w i.core.role) 1) → IsSome (memory_of_main w.main)
-  pub realloc : IsTrue (needs (lower_needs w i.core.role) 2) → IsSome (lower_realloc w i.of)
+  pub memory : IsTrue (needs (lower_needs w i.core.role) memory_bit) → IsSome (memory_of_main w.main)
+  pub realloc : IsTrue (needs (lower_needs w i.core.role) realloc_bit) → IsSome (lower_realloc w i.of)

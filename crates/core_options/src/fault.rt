@@ -15,8 +15,9 @@ pub enum StateFault {
     /// An allocation failed.
     #[error("E1 Memory")]
     Memory,
-    /// A call needs a memory, or a module imports main's, and main neither imports nor exports one. `place` is the import's shim
-    /// (`indirect-MODULE-FIELD`), the function that is lifted, or `MODULE::FIELD` of the import of the memory.
+    /// A call needs a memory, or a module imports main's, and main neither imports nor exports one.
+    /// `place` is the import's shim (`indirect-MODULE-FIELD`), the function that is lifted, or
+    /// `MODULE::FIELD` of the import of the memory.
     #[error("E7 NoMemory place={place}")]
     NoMemory { place: Text },
     /// A call needs a realloc, and its module has none; a library may take main's. `place` is as for the memory, but
@@ -27,12 +28,13 @@ pub enum StateFault {
     /// name of a function that is lifted.
     #[error("E9 NoEncoding place={place}")]
     NoEncoding { place: Text },
-    /// An adapter names another one that is not instantiated before it: in its arguments, or as a module whose instance, or an item of
-    /// that, its imports are given. `module` is the first of them, and `name` the other (component model: instance definitions).
+    /// An adapter names another one that is not instantiated before it: in its arguments, or as a
+    /// module whose instance, or an item of that, its imports are given. `module` is the first of
+    /// them, and `name` the other (component model: instance definitions).
     #[error("E10 NotYetMade module={module} name={name}")]
     NotYetMade { module: Text, name: Text },
-    /// A required interface uses types of another exported one, which main doesn't export before it. Both are named by the keys at
-    /// which they are exported, with their whole version.
+    /// A required interface uses types of another exported one, which main doesn't export before
+    /// it. Both are named by the keys at which they are exported, with their whole version.
     #[error("E11 LaterExport interface={interface} used={used}")]
     LaterExport { interface: Text, used: Text },
     /// A count or a size would pass 2^32 - 1.

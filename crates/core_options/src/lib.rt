@@ -1,12 +1,13 @@
-//! The options of canonical functions, as far as they name exports of user modules: main's memory, reallocs, and the post-returns of
-//! lifts; and why a world is not encoded.
+//! The options of canonical functions, as far as they name exports of user modules: main's memory,
+//! reallocs, and the post-returns of lifts; and why a world is not encoded.
 //!
 //! A lowering or a lift has the options that its type needs ([`options_for`]). Where there is none of what one names,
 //! the world is refused with its cause (`specs/Causes.antt`). What options are, in the words of the link table, is in
 //! `specs/MainOptions.antt`.
 //!
-//! In reading order: `fault` (why a step is refused), `modules` (user modules, and aliases of what their instances export),
-//! `made` (which adapters have to be instantiated before another one), `options` (the options of a function).
+//! In reading order: `fault` (why a step is refused), `modules` (user modules, and aliases of what
+//! their instances export), `made` (which adapters have to be instantiated before another one),
+//! `options` (the options of a function).
 #![tactic(auto)]
 
 mod fault;

@@ -9,8 +9,8 @@ use comp_lists::{Keyed, Text};
 use comp_worlds::{WorldAdapter, absent_adapter};
 use std::alloc::Global;
 
-/// Checks that each adapter which the adapter of a name names has an instance in a table: in its arguments, used or not, and where its
-/// imports are given a whole instance or an item.
+/// Checks that each adapter which the adapter of a name names has an instance in a table: in its
+/// arguments, used or not, and where its imports are given a whole instance or an item.
 ///
 /// `E10` where one has none, with the first of these.
 pub fn check_made(

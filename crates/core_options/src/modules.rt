@@ -64,8 +64,10 @@ pub fn alias_of(
     requires made { IsInstanceExport root.old.world.now root.old.items.defs export }
     ensures same { root.new ≡ record root.old { items = root.new.items } }
     ensures extends { Extends root.old.items root.new.items }
-    ensures grows { OnOk result (Grows root.old.world.now root.old.items.defs root.new.items.defs []) }
-    ensures alias { IfOk result (λ index. IsAliasOf root.old.world.now root.new.items.defs index (export_ref_of export.entry)) }
+    ensures grows { OnOk result
+        (Grows root.old.world.now root.old.items.defs root.new.items.defs []) }
+    ensures alias { IfOk result (λ index. IsAliasOf root.old.world.now root.new.items.defs index
+        (export_ref_of export.entry)) }
     ensures cause { IfErr result IsRefusal }
 {
     let index = root.items.core_function(export.instance, export.name)?;
@@ -80,8 +82,10 @@ pub fn alias_if(
     requires made { IfSome export (IsInstanceExport root.old.world.now root.old.items.defs) }
     ensures same { root.new ≡ record root.old { items = root.new.items } }
     ensures extends { Extends root.old.items root.new.items }
-    ensures grows { OnOk result (Grows root.old.world.now root.old.items.defs root.new.items.defs []) }
-    ensures alias { IfOk result (λ index. IsAliasIf root.old.world.now root.new.items.defs (option_map export_ref_of export.entry) index) }
+    ensures grows { OnOk result
+        (Grows root.old.world.now root.old.items.defs root.new.items.defs []) }
+    ensures alias { IfOk result (λ index. IsAliasIf root.old.world.now root.new.items.defs
+        (option_map export_ref_of export.entry) index) }
     ensures cause { IfErr result IsRefusal }
 {
     match export {
@@ -93,8 +97,8 @@ pub fn alias_if(
     }
 }
 
-/// The export, where a look-up across modules found it: `main` and `instance` are the instances of main and of the module that
-/// was asked for.
+/// The export, where a look-up across modules found it: `main` and `instance` are the instances of
+/// main and of the module that was asked for.
 fn found_export<'a>(
     found: Option<(CustomModule<'a>, &'a str)>,
     main: u32,
@@ -117,8 +121,9 @@ fn found_export<'a>(
     }
 }
 
-/// The realloc of the calls of a module's imports, as an export of an instance, if there is one: `validated` is what validation
-/// found of the module. `main` and `instance` are the instances of main and of this module.
+/// The realloc of the calls of a module's imports, as an export of an instance, if there is one:
+/// `validated` is what validation found of the module. `main` and `instance` are the instances of
+/// main and of this module.
 pub fn import_realloc_of<'a>(
     world: &'a ComponentWorld,
     which: CustomModule<'a>,
@@ -129,7 +134,11 @@ pub fn import_realloc_of<'a>(
     requires valid { IsEncodable world.now }
     requires named { module_found world.now (user_of which) ≡ Some validated.now }
     ensures same { option_map export_ref_of result ≡ lower_realloc world.now (user_of which.entry) }
-    ensures made { (ds : List Def) (number : ℕ) → IsInstanceOf ds main 0 → IsInstanceOf ds instance number → slice_get (user_modules world.now) number ≡ Some (module_named which.entry validated.now) → IfSome result (IsInstanceExport world.now ds) }
+    ensures made { (ds : List Def) (number : ℕ)
+        → IsInstanceOf ds main 0
+        → IsInstanceOf ds instance number
+        → slice_get (user_modules world.now) number ≡ Some (module_named which.entry validated.now)
+        → IfSome result (IsInstanceExport world.now ds) }
 {
     let own = validated.exports.import_realloc_for(None, "");
     let found = world.resolve_realloc(which, own);
@@ -147,7 +156,11 @@ pub fn export_realloc_of<'a>(
     requires valid { IsEncodable world.now }
     requires named { module_found world.now (user_of which) ≡ Some validated.now }
     ensures same { option_map export_ref_of result ≡ lift_realloc world.now (user_of which.entry) }
-    ensures made { (ds : List Def) (number : ℕ) → IsInstanceOf ds main 0 → IsInstanceOf ds instance number → slice_get (user_modules world.now) number ≡ Some (module_named which.entry validated.now) → IfSome result (IsInstanceExport world.now ds) }
+    ensures made { (ds : List Def) (number : ℕ)
+        → IsInstanceOf ds main 0
+        → IsInstanceOf ds instance number
+        → slice_get (user_modules world.now) number ≡ Some (module_named which.entry validated.now)
+        → IfSome result (IsInstanceExport world.now ds) }
 {
     let any = WorldKey::Interface(InterfaceId { index: 0 });
     let own = validated.exports.export_realloc_for(&any, "");

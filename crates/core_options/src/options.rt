@@ -1,13 +1,14 @@
 //! The options of lowerings and lifts, and what they name among the exports of user modules.
 //!
-//! Component model, binary format: `canonopt`; Canonical ABI: `canon lower`, `canon lift`, `realloc`, `string-encoding`.
+//! Component model, binary format: `canonopt`; Canonical ABI: `canon lower`, `canon lift`,
+//! `realloc`, `string-encoding`.
 #![tactic(auto, using(comp_items::proofs::Extending::extends_none, comp_items::proofs::Extending::extends_same, comp_items::proofs::Extending::extends_then))]
 
 ghost use Rattle.std.specs.Prelude.{◌≡◌, [], Some, IfOk, IfErr, IfSome, OnOk, IsSome, IsTrue, false};
 ghost use Rattle.std.specs.Option.{option_map};
 ghost use Rattle.comp_items.specs.Items.{Extends};
 ghost use Rattle.comp_links.specs.Links.{options_in};
-ghost use Rattle.comp_options.specs.Options.{needs};
+ghost use Rattle.comp_options.specs.Options.{needs, memory_bit, realloc_bit};
 ghost use Rattle.comp_options.specs.OptionLists.{when, options_of, lacks_memory, lacks_realloc};
 ghost use Rattle.comp_roles.specs.Functions.{of_function};
 ghost use Rattle.comp_terms.specs.Rules.{Grows};
@@ -66,8 +67,10 @@ pub fn exported_memory(
     requires made { IsInstanceOf root.old.items.defs instance 0 }
     ensures same { root.new ≡ record root.old { items = root.new.items } }
     ensures extends { Extends root.old.items root.new.items }
-    ensures grows { OnOk result (Grows root.old.world.now root.old.items.defs root.new.items.defs []) }
-    ensures memory { IfOk result (λ index. IsMemoryIf root.new.items.defs (exported_memory root.old.world.now) index) }
+    ensures grows { OnOk result
+        (Grows root.old.world.now root.old.items.defs root.new.items.defs []) }
+    ensures memory { IfOk result
+        (λ index. IsMemoryIf root.new.items.defs (exported_memory root.old.world.now) index) }
     ensures cause { IfErr result IsRefusal }
 {
     let world = root.world;
@@ -123,7 +126,7 @@ fn realloc_if_needed<'a>(
     needed: RequiredOptions,
     realloc: Option<InstanceExport<'a>>,
 ) -> Option<InstanceExport<'a>>
-    ensures { result ≡ when (needs needed.0 2) realloc.entry }
+    ensures { result ≡ when (needs needed.0 realloc_bit) realloc.entry }
 {
     if needed.contains(RequiredOptions::REALLOC) {
         realloc
@@ -132,8 +135,8 @@ fn realloc_if_needed<'a>(
     }
 }
 
-/// The options of a set, in order, with which a function is lowered or lifted: main's memory, the realloc, and the string encoding.
-/// `place` names the function in faults.
+/// The options of a set, in order, with which a function is lowered or lifted: main's memory, the
+/// realloc, and the string encoding. `place` names the function in faults.
 ///
 /// `E7` where a memory is needed and main has none, `E8` where a realloc is needed and there is none for these calls.
 pub fn options_for(
@@ -147,11 +150,17 @@ pub fn options_for(
     requires sources { AreOptionSources root.old.world.now root.old.items.defs sources.now }
     ensures same { root.new ≡ record root.old { items = root.new.items } }
     ensures extends { Extends root.old.items root.new.items }
-    ensures grows { OnOk result (Grows root.old.world.now root.old.items.defs root.new.items.defs []) }
-    ensures named { IfOk result (λ options. NameOptions root.old.world.now root.new.items.defs options (options_in needed.0 (option_map export_ref_of sources.now.realloc) (Some encoding))) }
-    ensures memory { OnOk result (IsTrue (needs needed.0 1) → IsSome (memory_of_main root.old.world.now.main)) }
-    ensures realloc { OnOk result (IsTrue (needs needed.0 2) → IsSome sources.now.realloc) }
-    ensures cause { IfErr result (IsOptionRefusal root.old.world.now needed.0 (option_map export_ref_of sources.now.realloc) place.now) }
+    ensures grows { OnOk result
+        (Grows root.old.world.now root.old.items.defs root.new.items.defs []) }
+    ensures named { IfOk result (λ options. NameOptions root.old.world.now root.new.items.defs
+        options
+        (options_in needed.0 (option_map export_ref_of sources.now.realloc) (Some encoding))) }
+    ensures memory { OnOk result
+        (IsTrue (needs needed.0 memory_bit) → IsSome (memory_of_main root.old.world.now.main)) }
+    ensures realloc { OnOk result
+        (IsTrue (needs needed.0 realloc_bit) → IsSome sources.now.realloc) }
+    ensures cause { IfErr result (IsOptionRefusal root.old.world.now needed.0
+        (option_map export_ref_of sources.now.realloc) place.now) }
 {
     let wanted = realloc_if_needed(needed, sources.realloc);
     let realloc = alias_if(root, wanted)?;

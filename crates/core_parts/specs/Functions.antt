@@ -1,5 +1,5 @@
--- Indices of exports, the bodies of functions, and where the instructions of a body begin (WebAssembly core specification,
--- binary format, "Export section", "Code section").
+-- Indices of exports, the bodies of functions, and where the instructions of a body begin
+-- (WebAssembly core specification, binary format, "Export section", "Code section").
 use Rattle.std.specs.Prelude.{ℕ, zero, suc, ◌^◌, ◌==◌, nat_le, Bool, ◌&&◌, ◌||◌, List, [], ◌∷◌, Option, Some, None, if◌then◌else◌}
 use Rattle.std.specs.List.{list_any}
 use Rattle.core_sections.specs.Numbers.{leb_at, bytes_at}

@@ -1,5 +1,5 @@
--- Imports by their parts: two names, and the bytes that say what is imported (WebAssembly core specification, binary format,
--- "Import section", "Types").
+-- Imports by their parts: two names, and the bytes that say what is imported (WebAssembly core
+-- specification, binary format, "Import section", "Types").
 use Rattle.std.specs.Prelude.{ℕ, ◌^◌, ◌-◌, ◌==◌, ◌||◌, Bool, List, length, take, Option, Some, None, if◌then◌else◌}
 use Rattle.core_sections.specs.Numbers.{leb_at, bytes_at}
 use Rattle.core_sections.specs.Reading.{◌>>=◌, all_of}

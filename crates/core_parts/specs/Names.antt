@@ -1,5 +1,6 @@
--- The names of globals (WebAssembly core specification, appendix, custom sections: name section; its parts have an id and a
--- size each, and those with the id 7 hold names of globals), and the indices of exports (binary format, "Export section").
+-- The names of globals (WebAssembly core specification, appendix, custom sections: name section;
+-- its parts have an id and a size each, and those with the id 7 hold names of globals), and the
+-- indices of exports (binary format, "Export section").
 use Rattle.std.specs.Prelude.{ℕ, zero, suc, ◌^◌, ◌==◌, List, [], ◌∷◌, ◌++◌, length, Option, Some, None, if◌then◌else◌}
 use Rattle.core_sections.specs.Numbers.{leb_at, bytes_at}
 use Rattle.core_sections.specs.Reading.{◌>>=◌, all_of}

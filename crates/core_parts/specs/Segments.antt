@@ -1,5 +1,5 @@
--- Active data segments (WebAssembly core specification, binary format, "Data section": a segment begins with 0 or 2 where it is
--- active, and with 1 where it is passive).
+-- Active data segments (WebAssembly core specification, binary format, "Data section": a segment
+-- begins with 0 or 2 where it is active, and with 1 where it is passive).
 use Rattle.std.specs.Prelude.{ℕ, zero, suc, ◌^◌, ◌==◌, ◌||◌, Bool, true, false, List, length, Option, Some, None, if◌then◌else◌}
 use Rattle.core_sections.specs.Numbers.{leb_at, bytes_at}
 use Rattle.core_sections.specs.Reading.{◌>>=◌}

@@ -16,7 +16,8 @@ use Rattle.core_runs.specs.LawsOfStarts.{CellsAreSet, FilledThroughout, NumbersA
 use Rattle.core_runs.proofs.Runs.{has_front, has_all}
 use Rattle.core_runs.proofs.Refs.{function_unchanged}
 
--- a fact of outcomes that holds of stuck runs and of runs without an answer left, and of a read where it holds of the continuation
+-- a fact of outcomes that holds of stuck runs and of runs without an answer left, and of a read
+-- where it holds of the continuation
 module _ (Q : Outcome → Type 0) (stuck : Q Stuck) where
   pub if_meets : (b : Bool) (x z : Outcome) → Q x → Q z → Q (if b then x else z)
   if_meets true x z h g = h

@@ -192,7 +192,8 @@ endless_is_stuck : acts endless 0 [] quiet ≡ Stuck
 unfolding acts exec
 endless_is_stuck = refl
 
--- A module with a data segment and a start function: its bytes are written first, and then the start function is called.
+-- A module with a data segment and a start function: its bytes are written first, and then the
+-- start function is called.
 abbrev started_sections : List Section
 started_sections =
     sections.Types (nothing ∷ [])

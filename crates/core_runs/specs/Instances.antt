@@ -1,7 +1,7 @@
--- Making an instance of a generated module: its imports are matched, it is allocated, its segments are written, and its
--- start function is called.
--- Core standard, execution: modules, instantiation. This project's own: the names of imports are resolved before; a table has
--- a fixed number of slots, and is imported by its size alone; whether a global is mutable, and whether bytes are
+-- Making an instance of a generated module: its imports are matched, it is allocated, its segments
+-- are written, and its start function is called. Core standard, execution: modules, instantiation.
+-- This project's own: the names of imports are resolved before; a table has a fixed number of
+-- slots, and is imported by its size alone; whether a global is mutable, and whether bytes are
 -- within their memory, is not checked; bytes that a segment writes are an event.
 use Rattle.std.specs.Prelude.{ℕ, ◌+◌, Bool, true, false, ◌&&◌, if◌then◌else◌, nat_le, List, [], ◌∷◌, ◌++◌, length, map, take, drop, replicate, Option, Some, None, slice_get, slice_set, option_map}
 use Rattle.std.specs.List.{range_with_len}

@@ -32,8 +32,8 @@ ExpectedShapes =
     × (expected (record { before = None; after = Always last }) hook target arguments now ≡ and_then (target_call target arguments now) (λ results after. hooked hook last after (λ ended. Returned results ended)))
     × (expected (record { before = Some first; after = Always last }) hook target arguments now ≡ hooked hook first now (λ started. and_then (target_call target arguments started) (λ results after. hooked hook last after (λ ended. Returned results ended))))
 
--- A wrapper that reads the code: where the target returns 0, hook `AsyncFinish` follows, else `AsyncBlock`, and the code
--- is returned.
+-- A wrapper that reads the code: where the target returns 0, hook `AsyncFinish` follows, else
+-- `AsyncBlock`, and the code is returned.
 abbrev pub by_code : ℕ → ℕ → Now → Outcome
 by_code hook zero after = hooked hook AsyncFinish after (λ ended. Returned (I32Value zero ∷ []) ended)
 by_code hook (suc code) after = hooked hook AsyncBlock after (λ ended. Returned (I32Value (suc code) ∷ []) ended)

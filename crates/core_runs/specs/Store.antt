@@ -1,7 +1,8 @@
--- What a run of generated code works on.
--- Core standard, execution: store, addresses, module instances, function instances, table instances, global instances.
--- The store's lists only grow at their ends, so an address never changes its meaning. This project's own are: opaque functions,
--- which are known only by a number, the outside's answers to their calls, and the events that are seen from outside.
+-- What a run of generated code works on. Core standard, execution: store, addresses, module
+-- instances, function instances, table instances, global instances. The store's lists only grow at
+-- their ends, so an address never changes its meaning. This project's own are: opaque functions,
+-- which are known only by a number, the outside's answers to their calls, and the events that are
+-- seen from outside.
 use Rattle.std.specs.Prelude.{ℕ, List, Option}
 use Rattle.core_types.specs.declared.types.ValType.{ValType}
 use Rattle.core_types.specs.declared.types.FuncType.{FuncType}

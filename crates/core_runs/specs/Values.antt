@@ -1,6 +1,7 @@
--- Values of core functions, and whether they are of types.
--- Core standard, execution: values, results; validation: matching of types. Types are compared as they are written:
--- where two modules number their types differently, a concrete reference is distinguished by its number (this project's own).
+-- Values of core functions, and whether they are of types. Core standard, execution: values,
+-- results; validation: matching of types. Types are compared as they are written: where two modules
+-- number their types differently, a concrete reference is distinguished by its number (this
+-- project's own).
 use Rattle.std.specs.Prelude.{ℕ, ◌^◌, Bool, true, false, ◌&&◌, nat_lt, eqb, List, [], ◌∷◌, ◌++◌, replicate}
 use Rattle.core_types.specs.declared.types.ValType.{ValType}
 use Rattle.core_types.specs.declared.types.ValType.TheVariants.{I32, I64, F32, F64, Ref}

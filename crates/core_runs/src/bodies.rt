@@ -98,7 +98,8 @@ pub fn start_body(
     fills: &[GlobalFill],
     steps: &[StartStep],
 ) -> Result<Body, AllocError>
-    ensures { IfOk result (λ made. made ≡ bodies.start (map bodies.fill_step fills.now ++ steps.now)) }
+    ensures { IfOk result
+        (λ made. made ≡ bodies.start (map bodies.fill_step fills.now ++ steps.now)) }
 {
     let mut code = Vec::new(alloc);
     put_fills(&mut code, fills)?;
@@ -234,7 +235,8 @@ fn put_sum(code: &mut Vec<Instruction>, base: u32, offset: u32) -> Result<(), Al
 
 /// The fills of a start function, in order.
 fn put_fills(code: &mut Vec<Instruction>, fills: &[GlobalFill]) -> Result<(), AllocError>
-    ensures { OnOk result (code.new.items ≡ code.old.items ++ flat_map bodies.start_step (map bodies.fill_step fills.now)) }
+    ensures { OnOk result (code.new.items
+        ≡ code.old.items ++ flat_map bodies.start_step (map bodies.fill_step fills.now)) }
 {
     for fill in fills {
         put_step(
@@ -250,7 +252,8 @@ fn put_fills(code: &mut Vec<Instruction>, fills: &[GlobalFill]) -> Result<(), Al
 
 /// The steps of a start function, in order.
 fn put_steps(code: &mut Vec<Instruction>, steps: &[StartStep]) -> Result<(), AllocError>
-    ensures { OnOk result (code.new.items ≡ code.old.items ++ flat_map bodies.start_step steps.now) }
+    ensures { OnOk result
+        (code.new.items ≡ code.old.items ++ flat_map bodies.start_step steps.now) }
 {
     for step in steps {
         put_step(code, *step)?;

@@ -13,9 +13,9 @@
 //! types, and whatever else is in the store.
 //!
 //! In reading order: `bracket` (task hooks), `start` (steps of start functions), `bodies` (what is
-//! built), `tables` (shims of a module in the table form), `laws` (what the bodies do). `specs/Instances.antt` says what making an instance of a module
-//! does. Worked examples are in `proofs/Worked.antt` (bodies) and `proofs/WorkedModules.antt` (whole
-//! modules, made and run).
+//! built), `tables` (shims of a module in the table form), `laws` (what the bodies do).
+//! `specs/Instances.antt` says what making an instance of a module does. Worked examples are in
+//! `proofs/Worked.antt` (bodies) and `proofs/WorkedModules.antt` (whole modules, made and run).
 #![tactic(auto)]
 
 mod bodies;

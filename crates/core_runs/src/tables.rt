@@ -32,7 +32,8 @@ pub fn table_shim_bodies(alloc: Global, shims: &[Shim]) -> Result<Code, AllocErr
 
 /// The body of one more shim.
 fn put_shim(code: &mut Code, alloc: Global, slot_index: u32, shim: Shim) -> Result<(), AllocError>
-    ensures { OnOk result (code.new ≡ code.old ++ bodies.table_shim shim.params slot_index shim.type_index ∷ []) }
+    ensures { OnOk result
+        (code.new ≡ code.old ++ bodies.table_shim shim.params slot_index shim.type_index ∷ []) }
 {
     let body = table_shim_body(alloc, shim.params, slot_index, shim.type_index)?;
     code.body(body.locals.as_slice(), body.instructions.as_slice())

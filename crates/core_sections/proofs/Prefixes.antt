@@ -39,7 +39,8 @@ pub no_record : (o : Option (Bor (List ℕ))) (r : Option (List ℕ)) → option
 no_record None r e none = sym e
 no_record (Some x) r e none = absurd cc
 
--- The module's bytes up to these sections, which the module ends with, and with what is kept of these, what is kept of all.
+-- The module's bytes up to these sections, which the module ends with, and with what is kept of
+-- these, what is kept of all.
 pub record IsSplit (bytes : List ℕ) (n : ℕ) (sections : List Section) (all : List ℕ) : Type 0 where
   pub front : IsFront bytes n (flat_map (λ p. p.whole) (map view sections))
   pub keeps : take n bytes ++ kept (map view sections) ≡ all

@@ -204,8 +204,9 @@ fn add_content(
 
 /// The entries of a core module.
 ///
-/// Indices of types, of exported items except tags, and names of exports are checked. The fault is `NotModule`, or `Section` at the first section that is cut short or
-/// whose contents are malformed, or out of memory.
+/// Indices of types, of exported items except tags, and names of exports are checked. The fault is
+/// `NotModule`, or `Section` at the first section that is cut short or whose contents are
+/// malformed, or out of memory.
 #[tactic(auto, unfolding(crate::specs::Entries::module_of), using(crate::proofs::Offsets::all_before))]
 pub fn read_module(alloc: Global, bytes: &[u8]) -> Result<CoreModule, SectionFault>
     ensures { GivesSections (λ m. m) result (module_of bytes.now) }

@@ -44,7 +44,8 @@ impl<'a> Section<'a> {
 fn split_at_record<'s, 'a>(bytes: &[u8], sections: &'s [Section<'a>]) -> (usize, &'s [Section<'a>])
     requires { bytes.now ≡ preamble ++ flat_map (λ p. p.whole) (map view sections.now) }
     ensures within { result.0 ≤ length bytes.now }
-    ensures kept { take result.0 bytes.now ++ kept (map view result.1.now) ≡ preamble ++ kept (map view sections.now) }
+    ensures kept { take result.0 bytes.now ++ kept (map view result.1.now)
+        ≡ preamble ++ kept (map view sections.now) }
 {
     let mut prefix = PREAMBLE.len();
     for (index, section) in sections.iter().enumerate() {
@@ -98,7 +99,9 @@ fn has_package(records: &[&[u8]]) -> bool
 
 #[tactic(auto, unfolding(crate::specs::Stripping::stripped))]
 fn strip_sections(alloc: Global, bytes: &[u8]) -> Result<Stripped<'_>, SectionFault>
-    ensures { Gives (λ s. (take s.prefix bytes.now ++ s.rest.items, map (λ x. x.now) s.records.items)) result (stripped bytes.now) }
+    ensures { Gives
+        (λ s. (take s.prefix bytes.now ++ s.rest.items, map (λ x. x.now) s.records.items)) result
+        (stripped bytes.now) }
 {
     let sections = sections_of(alloc, bytes)?;
     let records = records(alloc, &sections)?;
@@ -115,9 +118,11 @@ fn strip_sections(alloc: Global, bytes: &[u8]) -> Result<Stripped<'_>, SectionFa
     })
 }
 
-/// A module without its sections of component types, which are returned apart. What precedes the first of these is not copied.
+/// A module without its sections of component types, which are returned apart. What precedes the
+/// first of these is not copied.
 pub fn strip(alloc: Global, bytes: &[u8]) -> Result<Stripped<'_>, SectionFault>
-    // What is kept are the sections of the module except those of component types, and what is returned apart are those.
+    // What is kept are the sections of the module except those of component types, and what is
+    // returned apart are those.
     ensures found { IfOk result (λ s. (ps : List Piece) × IsModule bytes.now ps
         × (take s.prefix bytes.now ++ s.rest.items ≡ preamble ++ kept ps) × (map (λ x. x.now) s.records.items ≡ removed ps)) }
     // A module with no package among its component types is accepted, unless memory runs out.
@@ -125,13 +130,18 @@ pub fn strip(alloc: Global, bytes: &[u8]) -> Result<Stripped<'_>, SectionFault>
         → Gives {Y = List ℕ × List (List ℕ)} (λ s. (take s.prefix bytes.now ++ s.rest.items, map (λ x. x.now) s.records.items)) result
         (Ok (preamble ++ kept ps, removed ps)) }
     // A reported offset is the first at which no section begins.
-    ensures cut { IfErr result (λ e. (offset : ℕ) → e ≡ SectionFault.Section offset → IsCutAt bytes.now offset) }
+    ensures cut { IfErr result
+        (λ e. (offset : ℕ) → e ≡ SectionFault.Section offset → IsCutAt bytes.now offset) }
     // Without the preamble of a core module it is no module.
-    ensures no_module { IfErr result (λ e. e ≡ SectionFault.NotModule → (rest : List ℕ) → bytes.now ≡ preamble ++ rest → ⊥) }
+    ensures no_module { IfErr result
+        (λ e. e ≡ SectionFault.NotModule → (rest : List ℕ) → bytes.now ≡ preamble ++ rest → ⊥) }
     // A reported package is in a section of component types.
-    ensures package { IfErr result (λ e. e ≡ SectionFault.PackageBinary → (ps : List Piece) × IsModule bytes.now ps × (list_any is_package (removed ps) ≡ true)) }
+    ensures package { IfErr result (λ e. e ≡ SectionFault.PackageBinary
+        → (ps : List Piece) × IsModule bytes.now ps × (list_any is_package (removed ps) ≡ true)) }
     // Which fault it is.
-    ensures exact { Gives (λ s. (take s.prefix bytes.now ++ s.rest.items, map (λ x. x.now) s.records.items)) result (stripped bytes.now) }
+    ensures exact { Gives
+        (λ s. (take s.prefix bytes.now ++ s.rest.items, map (λ x. x.now) s.records.items)) result
+        (stripped bytes.now) }
 {
     strip_sections(alloc, bytes)
 }

@@ -55,7 +55,8 @@ impl Encode for FuncType {
 }
 
 fn put_range(out: &mut Vec<u8>, minimum: u32, maximum: u32) -> Result<(), BuildFault>
-    ensures { Writes out.old.items out.new.items result (octet 0x01 ⊕ number minimum ⊕ number maximum) }
+    ensures { Writes out.old.items out.new.items result
+        (octet 0x01 ⊕ number minimum ⊕ number maximum) }
 {
     put_tagged(out, 0x01, &minimum)?;
     put_index(out, maximum)?;

@@ -1,5 +1,5 @@
--- The types of exported interfaces: which are defined next, and when one is refused. (The rules are this project's own; component model,
--- WIT: `use`.)
+-- The types of exported interfaces: which are defined next, and when one is refused. (The rules are
+-- this project's own; component model, WIT: `use`.)
 use Rattle.std.specs.Prelude.{◌≡◌, ◌≤◌, ◌^◌, ◌||◌, ℕ, Bool, true, false, List, [], ◌∷◌, ◌++◌, length, map, filter, take, Option, Some, None, Contains, slice_get}
 use Rattle.std.specs.List.{AllByRecursion, flat_map, list_any}
 use Rattle.comp_bytes.specs.declared.def.Def.{Def}

@@ -38,7 +38,8 @@ fn is_interface(item: &WorldItem, id: InterfaceId) -> bool
 
 /// The first key of these at which an interface is exported, if it is.
 fn key_of(exports: &Keyed<WorldKey, WorldItem>, id: InterfaceId) -> Option<&WorldKey>
-    ensures found { IfSome (option_copied result) (λ key. lookup (is_same_key key) exports.now ≡ Some (items.Interface id)) }
+    ensures found { IfSome (option_copied result)
+        (λ key. lookup (is_same_key key) exports.now ≡ Some (items.Interface id)) }
     ensures none { result ≡ None → AllByRecursion (λ e. is_item e.1 id ≡ false) exports.now }
 {
     for (key, item) in exports.iter() {
@@ -52,7 +53,8 @@ fn key_of(exports: &Keyed<WorldKey, WorldItem>, id: InterfaceId) -> Option<&Worl
 /// The first of these interfaces, in their order, whose types are not all in the tables, if there is one.
 fn first_missing(met: &MetTypes, used: &[InterfaceId]) -> Option<InterfaceId>
     ensures missing { IfSome result (IsMissing met.now used.now) }
-    ensures all { result ≡ None → AllByRecursion (λ other. has_types met.now other ≡ true) used.now }
+    ensures all { result ≡ None
+        → AllByRecursion (λ other. has_types met.now other ≡ true) used.now }
 {
     for other in used {
         if !met.has_types(*other) {
@@ -81,7 +83,8 @@ fn missing_owner(
     Some(owner)
 }
 
-/// The interface to which the first of these types belongs that belongs to one of those and whose types are not all in the tables.
+/// The interface to which the first of these types belongs that belongs to one of those and whose
+/// types are not all in the tables.
 fn first_owner(
     resolve: &Resolve,
     met: &MetTypes,
@@ -119,15 +122,16 @@ fn foreign_types_of(
 ) -> Result<Seq<TypeId>, AllocError>
     requires valid { IsEncodable world.now }
     requires exported { IsExportedInterface world.now id }
-    ensures { IfOk result (λ ids. AllByRecursion (λ id. id.index < length world.now.resolve.types) ids) }
+    ensures { IfOk result
+        (λ ids. AllByRecursion (λ id. id.index < length world.now.resolve.types) ids) }
 {
     let resolve = &world.resolve;
     let interface = interface_of(resolve, id);
     all_foreign_types(alloc, resolve, id, &interface.types, &interface.functions)
 }
 
-/// The first of the exported interfaces that this one uses, as its types and then its functions name them, whose types are not all
-/// in the tables, if there is one.
+/// The first of the exported interfaces that this one uses, as its types and then its functions
+/// name them, whose types are not all in the tables, if there is one.
 fn first_later(
     alloc: Global,
     world: &ComponentWorld,
@@ -136,8 +140,10 @@ fn first_later(
 ) -> Result<Option<InterfaceId>, AllocError>
     requires valid { IsEncodable world.now }
     requires exported { IsExportedInterface world.now id }
-    ensures missing { IfOk result (λ other. IfSome other (IsMissing met.now (used_exports world.now id))) }
-    ensures all { IfOk result (λ other. other ≡ None → AllByRecursion (λ other. has_types met.now other ≡ true) (used_exports world.now id)) }
+    ensures missing { IfOk result
+        (λ other. IfSome other (IsMissing met.now (used_exports world.now id))) }
+    ensures all { IfOk result (λ other. other ≡ None
+        → AllByRecursion (λ other. has_types met.now other ≡ true) (used_exports world.now id)) }
 {
     let Some(used) = world.exports_used.get(&id) else {
         return Ok(None);
@@ -160,7 +166,8 @@ pub(crate) fn check_order(
 ) -> Result<(), StateFault>
     requires valid { IsEncodable root.now.world.now }
     requires item { exported_item root.now.world.now key.now ≡ Some (items.Interface id) }
-    ensures all { OnOk result (AllByRecursion (λ other. has_types root.now.met other ≡ true) (used_exports root.now.world.now id)) }
+    ensures all { OnOk result (AllByRecursion (λ other. has_types root.now.met other ≡ true)
+        (used_exports root.now.world.now id)) }
     ensures cause { IfErr result (IsTypesRefusal root.now.world.now root.now.met key.now) }
 {
     let world = root.world;

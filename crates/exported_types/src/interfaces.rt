@@ -30,7 +30,8 @@ use core_options::StateFault;
 use root_imports::{RootScope, types_of};
 use wit_data::{InterfaceId, TypeId, WorldItem, WorldKey};
 
-/// Defines the next type that an exported interface lists: a resource, or a type of values, where it is not defined yet.
+/// Defines the next type that an exported interface lists: a resource, or a type of values, where
+/// it is not defined yet.
 fn define_type(
     root: &mut RootScope<'_, ComponentWorld>,
     sources: DestructorSources<'_>,
@@ -40,10 +41,13 @@ fn define_type(
 ) -> Result<(), BuildFault>
     requires valid { IsEncodable root.old.world.now }
     requires sources { AreDestructorSources root.old.world.now root.old.items.defs sources }
-    requires tables { AreTablesRight root.old.world.now root.old.met root.old.instances root.old.items.defs root.old.maps }
-    requires next { IsNextListed root.old.world.now root.old.met root.old.items.defs (user_of sources.which) interface id }
+    requires tables { AreTablesRight root.old.world.now root.old.met root.old.instances
+        root.old.items.defs root.old.maps }
+    requires next { IsNextListed root.old.world.now root.old.met root.old.items.defs
+        (user_of sources.which) interface id }
     ensures kept { RootKept root.old.world.now root.old root.new }
-    ensures grows { OnOk result (Grows root.old.world.now root.old.items.defs root.new.items.defs (resource_mark root.old.world.now id)) }
+    ensures grows { OnOk result (Grows root.old.world.now root.old.items.defs root.new.items.defs
+        (resource_mark root.old.world.now id)) }
     ensures defined { OnOk result (IsDefinedType root.old.world.now root.new.items.defs id) }
     ensures recorded { OnOk result (HasIndex root.new.maps id) }
     ensures cause { IfErr result IsRefusal }
@@ -65,15 +69,20 @@ fn define_types_of(
 ) -> Result<(), BuildFault>
     requires valid { IsEncodable root.old.world.now }
     requires sources { AreDestructorSources root.old.world.now root.old.items.defs sources }
-    requires tables { AreTablesRight root.old.world.now root.old.met root.old.instances root.old.items.defs root.old.maps }
+    requires tables { AreTablesRight root.old.world.now root.old.met root.old.instances
+        root.old.items.defs root.old.maps }
     requires exported { IsExportedInterface root.old.world.now id }
-    requires uses { AllByRecursion (λ other. has_types root.old.met other ≡ true) (used_exports root.old.world.now id) }
+    requires uses { AllByRecursion (λ other. has_types root.old.met other ≡ true)
+        (used_exports root.old.world.now id) }
     requires listed { types.now ≡ named_types root.old.world.now.resolve id }
-    requires resources { AreNextResources root.old.world.now root.old.items.defs (user_of sources.which) types.now }
+    requires resources { AreNextResources root.old.world.now root.old.items.defs
+        (user_of sources.which) types.now }
     ensures moved { RootMoved root.old.world.now root.old root.new }
     ensures met { root.new.met ≡ record root.old.met { own = root.new.met.own } }
-    ensures grows { OnOk result (Grows root.old.world.now root.old.items.defs root.new.items.defs (resource_marks root.old.world.now types.now)) }
-    ensures defined { OnOk result (AllByRecursion (λ t. IsDefinedType root.old.world.now root.new.items.defs t.1) types.now) }
+    ensures grows { OnOk result (Grows root.old.world.now root.old.items.defs root.new.items.defs
+        (resource_marks root.old.world.now types.now)) }
+    ensures defined { OnOk result
+        (AllByRecursion (λ t. IsDefinedType root.old.world.now root.new.items.defs t.1) types.now) }
     ensures all { OnOk result (AreAllMet root.old.world.now root.new.met id) }
     ensures cause { IfErr result IsRefusal }
 {
@@ -108,12 +117,17 @@ fn define_interface(
 ) -> Result<(), StateFault>
     requires valid { IsEncodable root.old.world.now }
     requires sources { AreDestructorSources root.old.world.now root.old.items.defs sources }
-    requires tables { AreTablesRight root.old.world.now root.old.met root.old.instances root.old.items.defs root.old.maps }
+    requires tables { AreTablesRight root.old.world.now root.old.met root.old.instances
+        root.old.items.defs root.old.maps }
     requires item { exported_item root.old.world.now key.now ≡ Some (items.Interface id) }
-    requires resources { AreNextResources root.old.world.now root.old.items.defs (user_of sources.which) (named_types root.old.world.now.resolve id) }
+    requires resources { AreNextResources root.old.world.now root.old.items.defs
+        (user_of sources.which) (named_types root.old.world.now.resolve id) }
     ensures moved { RootMoved root.old.world.now root.old root.new }
-    ensures grows { OnOk result (Grows root.old.world.now root.old.items.defs root.new.items.defs (resource_marks root.old.world.now (named_types root.old.world.now.resolve id))) }
-    ensures defined { OnOk result (AllByRecursion (λ t. IsDefinedType root.old.world.now root.new.items.defs t.1) (named_types root.old.world.now.resolve id)) }
+    ensures grows { OnOk result (Grows root.old.world.now root.old.items.defs root.new.items.defs
+        (resource_marks root.old.world.now (named_types root.old.world.now.resolve id))) }
+    ensures defined { OnOk result (AllByRecursion
+        (λ t. IsDefinedType root.old.world.now root.new.items.defs t.1)
+        (named_types root.old.world.now.resolve id)) }
     ensures enters { OnOk result (EntersTypes root.old.met root.new.met (id ∷ [])) }
     ensures uses { OnOk result (UsesMet root.old.world.now root.old.met (id ∷ [])) }
     ensures cause { IfErr result (IsTypesRefusal root.old.world.now root.old.met key.now) }
@@ -133,13 +147,20 @@ fn define_types_at(
 ) -> Result<(), StateFault>
     requires valid { IsEncodable root.old.world.now }
     requires sources { AreDestructorSources root.old.world.now root.old.items.defs sources }
-    requires tables { AreTablesRight root.old.world.now root.old.met root.old.instances root.old.items.defs root.old.maps }
-    requires resources { AreNextResources root.old.world.now root.old.items.defs (user_of sources.which) (entries_at root.old.world.now key.now) }
+    requires tables { AreTablesRight root.old.world.now root.old.met root.old.instances
+        root.old.items.defs root.old.maps }
+    requires resources { AreNextResources root.old.world.now root.old.items.defs
+        (user_of sources.which) (entries_at root.old.world.now key.now) }
     ensures moved { RootMoved root.old.world.now root.old root.new }
-    ensures grows { OnOk result (Grows root.old.world.now root.old.items.defs root.new.items.defs (resource_marks root.old.world.now (entries_at root.old.world.now key.now))) }
-    ensures defined { OnOk result (AllByRecursion (IsDefinedType root.old.world.now root.new.items.defs) (types_at root.old.world.now key.now)) }
-    ensures enters { OnOk result (EntersTypes root.old.met root.new.met (interface_among (exported_item root.old.world.now key.now))) }
-    ensures uses { OnOk result (UsesMet root.old.world.now root.old.met (interface_among (exported_item root.old.world.now key.now))) }
+    ensures grows { OnOk result (Grows root.old.world.now root.old.items.defs root.new.items.defs
+        (resource_marks root.old.world.now (entries_at root.old.world.now key.now))) }
+    ensures defined { OnOk result (AllByRecursion
+        (IsDefinedType root.old.world.now root.new.items.defs)
+        (types_at root.old.world.now key.now)) }
+    ensures enters { OnOk result (EntersTypes root.old.met root.new.met
+        (interface_among (exported_item root.old.world.now key.now))) }
+    ensures uses { OnOk result (UsesMet root.old.world.now root.old.met
+        (interface_among (exported_item root.old.world.now key.now))) }
     ensures cause { IfErr result (IsTypesRefusal root.old.world.now root.old.met key.now) }
 {
     match interface_at(root.world, key) {
@@ -159,12 +180,18 @@ fn define_types_of_module(
 ) -> Result<(), StateFault>
     requires valid { IsEncodable root.old.world.now }
     requires sources { AreDestructorSources root.old.world.now root.old.items.defs sources }
-    requires tables { AreTablesRight root.old.world.now root.old.met root.old.instances root.old.items.defs root.old.maps }
-    requires next { AreNextKeys root.old.world.now root.old.met root.old.items.defs (user_of sources.which) keys.now }
+    requires tables { AreTablesRight root.old.world.now root.old.met root.old.instances
+        root.old.items.defs root.old.maps }
+    requires next { AreNextKeys root.old.world.now root.old.met root.old.items.defs
+        (user_of sources.which) keys.now }
     ensures moved { RootMoved root.old.world.now root.old root.new }
-    ensures grows { OnOk result (Grows root.old.world.now root.old.items.defs root.new.items.defs (marks_at root.old.world.now keys.now)) }
-    ensures defined { OnOk result (AllByRecursion (IsDefinedType root.old.world.now root.new.items.defs) (flat_map (types_at root.old.world.now) keys.now)) }
-    ensures enters { OnOk result (EntersTypes root.old.met root.new.met (interfaces_at root.old.world.now keys.now)) }
+    ensures grows { OnOk result (Grows root.old.world.now root.old.items.defs root.new.items.defs
+        (marks_at root.old.world.now keys.now)) }
+    ensures defined { OnOk result (AllByRecursion
+        (IsDefinedType root.old.world.now root.new.items.defs)
+        (flat_map (types_at root.old.world.now) keys.now)) }
+    ensures enters { OnOk result
+        (EntersTypes root.old.met root.new.met (interfaces_at root.old.world.now keys.now)) }
     ensures ordered { OnOk result (AreKeysInOrder root.old.world.now root.old.met keys.now) }
     ensures cause { IfErr result (IsCauseAmong root.old.world.now [] []) }
 {
@@ -214,11 +241,15 @@ pub fn define_exported_types(
 ) -> Result<(), StateFault>
     requires valid { IsEncodable root.old.world.now }
     requires shims { AreShimSources root.old.world.now root.old.items.defs shims }
-    requires tables { AreTablesRight root.old.world.now root.old.met root.old.instances root.old.items.defs root.old.maps }
+    requires tables { AreTablesRight root.old.world.now root.old.met root.old.instances
+        root.old.items.defs root.old.maps }
     requires none { (inventory root.old.items.defs).resources ≡ 0 }
     ensures moved { RootMoved root.old.world.now root.old root.new }
-    ensures grows { OnOk result (Grows root.old.world.now root.old.items.defs root.new.items.defs (resources_marked root.old.world.now)) }
-    ensures defined { OnOk result (AllByRecursion (IsDefinedType root.old.world.now root.new.items.defs) (exported_types root.old.world.now)) }
+    ensures grows { OnOk result (Grows root.old.world.now root.old.items.defs root.new.items.defs
+        (resources_marked root.old.world.now)) }
+    ensures defined { OnOk result (AllByRecursion
+        (IsDefinedType root.old.world.now root.new.items.defs)
+        (exported_types root.old.world.now)) }
     ensures ordered { OnOk result (AreExportsInOrder root.old.world.now) }
     ensures met { OnOk result (AreExportsMet root.old.world.now root.new.met) }
     ensures cause { IfErr result (IsCauseAmong root.old.world.now [] []) }

@@ -62,7 +62,8 @@ fn destructor_kind(
     which: CustomModule<'_>,
     name: &str,
 ) -> Result<ShimKind, AllocError>
-    ensures { IfOk result (λ kind. kind ≡ kinds.ResourceDtor (which_of (user_of which.entry)) name.now) }
+    ensures { IfOk result
+        (λ kind. kind ≡ kinds.ResourceDtor (which_of (user_of which.entry)) name.now) }
 {
     let export = Text::from_str(alloc, name)?;
     let module = main_or_adapter(alloc, which)?;
@@ -79,8 +80,11 @@ fn destructor_shim(
     requires sources { AreDestructorSources root.old.world.now root.old.items.defs sources }
     ensures same { root.new ≡ record root.old { items = root.new.items } }
     ensures extends { Extends root.old.items root.new.items }
-    ensures grows { OnOk result (Grows root.old.world.now root.old.items.defs root.new.items.defs []) }
-    ensures right { IfOk result (λ index. IsDestructorRight root.old.world.now root.new.items.defs index (destructor_of root.old.world.now (provided_by (user_of sources.entry.which) id))) }
+    ensures grows { OnOk result
+        (Grows root.old.world.now root.old.items.defs root.new.items.defs []) }
+    ensures right { IfOk result (λ index. IsDestructorRight root.old.world.now root.new.items.defs
+        index
+        (destructor_of root.old.world.now (provided_by (user_of sources.entry.which) id))) }
     ensures cause { IfErr result IsRefusal }
 {
     match sources.found.exports.resource_dtor(id) {
@@ -103,12 +107,16 @@ pub(crate) fn define_resource(
 ) -> Result<(), BuildFault>
     requires valid { IsEncodable root.old.world.now }
     requires sources { AreDestructorSources root.old.world.now root.old.items.defs sources }
-    requires tables { AreTablesRight root.old.world.now root.old.met root.old.instances root.old.items.defs root.old.maps }
+    requires tables { AreTablesRight root.old.world.now root.old.met root.old.instances
+        root.old.items.defs root.old.maps }
     requires present { id.index < length root.old.world.now.resolve.types }
     requires resource { is_resource (kind_at root.old.world.now.resolve.types id.index) ≡ true }
-    requires next { slice_get (provided_resources root.old.world.now) (inventory root.old.items.defs).resources ≡ Some (provided_by (user_of sources.which) id) }
+    requires next { slice_get (provided_resources root.old.world.now)
+        (inventory root.old.items.defs).resources
+        ≡ Some (provided_by (user_of sources.which) id) }
     ensures kept { RootKept root.old.world.now root.old root.new }
-    ensures grows { OnOk result (Grows root.old.world.now root.old.items.defs root.new.items.defs (ResourceDefined ∷ [])) }
+    ensures grows { OnOk result
+        (Grows root.old.world.now root.old.items.defs root.new.items.defs (ResourceDefined ∷ [])) }
     ensures defined { OnOk result (IsDefinedType root.old.world.now root.new.items.defs id) }
     ensures recorded { OnOk result (HasIndex root.new.maps id) }
     ensures cause { IfErr result IsRefusal }

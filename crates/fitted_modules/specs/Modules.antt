@@ -1,5 +1,5 @@
--- What a main module and its adapters are before they are encoded: an adapter that has a stack is fitted, and main has the realloc
--- that this takes. (This project's own.)
+-- What a main module and its adapters are before they are encoded: an adapter that has a stack is
+-- fitted, and main has the realloc that this takes. (This project's own.)
 use Rattle.std.specs.Prelude.{◌≡◌, ◌≤◌, ◌^◌, ⊤, ℕ, Bool, true, false, ◌&&◌, ◌||◌, List, [], ◌∷◌, ◌++◌, Option, Some, None, Result, Ok, Err, if◌then◌else◌}
 use Rattle.byte_encoding.specs.Encoding.{Encoding}
 use Rattle.adapter_fitting.specs.Fitting.{fit}

@@ -89,9 +89,10 @@ fn with_main(
 
 /// A main module and its adapters as they are encoded.
 ///
-/// Each adapter that has a stack gets it when it is first called (`adapter_fitting`). Where one has, and main exports no realloc,
-/// main gets one for adapters, and they import it. All other modules are as they were. The fault is that of the first adapter that is
-/// refused, or else that of main.
+/// Each adapter that has a stack gets it when it is first called (`adapter_fitting`). Where one
+/// has, and main exports no realloc, main gets one for adapters, and they import it. All other
+/// modules are as they were. The fault is that of the first adapter that is refused, or else that
+/// of main.
 pub fn fit_modules(
     alloc: Global,
     main: Bytes,

@@ -1,5 +1,6 @@
--- A fixup module under construction: its types, its imports, the functions with which its segment fills the table of the shims, and
--- those that its start function calls. (The rules are this project's own, over the core standard's modules.)
+-- A fixup module under construction: its types, its imports, the functions with which its segment
+-- fills the table of the shims, and those that its start function calls. (The rules are this
+-- project's own, over the core standard's modules.)
 use Rattle.std.specs.Prelude.{ℕ, ◌≡◌, ◌≤◌, ◌^◌, ◌⊎◌, List, [], ◌∷◌, ◌++◌, length}
 use Rattle.core_types.specs.declared.types.FuncType.{FuncType}
 use Rattle.core_bytes.specs.declared.entity.EntityType.{EntityType}
@@ -12,7 +13,8 @@ use Rattle.fixup_modules.specs.declared.fault.ShimFault.TheVariants as faults
 use Rattle.fixup_modules.specs.Faults.{IsFull}
 use Rattle.fixup_modules.specs.Imports.{Imported, nothing_imported, with_import, import_index, ImportCause}
 
--- The functions are those for the slots of the table, in their order, and those that are called, in theirs, by their indices.
+-- The functions are those for the slots of the table, in their order, and those that are called, in
+-- theirs, by their indices.
 pub record Fixup : Type 0 where
   pub types : List FuncType
   pub imported : Imported
@@ -31,7 +33,8 @@ with_type f type = record f { types = interned f.types type }
 
 -- ---- one more shim
 
--- the function that a shim is to forward to, as an item: a function of this type, where these types were interned before
+-- the function that a shim is to forward to, as an item: a function of this type, where these types
+-- were interned before
 abbrev pub shim_target : List FuncType → FuncType → EntityType
 shim_target types type = entities.Function (type_index types type)
 
@@ -67,8 +70,9 @@ TypeCause types type faults.Memory = Unit {0}
 TypeCause types type (faults.TooMany n) = (2 ^ 32 ≤ n) × (n ≡ length (interned types type))
 TypeCause types type e = ⊥
 
--- Why a function of a type can't be imported from an instance, and be listed, where these types, imports and functions are there: its
--- type can't be interned, or it can't be imported, or there are too many functions in the list.
+-- Why a function of a type can't be imported from an instance, and be listed, where these types,
+-- imports and functions are there: its type can't be interned, or it can't be imported, or there
+-- are too many functions in the list.
 abbrev pub FunctionCause : List FuncType → Imported → List ℕ → ImportedInstance → List ℕ → FuncType → ShimFault → Type 0
 FunctionCause types imported functions instance name type e =
     TypeCause types type e ⊎ ImportCause imported instance name (shim_target types type) e ⊎ IsFull (length functions) e

@@ -1,5 +1,5 @@
--- What a fixup module imports: each item once, by the instance's name and its own; the index of an import is counted among
--- those of its kind. Core standard, structure: imports, indices.
+-- What a fixup module imports: each item once, by the instance's name and its own; the index of an
+-- import is counted among those of its kind. Core standard, structure: imports, indices.
 use Rattle.std.specs.Prelude.{ℕ, ◌≡◌, ◌+◌, ◌<◌, ◌≤◌, ◌^◌, ◌⊎◌, Bool, true, false, ◌&&◌, not, List, [], ◌∷◌, ◌++◌, length, filter, Some, None, if◌then◌else◌}
 use Rattle.std.specs.List.{list_any, before_first, find}
 use Rattle.std.specs.Str.{bytes_eq}

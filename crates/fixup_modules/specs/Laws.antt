@@ -73,15 +73,16 @@ pub record IsCalled (functions : List ℕ) (store : Store) (function address : �
 abbrev pub AreCalled : List ℕ → Store → List ℕ → List ℕ → Type 0
 AreCalled functions store calls addresses = AllZip (IsCalled functions store) calls addresses
 
--- An instance of the fixup: each import is given what is supplied for it, and the functions at these addresses are to be called.
+-- An instance of the fixup: each import is given what is supplied for it, and the functions at
+-- these addresses are to be called.
 pub record FixupMade (f : Fixup) (debug_names : Bool) (later : Store) (moment : Now) (supply : Import → Option Given) (called : List ℕ) (fixed : Made) : Type 0 where
   pub given : List Given
   pub supplied : IsSupplied supply (all_imported f).entries given
   pub are_called : AreCalled (functions_given given) later f.calls called
   pub is_made : instance_of (parts_of (fixup_sections f debug_names)) given later moment ≡ Some fixed
 
--- It is made after the instance of the shims, and for the table of the shims it is given theirs. The slots are for these shims, which have the
--- types of those of the module.
+-- It is made after the instance of the shims, and for the table of the shims it is given theirs.
+-- The slots are for these shims, which have the types of those of the module.
 pub record FixupAfter (f : Fixup) (shims : List NamedShim) (types : List FuncType) (slots : List Slot) (store : Store) (now : Now) (made : Made) (later : Store) (supply : Import → Option Given) : Type 0 where
   pub any : f.fills ≡ [] → ⊥
   pub shims_made : ShimsMade types slots store now made
@@ -96,8 +97,8 @@ abbrev pub AreTargets : Fixup → (Import → Option Given) → List NamedShim �
 AreTargets f supply shims addresses =
     AllZip (λ (s : NamedShim) address. (type_index : ℕ) × (supply (entry_of instances.Actual s.name (entities.Function type_index)) ≡ Some (FunctionAt address))) shims addresses
 
--- Once it is made, shim number i acts as the function that is supplied for it, whatever is instantiated later. It changes no other
--- table.
+-- Once it is made, shim number i acts as the function that is supplied for it, whatever is
+-- instantiated later. It changes no other table.
 pub record ShimsAreFilled (f : Fixup) (shims : List NamedShim) (slots : List Slot) (store : Store) (made : Made) (later : Store) (supply : Import → Option Given) (fixed : Made) : Type 0 where
   pub addresses : List ℕ
   pub targets : AreTargets f supply shims addresses
@@ -111,8 +112,8 @@ abbrev pub FixupsFillShims : Type 0
 FixupsFillShims =
     (f : Fixup) (shims : List NamedShim) (debug_names : Bool) (types : List FuncType) (slots : List Slot) (store : Store) (now : Now) (made : Made) (later : Store) (moment : Now) (supply : Import → Option Given) (called : List ℕ) (fixed : Made) → FixupAfter f shims types slots store now made later supply → FixupMade f debug_names later moment supply called fixed → ShimsAreFilled f shims slots store made later supply fixed
 
--- It adds at most one function, changes nothing else but the slots that it fills, and what is seen of it are the calls of these functions,
--- in order.
+-- It adds at most one function, changes nothing else but the slots that it fills, and what is seen
+-- of it are the calls of these functions, in order.
 pub record CallsAreMade (f : Fixup) (debug_names : Bool) (later : Store) (moment : Now) (called : List ℕ) (fixed : Made) : Type 0 where
   pub more_functions : List Func
   pub functions : fixed.store.functions ≡ later.functions ++ more_functions

@@ -64,8 +64,8 @@ by_calls [] none one more = none
 by_calls (f ∷ []) none one more = one f
 by_calls (f ∷ g ∷ fs) none one more = more
 
--- The only function that is called is the start function itself. More are called by a function of the module, of this type; it comes
--- after the imported ones.
+-- The only function that is called is the start function itself. More are called by a function of
+-- the module, of this type; it comes after the imported ones.
 abbrev pub own_type : Fixup → Option ℕ
 own_type f = by_calls f.calls None (λ function. None) (Some (type_index f.types thunk))
 
@@ -102,7 +102,8 @@ abbrev pub name_map : List Naming → Option (List Naming)
 name_map [] = None
 name_map (n ∷ ns) = Some (n ∷ ns)
 
--- the names of the module, of its functions and of its globals, where they are asked for; that of its own function comes last
+-- the names of the module, of its functions and of its globals, where they are asked for; that of
+-- its own function comes last
 abbrev pub names_of : Bool → List Import → Option ℕ → List Section
 names_of false entries own = []
 names_of true entries own =

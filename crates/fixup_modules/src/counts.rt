@@ -56,7 +56,8 @@ impl ImportCounts {
     /// One more item.
     pub(crate) fn add(&mut self, item: EntityType)
         requires { counted self.old (kind_of item) + 1 < 2 ^ 32 }
-        ensures { (kind : ExportKind) → counted self.new kind ≡ counted self.old kind + (if is_kind kind item then 1 else 0) }
+        ensures { (kind : ExportKind)
+            → counted self.new kind ≡ counted self.old kind + (if is_kind kind item then 1 else 0) }
     {
         match item {
             EntityType::Function(_) => self.functions += 1,

@@ -29,10 +29,18 @@ pub struct EncodedFixup {
 /// Imports the table of the shims, where there is a slot to fill, and returns its index.
 fn import_table(imports: &mut ImportTable, fills: &[u32]) -> Result<Option<u32>, ShimFault>
     requires { length fills.now < 2 ^ 32 }
-    ensures imports { let f : Fixup = record { types = []; imported = imports.old; fills = fills.now; calls = [] } in OnOk result (imports.new ≡ all_imported f) }
-    ensures index { let f : Fixup = record { types = []; imported = imports.old; fills = fills.now; calls = [] } in IfOk result (λ table. table ≡ table_of f) }
-    ensures refused { let f : Fixup = record { types = []; imported = imports.old; fills = fills.now; calls = [] } in OnOk result (MayEncode f) }
-    ensures cause { let f : Fixup = record { types = []; imported = imports.old; fills = fills.now; calls = [] } in IfErr result (EncodeCause f) }
+    ensures imports { let f : Fixup = record
+        { types = []; imported = imports.old; fills = fills.now; calls = [] } in OnOk result
+        (imports.new ≡ all_imported f) }
+    ensures index { let f : Fixup = record
+        { types = []; imported = imports.old; fills = fills.now; calls = [] } in IfOk result
+        (λ table. table ≡ table_of f) }
+    ensures refused { let f : Fixup = record
+        { types = []; imported = imports.old; fills = fills.now; calls = [] } in OnOk result
+        (MayEncode f) }
+    ensures cause { let f : Fixup = record
+        { types = []; imported = imports.old; fills = fills.now; calls = [] } in IfErr result
+        (EncodeCause f) }
 {
     if fills.is_empty() {
         return Ok(None);
@@ -46,11 +54,30 @@ fn import_table(imports: &mut ImportTable, fills: &[u32]) -> Result<Option<u32>,
     Ok(Some(index))
 }
 
-/// The index of the type of the function that makes the calls, where a function of the module does. The type is interned.
+/// The index of the type of the function that makes the calls, where a function of the module does.
+/// The type is interned.
 fn own_type(alloc: Global, types: &mut CoreTypes, calls: &[u32]) -> Result<Option<u32>, ShimFault>
-    ensures types { let f : Fixup = record { types = types.old; imported = record { instances = []; entries = [] }; fills = []; calls = calls.now } in OnOk result (types.new ≡ types_of f) }
-    ensures index { let f : Fixup = record { types = types.old; imported = record { instances = []; entries = [] }; fills = []; calls = calls.now } in IfOk result (λ index. index ≡ own_type f) }
-    ensures cause { let f : Fixup = record { types = types.old; imported = record { instances = []; entries = [] }; fills = []; calls = calls.now } in IfErr result (EncodeCause f) }
+    ensures types { let f : Fixup = record {
+      types = types.old;
+      imported = record { instances = []; entries = [] };
+      fills = [];
+      calls = calls.now;
+    } in
+        OnOk result (types.new ≡ types_of f) }
+    ensures index { let f : Fixup = record {
+      types = types.old;
+      imported = record { instances = []; entries = [] };
+      fills = [];
+      calls = calls.now;
+    } in
+        IfOk result (λ index. index ≡ own_type f) }
+    ensures cause { let f : Fixup = record {
+      types = types.old;
+      imported = record { instances = []; entries = [] };
+      fills = [];
+      calls = calls.now;
+    } in
+        IfErr result (EncodeCause f) }
 {
     if calls.len() < 2 {
         return Ok(None);
@@ -61,7 +88,10 @@ fn own_type(alloc: Global, types: &mut CoreTypes, calls: &[u32]) -> Result<Optio
 
 /// The start function, where there is one: the only function that is called, or the one that calls them.
 fn start_function(imports: &ImportTable, calls: &[u32]) -> Option<u32>
-    ensures { (f : Fixup) → f.calls ≡ calls.now → all_imported f ≡ imports.now → result ≡ start_function f }
+    ensures { (f : Fixup)
+        → f.calls ≡ calls.now
+        → all_imported f ≡ imports.now
+        → result ≡ start_function f }
 {
     let (first, others) = calls.split_first()?;
     if others.is_empty() {
@@ -78,7 +108,9 @@ fn put_start(
     own_type: Option<u32>,
     start: Option<u32>,
 ) -> Result<(), AllocError>
-    ensures { OnOk result (out.new ≡ out.old ++ (optional (λ type. sections.Functions (type ∷ [])) own_type ++ optional (λ function. sections.Start function) start)) }
+    ensures { OnOk result (out.new
+        ≡ out.old ++ (optional (λ type. sections.Functions (type ∷ [])) own_type
+        ++ optional (λ function. sections.Start function) start)) }
 {
     if let Some(ty) = own_type {
         out.section(function_section(alloc, ty)?)?;
@@ -96,7 +128,8 @@ fn put_segment(
     table: Option<u32>,
     fills: &[u32],
 ) -> Result<(), AllocError>
-    ensures { OnOk result (out.new ≡ out.old ++ optional (λ t. sections.Elements (fill_segment t fills.now ∷ [])) table) }
+    ensures { OnOk result (out.new
+        ≡ out.old ++ optional (λ t. sections.Elements (fill_segment t fills.now ∷ [])) table) }
 {
     if let Some(table) = table {
         out.section(element_section(alloc, table, fills)?)?;
@@ -111,7 +144,8 @@ fn put_code(
     own_type: Option<u32>,
     calls: &[u32],
 ) -> Result<(), AllocError>
-    ensures { OnOk result (out.new ≡ out.old ++ optional (λ type. sections.Code (calling calls.now ∷ [])) own_type) }
+    ensures { OnOk result
+        (out.new ≡ out.old ++ optional (λ type. sections.Code (calling calls.now ∷ [])) own_type) }
 {
     if own_type.is_some() {
         out.section(calling_section(alloc, calls)?)?;
@@ -127,7 +161,9 @@ fn put_names(
     own_type: Option<u32>,
     debug_names: bool,
 ) -> Result<(), AllocError>
-    ensures { OnOk result (out.new ≡ out.old ++ names_of debug_names imports.now.entries (option_map (λ type. count_of kinds.Func imports.now.entries) own_type)) }
+    ensures { OnOk result (out.new
+        ≡ out.old ++ names_of debug_names imports.now.entries
+        (option_map (λ type. count_of kinds.Func imports.now.entries) own_type)) }
 {
     if debug_names {
         let own = own_function(imports, own_type);
@@ -146,8 +182,8 @@ fn own_function(imports: &ImportTable, own_type: Option<u32>) -> Option<u32>
     }
 }
 
-/// The module with these types and imports, which has the table of shims at this index, where there is a slot to fill, and a function of
-/// this type that makes the calls, where there is one.
+/// The module with these types and imports, which has the table of shims at this index, where there
+/// is a slot to fill, and a function of this type that makes the calls, where there is one.
 fn fixup_module(
     alloc: Global,
     types: &CoreTypes,
@@ -158,7 +194,14 @@ fn fixup_module(
     calls: &[u32],
     debug_names: bool,
 ) -> Result<Module, AllocError>
-    ensures { (f : Fixup) → types_of f ≡ types.now → all_imported f ≡ imports.now → table_of f ≡ table → own_type f ≡ own → f.fills ≡ fills.now → f.calls ≡ calls.now → IfOk result (λ made. made ≡ fixup_sections f debug_names) }
+    ensures { (f : Fixup)
+        → types_of f ≡ types.now
+        → all_imported f ≡ imports.now
+        → table_of f ≡ table
+        → own_type f ≡ own
+        → f.fills ≡ fills.now
+        → f.calls ≡ calls.now
+        → IfOk result (λ made. made ≡ fixup_sections f debug_names) }
 {
     let mut module = Module::new(alloc);
     module.section(Section::Types(types.section(alloc)?))?;
@@ -180,9 +223,15 @@ fn encode_tasks(
     debug_names: bool,
 ) -> Result<EncodedFixup, ShimFault>
     requires { length fills.now < 2 ^ 32 }
-    ensures ok { let f : Fixup = record { types = types; imported = imports; fills = fills.now; calls = calls.now } in IfOk result (λ encoded. encoded ≡ module_with_instances f debug_names) }
-    ensures refused { let f : Fixup = record { types = types; imported = imports; fills = fills.now; calls = calls.now } in OnOk result (MayEncode f) }
-    ensures cause { let f : Fixup = record { types = types; imported = imports; fills = fills.now; calls = calls.now } in IfErr result (EncodeCause f) }
+    ensures ok { let f : Fixup = record
+        { types = types; imported = imports; fills = fills.now; calls = calls.now } in IfOk result
+        (λ encoded. encoded ≡ module_with_instances f debug_names) }
+    ensures refused { let f : Fixup = record
+        { types = types; imported = imports; fills = fills.now; calls = calls.now } in OnOk result
+        (MayEncode f) }
+    ensures cause { let f : Fixup = record
+        { types = types; imported = imports; fills = fills.now; calls = calls.now } in IfErr result
+        (EncodeCause f) }
 {
     let table = import_table(&mut imports, fills)?;
     let own_type = own_type(alloc, &mut types, calls)?;
@@ -203,12 +252,15 @@ fn encode_tasks(
 }
 
 impl FixupModule {
-    /// The module, or `None` where no slot is to be filled and nothing is to be called: the types; the imports in the order of the
-    /// calls, and last the table of the shims, of as many slots as there were shims, where there were any; the start function; the
-    /// segment that fills the table; and, where it is asked for, the names of the module and of its items. Where one function is
-    /// called, it is the start function; where more are called, a function of the module calls them in order.
+    /// The module, or `None` where no slot is to be filled and nothing is to be called: the types;
+    /// the imports in the order of the calls, and last the table of the shims, of as many slots as
+    /// there were shims, where there were any; the start function; the segment that fills the
+    /// table; and, where it is asked for, the names of the module and of its items. Where one
+    /// function is called, it is the start function; where more are called, a function of the
+    /// module calls them in order.
     ///
-    /// It fails as [`FixupModule::import`] of the table does, and as [`FixupModule::type_thunk`] where more than one function is called.
+    /// It fails as [`FixupModule::import`] of the table does, and as [`FixupModule::type_thunk`]
+    /// where more than one function is called.
     ///
     /// Core standard, structure: modules, start function.
     pub fn encode(self, debug_names: bool) -> Result<Option<EncodedFixup>, ShimFault>

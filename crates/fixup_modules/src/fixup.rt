@@ -62,11 +62,15 @@ fn import_function(
     ty: FuncType,
 ) -> Result<u32, ShimFault>
     ensures types { OnOk result (types.new ≡ interned types.old ty) }
-    ensures imports { OnOk result (imports.new ≡ with_import imports.old instance.now name.now (shim_target types.old ty)) }
-    ensures index { IfOk result (λ index. index ≡ import_index imports.old instance.now name.now (shim_target types.old ty)) }
-    ensures refused { OnOk result (MayImport imports.old instance.now name.now (shim_target types.old ty)) }
+    ensures imports { OnOk result
+        (imports.new ≡ with_import imports.old instance.now name.now (shim_target types.old ty)) }
+    ensures index { IfOk result (λ index. index
+        ≡ import_index imports.old instance.now name.now (shim_target types.old ty)) }
+    ensures refused { OnOk result
+        (MayImport imports.old instance.now name.now (shim_target types.old ty)) }
     ensures err { OnErr result ((types.new ≡ types.old) × (imports.new ≡ imports.old)) }
-    ensures cause { IfErr result (λ e. TypeCause types.old ty e ⊎ ImportCause imports.old instance.now name.now (shim_target types.old ty) e) }
+    ensures cause { IfErr result (λ e. TypeCause types.old ty e
+        ⊎ ImportCause imports.old instance.now name.now (shim_target types.old ty) e) }
 {
     let count = types.len();
     let type_index = types.intern(ty)?;
@@ -79,8 +83,8 @@ fn import_function(
     }
 }
 
-/// Imports a function of a type, and appends it to the functions for slots, or to those that are called. After a refusal all is as it
-/// was.
+/// Imports a function of a type, and appends it to the functions for slots, or to those that are
+/// called. After a refusal all is as it was.
 fn append_function(
     types: &mut CoreTypes,
     imports: &mut ImportTable,
@@ -91,12 +95,19 @@ fn append_function(
 ) -> Result<(), ShimFault>
     requires { length functions.old.items < 2 ^ 32 }
     ensures types { OnOk result (types.new ≡ interned types.old ty) }
-    ensures imports { OnOk result (imports.new ≡ with_import imports.old instance.now name.now (shim_target types.old ty)) }
-    ensures functions { OnOk result (functions.new.items ≡ functions.old.items ++ import_index imports.old instance.now name.now (shim_target types.old ty) ∷ []) }
+    ensures imports { OnOk result
+        (imports.new ≡ with_import imports.old instance.now name.now (shim_target types.old ty)) }
+    ensures functions { OnOk result (functions.new.items
+        ≡ functions.old.items
+        ++ import_index imports.old instance.now name.now (shim_target types.old ty) ∷ []) }
     ensures room { OnOk result (length functions.new.items < 2 ^ 32) }
-    ensures refused { OnOk result (MayImport imports.old instance.now name.now (shim_target types.old ty)) }
-    ensures err { OnErr result ((types.new ≡ types.old) × (imports.new ≡ imports.old) × (functions.new.items ≡ functions.old.items)) }
-    ensures cause { IfErr result (FunctionCause types.old imports.old functions.old.items instance.now name.now ty) }
+    ensures refused { OnOk result
+        (MayImport imports.old instance.now name.now (shim_target types.old ty)) }
+    ensures err { OnErr result ((types.new ≡ types.old)
+        × (imports.new ≡ imports.old)
+        × (functions.new.items ≡ functions.old.items)) }
+    ensures cause { IfErr result
+        (FunctionCause types.old imports.old functions.old.items instance.now name.now ty) }
 {
     next_count(functions.len() as u32)?;
     functions.reserve(1)?;
@@ -145,19 +156,23 @@ impl FixupModule {
         params: Seq<ValType>,
         results: Seq<ValType>,
     ) -> Result<u32, ShimFault>
-        ensures ok { OnOk result (self.new ≡ with_type self.old (record { params = params; results = results })) }
-        ensures index { IfOk result (λ index. index ≡ type_index self.old.types (record { params = params; results = results })) }
-        ensures at { IfOk result (λ index. slice_get self.new.types index ≡ Some (record { params = params; results = results })) }
+        ensures ok { OnOk result
+            (self.new ≡ with_type self.old (record { params = params; results = results })) }
+        ensures index { IfOk result (λ index. index
+            ≡ type_index self.old.types (record { params = params; results = results })) }
+        ensures at { IfOk result (λ index. slice_get self.new.types index
+            ≡ Some (record { params = params; results = results })) }
         ensures fits { OnOk result (length self.new.types < 2 ^ 32) }
         ensures err { OnErr result (self.new ≡ self.old) }
-        ensures cause { IfErr result (TypeCause self.old.types (record { params = params; results = results })) }
+        ensures cause { IfErr result
+            (TypeCause self.old.types (record { params = params; results = results })) }
     {
         let index = self.types.intern(FuncType { params, results })?;
         Ok(index)
     }
 
-    /// Imports an item of an instance, and returns its index among the imports of its kind. The second import of an item is none:
-    /// it returns the index of the first.
+    /// Imports an item of an instance, and returns its index among the imports of its kind. The
+    /// second import of an item is none: it returns the index of the first.
     ///
     /// A function names its type by an index that [`FixupModule::type_intern`] returned. It fails with
     /// [`ShimFault::InstanceKind`] where the name of the instance is already that of another one, with
@@ -171,8 +186,11 @@ impl FixupModule {
         field: &str,
         item: EntityType,
     ) -> Result<u32, ShimFault>
-        ensures ok { OnOk result (self.new ≡ record self.old { imported = with_import self.old.imported instance.now field.now item }) }
-        ensures index { IfOk result (λ index. index ≡ import_index self.old.imported instance.now field.now item) }
+        ensures ok { OnOk result (self.new
+            ≡ record self.old
+            { imported = with_import self.old.imported instance.now field.now item }) }
+        ensures index { IfOk result
+            (λ index. index ≡ import_index self.old.imported instance.now field.now item) }
         ensures refused { OnOk result (MayImport self.old.imported instance.now field.now item) }
         ensures room { OnOk result (HasRoom self.old.imported self.new.imported item) }
         ensures err { OnErr result (self.new ≡ self.old) }
@@ -189,12 +207,20 @@ impl FixupModule {
         field: &str,
         ty: GlobalType,
     ) -> Result<u32, ShimFault>
-        ensures ok { OnOk result (self.new ≡ record self.old { imported = with_import self.old.imported instance.now field.now (entities.Global ty) }) }
-        ensures index { IfOk result (λ index. index ≡ import_index self.old.imported instance.now field.now (entities.Global ty)) }
-        ensures refused { OnOk result (MayImport self.old.imported instance.now field.now (entities.Global ty)) }
-        ensures room { OnOk result (HasRoom self.old.imported self.new.imported (entities.Global ty)) }
+        ensures ok { OnOk result (self.new
+            ≡ record self.old {
+              imported = with_import self.old.imported instance.now field.now
+                  (entities.Global ty);
+            }) }
+        ensures index { IfOk result (λ index. index
+            ≡ import_index self.old.imported instance.now field.now (entities.Global ty)) }
+        ensures refused { OnOk result
+            (MayImport self.old.imported instance.now field.now (entities.Global ty)) }
+        ensures room { OnOk result
+            (HasRoom self.old.imported self.new.imported (entities.Global ty)) }
         ensures err { OnErr result (self.new ≡ self.old) }
-        ensures cause { IfErr result (ImportCause self.old.imported instance.now field.now (entities.Global ty)) }
+        ensures cause { IfErr result
+            (ImportCause self.old.imported instance.now field.now (entities.Global ty)) }
     {
         self.import(instance, field, EntityType::Global(ty))
     }
@@ -206,26 +232,37 @@ impl FixupModule {
         field: &str,
         type_index: u32,
     ) -> Result<u32, ShimFault>
-        ensures ok { OnOk result (self.new ≡ record self.old { imported = with_import self.old.imported instance.now field.now (entities.Function type_index) }) }
-        ensures index { IfOk result (λ index. index ≡ import_index self.old.imported instance.now field.now (entities.Function type_index)) }
-        ensures refused { OnOk result (MayImport self.old.imported instance.now field.now (entities.Function type_index)) }
-        ensures room { OnOk result (HasRoom self.old.imported self.new.imported (entities.Function type_index)) }
+        ensures ok { OnOk result (self.new
+            ≡ record self.old {
+              imported = with_import self.old.imported instance.now field.now
+                  (entities.Function type_index);
+            }) }
+        ensures index { IfOk result (λ index. index
+            ≡ import_index self.old.imported instance.now field.now
+            (entities.Function type_index)) }
+        ensures refused { OnOk result
+            (MayImport self.old.imported instance.now field.now (entities.Function type_index)) }
+        ensures room { OnOk result
+            (HasRoom self.old.imported self.new.imported (entities.Function type_index)) }
         ensures err { OnErr result (self.new ≡ self.old) }
-        ensures cause { IfErr result (ImportCause self.old.imported instance.now field.now (entities.Function type_index)) }
+        ensures cause { IfErr result
+            (ImportCause self.old.imported instance.now field.now (entities.Function type_index)) }
     {
         self.import(instance, field, EntityType::Function(type_index))
     }
 
-    /// Lets the next slot of the table of shims be filled for a shim with this name and type: the function of this name is imported
-    /// from [`ImportedInstance::Actual`]. So the shims are added in the order of their numbers.
+    /// Lets the next slot of the table of shims be filled for a shim with this name and type: the
+    /// function of this name is imported from [`ImportedInstance::Actual`]. So the shims are added
+    /// in the order of their numbers.
     ///
-    /// It fails as [`FixupModule::type_intern`] and [`FixupModule::import`] do, and with [`ShimFault::TooMany`] where there
-    /// would be more than 2^32 - 1 slots.
+    /// It fails as [`FixupModule::type_intern`] and [`FixupModule::import`] do, and with
+    /// [`ShimFault::TooMany`] where there would be more than 2^32 - 1 slots.
     ///
     /// Core standard, structure: element segments.
     pub fn add_shim(&mut self, name: &str, ty: FuncType) -> Result<(), ShimFault>
         ensures ok { OnOk result (self.new ≡ with_shim self.old name.now ty) }
-        ensures refused { OnOk result (MayImport self.old.imported instances.Actual name.now (shim_target self.old.types ty)) }
+        ensures refused { OnOk result (MayImport self.old.imported instances.Actual name.now
+            (shim_target self.old.types ty)) }
         ensures room { OnOk result (length self.new.fills < 2 ^ 32) }
         ensures err { OnErr result (self.new ≡ self.old) }
         ensures cause { IfErr result (ShimCause self.old name.now ty) }
@@ -241,16 +278,17 @@ impl FixupModule {
         Ok(())
     }
 
-    /// Lets the function that main exports under this name be called when the module is instantiated, after those that were added before.
-    /// It has no parameters and no results.
+    /// Lets the function that main exports under this name be called when the module is
+    /// instantiated, after those that were added before. It has no parameters and no results.
     ///
-    /// It fails as [`FixupModule::type_thunk`] and [`FixupModule::import`] do, and with [`ShimFault::TooMany`] where there would be more
-    /// than 2^32 - 1 calls.
+    /// It fails as [`FixupModule::type_thunk`] and [`FixupModule::import`] do, and with
+    /// [`ShimFault::TooMany`] where there would be more than 2^32 - 1 calls.
     ///
     /// Core standard, structure: start function.
     pub fn add_initialize(&mut self, name: &str) -> Result<(), ShimFault>
         ensures ok { OnOk result (self.new ≡ with_initialize self.old name.now) }
-        ensures refused { OnOk result (MayImport self.old.imported instances.Main name.now (thunk_item self.old.types)) }
+        ensures refused { OnOk result
+            (MayImport self.old.imported instances.Main name.now (thunk_item self.old.types)) }
         ensures room { OnOk result (length self.new.calls < 2 ^ 32) }
         ensures err { OnErr result (self.new ≡ self.old) }
         ensures cause { IfErr result (CallCause self.old name.now) }

@@ -72,7 +72,8 @@ fn import_name(
     instance: &ImportedInstance,
     field: &str,
 ) -> Result<ImportName, AllocError>
-    ensures { IfOk result (λ name. name ≡ record { instance = instance_name instance.now; field = field.now }) }
+    ensures { IfOk result
+        (λ name. name ≡ record { instance = instance_name instance.now; field = field.now }) }
 {
     Ok(ImportName {
         instance: Text::from_str(alloc, instance.name())?,
@@ -96,7 +97,9 @@ fn named_copy(
 /// Whether the name of an instance is that of another one.
 fn is_taken(instances: &InstanceTable, name: &Text, instance: &ImportedInstance) -> bool
     requires { name.now ≡ instance_name instance.now }
-    ensures { (entries : List Import) → result ≡ is_taken_name (record { instances = instances.now; entries = entries }) instance.now }
+    ensures { (entries : List Import)
+        → result
+        ≡ is_taken_name (record { instances = instances.now; entries = entries }) instance.now }
 {
     match instances.get(name) {
         None => false,
@@ -117,8 +120,10 @@ fn earlier_index(
     name: ImportName,
     entity: EntityType,
 ) -> Result<u32, ShimFault>
-    ensures ok { IfOk result (λ index. (index ≡ earlier.index) × (is_item earlier.entity entity ≡ true)) }
-    ensures err { IfErr result (λ e. (e ≡ faults.ImportType name.instance name.field) × (is_item earlier.entity entity ≡ false)) }
+    ensures ok { IfOk result
+        (λ index. (index ≡ earlier.index) × (is_item earlier.entity entity ≡ true)) }
+    ensures err { IfErr result (λ e. (e ≡ faults.ImportType name.instance name.field)
+        × (is_item earlier.entity entity ≡ false)) }
 {
     if earlier.entity == entity {
         Ok(earlier.index)
@@ -141,12 +146,17 @@ fn add_import(
     entity: EntityType,
 ) -> Result<u32, ShimFault>
     requires { lookup (is_same_name name) items.old ≡ None }
-    ensures instances { OnOk result (instances.new ≡ with_first bytes_eq instances.old name.instance instance.now) }
-    ensures items { IfOk result (λ index. items.new ≡ items.old ++ (name, record { index = index; entity = entity }) ∷ []) }
-    ensures counts { OnOk result ((kind : ExportKind) → counted counts.new kind ≡ counted counts.old kind + (if is_kind kind entity then 1 else 0)) }
+    ensures instances { OnOk result
+        (instances.new ≡ with_first bytes_eq instances.old name.instance instance.now) }
+    ensures items { IfOk result
+        (λ index. items.new ≡ items.old ++ (name, record { index = index; entity = entity }) ∷ []) }
+    ensures counts { OnOk result ((kind : ExportKind)
+        → counted counts.new kind
+        ≡ counted counts.old kind + (if is_kind kind entity then 1 else 0)) }
     ensures index { IfOk result (λ index. index ≡ counted counts.old (kind_of entity)) }
     ensures room { OnOk result (counted counts.old (kind_of entity) + 1 < 2 ^ 32) }
-    ensures err { OnErr result ((instances.new ≡ instances.old) × (items.new ≡ items.old) × (counts.new ≡ counts.old)) }
+    ensures err { OnErr result
+        ((instances.new ≡ instances.old) × (items.new ≡ items.old) × (counts.new ≡ counts.old)) }
     ensures cause { IfErr result (IsFull (counted counts.old (kind_of entity))) }
 {
     let index = counts.of(kind_of(entity));
@@ -169,7 +179,8 @@ fn import_item(
     item: EntityType,
 ) -> Result<u32, ShimFault>
     requires { AreCounted counts.old items.old }
-    ensures imports { Imports (imported_by instances.old items.old) (imported_by instances.new items.new) result instance.now field.now item }
+    ensures imports { Imports (imported_by instances.old items.old)
+        (imported_by instances.new items.new) result instance.now field.now item }
     ensures counted { AreCounted counts.new items.new }
 {
     let name = import_name(alloc, instance, field)?;
@@ -231,7 +242,8 @@ impl ImportTable {
         self.counts.of(ExportKind::Func)
     }
 
-    /// The section with the names of the module, of what is imported, and of its own function, by its index, where it has one.
+    /// The section with the names of the module, of what is imported, and of its own function, by
+    /// its index, where it has one.
     pub(crate) fn names(&self, alloc: Global, own: Option<u32>) -> Result<Section, AllocError>
         ensures { IfOk result (λ section. section ∷ [] ≡ names_of true self.now.entries own) }
     {

@@ -17,7 +17,8 @@ pub fn fixups_fill_shims()
     ensures { FixupsFillShims }
 {}
 
-/// Where an instance of a fixup module is made, it calls the functions that were added, in order, and nothing else is seen of it.
+/// Where an instance of a fixup module is made, it calls the functions that were added, in order,
+/// and nothing else is seen of it.
 pub fn fixups_call()
     ensures { FixupsCall }
 {}

@@ -1,17 +1,20 @@
-//! The fixup module: the generated module that is instantiated last. It imports the functions that the shims are to forward to,
-//! and the table of the shims, and its element segment puts the functions into the table. From then on each shim forwards. Then its
-//! start function makes the first calls of the component, such as main's initialization.
+//! The fixup module: the generated module that is instantiated last. It imports the functions that
+//! the shims are to forward to, and the table of the shims, and its element segment puts the
+//! functions into the table. From then on each shim forwards. Then its start function makes the
+//! first calls of the component, such as main's initialization.
 //!
-//! A [`FixupModule`] is built call by call, and its value is what was called for: types, imports, fills and calls
-//! (`specs/Fixups.antt`). The module is one value, a function of these (`specs/Sections.antt`). What its instance does is
-//! said by the laws of [`core_runs`] on segments, filled shims and start functions; `fixups_fill_shims` and `fixups_call` are what they
+//! A [`FixupModule`] is built call by call, and its value is what was called for: types, imports,
+//! fills and calls (`specs/Fixups.antt`). The module is one value, a function of these
+//! (`specs/Sections.antt`). What its instance does is said by the laws of [`core_runs`] on
+//! segments, filled shims and start functions; `fixups_fill_shims` and `fixups_call` are what they
 //! say of this module.
 //!
-//! Yet to come: other steps of the start function, wrappers that call task hooks, element and data segments of others, and the
-//! form in which shims forward through globals.
+//! Yet to come: other steps of the start function, wrappers that call task hooks, element and data
+//! segments of others, and the form in which shims forward through globals.
 //!
-//! In reading order: `instances` (whence is imported), `fault`, `import_name`, `counts`, `tables` and `imports` (what is
-//! imported), `fixup` (the calls), `sections` (the parts of the module), `encoding` (the whole), `laws`.
+//! In reading order: `instances` (whence is imported), `fault`, `import_name`, `counts`, `tables`
+//! and `imports` (what is imported), `fixup` (the calls), `sections` (the parts of the module),
+//! `encoding` (the whole), `laws`.
 #![tactic(auto)]
 
 mod counts;

@@ -72,7 +72,8 @@ pub(crate) fn element_section(
     table: u32,
     functions: &[u32],
 ) -> Result<Section, AllocError>
-    ensures { IfOk result (λ made. made ≡ sections.Elements (fill_segment table functions.now ∷ [])) }
+    ensures { IfOk result
+        (λ made. made ≡ sections.Elements (fill_segment table functions.now ∷ [])) }
 {
     let table = if table == 0 { None } else { Some(table) };
     let mut section = ElementSection::new(alloc);
@@ -125,7 +126,8 @@ fn function_names(
     own: Option<u32>,
 ) -> Result<NameMap, AllocError>
     requires { AreIndexed [] items.now }
-    ensures { IfOk result (λ made. made ≡ names_from 0 (of_kind kinds.Func (map entry_at items.now)) ++ start_name own) }
+    ensures { IfOk result (λ made. made
+        ≡ names_from 0 (of_kind kinds.Func (map entry_at items.now)) ++ start_name own) }
 {
     let mut names = kind_names(alloc, items, ExportKind::Func)?;
     if let Some(index) = own {

@@ -72,7 +72,8 @@ impl InstanceTable {
         item: V,
     ) -> Result<(), AllocError>
         requires { lookup (K.eq key) items.old ≡ None }
-        ensures ok { OnOk result ((self.new ≡ with_first bytes_eq self.old name instance) × (items.new ≡ items.old ++ (key, item) ∷ [])) }
+        ensures ok { OnOk result ((self.new ≡ with_first bytes_eq self.old name instance)
+            × (items.new ≡ items.old ++ (key, item) ∷ [])) }
         ensures err { OnErr result ((self.new ≡ self.old) × (items.new ≡ items.old)) }
     {
         self.map.reserve(1)?;

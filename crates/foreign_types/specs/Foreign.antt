@@ -1,5 +1,5 @@
--- The types of other interfaces of which an interface is made, each behind those of which it is made itself (component model, WIT:
--- `use`).
+-- The types of other interfaces of which an interface is made, each behind those of which it is
+-- made itself (component model, WIT: `use`).
 use Rattle.std.specs.Prelude.{ℕ, ◌≡◌, ◌<◌, ◌&&◌, Bool, true, List, [], ◌∷◌, ◌++◌, length, Option, Some, None}
 use Rattle.std.specs.List.{AllByRecursion, IsDistinct, list_all}
 use Rattle.wit_data.specs.declared.functions.Function.{Function}

@@ -20,7 +20,8 @@ use Rattle.foreign_types.specs.Foreign.{is_covered, AreReady, same_type, type_pa
 abbrev pub is_entered : Walk → TypeId → Bool
 is_entered walk id = is_some (lookup (same_type id) walk.entered)
 
--- the types that were listed are ready, and each was listed once, and entered; all that was met in a type that was entered is listed
+-- the types that were listed are ready, and each was listed once, and entered; all that was met in
+-- a type that was entered is listed
 pub record IsWalk (types : List TypeDef) (here : InterfaceId) (walk : Walk) : Type 0 where
   pub ready : AreReady types here walk.listed
   pub once : IsDistinct same_type walk.listed

@@ -25,8 +25,10 @@ fn meet_listed(
     requires present { AllByRecursion (λ t. t.1.index < length types.now) listed.now }
     requires right { IsWalk types.now here walk.old }
     ensures right { OnOk result (IsWalk types.now here walk.new) }
-    ensures covered { OnOk result (AllByRecursion (λ t. is_covered types.now here walk.new.listed (Some (Id t.1)) ≡ true) listed.now) }
-    ensures lists { OnOk result (Lists types.now walk.old.listed walk.new.listed (ListedPass types.now listed.now)) }
+    ensures covered { OnOk result (AllByRecursion
+        (λ t. is_covered types.now here walk.new.listed (Some (Id t.1)) ≡ true) listed.now) }
+    ensures lists { OnOk result
+        (Lists types.now walk.old.listed walk.new.listed (ListedPass types.now listed.now)) }
 {
     for (_, id) in listed.iter() {
         meet_type(types, here, walk, *id)?;
@@ -45,8 +47,10 @@ fn meet_params(
     requires present { AllByRecursion (λ p. IsBelow (length types.now) (Some p.ty)) params.now }
     requires right { IsWalk types.now here walk.old }
     ensures right { OnOk result (IsWalk types.now here walk.new) }
-    ensures covered { OnOk result (list_all (λ p. is_covered types.now here walk.new.listed (Some p.ty)) params.now ≡ true) }
-    ensures lists { OnOk result (Lists types.now walk.old.listed walk.new.listed (ParamsPass types.now params.now)) }
+    ensures covered { OnOk result
+        (list_all (λ p. is_covered types.now here walk.new.listed (Some p.ty)) params.now ≡ true) }
+    ensures lists { OnOk result
+        (Lists types.now walk.old.listed walk.new.listed (ParamsPass types.now params.now)) }
 {
     for n in 0..params.len() {
         meet_part(types, here, walk, Some(params[n].ty))?;
@@ -65,8 +69,10 @@ fn meet_function(
     requires present { HasFunction resolve.now function.now }
     requires right { IsWalk resolve.now.types here walk.old }
     ensures right { OnOk result (IsWalk resolve.now.types here walk.new) }
-    ensures covered { OnOk result (is_function_covered resolve.now.types here walk.new.listed function.now ≡ true) }
-    ensures lists { OnOk result (Lists resolve.now.types walk.old.listed walk.new.listed (FunctionPasses resolve.now.types function.now)) }
+    ensures covered { OnOk result
+        (is_function_covered resolve.now.types here walk.new.listed function.now ≡ true) }
+    ensures lists { OnOk result (Lists resolve.now.types walk.old.listed walk.new.listed
+        (FunctionPasses resolve.now.types function.now)) }
 {
     let types = resolve.types.as_slice();
     meet_params(types, here, walk, function.params.as_slice())?;
@@ -85,8 +91,11 @@ fn meet_functions(
     requires present { AllByRecursion (λ e. HasFunction resolve.now e.1) functions.now }
     requires right { IsWalk resolve.now.types here walk.old }
     ensures right { OnOk result (IsWalk resolve.now.types here walk.new) }
-    ensures covered { OnOk result (AllByRecursion (λ e. is_function_covered resolve.now.types here walk.new.listed e.1 ≡ true) functions.now) }
-    ensures lists { OnOk result (Lists resolve.now.types walk.old.listed walk.new.listed (EntriesPass resolve.now.types functions.now)) }
+    ensures covered { OnOk result (AllByRecursion
+        (λ e. is_function_covered resolve.now.types here walk.new.listed e.1 ≡ true)
+        functions.now) }
+    ensures lists { OnOk result (Lists resolve.now.types walk.old.listed walk.new.listed
+        (EntriesPass resolve.now.types functions.now)) }
 {
     for (_, function) in functions.iter() {
         meet_function(resolve, here, walk, function)?;
@@ -94,8 +103,8 @@ fn meet_functions(
     Ok(())
 }
 
-/// The types of other interfaces of which these types of an interface, and then these functions, are made, each once and behind
-/// those of which it is made itself.
+/// The types of other interfaces of which these types of an interface, and then these functions,
+/// are made, each once and behind those of which it is made itself.
 pub fn all_foreign_types(
     alloc: Global,
     resolve: &Resolve,

@@ -24,7 +24,8 @@ pub(crate) fn meet_part(
     requires right { IsWalk types.now here walk.old }
     ensures right { OnOk result (IsWalk types.now here walk.new) }
     ensures covered { OnOk result (is_covered types.now here walk.new.listed part ≡ true) }
-    ensures lists { OnOk result (Lists types.now walk.old.listed walk.new.listed (Passes types.now part)) }
+    ensures lists { OnOk result
+        (Lists types.now walk.old.listed walk.new.listed (Passes types.now part)) }
 {
     match part {
         None => Ok(()),
@@ -45,8 +46,10 @@ pub(crate) fn meet_type(
     requires present { id.index < length types.now }
     requires right { IsWalk types.now here walk.old }
     ensures right { OnOk result (IsWalk types.now here walk.new) }
-    ensures covered { OnOk result (is_covered types.now here walk.new.listed (Some (Id id)) ≡ true) }
-    ensures lists { OnOk result (Lists types.now walk.old.listed walk.new.listed (Passes types.now (Some (Id id)))) }
+    ensures covered { OnOk result
+        (is_covered types.now here walk.new.listed (Some (Id id)) ≡ true) }
+    ensures lists { OnOk result
+        (Lists types.now walk.old.listed walk.new.listed (Passes types.now (Some (Id id)))) }
 {
     if walk.entered.contains_key(&id) {
         return Ok(());
@@ -67,8 +70,10 @@ fn enter_type(
     requires unmet { is_entered walk.old id ≡ false }
     requires right { IsWalk types.now here walk.old }
     ensures right { OnOk result (IsWalk types.now here walk.new) }
-    ensures covered { OnOk result (is_covered types.now here walk.new.listed (Some (Id id)) ≡ true) }
-    ensures lists { OnOk result (Lists types.now walk.old.listed walk.new.listed (Passes types.now (Some (Id id)))) }
+    ensures covered { OnOk result
+        (is_covered types.now here walk.new.listed (Some (Id id)) ≡ true) }
+    ensures lists { OnOk result
+        (Lists types.now walk.old.listed walk.new.listed (Passes types.now (Some (Id id)))) }
 {
     meet_parts(types, here, walk, id)?;
     walk.entered.insert_if_absent(id, ())?;
@@ -93,8 +98,10 @@ fn meet_parts(
     requires present { id.index < length types.now }
     requires right { IsWalk types.now here walk.old }
     ensures right { OnOk result (IsWalk types.now here walk.new) }
-    ensures covered { OnOk result (is_parts_covered types.now here walk.new.listed id.index ≡ true) }
-    ensures lists { OnOk result (Lists types.now walk.old.listed walk.new.listed (PartsPass types.now id.index)) }
+    ensures covered { OnOk result
+        (is_parts_covered types.now here walk.new.listed id.index ≡ true) }
+    ensures lists { OnOk result
+        (Lists types.now walk.old.listed walk.new.listed (PartsPass types.now id.index)) }
 {
     for n in 0..part_count_of(types, id.index) {
         meet_part(types, here, walk, part_of(types, id.index, n))?;

@@ -29,7 +29,8 @@ trees_of_held types trees items h = held_trees types trees (filter (is_of spaces
 pub tree_of_held : (types : List TypeItem) (tree : TypeTree) (address : ℕ) → IsHeldAs types tree address → tree_held types address ≡ tree
 tree_of_held types tree address h = ap (λ o. elim o [ None ↦ OfOthers | Some i ↦ item_tree i ]) h.present ∙ h.denotes
 
--- and the other way round, where each address has an entry: what has none would denote another type once the store grows
+-- and the other way round, where each address has an entry: what has none would denote another type
+-- once the store grows
 thing_held : (types : List TypeItem) (t : Thing) → t.address < length types → IsThingHeldAs types (tree_held types t.address) t
 thing_held types t l =
     let x : (x : TypeItem) × (slice_get types t.address ≡ Some x) = there types t.address l in

@@ -242,8 +242,8 @@ not_grown number trees m h = record {
   each = tt;
 }
 
--- The members of a right instance type run, whatever follows. What the type indices denote then is what the members say,
--- and each member that exports has made an export that is what it says.
+-- The members of a right instance type run, whatever follows. What the type indices denote then is
+-- what the members say, and each member that exports has made an export that is what it says.
 pub members_run : (number : ℕ) (outer scope : List TypeTree) (all : List Member) (m : Machine) → IsScopeOf outer scope m → AreMembersRight (surroundings_of number outer) scope all →
     RunMembers number outer scope all m
 members_run number outer scope [] m a h = record { growth = not_grown number scope m a.held; runs = λ now next. refl; scoped = trees_of_held m.store.types scope m.scope.items a.held }

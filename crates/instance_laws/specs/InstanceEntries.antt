@@ -39,7 +39,8 @@ IsInstanceEntry types functions (ImportedInstance number outer all) exports = Is
 IsInstanceEntry types functions (NestedInstance exported) exports = HasTypesOf exported types exports
 IsInstanceEntry types functions OtherInstance exports = Unit {0}
 
--- an import of the type with this index runs: there is one instance more, no resource is defined, and what was at an address is there
+-- an import of the type with this index runs: there is one instance more, no resource is defined,
+-- and what was at an address is there
 pub record RunsImport (origin : Origin) (outer : List TypeTree) (all : List Member) (index : ℕ) (m : Machine) : Type 0 where
   pub types : List TypeItem
   pub functions : List Function

@@ -78,8 +78,8 @@ pub record IsExportedAs (number : ℕ) (types : List TypeItem) (functions : List
   pub space : e.space ≡ x.space
   pub is : IsItemOf number types functions x.space x.name x.tree e.address
 
--- The machine has more: `trees` is what the types of its scope denote then, and `exported` what was exported. What was at
--- an address is there, and no resource is defined.
+-- The machine has more: `trees` is what the types of its scope denote then, and `exported` what was
+-- exported. What was at an address is there, and no resource is defined.
 pub record Grown (number : ℕ) (trees : List TypeTree) (exported : List MemberExport) (m : Machine) : Type 0 where
   pub items : List Thing
   pub types : List TypeItem

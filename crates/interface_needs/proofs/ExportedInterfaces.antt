@@ -1,5 +1,5 @@
--- The types and the functions of an exported interface: where they are in the resolve, and that all of which they are made is of
--- the interface, is lent to it under a name, or has no name.
+-- The types and the functions of an exported interface: where they are in the resolve, and that all
+-- of which they are made is of the interface, is lent to it under a name, or has no name.
 use Rattle.std.proofs.Common.{◌≡◌, ◌∙◌, ◌<◌, ◌==◌, ◌&&◌, ◌||◌, arith, nat_lt, ℕ, suc, Bool, true, true≢false, List, [], ◌∷◌, length, map, not, inl, inr, Contains, sym, ap, refl, subst, Option, Some, None, IsSome, is_some}
 use Rattle.std.specs.List.{AllByRecursion, flat_map, list_all}
 use Rattle.std.specs.Str.{bytes_eq}

@@ -1,5 +1,5 @@
--- What the types and the used functions of an imported interface are made of: types of interfaces that are imported earlier,
--- its own types, and types without names.
+-- What the types and the used functions of an imported interface are made of: types of interfaces
+-- that are imported earlier, its own types, and types without names.
 use Rattle.std.proofs.Common.{◌≡◌, ◌∙◌, ◌<◌, ◌≤◌, ◌&&◌, ℕ, zero, suc, Bool, true, false, true≢false, List, [], ◌∷◌, length, map, Contains, inl, inr, refl, sym, ap, subst, arith, Option, Some, None, is_some, if◌then◌else◌, rules}
 use Rattle.std.specs.Prelude.{IsSome}
 use Rattle.std.specs.List.{AllByRecursion, flat_map}

@@ -1,5 +1,5 @@
--- Which types an exported interface may use: those that a component needs of imported interfaces, those of other exported ones that it
--- uses, and its own.
+-- Which types an exported interface may use: those that a component needs of imported interfaces,
+-- those of other exported ones that it uses, and its own.
 use Rattle.std.proofs.Common.{◌≡◌, ◌∙◌, ◌⊎◌, ◌+◌, ◌==◌, ◌&&◌, ◌||◌, ℕ, zero, suc, Bool, true, false, true≢false, cond, not, List, [], ◌∷◌, ◌++◌, filter, inl, inr, Contains, sym, ap, refl, subst, arith, Option, Some, None, is_some, if◌then◌else◌, rules}
 use Rattle.std.specs.List.{AllByRecursion, IsDistinct, flat_map, list_any}
 use Rattle.std.specs.Cmp.{IsEquivalence}
@@ -231,7 +231,8 @@ module _ (w : ComponentWorld) (ok : IsEncodable w) (id : InterfaceId) (h : IsExp
             (passes_among (used_exports w id) other (live_used n other live is (among all other exported) apart))
       ]
 
-  -- a type that is lent is its own, one of an exported interface that it uses, or one that a component needs of an imported interface
+  -- a type that is lent is its own, one of an exported interface that it uses, or one that a
+  -- component needs of an imported interface
   pub lent_from : (n : ℕ) (other : InterfaceId) → interface_at w.resolve.types n ≡ Some other → is_lent_type w id n ≡ true → (id ≡ other) ⊎ (Contains (used_exports w id) other ⊎ IsNeeded w other (record { index = n }))
   lent_from n other is lent =
       elim (or_cases (id.index == other.index) (list_any (same_interface other) (used_exports w id) || is_needed_of w other n) to) [

@@ -1,4 +1,5 @@
--- The types that an imported interface needs are the live ones of those that it lists, and a live type of it is one of them.
+-- The types that an imported interface needs are the live ones of those that it lists, and a live
+-- type of it is one of them.
 use Rattle.std.proofs.Common.{◌≡◌, ◌∙◌, ◌==◌, ℕ, Bool, true, List, [], ◌∷◌, map, filter, Contains, refl, sym, ap, subst, Some}
 use Rattle.std.specs.List.{flat_map}
 use Rattle.std.specs.Map.{lookup}

@@ -1,5 +1,5 @@
--- Where exported interfaces are exported in order, a type of another interface of which one is made is made of no resource of that one
--- itself: so it can be imported before these are.
+-- Where exported interfaces are exported in order, a type of another interface of which one is made
+-- is made of no resource of that one itself: so it can be imported before these are.
 use Rattle.std.proofs.Common.{◌≡◌, ◌∙◌, ◌<◌, ◌≤◌, ◌==◌, ◌&&◌, ◌||◌, if◌then◌else◌, arith, ℕ, zero, suc, Bool, true, false, true≢false, not, List, [], ◌∷◌, length, map, take, inl, inr, Contains, sym, ap, refl, Option, Some, None, IsSome, is_none, is_some, nat_lt}
 use Rattle.std.specs.List.{AllByRecursion, flat_map, list_all, list_any, slice_get}
 use Rattle.std.proofs.lemmas.Bool.{and_from, and_parts, lt-ltb, ltb-true}

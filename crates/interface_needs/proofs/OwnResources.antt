@@ -1,5 +1,5 @@
--- The resources that a component defines: those of the interfaces that user modules have to export, each by its number. All others are
--- imported.
+-- The resources that a component defines: those of the interfaces that user modules have to export,
+-- each by its number. All others are imported.
 use Rattle.std.proofs.Common.{◌≡◌, ◌∙◌, ◌<◌, ◌≤◌, ◌+◌, ◌==◌, ◌||◌, ℕ, zero, suc, Bool, true, false, true≢false, List, [], ◌∷◌, ◌++◌, map, filter, length, refl, sym, ap, subst, inl, inr, arith, Contains, Option, Some, None, IsSome, if◌then◌else◌}
 use Rattle.std.specs.List.{IsDistinct, flat_map, slice_get}
 use Rattle.std.proofs.lemmas.Bool.{eqb-true, eq-eqb}

@@ -1,5 +1,5 @@
--- What the functions and types at the root of a world are made of is at hand there: types that the world imports, types that
--- imported interfaces need, and types that may be defined there.
+-- What the functions and types at the root of a world are made of is at hand there: types that the
+-- world imports, types that imported interfaces need, and types that may be defined there.
 use Rattle.std.proofs.Common.{◌≡◌, ◌∙◌, ◌<◌, ◌≤◌, ℕ, zero, suc, Bool, true, false, true≢false, List, [], ◌∷◌, length, map, refl, sym, ap, subst, arith, Option, Some, None, if◌then◌else◌}
 use Rattle.std.specs.List.{AllByRecursion, list_all}
 use Rattle.std.proofs.lemmas.Bool.{and_from}

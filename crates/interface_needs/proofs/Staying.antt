@@ -1,5 +1,5 @@
--- Types that pass a test with all of which they are made; those that stay in an exported interface are such types, and may be
--- encoded in its scope.
+-- Types that pass a test with all of which they are made; those that stay in an exported interface
+-- are such types, and may be encoded in its scope.
 use Rattle.std.proofs.Common.{◌≡◌, ◌∙◌, ◌<◌, ◌≤◌, ◌&&◌, ◌||◌, ◌==◌, ℕ, zero, suc, Bool, true, false, true≢false, not, inl, inr, List, [], ◌∷◌, ◌++◌, length, map, refl, ap, sym, subst, arith, Option, Some, None, is_some, if◌then◌else◌}
 use Rattle.std.specs.Prelude.{Contains, is_none}
 use Rattle.std.specs.List.{AllByRecursion, list_all}
@@ -92,7 +92,8 @@ foreign_here here (owners.Interface i) = refl
 foreign_here here (owners.World w) = refl
 foreign_here here owners.«None» = refl
 
--- the owner and the name of a type that is at home in an interface, by its interface, where it is one of values or a resource
+-- the owner and the name of a type that is at home in an interface, by its interface, where it is
+-- one of values or a resource
 abbrev pub home_by : (ℕ → Bool) → ℕ → Bool → Option InterfaceId → Option InterfaceId → Option (List ℕ) → Bool
 home_by lent n resource other owner name = elim other [ Some i ↦ lent n && is_some name | None ↦ if resource then lent n && (is_some name && is_some owner) else is_none name || is_some owner ]
 
@@ -140,8 +141,8 @@ resource_owned types lent here n k e resource none =
 
 -- ---- a type that is at home in an interface may be encoded in a scope of it
 
--- Each type of another interface that is lent is in the tables, or may be imported; of the live types that are parts of live ones, each
--- resource of the interface is in the tables.
+-- Each type of another interface that is lent is in the tables, or may be imported; of the live
+-- types that are parts of live ones, each resource of the interface is in the tables.
 module _ (s : Setting) (here : InterfaceId) (back : RefersBack s.types) (inside : s.interface ≡ Some here) (own : (n : ℕ) → s.may_own n ≡ true) (lent : ℕ → Bool)
     (may : (n : ℕ) (other : InterfaceId) → foreign (Some here) (owner_at s.types n) ≡ Some other → lent n ≡ true → is_some (settings.name_at s.types n) ≡ true → (s.met (record { index = n }) || s.may_import other (record { index = n })) ≡ true) (live : ℕ → Bool)
     (onward : (n m : ℕ) → n < length s.types → Contains (parts (kind_at s.types n)) (Some (Id (record { index = m }))) → live n ≡ true → live m ≡ true)

@@ -66,7 +66,8 @@ module _ (w : ComponentWorld) (ok : IsEncodable w) (id : InterfaceId) (t : TypeI
         | inr has ↦ true≢false (sym has ∙ none)
       ]
 
-  -- one of another interface is one of an exported interface that this one uses, or one that a component needs of an imported one
+  -- one of another interface is one of an exported interface that this one uses, or one that a
+  -- component needs of an imported one
   pub usable_lent : (other : InterfaceId) → foreign (Some id) (owner_at w.resolve.types t.index) ≡ Some other → Contains (used_exports w id) other ⊎ IsNeeded w other t
   usable_lent other is =
       let b = and_parts (is_lent_type w id n) (is_some (settings.name_at w.resolve.types n)) (ap by_owner (sym is) ∙ is_home) in
@@ -76,7 +77,8 @@ module _ (w : ComponentWorld) (ok : IsEncodable w) (id : InterfaceId) (t : TypeI
         | inr from ↦ from
       ]
 
-  -- so a type is one of the interface, one that a component needs of an imported interface, or one of another exported interface
+  -- so a type is one of the interface, one that a component needs of an imported interface, or one
+  -- of another exported interface
   pub usable_from : (interface_at w.resolve.types t.index ≡ Some id) ⊎ (IsNeededType w t ⊎ IsExportedType w t)
   usable_from = by (foreign (Some id) (owner_at w.resolve.types n)) refl
     where

@@ -1,5 +1,5 @@
--- What the instance type of an imported interface needs, and has at hand, in a world that can be encoded (component model,
--- WIT: interfaces, `use`, resources; explainer: instance types).
+-- What the instance type of an imported interface needs, and has at hand, in a world that can be
+-- encoded (component model, WIT: interfaces, `use`, resources; explainer: instance types).
 use Rattle.std.specs.Prelude.{◌≡◌, ◌<◌, ◌&&◌, ℕ, true, List, is_some, Contains}
 use Rattle.std.specs.List.{AllByRecursion, IsDistinct, list_any}
 use Rattle.std.specs.Map.{keys_of}
@@ -55,8 +55,9 @@ pub record AreTypesKnown (w : ComponentWorld) (id : InterfaceId) : Type 0 where
   pub ascend : AscendFrom 0 (needed_types w id)
   pub known : (outer : List TypeTree) → AllByRecursion (IsKnownByName (surroundings_of (number_of_interface id (import_entries w)) outer) (resource_of w) w.resolve.types) (needed_types w id)
 
--- What its types and these of its functions are made of: the types of other interfaces that are met in them are needed by
--- interfaces that are imported earlier, and where these types are offered, nothing is missing.
+-- What its types and these of its functions are made of: the types of other interfaces that are met
+-- in them are needed by interfaces that are imported earlier, and where these types are offered,
+-- nothing is missing.
 pub record AreNeedsAtHand (w : ComponentWorld) (id : InterfaceId) (fs : List Function) : Type 0 where
   pub met : AllByRecursion (IsMetEarlier w id) (met_in_all w.resolve.types id (needed_types w id) fs)
   pub needs : (o : Offer) → o.types ≡ w.resolve.types → AllByRecursion (IsOfferedType o) (met_in_all w.resolve.types id (needed_types w id) fs) → AreNeedsMet o id (needed_types w id) fs

@@ -68,8 +68,8 @@ is_needed_of w other n = list_any (same_interface other) (interfaces_of (items_o
 abbrev pub is_lent_to : ComponentWorld → InterfaceId → InterfaceId → ℕ → Bool
 is_lent_to w here other n = here.index == other.index || (list_any (same_interface other) (used_exports w here) || is_needed_of w other n)
 
--- A type that an exported interface may use: of an imported interface one that a component needs; of another exported interface that it
--- uses any; and its own.
+-- A type that an exported interface may use: of an imported interface one that a component needs;
+-- of another exported interface that it uses any; and its own.
 abbrev pub is_lent_type : ComponentWorld → InterfaceId → ℕ → Bool
 is_lent_type w here n = elim (interface_at w.resolve.types n) [
   | Some other ↦ is_lent_to w here other n
@@ -83,8 +83,9 @@ pub record IsUsableType (w : ComponentWorld) (interface : InterfaceId) (t : Type
   pub named : IsSome (name_at w.resolve.types t.index)
   pub passes : value (each_passes (is_at_home w.resolve.types (is_lent_type w interface) interface)) w.resolve.types (Some (Id t)) ≡ true
 
--- The scope of an exported interface, in which every type may be defined, each type imported that an imported interface needs, and each
--- named type of an exported interface used that the interface uses. Its resources that come before this number are in the tables.
+-- The scope of an exported interface, in which every type may be defined, each type imported that
+-- an imported interface needs, and each named type of an exported interface used that the interface
+-- uses. Its resources that come before this number are in the tables.
 pub record IsInterfaceScope (w : ComponentWorld) (id : InterfaceId) (s : Setting) (bound : ℕ) : Type 0 where
   pub types : s.types ≡ w.resolve.types
   pub interface : s.interface ≡ Some id
@@ -103,8 +104,8 @@ pub record IsWorldType (w : ComponentWorld) (id : TypeId) : Type 0 where
   pub there : Contains (items_of w).imports (key, items.NamedType id)
   pub placed : place w.resolve.types (items_of w).imports (Some (Id id)) ≤ length (items_of w).imports
 
--- A resource whose handles a core import drops has a name, and is one that an imported interface needs or that the world
--- imports.
+-- A resource whose handles a core import drops has a name, and is one that an imported interface
+-- needs or that the world imports.
 pub record IsDropKnown (w : ComponentWorld) (t : TypeId) : Type 0 where
   pub resource : IsResource w.resolve.types t.index
   pub named : IsSome (name_at w.resolve.types t.index)

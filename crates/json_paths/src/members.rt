@@ -172,7 +172,8 @@ pub fn only_member(value: &Value) -> Option<(&str, &Value)>
 /// The items of an array of two.
 #[tactic(auto, using(crate::proofs::Arrays::few_are_no_pair, crate::proofs::Arrays::many_are_no_pair))]
 pub fn pair_items(value: &Value) -> Option<(&Value, &Value)>
-    ensures { option_map (λ v. (view v.0.now, view v.1.now)) result ≡ option_and_then pair_of (as_array (view value.now)) }
+    ensures { option_map (λ v. (view v.0.now, view v.1.now)) result
+        ≡ option_and_then pair_of (as_array (view value.now)) }
 {
     match value.as_array()?.as_slice() {
         [first, second] => Some((first, second)),

@@ -1,6 +1,7 @@
--- A worked example: a world that exports an interface with two resources r and s, whose destructors main exports as d and e. Its list
--- defines both, each with the shim of its destructor, and links. With the two destructors crossed, or with the two resources crossed
--- among the arguments of the nested component, the run ends too, but the list isn't linked.
+-- A worked example: a world that exports an interface with two resources r and s, whose destructors
+-- main exports as d and e. Its list defines both, each with the shim of its destructor, and links.
+-- With the two destructors crossed, or with the two resources crossed among the arguments of the
+-- nested component, the run ends too, but the list isn't linked.
 use Rattle.std.proofs.Common.{inl, inr, ◌≡◌, ◌∙◌, ◌++◌, ℕ, zero, suc, Bool, true, false, List, [], ◌∷◌, refl, sym, ap, subst, Option, Some, None, cond, if◌then◌else◌, map, take, pos, arith}
 use Rattle.std.proofs.lemmas.Option.{none-some, same_Some}
 use Rattle.std.specs.Prelude.{codes}

@@ -1,4 +1,5 @@
--- The list of `WorkedGiven` in which the adapter is given main's other memory, which has no role: its run ends too, but it isn't linked.
+-- The list of `WorkedGiven` in which the adapter is given main's other memory, which has no role:
+-- its run ends too, but it isn't linked.
 use Rattle.comp_links.specs.Naming.{own_names}
 use Rattle.std.proofs.Common.{◌≡◌, ◌∙◌, ℕ, zero, suc, refl, sym, ap, subst, Option, Some, None, arith}
 use Rattle.std.proofs.lemmas.Option.{none-some, same_Some}

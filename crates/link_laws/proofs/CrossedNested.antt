@@ -1,5 +1,5 @@
--- The list of the world that exports an interface, where the two functions are crossed: in the nested component, or among its
--- arguments. It runs to its end, but it isn't linked.
+-- The list of the world that exports an interface, where the two functions are crossed: in the
+-- nested component, or among its arguments. It runs to its end, but it isn't linked.
 use Rattle.std.proofs.Common.{◌≡◌, ◌∙◌, ℕ, List, [], ◌∷◌, refl, sym, ap, subst, Option, Some, None, arith}
 use Rattle.std.proofs.lemmas.Option.{same_Some}
 use Rattle.std.specs.List.{slice_get}

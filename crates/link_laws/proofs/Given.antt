@@ -9,6 +9,7 @@ use Rattle.std.specs.List.{slice_get, flat_map, AllZip, AllByRecursion}
 use Rattle.std.specs.Option.{option_map, option_and_then}
 use Rattle.std.specs.Str.{bytes_eq}
 use Rattle.comp_lists.specs.Found.{found}
+use Rattle.comp_lists.proofs.Lookups.{some_of}
 use Rattle.comp_lists.proofs.Lists.{AllZip-at, AllZip-weaker, there}
 use Rattle.comp_bytes.specs.Spaces.{kind_space, is_space, space_of, items_in}
 use Rattle.comp_bytes.specs.ItemIndices.{in_space, IsAt}
@@ -21,6 +22,8 @@ use Rattle.comp_bytes.specs.declared.space.Space.TheVariants as spaces
 use Rattle.standard_kinds.specs.declared.kinds.ExportKind.{ExportKind}
 use Rattle.standard_kinds.specs.declared.kinds.ExportKind.TheVariants as kinds
 use Rattle.comp_bytes.specs.declared.types.Member.{Member}
+use Rattle.built_ins.specs.BuiltIns.{plain_type}
+use Rattle.comp_bytes.specs.declared.canon.Intrinsic.{Intrinsic}
 use Rattle.comp_bytes.specs.declared.canon.CanonicalOption.{CanonicalOption}
 use Rattle.comp_bytes.specs.declared.canon.CanonicalOption.TheVariants as options
 use Rattle.standard_kinds.specs.declared.kinds.StringEncoding.{StringEncoding}
@@ -37,7 +40,7 @@ use Rattle.comp_roles.specs.Matching.{kind_of}
 use Rattle.comp_roles.specs.declared.offered.ExternType.{ExternType}
 use Rattle.comp_roles.specs.declared.offered.ExternType.TheVariants as externs
 use Rattle.wit_data.specs.declared.ids.TypeId.{TypeId}
-use Rattle.comp_links.specs.Targets.{WorldFunction, ExportRef, TargetOption, Lowered, ExportOf, MainMemory, Unlinked, OfResource, ResourceFunction, New, Rep, Drop, Lifted, Target}
+use Rattle.comp_links.specs.Targets.{WorldFunction, ExportRef, TargetOption, Lowered, ExportOf, MainMemory, Unlinked, OfResource, BuiltIn, ResourceFunction, New, Rep, Drop, Lifted, Target}
 use Rattle.comp_links.specs.Targets as targets
 use Rattle.comp_links.specs.Modules.{WorldModule, user_modules}
 use Rattle.comp_links.specs.Lists.{IsOriginOf, resource_of}
@@ -50,7 +53,7 @@ use Rattle.shim_runs.proofs.Exported.{shims_found}
 use Rattle.link_laws.specs.Composition.{at_root, item_instantiates}
 use Rattle.comp_terms.specs.Generated.{has_shims_in, has_shim_module, shims_number, number_behind, fixup_number}
 use Rattle.comp_worlds.specs.Offered.{shared_memory}
-use Rattle.comp_terms.specs.Terms.{CoreExport, TermOption, Term, Is, IsFunctionType, IsImportedFunction, IsInstanceOf, IsExported, IsOption, IsLowering, IsOfResource, intrinsic_of, IsLifting}
+use Rattle.comp_terms.specs.Terms.{CoreExport, TermOption, Term, Is, IsFunctionType, IsImportedFunction, IsInstanceOf, IsExported, IsOption, IsLowering, IsOfResource, intrinsic_of, IsBuiltIn, IsLifting}
 use Rattle.comp_terms.specs.Terms as terms
 use Rattle.comp_terms.specs.Planned.{IsExportFor, memory_from, IsMemoryFor, IsShimPlace, shim_export, IsReallocFor, IsOptionFor, IsTypeOf, IsTermFor, IsItemFor, IsShimFor, IsLiftFor}
 use Rattle.comp_runs.specs.Machine.{Scope, address_at, is_of, export_named, export_in, export_of}
@@ -61,7 +64,8 @@ use Rattle.instance_laws.specs.InstanceEntries.{IsInstanceType, IsInstanceEntry}
 use Rattle.instance_laws.proofs.Held.{trees_of_held, held_of_entries, IsTypeThere, type_there as held_at, item_of_functions}
 use Rattle.link_laws.proofs.Zips.{AllZip-filter, AllZip-back, mapped_some, filter-both, found-zip, found-each}
 use Rattle.link_laws.proofs.Plain.{named_main}
-use Rattle.link_laws.proofs.Stores.{IsOpaqueOf, IsUserItem, IsUserExport, IsUserInstance, ShimsAt, exports_of_shims, AreModuleExports, IsModuleInstance, NamesUser, IsLoweredItem, IsTypeAt, IsResourceItem, IsLiftedItem, IsAliasedItem, DefIs, Means, makes, IsTypeEntry, entry_of, IsFunctionEntry, IsInstanceThing, IsLoweredFor, IsFunctionOf, IsFunctionExported, IsItemTyped, IsItemExported, IsServedAs, IsServedIn, main_module, IsShimGivenAt, IsShimGiven, MayHaveShims, AreShims, IsMemoryExported, IsTypeOfMemory, IsMemoryOfMain, IsShimExported, IsReallocHeld, HasSharedMemory, IsHeldOption, IsOptionHeld, IsCoreExportAt, IsLiftedFrom, Agrees}
+use Rattle.link_laws.proofs.BuiltIns.{plain_item}
+use Rattle.link_laws.proofs.Stores.{IsOpaqueOf, IsUserItem, IsUserExport, IsUserInstance, ShimsAt, exports_of_shims, AreModuleExports, IsModuleInstance, NamesUser, IsLoweredItem, IsTypeAt, IsResourceItem, IsLiftedItem, IsAliasedItem, DefIs, Means, makes, IsTypeEntry, entry_of, IsFunctionEntry, IsInstanceThing, IsLoweredFor, IsFunctionOf, IsPlainItem, IsBuiltInAt, ItemIs, IsFunctionExported, IsItemTyped, IsItemExported, IsServedAs, IsServedIn, main_module, IsShimGivenAt, IsShimGiven, MayHaveShims, AreShims, IsMemoryExported, IsTypeOfMemory, IsMemoryOfMain, IsShimExported, IsReallocHeld, HasSharedMemory, IsHeldOption, IsOptionHeld, IsCoreExportAt, IsLiftedFrom, Agrees}
 
 makes-space : (space : Space) (d : Def) → is_space space (space_of d) ≡ true → makes d ≡ true
 makes-space space d e = by (space_of d) e
@@ -381,6 +385,13 @@ module _ {w : ComponentWorld} {earlier : List Def} {c : Scope} {s : Store} {g : 
       let t : (x : ℕ) × (address_at spaces.Type h.type c.items ≡ Some x) × IsHeldAs s.types (OfValues (ResourceAt resource)) x = held_there h.of.denotes in
       let same : t.0 ≡ l.2.of = same_Some t.0 l.2.of (sym t.1 ∙ l.2.at) in
       (l.0, l.1, record { of = l.2.of; is = l.2.is; held = subst (IsHeldAs s.types (OfValues (ResourceAt resource))) same t.2 })
+
+  -- a built-in function without operands
+  pub built_in_at : {index : ℕ} {intrinsic : Intrinsic} → IsBuiltIn earlier index intrinsic → (x : ℕ) × (address_at spaces.CoreFunc index c.items ≡ Some x) × IsBuiltInAt s x intrinsic
+  built_in_at {index} {intrinsic} h =
+      let l : (x : ℕ) × (address_at spaces.CoreFunc index c.items ≡ Some x) × ItemIs w a.shims earlier c.items s (items.Intrinsic intrinsic) x = thing_there h.made in
+      let t : (t : FuncType) × (plain_type intrinsic ≡ Some t) = some_of (plain_type intrinsic) h.plain in
+      (l.0, l.1, record { type = t.0; typed = t.1; is = subst (λ o. IsPlainItem s intrinsic o l.0) t.1 (plain_item w a.shims earlier c.items s intrinsic l.0 l.2) })
 
   -- the instance of a module, and of a user module
   pub module_there : {index number : ℕ} → IsInstanceOf earlier index number → (x : ℕ) × (address_at spaces.CoreInstance index c.items ≡ Some x) × IsModuleInstance w a.shims s number x
@@ -715,7 +726,7 @@ module _ {w : ComponentWorld} {earlier : List Def} {c : Scope} {s : Store} {g : 
           held = l.2.held;
           from = from;
           typed = typed_as;
-          lowered = record { of = l.2.of; is = subst (λ t. IsOpaqueOf s l.0 (core_signature t []) (Lowering l.2.of l.2.held)) typed l.2.is; imported = imported };
+          lowered = record { of = l.2.of; is = subst (λ t. IsOpaqueOf s l.0 (core_signature t l.2.held) (Lowering l.2.of l.2.held)) typed l.2.is; imported = imported };
           with_options = options_there h.written l.2.held written options l.2.with_options h.with_options asked;
         },
       )
@@ -754,6 +765,13 @@ module _ {w : ComponentWorld} {earlier : List Def} {c : Scope} {s : Store} {g : 
       (l.0, l.1, subst (λ f. IsFunctionOf s l.0 f (resource_of w id)) asked.0 (subst (IsFunctionOf s l.0 same) asked.1 l.2))
   resource_function_there index function id term is asked = absurd asked
 
+  built_in_there : (index : ℕ) (intrinsic : Intrinsic) (term : Term) → Is earlier spaces.CoreFunc index term → IsTermFor w (BuiltIn intrinsic) term →
+      (x : ℕ) × (address_at spaces.CoreFunc index c.items ≡ Some x) × IsBuiltInAt s x intrinsic
+  built_in_there index intrinsic (terms.BuiltIn same) is asked =
+      let l : (x : ℕ) × (address_at spaces.CoreFunc index c.items ≡ Some x) × IsBuiltInAt s x same = built_in_at is in
+      (l.0, l.1, subst (IsBuiltInAt s l.0) asked l.2)
+  built_in_there index intrinsic term is asked = absurd asked
+
   export_there : (index : ℕ) (export_ref : ExportRef) (term : Term) → Is earlier spaces.CoreFunc index term → IsTermFor w (ExportOf export_ref) term →
       (x : ℕ) × (address_at spaces.CoreFunc index c.items ≡ Some x) × IsFunctionExported w s x export_ref
   export_there index export_ref (terms.Exported e) is asked = function_exported (func_kind e.kind (sym is.0)) asked is.1
@@ -779,6 +797,7 @@ module _ {w : ComponentWorld} {earlier : List Def} {c : Scope} {s : Store} {g : 
   pub target_there : (index : ℕ) (target : Target) → IsItemFor w earlier spaces.CoreFunc index target → (x : ℕ) × (address_at spaces.CoreFunc index c.items ≡ Some x) × IsServedAs w s x target
   target_there index (Lowered function options) h = lowering_there index function options h.term h.is h.asked
   target_there index (OfResource function id) h = resource_function_there index function id h.term h.is h.asked
+  target_there index (BuiltIn intrinsic) h = built_in_there index intrinsic h.term h.is h.asked
   target_there index (ExportOf export_ref) h = export_there index export_ref h.term h.is h.asked
   target_there index (Lifted entry options) h = absurd (no_lift index entry options h.term h.is h.asked)
   target_there index MainMemory h = absurd (no_memory index h.term h.is h.asked)
@@ -790,6 +809,7 @@ module _ {w : ComponentWorld} {earlier : List Def} {c : Scope} {s : Store} {g : 
   memory_target_there index MainMemory (terms.Exported e) is asked = memory_exported asked.0 is.1
   memory_target_there index (Lowered function options) (terms.Lowering origin type written) is asked = absurd is
   memory_target_there index (OfResource function id) (terms.OfResource same resource) is asked = absurd is
+  memory_target_there index (BuiltIn intrinsic) (terms.BuiltIn same) is asked = absurd is
   memory_target_there index (Lifted entry options) (terms.Lifting e written type) is asked = absurd is
   memory_target_there index target term is asked = absurd asked
 
@@ -798,6 +818,7 @@ module _ {w : ComponentWorld} {earlier : List Def} {c : Scope} {s : Store} {g : 
   table_target_there index MainMemory (terms.Exported e) is asked = absurd (no_table_memory e.kind asked.1 is.0)
   table_target_there index (Lowered function options) (terms.Lowering origin type written) is asked = absurd is
   table_target_there index (OfResource function id) (terms.OfResource same resource) is asked = absurd is
+  table_target_there index (BuiltIn intrinsic) (terms.BuiltIn same) is asked = absurd is
   table_target_there index (Lifted entry options) (terms.Lifting e written type) is asked = absurd is
   table_target_there index target term is asked = absurd asked
 
@@ -806,6 +827,7 @@ module _ {w : ComponentWorld} {earlier : List Def} {c : Scope} {s : Store} {g : 
   global_target_there index MainMemory (terms.Exported e) is asked = absurd (no_global_memory e.kind asked.1 is.0)
   global_target_there index (Lowered function options) (terms.Lowering origin type written) is asked = absurd is
   global_target_there index (OfResource function id) (terms.OfResource same resource) is asked = absurd is
+  global_target_there index (BuiltIn intrinsic) (terms.BuiltIn same) is asked = absurd is
   global_target_there index (Lifted entry options) (terms.Lifting e written type) is asked = absurd is
   global_target_there index target term is asked = absurd asked
 

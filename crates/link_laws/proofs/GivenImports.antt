@@ -1,11 +1,15 @@
 -- What the arguments of a user module's instantiation are, and what its imports find among them.
 use Rattle.std.proofs.Common.{◌≡◌, ◌∙◌, inl, inr, ℕ, List, [], ◌∷◌, map, refl, sym, ap, subst, Option, Some, None, true, false, true≢false, IsTrue, Contains}
+use Rattle.standard_kinds.specs.declared.kinds.StringEncoding.{StringEncoding}
 use Rattle.std.proofs.lemmas.Option.{same_Some, none-some}
 use Rattle.std.specs.List.{AllZip, AllByRecursion}
 use Rattle.std.specs.Option.{option_map, option_map_or, option_and_then}
 use Rattle.comp_lists.specs.Found.{found}
 use Rattle.comp_lists.proofs.Lists.{AllZip-weaker}
+use Rattle.built_ins.proofs.Typed.{usable_too}
+use Rattle.built_ins.specs.BuiltIns.{plain_intrinsic, plain_type, plain_import_type}
 use Rattle.comp_bytes.specs.Spaces.{kind_space}
+use Rattle.comp_bytes.specs.declared.canon.Intrinsic.{Intrinsic}
 use Rattle.core_types.specs.declared.types.FuncType.{FuncType}
 use Rattle.core_types.specs.declared.types.ValType.{ValType}
 use Rattle.core_runs.specs.Store.{Opaque}
@@ -16,7 +20,7 @@ use Rattle.comp_bytes.specs.declared.def.CoreArgument.{CoreArgument}
 use Rattle.comp_bytes.specs.declared.def.CoreInlineExport.{CoreInlineExport}
 use Rattle.comp_bytes.specs.declared.def.Def.{Def}
 use Rattle.wit_data.specs.declared.worlds.WorldKey.TheVariants as keys
-use Rattle.wit_data.specs.declared.functions.AbiVariant.TheVariants.{GuestImport}
+use Rattle.wit_data.specs.declared.functions.AbiVariant.{AbiVariant}
 use Rattle.wit_data.specs.declared.functions.Function.{Function}
 use Rattle.wit_data.specs.declared.ids.InterfaceId.{InterfaceId}
 use Rattle.wit_data.specs.Signatures.{signature}
@@ -26,6 +30,8 @@ use Rattle.comp_roles.specs.CoreImports.{fields_of}
 use Rattle.comp_roles.specs.CoreTypes.{called_type, core_type}
 use Rattle.comp_roles.specs.Matching.{matches}
 use Rattle.comp_worlds.proofs.Matched.{matched_function}
+use Rattle.comp_options.specs.Options.{import_set}
+use Rattle.comp_worlds.specs.Lowerings.{IsImportForm}
 use Rattle.comp_worlds.specs.Typed.{drop_type, handle_type, type_of_import, FitsRole, FitsInstance}
 use Rattle.comp_worlds.specs.WorldContents.{items_of}
 use Rattle.comp_worlds.specs.Worlds.{IsWorld, IsImportRole, IsImportGroup}
@@ -41,9 +47,10 @@ use Rattle.comp_roles.specs.declared.offered.ExternType.{ExternType}
 use Rattle.comp_roles.specs.declared.offered.ExternType.TheVariants as externs
 use Rattle.comp_roles.specs.declared.offered.ImportType.{ImportType}
 use Rattle.comp_links.specs.Targets.{UserModule, Main, Adapter, ExportRef, WorldFunction, TargetOption, Target, OfRoot, OfInterface, Lowered, ResourceFunction, New, Rep, Drop, ExportOf}
-use Rattle.comp_links.specs.Modules.{WorldModule, user_modules, IsModule}
+use Rattle.comp_links.specs.Modules.{WorldModule, user_modules, IsModule, function_imported}
+use Rattle.comp_links.specs.Roles.{import_encoding}
 use Rattle.comp_links.specs.Lists.{resource_of}
-use Rattle.comp_links.specs.Links.{lower_options, link_of, link_in, link_at, module_of}
+use Rattle.comp_links.specs.Links.{options_in, lower_realloc, lower_options, link_of_intrinsic, link_of, link_in, link_at, module_of}
 use Rattle.shim_plan.specs.declared.kinds.ShimKind.{ShimKind}
 use Rattle.shim_plan.specs.declared.kinds.ShimKind.TheVariants as shim_kinds
 use Rattle.shim_plan.specs.declared.shims.Shim.{Shim}
@@ -54,15 +61,16 @@ use Rattle.comp_terms.specs.Shimmed.{has_shim, has_shim_in, has_shim_at}
 use Rattle.comp_terms.specs.Planned.{IsItemFor, IsShimFor, IsOwnShim, IsGivenFor, IsEntryFor, IsArgumentFor}
 use Rattle.comp_runs.specs.Machine.{Scope, Machine, address_at, all_some, export_named}
 use Rattle.comp_runs.specs.Instances.{given_to, type_space}
-use Rattle.comp_runs.specs.Signatures.{core_signature}
+use Rattle.comp_runs.specs.Signatures.{form_of, core_signature}
 use Rattle.comp_runs.specs.Running.{core_argument}
 use Rattle.link_laws.proofs.Zips.{all_some-zip, found-zip, mapped_some}
 use Rattle.comp_worlds.proofs.Roles.{bound_some}
 use Rattle.link_laws.proofs.Plain.{HasRole, IsGivenImport, lowered_type, function_type_in}
 use Rattle.comp_links.proofs.Named.{one_module, named_found, listed_there}
 use Rattle.link_laws.proofs.Given.{thing_there, item_there, shim_there, shim_typed, user_there, found_name, by_parts, IsOfType, exports_named, IsFunctionTyped}
+use Rattle.link_laws.proofs.Forms.{form_asked, held_form, own_form, own_type}
 use Rattle.link_laws.proofs.Offering.{named_matches, offered_matches, HasType, export_typed, main_memory_typed, AreTypesOf, finds_given}
-use Rattle.link_laws.proofs.Stores.{IsOpaqueOf, IsItemTyped, IsUserItem, IsUserExport, IsInstance, IsUserInstance, IsNamedEntry, IsInlineInstance, ShimsAt, IsFunctionOf, IsItemExported, IsServedAs, IsServedIn, resource_core, IsShimGiven, Serves, IsPlanned, HasGlobals, Agrees}
+use Rattle.link_laws.proofs.Stores.{IsOpaqueOf, IsLoweredFor, IsItemTyped, IsUserItem, IsUserExport, IsInstance, IsUserInstance, IsNamedEntry, IsInlineInstance, ShimsAt, IsFunctionOf, IsItemExported, IsServedAs, IsServedIn, resource_core, IsShimGiven, Serves, IsPlanned, HasGlobals, Agrees}
 
 -- ---- the core types of what is given
 
@@ -73,22 +81,54 @@ resource_opaque s address function resource type fits h =
     let item : CoreItem = IntrinsicOf (intrinsic_of function h.of) in
     (item, subst (λ t. IsOpaqueOf s address t item) (ap (function_type_in type) (same_Some (externs.Func (resource_core function)) (externs.Func type) fits)) h.is)
 
+-- so is a built-in function without operands, where a role has one, and where slot 1 can be used is given the same
+built_in_opaque : (w : ComponentWorld) (s : Store) (address : ℕ) (o usable : Option Intrinsic) (type : FuncType) → ((i : Intrinsic) → o ≡ Some i → usable ≡ Some i) → option_map externs.Func (option_and_then plain_type usable) ≡ Some (externs.Func type) → IsServedAs w s address (link_of_intrinsic o) →
+    (item : CoreItem) × IsOpaqueOf s address type item
+built_in_opaque w s address None usable type same fits h = absurd h
+built_in_opaque w s address (Some i) usable type same fits h =
+    let asked : option_map externs.Func (plain_type i) ≡ Some (externs.Func type) = ap (λ o. option_map externs.Func (option_and_then plain_type o)) (sym (same i refl)) ∙ fits in
+    let typed : externs.Func h.type ≡ externs.Func type = same_Some (externs.Func h.type) (externs.Func type) (sym (ap (option_map externs.Func) h.typed) ∙ asked) in
+    (IntrinsicOf i, subst (λ t. IsOpaqueOf s address t (IntrinsicOf i)) (ap (function_type_in type) typed) h.is)
+
+-- it is no table, no memory and no global
+no_table : (w : ComponentWorld) (s : Store) (address : ℕ) (o : Option Intrinsic) → IsServedIn w s spaces.CoreTable address (link_of_intrinsic o) → ⊥
+no_table w s address None h = h
+no_table w s address (Some i) h = h
+
+no_memory : (w : ComponentWorld) (s : Store) (address : ℕ) (o : Option Intrinsic) → IsServedIn w s spaces.CoreMemory address (link_of_intrinsic o) → ⊥
+no_memory w s address None h = h
+no_memory w s address (Some i) h = h
+
+no_global : (w : ComponentWorld) (s : Store) (address : ℕ) (o : Option Intrinsic) → IsServedIn w s spaces.CoreGlobal address (link_of_intrinsic o) → ⊥
+no_global w s address None h = h
+no_global w s address (Some i) h = h
+
+-- it is no lowering
+not_lowered : (o : Option Intrinsic) (function : WorldFunction) (options : List TargetOption) → link_of_intrinsic o ≡ Lowered function options → ⊥
+not_lowered None function options is = cc
+not_lowered (Some i) function options is = cc
+
+-- a lowering of a function that is called in a form is opaque, and has the core type of such calls
+called_opaque : (w : ComponentWorld) (s : Store) (address : ℕ) (function : WorldFunction) (abi : AbiVariant) → IsImportForm abi → (type : FuncType) (realloc : Option ExportRef) (encoding : Option StringEncoding) →
+    option_map (called_type w.resolve abi) (function_imported w function) ≡ Some (externs.Func type) →
+    IsLoweredFor w s address function (options_in (option_map_or (import_set abi w.resolve.types) (function_imported w function) 0) realloc encoding) → (item : CoreItem) × IsOpaqueOf s address type item
+called_opaque w s address function abi form type realloc encoding fits h =
+    let asked : called_type w.resolve abi h.typed.wit ≡ externs.Func type =
+    same_Some (called_type w.resolve abi h.typed.wit) (externs.Func type) (sym (ap (option_map (called_type w.resolve abi)) h.typed.imported) ∙ fits) in
+    let same : form_of h.held ≡ abi =
+    held_form w s h.held (options_in (option_map_or (import_set abi w.resolve.types) (function_imported w function) 0) realloc encoding) h.with_options
+    ∙ own_form abi form w.resolve.types (function_imported w function) h.typed.wit h.typed.imported realloc encoding in
+    let typed : externs.Func (core_signature h.type h.held) ≡ externs.Func type = lowered_type w h.type h.typed.wit h.held h.typed.typed ∙ (ap (λ (a : AbiVariant). called_type w.resolve a h.typed.wit) same ∙ asked) in
+    (Lowering h.lowered.of h.held, subst (λ t. IsOpaqueOf s address t (Lowering h.lowered.of h.held)) (ap (function_type_in type) typed) h.lowered.is)
+
 module _ (w : ComponentWorld) (ok : IsWorld w) (s : Store) (of : UserModule) where
   -- what serves a role is opaque, and has the core type that the role requires
   pub served_opaque : (address : ℕ) (role : Import) (type : FuncType) → IsImportRole w role → type_of_import w.resolve (items_of w) role ≡ Some (externs.Func type) →
       IsServedAs w s address (link_of w of role) → (item : CoreItem) × IsOpaqueOf s address type item
   served_opaque address (imports.WorldFunc (keys.Name text) function abi) type right fits h =
-      let asked : called_type w.resolve GuestImport h.typed.wit ≡ externs.Func type =
-      same_Some (called_type w.resolve GuestImport h.typed.wit) (externs.Func type)
-      (sym (ap (option_map (called_type w.resolve GuestImport)) h.typed.imported) ∙ (ap (λ abi. option_map (called_type w.resolve abi) (root_function_at (items_of w).imports (keys.Name text))) (sym right.2) ∙ fits)) in
-      let typed : externs.Func (core_signature h.type []) ≡ externs.Func type = lowered_type w h.type h.typed.wit h.typed.typed ∙ asked in
-      (Lowering h.lowered.of h.held, subst (λ t. IsOpaqueOf s address t (Lowering h.lowered.of h.held)) (ap (function_type_in type) typed) h.lowered.is)
+      called_opaque w s address (OfRoot text) abi right.2 type (lower_realloc w of) (import_encoding w of (imports.WorldFunc (keys.Name text) function abi)) fits h
   served_opaque address (imports.InterfaceFunc key id function abi) type right fits h =
-      let asked : called_type w.resolve GuestImport h.typed.wit ≡ externs.Func type =
-      same_Some (called_type w.resolve GuestImport h.typed.wit) (externs.Func type)
-      (sym (ap (option_map (called_type w.resolve GuestImport)) h.typed.imported) ∙ (ap (λ abi. option_map (called_type w.resolve abi) (found function (functions_of w.resolve id))) (sym right.2) ∙ fits)) in
-      let typed : externs.Func (core_signature h.type []) ≡ externs.Func type = lowered_type w h.type h.typed.wit h.typed.typed ∙ asked in
-      (Lowering h.lowered.of h.held, subst (λ t. IsOpaqueOf s address t (Lowering h.lowered.of h.held)) (ap (function_type_in type) typed) h.lowered.is)
+      called_opaque w s address (OfInterface id function) abi right.2 type (lower_realloc w of) (import_encoding w of (imports.InterfaceFunc key id function abi)) fits h
   served_opaque address (imports.ImportedResourceDrop key interface id) type right fits h = resource_opaque s address Drop (resource_of w id) type fits h
   served_opaque address (imports.ExportedResourceDrop key id) type right fits h = resource_opaque s address Drop (resource_of w id) type fits h
   served_opaque address (imports.ExportedResourceRep key id) type right fits h = resource_opaque s address Rep (resource_of w id) type fits h
@@ -103,7 +143,8 @@ module _ (w : ComponentWorld) (ok : IsWorld w) (s : Store) (of : UserModule) whe
       offered_matches w ok of (imports.AdapterExport adapter name function) e right refl from (listed_there (user_modules w) h.number from h.of.listed) h.of.same (externs.Func h.type) h.offered (externs.Func type) fits in
       let typed : externs.Func type ≡ externs.Func h.type = matched_function (externs.Func type) h.type matching in
       (ExportedBy h.user name, subst (λ t. IsOpaqueOf s address t (ExportedBy h.user name)) (ap (function_type_in type) (sym typed)) h.is)
-  served_opaque address role type right fits h = absurd right
+  served_opaque address (imports.WorldFunc (keys.Interface other) function abi) type right fits h = absurd (true≢false (sym right))
+  served_opaque address role type right fits h = built_in_opaque w s address (plain_intrinsic w.can_use_context_slot_1 role) (plain_intrinsic true role) type (usable_too w.can_use_context_slot_1 role) fits h
 
 -- what serves a role matches an import that fits the role
 module _ (w : ComponentWorld) (ok : IsWorld w) (s : Store) (globals : List ValType) (typed : AllByRecursion (HasGlobals w globals) s.module_instances) (of : UserModule) where
@@ -149,7 +190,11 @@ module _ (w : ComponentWorld) (ok : IsWorld w) (s : Store) (globals : List ValTy
   role_typed space address (imports.AdapterExport adapter name function) type right fits h =
       let e : ExportRef = record { of = Adapter adapter; name = name } in
       export_typed w ok s globals typed space address e type (λ m listed same t offered. offered_matches w ok of (imports.AdapterExport adapter name function) e right refl m listed same t offered type fits) h
-  role_typed space address role type right fits h = absurd right
+  role_typed space address (imports.WorldFunc (keys.Interface other) function abi) type right fits h = absurd (true≢false (sym right))
+  role_typed space address role type right fits h =
+      let core : (t : FuncType) × (plain_import_type role ≡ Some t) × (externs.Func t ≡ type) = mapped_some externs.Func (plain_import_type role) type fits in
+      subst (HasType s globals space address) core.2
+      (function_typed space address role core.0 right (fits ∙ ap (λ (t : ExternType). Some t) (sym core.2)) (no_table w s address (plain_intrinsic w.can_use_context_slot_1 role)) (no_memory w s address (plain_intrinsic w.can_use_context_slot_1 role)) (no_global w s address (plain_intrinsic w.can_use_context_slot_1 role)) h)
 
 -- what a shim hands on to is opaque, and has the shim's core type
 pub purpose_opaque : (w : ComponentWorld) → IsWorld w → (s : Store) (address : ℕ) (shim : Shim) (p : Purpose) → HasPurpose w shim p → IsServedAs w s address (target_of w p) → (item : CoreItem) × IsOpaqueOf s address (type_of_shim shim) item
@@ -219,17 +264,18 @@ lowered_call w of (imports.MainModuleMemory memory) right f options is = cc
 lowered_call w of (imports.MainModuleExport name kind) right f options is = cc
 lowered_call w of (imports.AdapterExport adapter name function) right f options is = cc
 lowered_call w of (imports.Item item) right f options is = cc
-lowered_call w of role right f options is = absurd right
+lowered_call w of role right f options is = absurd (not_lowered (plain_intrinsic w.can_use_context_slot_1 role) f options is)
 
 -- the core type of calls of what a target names
 abbrev type_of_target : ComponentWorld → Target → Option ExternType
-type_of_target w (Lowered (OfRoot text) options) = option_map (called_type w.resolve GuestImport) (root_function_at (items_of w).imports (keys.Name text))
-type_of_target w (Lowered (OfInterface id function) options) = option_map (called_type w.resolve GuestImport) (found function (functions_of w.resolve id))
+type_of_target w (Lowered function options) = option_map (called_type w.resolve (form_asked options)) (function_imported w function)
 type_of_target w target = None
 
 call_typed : (w : ComponentWorld) (of : UserModule) (role : Import) → IsImportRole w role → IsCall role → type_of_import w.resolve (items_of w) role ≡ type_of_target w (link_of w of role)
-call_typed w of (imports.WorldFunc (keys.Name text) function abi) right call = ap (λ abi. option_map (called_type w.resolve abi) (root_function_at (items_of w).imports (keys.Name text))) right.2
-call_typed w of (imports.InterfaceFunc key id function abi) right call = ap (λ abi. option_map (called_type w.resolve abi) (found function (functions_of w.resolve id))) right.2
+call_typed w of (imports.WorldFunc (keys.Name text) function abi) right call =
+    own_type w abi right.2 (function_imported w (OfRoot text)) (lower_realloc w of) (import_encoding w of (imports.WorldFunc (keys.Name text) function abi))
+call_typed w of (imports.InterfaceFunc key id function abi) right call =
+    own_type w abi right.2 (function_imported w (OfInterface id function)) (lower_realloc w of) (import_encoding w of (imports.InterfaceFunc key id function abi))
 call_typed w of role right call = absurd call
 
 call_fits : (w : ComponentWorld) (role : Import) → IsCall role → (type : ExternType) → FitsRole w role type → type_of_import w.resolve (items_of w) role ≡ Some type
@@ -252,8 +298,8 @@ shim_fits w ok shim (OfExport e) stands of role right same type fits =
 
 -- ---- what an import is given
 
--- The item is what an import of this role, of this user module, is to be given, or a shim for that; and it matches each import that
--- fits the role.
+-- The item is what an import of this role, of this user module, is to be given, or a shim for that;
+-- and it matches each import that fits the role.
 pub record IsRoleServed (w : ComponentWorld) (shims : Option ShimsAt) (s : Store) (globals : List ValType) (of : UserModule) (space : Space) (address : ℕ) (role : Import) : Type 0 where
   pub serves : Serves w shims s space address (link_of w of role)
   pub direct : has_shim w role ≡ false → IsServedIn w s space address (link_of w of role)
@@ -273,7 +319,8 @@ pub record AreAllOf (w : ComponentWorld) (s : Store) (es : List Export) (which :
   pub same : instance.instance.exports ≡ es
   pub each : AllZip (IsUserExport s user) es of.world_module.found.offered
 
--- exports satisfy the imports of a user module from one other: there is one for each field, or they are all of an instance
+-- exports satisfy the imports of a user module from one other: there is one for each field, or they
+-- are all of an instance
 abbrev pub SatisfyImports : ComponentWorld → Option ShimsAt → Store → List ValType → UserModule → List Export → ImportInstance → Type 0
 SatisfyImports w shims s globals of es (instances.Names fields) = AllZip (IsFieldExport w shims s globals of) es fields
 SatisfyImports w shims s globals of es (instances.Whole which) = AreAllOf w s es which

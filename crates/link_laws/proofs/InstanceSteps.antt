@@ -1,4 +1,5 @@
--- An instance of a core module runs, and the store agrees with the longer list: of a user module, of the shims, and of the fixup.
+-- An instance of a core module runs, and the store agrees with the longer list: of a user module,
+-- of the shims, and of the fixup.
 use Rattle.std.proofs.Common.{arith, ◌≤◌, ◌+◌, ◌^◌, inl, inr, ◌≡◌, ◌∙◌, ℕ, zero, suc, ◌<◌, Bool, false, List, [], ◌∷◌, ◌++◌, length, map, filter, refl, sym, ap, ap₂, subst, append-nil, append_assoc, Option, Some, None, cond, true}
 use Rattle.std.proofs.lemmas.List.{map-append, length-map, length-replicate}
 use Rattle.std.proofs.lemmas.Option.{none-some, same_Some, slice_get-map, slice_get_within}

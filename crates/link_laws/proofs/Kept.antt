@@ -13,6 +13,8 @@ use Rattle.comp_bytes.specs.declared.space.Space.TheVariants as spaces
 use Rattle.comp_bytes.specs.declared.canon.CanonicalOption.{CanonicalOption}
 use Rattle.comp_bytes.specs.declared.canon.CanonicalOption.TheVariants as options
 use Rattle.comp_bytes.specs.declared.types.Alias.TheVariants as aliases
+use Rattle.built_ins.specs.BuiltIns.{plain_type}
+use Rattle.comp_bytes.specs.declared.canon.Intrinsic.{Intrinsic}
 use Rattle.comp_bytes.specs.declared.canon.Intrinsic.TheVariants as intrinsics
 use Rattle.comp_bytes.specs.declared.def.CoreInlineExport.{CoreInlineExport}
 use Rattle.comp_bytes.specs.declared.def.Item.{Item}
@@ -32,7 +34,7 @@ use Rattle.comp_roles.specs.declared.offered.ExternType.TheVariants as externs
 use Rattle.comp_roles.specs.declared.offered.ImportType.{ImportType}
 use Rattle.comp_worlds.specs.WorldContents.{exported_item}
 use Rattle.comp_worlds.specs.declared.world.ComponentWorld.{ComponentWorld}
-use Rattle.comp_links.specs.Targets.{ExportRef, TargetOption, Target, Lowered, ExportOf, MainMemory, OfResource}
+use Rattle.comp_links.specs.Targets.{ExportRef, TargetOption, Target, Lowered, ExportOf, MainMemory, OfResource, BuiltIn}
 use Rattle.comp_links.specs.Targets as targets
 use Rattle.comp_links.specs.Modules.{WorldModule}
 use Rattle.comp_links.specs.Lists.{resource_of, RequiredKey, RequiredFunction, functions_required, RequiredType, types_required, type_of_world}
@@ -53,7 +55,7 @@ use Rattle.nested_laws.proofs.Kept.{AreGiven-kept, AreNestedExports-kept}
 use Rattle.wit_data.specs.declared.worlds.WorldItem.{WorldItem}
 use Rattle.wit_data.specs.declared.worlds.WorldItem.TheVariants as world_items
 use Rattle.link_laws.proofs.Zips.{mapped_some, AllByRecursion-join}
-use Rattle.link_laws.proofs.Stores.{IsOpaqueOf, HasSlots, IsItemTyped, IsUserItem, IsUserExport, IsInstance, ShimsAt, AreShimExports, AreModuleExports, IsModuleInstance, IsNamedEntry, IsTypeAt, IsHeldOption, IsArgumentHeld, ItemIs, DefIs, Means, IsEntryItem, IsTypeEntry, IsFunctionEntry, IsInstanceThing, IsFunctionExported, IsItemExported, HasGlobalType, HasGlobals, IsGlobalTyped, HasTable, IsOwnTable, IsOwnIfTable, HasOwnTables, IsMemoryOfMain, IsShimExported, IsReallocHeld, HasSharedMemory, IsOptionHeld, IsLoweringOf, IsServedAs, IsShimGiven, IsServedIn, Serves, IsPlanned, IsPlannedUser, IsFilledWith, AreFilled, ExportsShims, AreShims, MayHaveShims, Expected, Made, Calls, IsSeen, IsLiftedFrom, function_at_key, IsRequiredAt, IsAmong, IsTypeAmong, IsItemExport, IsKeyExport, AreKeyExports, IsDestroyedBy, IsOwnResource, IsOwnIfDefined, AreResources, HasNumber}
+use Rattle.link_laws.proofs.Stores.{IsPlainItem, IsOpaqueOf, HasSlots, IsItemTyped, IsUserItem, IsUserExport, IsInstance, ShimsAt, AreShimExports, AreModuleExports, IsModuleInstance, IsNamedEntry, IsTypeAt, IsHeldOption, IsArgumentHeld, ItemIs, DefIs, Means, IsEntryItem, IsTypeEntry, IsFunctionEntry, IsInstanceThing, IsFunctionExported, IsItemExported, HasGlobalType, HasGlobals, IsGlobalTyped, HasTable, IsOwnTable, IsOwnIfTable, HasOwnTables, IsMemoryOfMain, IsShimExported, IsReallocHeld, HasSharedMemory, IsOptionHeld, IsLoweringOf, IsServedAs, IsShimGiven, IsServedIn, Serves, IsPlanned, IsPlannedUser, IsFilledWith, AreFilled, ExportsShims, AreShims, MayHaveShims, Expected, Made, Calls, IsSeen, IsLiftedFrom, function_at_key, IsRequiredAt, IsAmong, IsTypeAmong, IsItemExport, IsKeyExport, AreKeyExports, IsDestroyedBy, IsOwnResource, IsOwnIfDefined, AreResources, HasNumber}
 
 -- a table that is kept has as many slots as before
 pub record KeepsSizes (old new : List (List (Option ℕ))) : Type 0 where
@@ -388,6 +390,7 @@ module _ {a b : List Thing} {s t : Store} (k : Keeps a b s t) where
     with_options = AllZip-weaker (IsOptionHeld-kept w) h.held options h.with_options;
   }
   IsServedAs-kept w address (OfResource function id) h = record { of = h.of; is = IsOpaque-kept h.is; held = IsHeldAs-kept k.types (OfValues (ResourceAt (resource_of w id))) h.of h.held }
+  IsServedAs-kept w address (BuiltIn intrinsic) h = record { type = h.type; typed = h.typed; is = IsOpaque-kept h.is }
   IsServedAs-kept w address (ExportOf export_ref) h = IsFunctionExported-kept h
   IsServedAs-kept w address target h = absurd h
 
@@ -474,6 +477,10 @@ module _ (w : ComponentWorld) (old new : Option ShimsAt) (shims : ShimsKept old 
     each = module_exports-kept h.user number h.exports h.each;
   }
 
+  plain-kept : (i : Intrinsic) (o : Option FuncType) (x : ℕ) → IsPlainItem s i o x → IsPlainItem t i o x
+  plain-kept i (Some type) x h = IsOpaque-kept k h
+  plain-kept i None x h = tt
+
   item-kept : (i : Item) (x : ℕ) → ItemIs w old ds a s i x → ItemIs w new es b t i x
   item-kept (items.CoreInstantiate number arguments) x h = instance-kept number x h
   item-kept (items.CoreExports entries) x h = record { exports = h.exports; present = k.core_instances.at x h.exports h.present; each = AllZip-weaker (entry-kept k) entries h.exports h.each }
@@ -511,6 +518,7 @@ module _ (w : ComponentWorld) (old new : Option ShimsAt) (shims : ShimsKept old 
   item-kept (items.Intrinsic (intrinsics.ResourceNew type)) x h = record { of = h.of; at = k.things spaces.Type type h.of h.at; is = IsOpaque-kept k h.is }
   item-kept (items.Intrinsic (intrinsics.ResourceRep type)) x h = record { of = h.of; at = k.things spaces.Type type h.of h.at; is = IsOpaque-kept k h.is }
   item-kept (items.Intrinsic (intrinsics.ResourceDrop type)) x h = record { of = h.of; at = k.things spaces.Type type h.of h.at; is = IsOpaque-kept k h.is }
+  item-kept (items.Intrinsic intrinsic) x h = plain-kept intrinsic (plain_type intrinsic) x h
   item-kept (items.Instantiate component written) x h = record {
     definitions = h.definitions;
     given = h.given;

@@ -1,10 +1,12 @@
 mod Zips
 mod Stores
+mod BuiltIns
 mod Kept
 pub mod Plain
 mod ModuleMarks
 mod Given
 mod Offering
+mod Forms
 mod GivenImports
 mod GivenTypes
 mod UserExports
@@ -53,3 +55,4 @@ mod CrossedMemories
 mod OtherLists
 mod OtherRuns
 mod WorkedInitialize
+mod WorkedBuiltIns

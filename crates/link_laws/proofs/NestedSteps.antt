@@ -1,4 +1,5 @@
--- A nested component, an instance of one, and an export of the component run, and the store agrees with the longer list.
+-- A nested component, an instance of one, and an export of the component run, and the store agrees
+-- with the longer list.
 use Rattle.std.proofs.Common.{◌≡◌, ◌∙◌, ◌&&◌, ℕ, Bool, true, false, List, [], ◌∷◌, ◌++◌, length, map, filter, get_or, refl, sym, ap, subst, append-nil, Option, Some, None, if◌then◌else◌}
 use Rattle.std.proofs.lemmas.List.{map-append, length-map}
 use Rattle.std.proofs.lemmas.Option.{none-some, same_Some, get_or_from_slice_get}

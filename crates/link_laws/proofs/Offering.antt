@@ -34,7 +34,9 @@ use Rattle.comp_worlds.specs.declared.world.ComponentWorld.{ComponentWorld}
 use Rattle.comp_worlds.specs.declared.world.ValidatedModule.{ValidatedModule}
 use Rattle.comp_worlds.specs.declared.world.WorldAdapter.{WorldAdapter}
 use Rattle.comp_links.proofs.Named.{listed_found, named_found, listed_there}
-use Rattle.comp_links.specs.Links.{link_of, module_of}
+use Rattle.built_ins.specs.BuiltIns.{plain_intrinsic}
+use Rattle.comp_bytes.specs.declared.canon.Intrinsic.{Intrinsic}
+use Rattle.comp_links.specs.Links.{link_of_intrinsic, link_of, module_of}
 use Rattle.comp_links.specs.Modules.{WorldModule, user_modules, module_found}
 use Rattle.comp_links.specs.Targets.{UserModule, Main, Adapter, ExportRef, Target, ExportOf, MainMemory}
 use Rattle.standard_kinds.specs.declared.kinds.ExportKind.TheVariants as kinds
@@ -53,6 +55,11 @@ use Rattle.link_laws.proofs.Zips.{found-zip, mapped_some}
 abbrev ref_in : ExportRef → Target → ExportRef
 ref_in other (ExportOf e) = e
 ref_in other target = other
+
+-- a built-in function is no export
+not_export : (o : Option Intrinsic) (e : ExportRef) → link_of_intrinsic o ≡ ExportOf e → ⊥
+not_export None e is = cc
+not_export (Some i) e is = cc
 
 module _ (w : ComponentWorld) (ok : IsWorld w) where
   main_found : (m : WorldModule) → Contains (user_modules w) m → m.of ≡ Main → m.found ≡ w.main
@@ -93,7 +100,7 @@ module _ (w : ComponentWorld) (ok : IsWorld w) where
   offered_matches of (imports.ExportedResourceRep key id) e right is m listed same t offered type fits = cc
   offered_matches of (imports.ExportedResourceNew key id) e right is m listed same t offered type fits = cc
   offered_matches of (imports.MainModuleMemory memory) e right is m listed same t offered type fits = cc
-  offered_matches of role e right is m listed same t offered type fits = absurd right
+  offered_matches of role e right is m listed same t offered type fits = absurd (not_export (plain_intrinsic w.can_use_context_slot_1 role) e is)
 
 -- ---- types of what is given
 

@@ -1,5 +1,5 @@
--- The sections of generated modules are in their order, with debug names where these are on, and export nothing twice; and each
--- definition is sound.
+-- The sections of generated modules are in their order, with debug names where these are on, and
+-- export nothing twice; and each definition is sound.
 use Rattle.std.proofs.Common.{◌≡◌, ◌∙◌, ◌<◌, ◌≤◌, ◌+◌, ◌^◌, ℕ, suc, Bool, true, false, true≢false, List, [], ◌∷◌, ◌++◌, length, Option, Some, None, map, refl, sym, ap, ap₂, subst, append-nil, inl, inr, arith}
 use Rattle.std.proofs.lemmas.Fmt.{decimal_is_IsNumeral}
 use Rattle.std.proofs.lemmas.Map.Keys.{IsDistinct-cons}

@@ -1,6 +1,7 @@
--- Worked examples: lists that are not composed as a world says. The sections of a generated module are in disorder, or it has no debug
--- names where they are on; a nested component has a core module or a custom section, or defines a resource; a type of instances exports
--- a function too many; an argument of a nested component is given twice, or is a function of another type.
+-- Worked examples: lists that are not composed as a world says. The sections of a generated module
+-- are in disorder, or it has no debug names where they are on; a nested component has a core module
+-- or a custom section, or defines a resource; a type of instances exports a function too many; an
+-- argument of a nested component is given twice, or is a function of another type.
 use Rattle.comp_links.specs.Naming.{Naming, own_names}
 use Rattle.std.proofs.Common.{◌≡◌, ◌<◌, ◌++◌, ℕ, true, false, true≢false, List, [], ◌∷◌, length, map, take, sym, ap, subst, Option, Some, None, arith}
 use Rattle.std.proofs.lemmas.Option.{same_Some}

@@ -1,5 +1,6 @@
--- Worked examples: lists that run to their end, and aren't linked. A module of shims is never filled, though nothing uses it; the fixup
--- fills a table of main; the memory in place of the one that main imports is larger than that.
+-- Worked examples: lists that run to their end, and aren't linked. A module of shims is never
+-- filled, though nothing uses it; the fixup fills a table of main; the memory in place of the one
+-- that main imports is larger than that.
 use Rattle.comp_links.specs.Naming.{own_names}
 use Rattle.std.proofs.Common.{◌≡◌, ◌∙◌, ℕ, zero, suc, Bool, true, false, true≢false, List, [], ◌∷◌, map, refl, sym, ap, subst, Option, Some, None, arith}
 use Rattle.std.proofs.lemmas.Option.{same_Some}

@@ -1,5 +1,5 @@
--- A worked example: the list with a lowering of a function of a text runs to its end also where that lowering has no memory, or
--- another encoding, but then it isn't linked.
+-- A worked example: the list with a lowering of a function of a text runs to its end also where
+-- that lowering has no memory, or another encoding, but then it isn't linked.
 use Rattle.comp_links.specs.Naming.{own_names}
 use Rattle.std.proofs.Common.{◌≡◌, Bool, true, false, true≢false, List, [], ◌∷◌, refl, sym, ap, subst, Option, Some, None, arith}
 use Rattle.std.proofs.lemmas.Option.{same_Some}

@@ -45,8 +45,8 @@ pub record IsStopped (w : ComponentWorld) (es : List Event) (m : Machine) : Type
   pub moments : length m.now.moments ≡ suc (length before)
   pub by_then : IsInstantiation last ⊎ IsReady w m.store
 
--- a run ends with this scope, this store, globals of these types and these events, or it stops with an answer that doesn't let it go to
--- its end
+-- a run ends with this scope, this store, globals of these types and these events, or it stops with
+-- an answer that doesn't let it go to its end
 abbrev pub IsGood : ComponentWorld → Scope → Store → List ValType → List Event → List (List ValType) → List Answer → Outcome → Type 0
 IsGood w c s g es questions answers (Done m) = (m.scope ≡ c) × (m.store ≡ s) × IsNow es g m.now
 IsGood w c s g es questions answers (Trapped m) = (LetsRun questions answers → ⊥) × IsStopped w es m

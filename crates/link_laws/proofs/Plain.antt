@@ -15,7 +15,6 @@ use Rattle.core_types.specs.declared.types.ValType.{ValType}
 use Rattle.core_types.specs.declared.types.ValType.TheVariants.{I32, I64, F32, F64, Ref}
 use Rattle.core_types.specs.declared.types.RefType.TheVariants.{FuncRef, Concrete}
 use Rattle.core_runs.specs.Values.{same_value_type, same_value_types, same_signature}
-use Rattle.wit_data.specs.declared.functions.AbiVariant.TheVariants.{GuestImport}
 use Rattle.wit_data.specs.declared.functions.Function.{Function}
 use Rattle.wit_data.specs.declared.signatures.WasmSignature.{WasmSignature}
 use Rattle.wit_data.specs.declared.worlds.WorldItem.TheVariants as items
@@ -44,7 +43,8 @@ use Rattle.comp_links.specs.Targets.{Main, Adapter}
 use Rattle.comp_links.specs.Modules.{WorldModule, adapter_module, user_modules, IsModule}
 use Rattle.comp_links.specs.Lists.{resource_of}
 use Rattle.comp_terms.specs.Planned.{type_of_function}
-use Rattle.comp_runs.specs.Signatures.{core_signature}
+use Rattle.comp_runs.specs.Signatures.{form_of, core_signature}
+use Rattle.comp_runs.specs.Store.{HeldOption}
 use Rattle.comp_trees.specs.Trees.{FunctionTree}
 use Rattle.comp_trees.proofs.Signing.{signatures_of_trees}
 use Rattle.link_laws.proofs.Stores.{main_module}
@@ -81,7 +81,7 @@ pub function_key : (w : ComponentWorld) → IsWorld w → (key : WorldKey) (f : 
 function_key w ok key f e = by key (AllByRecursion-contains (IsExportItem w.resolve) (items_of w).exports (key, items.Function f) ok.exports (Contains-from_lookup key_same key (items.Function f) (items_of w).exports e))
   where
     by : (key : WorldKey) → IsExportItem w.resolve (key, items.Function f) → key ≡ keys.Name f.name
-    by (keys.Name text) h = ap keys.Name h.0
+    by (keys.Name text) h = ap keys.Name h
     by (keys.Interface id) h = absurd h
 
 -- ---- core types
@@ -105,11 +105,11 @@ abbrev pub function_type_in : FuncType → ExternType → FuncType
 function_type_in other (externs.Func type) = type
 function_type_in other type = other
 
--- a lowering of a function of the world has the core type in which the function is called
-pub lowered_type : (w : ComponentWorld) (type : FunctionTree) (f : Function) → type ≡ type_of_function w f → externs.Func (core_signature type []) ≡ called_type w.resolve GuestImport f
-lowered_type w type f e =
-    ap (λ t. externs.Func (core_signature t [])) e
-    ∙ ap (λ (s : WasmSignature). externs.Func (core_type s)) (signatures_of_trees (resource_of w) w.resolve.types GuestImport f)
+-- a lowering of a function of the world has the core type in which the function is called, in the form of its options
+pub lowered_type : (w : ComponentWorld) (type : FunctionTree) (f : Function) (held : List HeldOption) → type ≡ type_of_function w f → externs.Func (core_signature type held) ≡ called_type w.resolve (form_of held) f
+lowered_type w type f held e =
+    ap (λ t. externs.Func (core_signature t held)) e
+    ∙ ap (λ (s : WasmSignature). externs.Func (core_type s)) (signatures_of_trees (resource_of w) w.resolve.types (form_of held) f)
 
 -- ---- user modules
 

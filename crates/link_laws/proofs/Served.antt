@@ -8,6 +8,7 @@ use Rattle.std.specs.List.{slice_get, flat_map, AllZip, AllByRecursion}
 use Rattle.std.specs.Fmt.{decimal}
 use Rattle.std.specs.Option.{option_map, option_and_then}
 use Rattle.comp_lists.proofs.Lists.{there, AllZip-at, AllZip-weaker, AllByRecursion-weaker}
+use Rattle.comp_bytes.specs.declared.canon.Intrinsic.{Intrinsic}
 use Rattle.comp_bytes.specs.declared.space.Space.TheVariants as spaces
 use Rattle.comp_terms.specs.Terms.{intrinsic_of}
 use Rattle.comp_bytes.specs.Spaces.{is_space}
@@ -36,7 +37,7 @@ use Rattle.comp_worlds.specs.Worlds.{IsWorld}
 use Rattle.comp_worlds.specs.declared.world.ComponentWorld.{ComponentWorld}
 use Rattle.comp_trees.specs.Trees.{Resource, FunctionTree}
 use Rattle.comp_trees.specs.DefinedTrees.{OfOthers}
-use Rattle.comp_links.specs.Targets.{ExportRef, WorldFunction, TargetOption, Target, Lowered, ResourceFunction, New, Rep, Drop, ExportOf, OfResource, Lifted}
+use Rattle.comp_links.specs.Targets.{ExportRef, WorldFunction, TargetOption, Target, Lowered, ResourceFunction, New, Rep, Drop, ExportOf, OfResource, BuiltIn, Lifted}
 use Rattle.comp_links.specs.Targets as targets
 use Rattle.comp_links.specs.Links.{lift_options, destructor_of}
 use Rattle.comp_terms.specs.Generated.{shims_number, Purpose, target_of}
@@ -59,11 +60,11 @@ use Rattle.comp_runs.specs.Store.{Thing, Export, HeldOption, HeldEncoding, HeldM
 use Rattle.comp_runs.specs.Machine.{Machine, export_named, export_in, export_of}
 use Rattle.nested_laws.proofs.Kept.{is_function}
 use Rattle.nested_laws.proofs.Exports.{front, other_space}
-use Rattle.link_laws.specs.Meeting.{CoreMeets, CoreExportMeets, task_hook, hooks_round, IsExportedItem, ItemMeets, MemoryMeets, IsMainMemory, MeetsOption, ItemIsExport, ItemIsLowering, IsResourceHeld, ItemIsOfResource, Meets, MeetsIn, entry_kind}
+use Rattle.link_laws.specs.Meeting.{CoreMeets, CoreExportMeets, task_hook, hooks_round, IsExportedItem, ItemMeets, MemoryMeets, IsMainMemory, MeetsOption, ItemIsExport, ItemIsLowering, IsResourceHeld, ItemIsOfResource, ItemIsBuiltIn, Meets, MeetsIn, entry_kind}
 use Rattle.instance_laws.proofs.Held.{tree_of_held}
 use Rattle.link_laws.specs.Linking.{IsOpaque, IsUntouched, AreTablesUntouched, ShimsFilled, IsServed, AreServed, UsersServed, IsProvided, IsTypeProvided, DestructorMeets, IsDefined, IsNumberDefined, exports_at}
 use Rattle.link_laws.proofs.Zips.{AllByRecursion-join, each_at}
-use Rattle.link_laws.proofs.Stores.{IsOpaqueOf, ShimsAt, resource_core, IsLoweredFor, IsFunctionOf, IsFunctionExported, IsItemExported, IsServedAs, IsServedIn, IsShimGivenAt, IsShimGiven, ExportsShims, exports_of_shims, Serves, IsFilledWith, AreFilled, AreShimsFilled, main_module, IsPlanned, IsPlannedUser, IsMemoryOfMain, IsShimExported, IsReallocHeld, IsOptionHeld, function_at_key, IsRequiredAt, IsFunctionExport, IsAmong, IsInterfaceExport, IsItemExport, IsKeyExport, AreKeyExports, type_at_key, IsTypeAmong, IsTypeOfMemory, IsOwnTable, IsOwnIfTable, HasOwnTables, IsDestroyedBy, IsOwnResource, IsOwnIfDefined, AreResources, HasNumber}
+use Rattle.link_laws.proofs.Stores.{IsOpaqueOf, ShimsAt, resource_core, IsLoweredFor, IsFunctionOf, IsBuiltInAt, IsFunctionExported, IsItemExported, IsServedAs, IsServedIn, IsShimGivenAt, IsShimGiven, ExportsShims, exports_of_shims, Serves, IsFilledWith, AreFilled, AreShimsFilled, main_module, IsPlanned, IsPlannedUser, IsMemoryOfMain, IsShimExported, IsReallocHeld, IsOptionHeld, function_at_key, IsRequiredAt, IsFunctionExport, IsAmong, IsInterfaceExport, IsItemExport, IsKeyExport, AreKeyExports, type_at_key, IsTypeAmong, IsTypeOfMemory, IsOwnTable, IsOwnIfTable, HasOwnTables, IsDestroyedBy, IsOwnResource, IsOwnIfDefined, AreResources, HasNumber}
 use Rattle.link_laws.proofs.Given.{by_parts, named_in_space}
 use Rattle.comp_links.proofs.Keys.{one_provider}
 use Rattle.link_laws.proofs.GivenImports.{purpose_opaque, one_purpose}
@@ -290,9 +291,9 @@ module _ (w : ComponentWorld) (ok : IsWorld w) (m : Machine) (shims : Option Shi
 -- ---- imports
 
 module _ (w : ComponentWorld) (ok : IsWorld w) (m : Machine) (shims : Option ShimsAt) (filled : FilledAtEnd w ok m shims) where
-  import_meets : (address at : ℕ) (function : WorldFunction) (options : List TargetOption) (h : IsLoweredFor w m.store at function options) → Forwards w ok m address at (core_signature h.type []) → CoreMeets w m None address (ItemIsLowering w m (resource_of w) function options)
+  import_meets : (address at : ℕ) (function : WorldFunction) (options : List TargetOption) (h : IsLoweredFor w m.store at function options) → Forwards w ok m address at (core_signature h.type h.held) → CoreMeets w m None address (ItemIsLowering w m (resource_of w) function options)
   import_meets address at function options h same =
-      forwarding_meets w ok m None address at (core_signature h.type []) (Lowering h.lowered.of h.held) (ItemIsLowering w m (resource_of w) function options) same h.lowered.is (
+      forwarding_meets w ok m None address at (core_signature h.type h.held) (Lowering h.lowered.of h.held) (ItemIsLowering w m (resource_of w) function options) same h.lowered.is (
         record {
           origin = h.origin;
           wit = h.typed.wit;
@@ -314,14 +315,19 @@ module _ (w : ComponentWorld) (ok : IsWorld w) (m : Machine) (shims : Option Shi
       forwarding_meets w ok m None address at (resource_core function) (IntrinsicOf (intrinsic_of function h.of)) (ItemIsOfResource m function (resource_of w id)) same h.is
       (named_function function (resource_of w id) h.of (ap (λ o. elim o [ None ↦ OfOthers | Some i ↦ item_tree i ]) h.held.present ∙ h.held.denotes))
 
+  built_in_meets : (address at : ℕ) (intrinsic : Intrinsic) (h : IsBuiltInAt m.store at intrinsic) → Forwards w ok m address at h.type → CoreMeets w m None address (ItemIsBuiltIn intrinsic)
+  built_in_meets address at intrinsic h same = forwarding_meets w ok m None address at h.type (IntrinsicOf intrinsic) (ItemIsBuiltIn intrinsic) same h.is refl
+
   -- a function meets what another one is, where it forwards to that
   function_meets_as : (t : Thing) (at : ℕ) (target : Target) → t.space ≡ spaces.CoreFunc → ((type : FuncType) (item : CoreItem) → IsOpaqueOf m.store at type item → Forwards w ok m t.address at type) → IsServedAs w m.store at target → Meets w m (resource_of w) t target
   function_meets_as t at (Lowered function options) space same h =
       subst (λ space. MeetsIn w m (resource_of w) space t.address (Lowered function options)) (sym space)
-      (import_meets t.address at function options h (same (core_signature h.type []) (Lowering h.lowered.of h.held) h.lowered.is))
+      (import_meets t.address at function options h (same (core_signature h.type h.held) (Lowering h.lowered.of h.held) h.lowered.is))
   function_meets_as t at (OfResource function id) space same h =
       subst (λ space. MeetsIn w m (resource_of w) space t.address (OfResource function id)) (sym space)
       (resource_meets t.address at function id h (same (resource_core function) (IntrinsicOf (intrinsic_of function h.of)) h.is))
+  function_meets_as t at (BuiltIn intrinsic) space same h =
+      subst (λ space. MeetsIn w m (resource_of w) space t.address (BuiltIn intrinsic)) (sym space) (built_in_meets t.address at intrinsic h (same h.type (IntrinsicOf intrinsic) h.is))
   function_meets_as t at (ExportOf export_ref) space same h =
       subst (λ space. MeetsIn w m (resource_of w) space t.address (ExportOf export_ref)) (sym space)
       (export_meets w ok m None t.address at export_ref h (same h.type (ExportedBy h.user export_ref.name) h.is))
@@ -396,8 +402,9 @@ module _ (w : ComponentWorld) (ok : IsWorld w) (m : Machine) (shims : Option Shi
 
   -- what the link table names is an opaque function
   served_opaque : (address : ℕ) (target : Target) → IsServedAs w m.store address target → IsOpaque m address
-  served_opaque address (Lowered function options) h = record { what = h.lowered.is.what; signature = core_signature h.type []; is = h.lowered.is.present }
+  served_opaque address (Lowered function options) h = record { what = h.lowered.is.what; signature = core_signature h.type h.held; is = h.lowered.is.present }
   served_opaque address (OfResource function id) h = record { what = h.is.what; signature = resource_core function; is = h.is.present }
+  served_opaque address (BuiltIn intrinsic) h = record { what = h.is.what; signature = h.type; is = h.is.present }
   served_opaque address (ExportOf export_ref) h = record { what = h.is.what; signature = h.type; is = h.is.present }
   served_opaque address target h = absurd h
 
@@ -476,7 +483,8 @@ module _ (n : Naming) (w : ComponentWorld) (s : Store) (space : Space) (own : is
   later : (r : RequiredKey) (rs : List RequiredKey) (e : Export) (es : List Export) → export_of space name (e ∷ es) ≡ export_of space name es → FindsNamed n w s space name rs es → FindsNamed n w s space name (r ∷ rs) (e ∷ es)
   later r rs e es same h = record { required = h.required; place = suc h.place; listed = h.listed; export = h.export; found = same ∙ h.found; in_space = h.in_space; named = h.named; is = h.is }
 
-  -- where the export of a key is in this space and has this name, the first that is found is that of a key with this name
+  -- where the export of a key is in this space and has this name, the first that is found is that
+  -- of a key with this name
   finds_named : (rs : List RequiredKey) (es : List Export) → AllZip (IsNamedExport n w s) rs es → (i : ℕ) (r : RequiredKey) → slice_get rs i ≡ Some r → (name_of n w.resolve r.key).name ≡ name →
       ((e : Export) → IsKeyExport w s r e → e.space ≡ space) → FindsNamed n w s space name rs es
   finds_named [] es h i r at named in_space = absurd (none-some r at)

@@ -1,5 +1,5 @@
--- A worked example: the list with shims is composed as the world says, where the generated modules' counts and sizes are
--- below 2 ^ 32.
+-- A worked example: the list with shims is composed as the world says, where the generated modules'
+-- counts and sizes are below 2 ^ 32.
 use Rattle.comp_links.specs.Naming.{own_names}
 use Rattle.std.proofs.Common.{[], ◌∷◌, map, refl, arith}
 use Rattle.std.specs.List.{IsDistinct, flat_map}

@@ -1,5 +1,6 @@
--- A worked example: how the list with shims runs. It ends where the outside lets it, and its shims trap before the fixup; but it doesn't
--- link, since main is given shims for calls that need no memory.
+-- A worked example: how the list with shims runs. It ends where the outside lets it, and its shims
+-- trap before the fixup; but it doesn't link, since main is given shims for calls that need no
+-- memory.
 use Rattle.comp_links.specs.Naming.{own_names}
 use Rattle.std.proofs.Common.{◌≡◌, ◌∙◌, ◌++◌, ℕ, zero, suc, Bool, true, false, true≢false, List, [], ◌∷◌, take, refl, sym, ap, subst, Some, None, IsTrue, inl, inr, ◌⊎◌, arith}
 use Rattle.std.proofs.lemmas.Option.{none-some, same_Some}

@@ -1,5 +1,6 @@
--- A worked example: the list that gives main shims for calls which need no memory is not linked, whatever the outside returns: what has
--- no shim works from the moment that it is given. Nor is it linked with the slots crossed.
+-- A worked example: the list that gives main shims for calls which need no memory is not linked,
+-- whatever the outside returns: what has no shim works from the moment that it is given. Nor is it
+-- linked with the slots crossed.
 use Rattle.comp_links.specs.Naming.{own_names}
 use Rattle.std.proofs.Common.{◌≡◌, ℕ, List, [], ◌∷◌, refl, sym, ap, subst, Some, None, arith}
 use Rattle.std.proofs.lemmas.Option.{same_Some}

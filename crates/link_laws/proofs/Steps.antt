@@ -9,6 +9,7 @@ use Rattle.std.specs.List.{slice_get, flat_map, list_any, AllZip, AllByRecursion
 use Rattle.std.specs.Prelude.{IsSome}
 use Rattle.std.specs.Option.{option_map, option_and_then}
 use Rattle.comp_lists.specs.Found.{found}
+use Rattle.comp_lists.proofs.Lookups.{some_of}
 use Rattle.comp_lists.proofs.Lists.{slice_get-end, AllZip-weaker, AllZip-end, AllByRecursion-weaker}
 use Rattle.comp_bytes.proofs.ItemIndices.{IsAt-append}
 use Rattle.comp_bytes.specs.Spaces.{kind_space, space_of, items_in}
@@ -28,6 +29,7 @@ use Rattle.comp_bytes.specs.declared.types.Alias.TheVariants as aliases
 use Rattle.comp_bytes.specs.declared.types.Member.{Member}
 use Rattle.comp_bytes.specs.declared.types.InstanceType.{InstanceType as InstanceTypeDef}
 use Rattle.comp_bytes.specs.declared.types.Description.TheVariants as descriptions
+use Rattle.built_ins.specs.BuiltIns.{plain_type}
 use Rattle.comp_bytes.specs.declared.canon.Intrinsic.{Intrinsic}
 use Rattle.comp_bytes.specs.declared.canon.Intrinsic.TheVariants as intrinsics
 use Rattle.comp_bytes.specs.declared.types.ComponentValType.{ComponentValType}
@@ -67,7 +69,7 @@ use Rattle.comp_roles.specs.Matching.{kind_of}
 use Rattle.comp_roles.specs.declared.offered.ExternType.{ExternType}
 use Rattle.comp_roles.specs.declared.offered.ExternType.TheVariants as externs
 use Rattle.comp_roles.specs.declared.offered.ImportType.{ImportType}
-use Rattle.comp_terms.specs.Rules.{AliasesUser, AliasesShim, AliasesMemory, IsEntry, AreEntries, AliasesImported, AliasesNested, AliasesType as MayAliasType, HasFunctionType, HasResource, HasOwnResource, HasImportedFunction, IsOptionRight, IsLowerOptionRight, IsTypeRight, IsDestructorRight, DefinesResource, IsItemRight}
+use Rattle.comp_terms.specs.Rules.{AliasesUser, AliasesShim, AliasesMemory, IsEntry, AreEntries, AliasesImported, AliasesNested, AliasesType as MayAliasType, HasFunctionType, HasResource, HasOwnResource, HasImportedFunction, IsOptionRight, IsTypeRight, IsDestructorRight, DefinesResource, IsItemRight}
 use Rattle.comp_runs.specs.Machine.{Scope, Machine, with_some, address_at, is_of, export_named, all_some, with_opaque}
 use Rattle.comp_runs.specs.Instances.{matching, argument_for, given_to, type_scope, known_function, type_item}
 use Rattle.comp_runs.specs.Signatures.{is_async, core_signature, intrinsic_signature}
@@ -81,7 +83,8 @@ use Rattle.link_laws.specs.Composition.{GeneratedModules, at_root, item_instanti
 use Rattle.link_laws.specs.Linking.{module_meanings}
 use Rattle.link_laws.proofs.Zips.{all_some-self}
 use Rattle.link_laws.proofs.Outcomes.{AgreesWith, machine, no_answers, quiet, Steps}
-use Rattle.link_laws.proofs.Stores.{IsSeen, expected_of, expects, IsOpaqueOf, IsUserItem, IsUserExport, IsUserInstance, ShimsAt, exports_of_shims, HasSharedMemory, IsModuleInstance, IsNamedEntry, ExportsShims, AreShims, MayHaveShims, IsTypeAt, resource_core, IsResourceItem, DefIs, Means, makes, IsTypeEntry, entry_of, IsFunctionEntry, IsInstanceThing, IsPlannedUser, IsAliasedItem, IsHeldOption, NumberedFrom, HasGlobals, HasOwnTables, Agrees, AreKeyExports, IsShimGiven, IsDestroyedBy, IsOwnResource, AreResources}
+use Rattle.link_laws.proofs.BuiltIns.{plain_addressed, plain_signature, item_plain}
+use Rattle.link_laws.proofs.Stores.{IsSeen, expected_of, expects, IsOpaqueOf, IsUserItem, IsUserExport, IsUserInstance, ShimsAt, exports_of_shims, HasSharedMemory, IsModuleInstance, IsNamedEntry, ExportsShims, AreShims, MayHaveShims, IsTypeAt, resource_core, IsResourceItem, IsPlainItem, DefIs, Means, makes, IsTypeEntry, entry_of, IsFunctionEntry, IsInstanceThing, IsPlannedUser, IsAliasedItem, IsHeldOption, NumberedFrom, HasGlobals, HasOwnTables, Agrees, AreKeyExports, IsShimGiven, IsDestroyedBy, IsOwnResource, AreResources}
 use Rattle.link_laws.proofs.Given.{has_by_place, has_by_shared, of_shims, module_there, address_there, all_held, scope_there, entry_there, held_there, type_there, instance_type_there, instance_there, imported_there, user_there, space_of_kind, offered_there, shim_there}
 use Rattle.link_laws.proofs.Plain.{only}
 use Rattle.link_laws.proofs.Kept.{AreSeen-kept, sizes_kept, ShimsKept, shims_same, MayHaveShims-kept, keeps_all, IsHeldOption-kept, Keeps, address_at-append, things_kept, keeps_store, keeps_type, keeps_function, keeps_opaque, keeps_core_instance, keeps_module, Means-kept, IsTypeEntry-kept, IsFunctionEntry-kept, IsInstanceThing-kept, IsPlannedUser-kept, AreKeyExports-kept, AreResources-more, AreResources-push}
@@ -127,18 +130,8 @@ opaque_there : (item : CoreItem) (type : FuncType) (s : Store) → IsOpaqueOf (w
 opaque_there item type s = record { what = length s.known; present = slice_get-end s.code.functions (Opaque (length s.known) type); known = slice_get-end s.known item }
 
 -- a lowering of an import has the core type of the import's type
-import_lowered : (m : Machine) (x : ℕ) (origin : Origin) (type : FunctionTree) (held : List HeldOption) → slice_get m.store.functions x ≡ Some (Imported origin type) → list_any is_async held ≡ false → lowered_signature m x held ≡ Some (core_signature type [])
-import_lowered m x origin type held h same = ap (option_map (λ f. core_signature (function_type_of f) held)) h ∙ ap (λ b. Some (core_type (tree_signature (if b then GuestImportAsync else GuestImport) type))) same
-
--- an option of a synchronous lowering
-abbrev IsLowerHeld : List Thing → CanonicalOption → HeldOption → Type 0
-IsLowerHeld things o held = IsHeldOption things o held × (is_async held ≡ false)
-
-synchronous : (things : List Thing) (written : List CanonicalOption) (held : List HeldOption) → AllZip (IsLowerHeld things) written held → list_any is_async held ≡ false
-synchronous things [] [] h = refl
-synchronous things (o ∷ os) (x ∷ xs) h = rw h.0.1 (synchronous things os xs h.1)
-synchronous things [] (x ∷ xs) h = absurd h
-synchronous things (o ∷ os) [] h = absurd h
+import_lowered : (m : Machine) (x : ℕ) (origin : Origin) (type : FunctionTree) (held : List HeldOption) → slice_get m.store.functions x ≡ Some (Imported origin type) → lowered_signature m x held ≡ Some (core_signature type held)
+import_lowered m x origin type held h = ap (option_map (λ f. core_signature (function_type_of f) held)) h
 
 -- a type that keeps its rule is held as what it denotes
 type_made : (scope : List TypeTree) (resource : Resource) (t : TypeDef) → IsTypeRight scope t → (m : Machine) → type_scope m ≡ scope → type_item t m ≡ Some (TreeOf (type_tree scope resource t))
@@ -328,8 +321,8 @@ module _ {w : ComponentWorld} {earlier : List Def} {c : Scope} {s : Store} {g : 
       among : {x : ℕ} (more : List ℕ) → more ≡ [] → Contains (numbers ++ more) x → Contains numbers x
       among {x} more none h = subst (λ l. Contains l x) (ap (λ l. numbers ++ l) none ∙ append-nil numbers) h
 
-  -- The step of a definition that calls nothing outside, and is no module and no export: it makes this item, and there have
-  -- been this many imports after it.
+  -- The step of a definition that calls nothing outside, and is no module and no export: it makes
+  -- this item, and there have been this many imports after it.
   pub quiet_step : (d : Def) (count : ℕ) (s' : Store) (t : Thing) → ((rest : List Def) (now : Now) → run (module_meanings w gen) (d ∷ rest) (machine c s now) ≡ run (module_meanings w gen) rest (machine (with_thing c t count) s' now)) →
       Keeps c.items (c.items ++ t ∷ []) s s' → Means w a.shims (earlier ++ d ∷ []) (c.items ++ t ∷ []) s' d t → Makes d s' t → is_of spaces.CoreModule t ≡ false → s'.core_modules ≡ s.core_modules → s'.module_instances ≡ s.module_instances →
       s'.code.tables ≡ s.code.tables → at_root item_instantiates d ≡ [] → def_export d ≡ [] → count ≡ imports_made (inventory earlier) d → AreResources w a.shims s'.types (resources_made (inventory earlier) d) → Steps w gen earlier c s g a.events d
@@ -557,6 +550,15 @@ module _ {w : ComponentWorld} {earlier : List Def} {c : Scope} {s : Store} {g : 
       let x : (x : ℕ) × (address_at spaces.Type type c.items ≡ Some x) × IsHeldAs s.types (OfValues (ResourceAt h.resource)) x = held_there a h.is.denotes in
       step_intrinsic (intrinsics.ResourceDrop type) (intrinsics.ResourceDrop x.0) (resource_core Drop) (λ now. ap (option_map (λ n. intrinsics.ResourceDrop n)) x.1) (λ tree_of. refl) (resource_item Drop type x.0 x.1)
 
+  pub step_plain : (i : Intrinsic) → IsSome (plain_type i) → Steps w gen earlier c s g a.events (defs.Item (items.Intrinsic i))
+  step_plain i h =
+      let t : (t : FuncType) × (plain_type i ≡ Some t) = some_of (plain_type i) h in
+      let ds : List Def = earlier ++ defs.Item (items.Intrinsic i) ∷ [] in
+      let things : List Thing = c.items ++ record { space = spaces.CoreFunc; address = length s.code.functions } ∷ [] in
+      let after : Store = with_opaque (IntrinsicOf i) t.0 s in
+      step_intrinsic i i t.0 (λ now. plain_addressed (machine c s now) i h) (λ tree_of. plain_signature tree_of i t.0 t.1)
+      (item_plain w a.shims ds things after i (length s.code.functions) h (subst (λ o. IsPlainItem after i o (length s.code.functions)) (sym t.1) (opaque_there (IntrinsicOf i) t.0 s)))
+
   -- an option that names an earlier item has its address
   option_addressed : (o : CanonicalOption) → IsOptionRight earlier o → (x : HeldOption) × (held (machine c s no_answers) o ≡ Some x) × IsHeldOption c.items o x
   option_addressed options.Utf8 h = (HeldEncoding encodings.UTF8, refl, refl)
@@ -568,31 +570,19 @@ module _ {w : ComponentWorld} {earlier : List Def} {c : Scope} {s : Store} {g : 
   option_addressed options.Async h = (HeldAsync, refl, tt)
   option_addressed (options.Callback index) h = let x = address_there a spaces.CoreFunc index h in (HeldCallback x.0, ap (option_map (λ n. HeldCallback n)) x.1, x.1)
 
-  -- so has one of a lowering, which is none that changes the core type
-  lower_option_addressed : (o : CanonicalOption) → IsLowerOptionRight earlier o → (x : HeldOption) × (held (machine c s no_answers) o ≡ Some x) × IsLowerHeld c.items o x
-  unfolding option_addressed
-  lower_option_addressed options.Async h = absurd h
-  lower_option_addressed options.Utf8 h = let x = option_addressed options.Utf8 h in (x.0, x.1, (x.2, refl))
-  lower_option_addressed options.Utf16 h = let x = option_addressed options.Utf16 h in (x.0, x.1, (x.2, refl))
-  lower_option_addressed options.CompactUtf16 h = let x = option_addressed options.CompactUtf16 h in (x.0, x.1, (x.2, refl))
-  lower_option_addressed (options.Memory index) h = let x = option_addressed (options.Memory index) h in (x.0, x.1, (x.2, refl))
-  lower_option_addressed (options.Realloc index) h = let x = option_addressed (options.Realloc index) h in (x.0, x.1, (x.2, refl))
-  lower_option_addressed (options.PostReturn index) h = let x = option_addressed (options.PostReturn index) h in (x.0, x.1, (x.2, refl))
-  lower_option_addressed (options.Callback index) h = let x = option_addressed (options.Callback index) h in (x.0, x.1, (x.2, refl))
-
-  pub step_lower : (function : ℕ) (written : List CanonicalOption) → HasImportedFunction earlier function → AllByRecursion (IsLowerOptionRight earlier) written → Steps w gen earlier c s g a.events (defs.Item (items.Lower function written))
+  pub step_lower : (function : ℕ) (written : List CanonicalOption) → HasImportedFunction earlier function → AllByRecursion (IsOptionRight earlier) written → Steps w gen earlier c s g a.events (defs.Item (items.Lower function written))
   step_lower function written h right =
       let d : Def = defs.Item (items.Lower function written) in
       let x : (x : ℕ) × (address_at spaces.Func function c.items ≡ Some x) × (slice_get s.functions x ≡ Some (Imported h.origin h.type)) = imported_there a h.is in
-      let os : (xs : List HeldOption) × (options_held (machine c s no_answers) written ≡ Some xs) × AllZip (IsLowerHeld c.items) written xs =
-      all_some-self (IsLowerHeld c.items) (held (machine c s no_answers)) (IsLowerOptionRight earlier) lower_option_addressed written right in
+      let os : (xs : List HeldOption) × (options_held (machine c s no_answers) written ≡ Some xs) × AllZip (IsHeldOption c.items) written xs =
+      all_some-self (IsHeldOption c.items) (held (machine c s no_answers)) (IsOptionRight earlier) option_addressed written right in
       let t : Thing = record { space = spaces.CoreFunc; address = length s.code.functions } in
       let item : CoreItem = Lowering x.0 os.0 in
-      let type : FuncType = core_signature h.type [] in
+      let type : FuncType = core_signature h.type os.0 in
       let s' : Store = with_opaque item type s in
       let k : Keeps c.items (c.items ++ t ∷ []) s s' = keeps_opaque c.items t s item type in
       let addressed : (now : Now) → options_held (machine c s now) written ≡ Some os.0 = λ now. ap (λ l. all_some l) (options_same c s now written) ∙ os.1 in
-      quiet_step d c.imports s' t (λ rest now. rw (x.1, addressed now, import_lowered (machine c s now) x.0 h.origin h.type os.0 x.2 (synchronous c.items written os.0 os.2)) refl) k
+      quiet_step d c.imports s' t (λ rest now. rw (x.1, addressed now, import_lowered (machine c s now) x.0 h.origin h.type os.0 x.2) refl) k
       (record {
         space = refl;
         is = record {
@@ -602,7 +592,7 @@ module _ {w : ComponentWorld} {earlier : List Def} {c : Scope} {s : Store} {g : 
           type = h.type;
           at = address_at-append c.items (t ∷ []) spaces.Func function x.0 x.1;
           imported = x.2;
-          with_options = AllZip-weaker (λ o y p. IsHeldOption-kept k o y p.0) written os.0 os.2;
+          with_options = AllZip-weaker (λ o y p. IsHeldOption-kept k o y p) written os.0 os.2;
           is = opaque_there item type s;
         };
       })

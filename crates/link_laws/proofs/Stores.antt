@@ -15,6 +15,8 @@ use Rattle.core_types.specs.declared.types.MemoryType.{MemoryType}
 use Rattle.comp_lists.specs.Found.{found}
 use Rattle.comp_roles.specs.Matching.{kind_of}
 use Rattle.comp_bytes.specs.declared.types.Alias.TheVariants as aliases
+use Rattle.built_ins.specs.BuiltIns.{plain_type}
+use Rattle.comp_bytes.specs.declared.canon.Intrinsic.{Intrinsic}
 use Rattle.comp_bytes.specs.declared.canon.Intrinsic.TheVariants as intrinsics
 use Rattle.comp_bytes.specs.declared.def.CoreInlineExport.{CoreInlineExport}
 use Rattle.comp_bytes.specs.declared.def.Item.{Item}
@@ -36,7 +38,7 @@ use Rattle.comp_roles.specs.declared.offered.ExternType.TheVariants as externs
 use Rattle.comp_roles.specs.declared.offered.ImportType.{ImportType}
 use Rattle.comp_worlds.specs.WorldContents.{exported_item, function_exported}
 use Rattle.comp_worlds.specs.declared.world.ComponentWorld.{ComponentWorld}
-use Rattle.comp_links.specs.Targets.{Main, ExportRef, WorldFunction, TargetOption, ResourceFunction, New, Rep, Drop, Target, Lowered, ExportOf, MainMemory, OfResource}
+use Rattle.comp_links.specs.Targets.{Main, ExportRef, WorldFunction, TargetOption, ResourceFunction, New, Rep, Drop, Target, Lowered, ExportOf, MainMemory, OfResource, BuiltIn}
 use Rattle.comp_links.specs.Targets as targets
 use Rattle.comp_links.specs.Modules.{WorldModule, user_modules, IsModule}
 use Rattle.comp_links.specs.Lists.{IsOriginOf, resource_of, RequiredKey, required_keys, RequiredFunction, functions_required, RequiredType, types_required, type_of_world, ProvidedType, provided_resources}
@@ -79,8 +81,8 @@ pub record HasSlots (tables : List (List (Option ℕ))) (address size : ℕ) : T
   pub present : slice_get tables address ≡ Some slots
   pub counted : length slots ≡ size
 
--- what is at the address of an item that is no function: a table has as many slots as its minimum, and a memory has its type; which
--- types globals have, the store doesn't say
+-- what is at the address of an item that is no function: a table has as many slots as its minimum,
+-- and a memory has its type; which types globals have, the store doesn't say
 abbrev pub IsItemTyped : Store → ℕ → ExternType → Type 0
 IsItemTyped s address (externs.Table type) = HasSlots s.code.tables address type.minimum
 IsItemTyped s address (externs.Memory type) = slice_get s.code.memories address ≡ Some type
@@ -176,6 +178,11 @@ pub record IsResourceItem (things : List Thing) (s : Store) (function : Resource
   pub at : address_at spaces.Type type things ≡ Some of
   pub is : IsOpaqueOf s address (resource_core function) (IntrinsicOf (intrinsic_of function of))
 
+-- a built-in function without operands, with its core type
+abbrev pub IsPlainItem : Store → Intrinsic → Option FuncType → ℕ → Type 0
+IsPlainItem s intrinsic None address = Unit {0}
+IsPlainItem s intrinsic (Some type) address = IsOpaqueOf s address type (IntrinsicOf intrinsic)
+
 -- an option, with the address of what it names
 abbrev pub IsHeldOption : List Thing → CanonicalOption → HeldOption → Type 0
 IsHeldOption things options.Utf8 (HeldEncoding e) = e ≡ encodings.UTF8
@@ -197,7 +204,7 @@ pub record IsLoweredItem (things : List Thing) (s : Store) (function : ℕ) (wri
   pub at : address_at spaces.Func function things ≡ Some of
   pub imported : slice_get s.functions of ≡ Some (Imported origin type)
   pub with_options : AllZip (IsHeldOption things) written held
-  pub is : IsOpaqueOf s address (core_signature type []) (Lowering of held)
+  pub is : IsOpaqueOf s address (core_signature type held) (Lowering of held)
 
 -- a lift of the core function at this index, with these options, of the type at this index
 pub record IsLiftedItem (things : List Thing) (s : Store) (core : ℕ) (written : List CanonicalOption) (kind address : ℕ) : Type 0 where
@@ -209,8 +216,8 @@ pub record IsLiftedItem (things : List Thing) (s : Store) (core : ℕ) (written 
   pub typed : IsTypeAt things s kind type
   pub is : slice_get s.functions address ≡ Some (Lifting of held type)
 
--- what an alias names of an instance of a module: an export of a user module, of a kind that validation found, or what the module of
--- shims exports
+-- what an alias names of an instance of a module: an export of a user module, of a kind that
+-- validation found, or what the module of shims exports
 pub record NamesUser (w : ComponentWorld) (number : ℕ) (kind : ExportKind) (name : List ℕ) : Type 0 where
   pub of : WorldModule
   pub listed : slice_get (user_modules w) number ≡ Some of
@@ -243,7 +250,8 @@ pub record IsArgumentHeld (things : List Thing) (a : Argument) (x : Export) : Ty
   pub space : x.space ≡ sort_space a.sort
   pub at : address_at (sort_space a.sort) a.index things ≡ Some x.address
 
--- an instance of the nested component at this index, with these arguments: it exports what the component's definitions say
+-- an instance of the nested component at this index, with these arguments: it exports what the
+-- component's definitions say
 pub record IsNestedInstance (ds : List Def) (things : List Thing) (s : Store) (component : ℕ) (written : List Argument) (address : ℕ) : Type 0 where
   pub definitions : List Item
   pub given : List ℕ → TypeTree
@@ -266,6 +274,7 @@ module _ (w : ComponentWorld) (shims : Option ShimsAt) (ds : List Def) (things :
   ItemIs (items.Intrinsic (intrinsics.ResourceNew type)) a = IsResourceItem things s New type a
   ItemIs (items.Intrinsic (intrinsics.ResourceRep type)) a = IsResourceItem things s Rep type a
   ItemIs (items.Intrinsic (intrinsics.ResourceDrop type)) a = IsResourceItem things s Drop type a
+  ItemIs (items.Intrinsic intrinsic) a = IsPlainItem s intrinsic (plain_type intrinsic) a
   ItemIs (items.Instantiate component arguments) a = IsNestedInstance ds things s component arguments a
   ItemIs _ a = Unit {0}
 
@@ -324,7 +333,8 @@ pub record IsFunctionExported (w : ComponentWorld) (s : Store) (address : ℕ) (
   pub is : IsOpaqueOf s address type (ExportedBy user export_ref.name)
   pub offered : found export_ref.name of.world_module.found.offered ≡ Some (externs.Func type)
 
--- the item of this space, which is none of functions, is this export of a user module, of the type that validation found
+-- the item of this space, which is none of functions, is this export of a user module, of the type
+-- that validation found
 pub record IsItemExported (w : ComponentWorld) (s : Store) (space : Space) (address : ℕ) (export_ref : ExportRef) : Type 0 where
   pub number : ℕ
   pub of : IsModule w number export_ref.of
@@ -344,7 +354,8 @@ pub record IsMemoryExported (s : Store) (address : ℕ) (e : CoreExport) : Type 
   pub of : instance.module_number ≡ e.of
   pub exported : export_of spaces.CoreMemory e.name instance.exports ≡ Some (record { space = spaces.CoreMemory; name = e.name; address = address })
 
--- a memory of this type is offered as main's: the type that main imports, or the one that validation found of its export
+-- a memory of this type is offered as main's: the type that main imports, or the one that
+-- validation found of its export
 abbrev pub IsTypeOfMemory : ComponentWorld → Option MemoryType → CoreExport → MemoryType → Type 0
 IsTypeOfMemory w (Some imported) e type = type ≡ imported
 IsTypeOfMemory w None e type = found e.name w.main.offered ≡ Some (externs.Memory type)
@@ -385,7 +396,7 @@ IsOptionHeld w s held option = ⊥
 -- the core function is a lowering of the import of this origin, which has this type, with these options
 pub record IsLoweringOf (s : Store) (address : ℕ) (origin : Origin) (type : FunctionTree) (held : List HeldOption) : Type 0 where
   pub of : ℕ
-  pub is : IsOpaqueOf s address (core_signature type []) (Lowering of held)
+  pub is : IsOpaqueOf s address (core_signature type held) (Lowering of held)
   pub imported : slice_get s.functions of ≡ Some (Imported origin type)
 
 -- the core function is a lowering of this function of the world, with these options
@@ -404,10 +415,17 @@ pub record IsFunctionOf (s : Store) (address : ℕ) (function : ResourceFunction
   pub is : IsOpaqueOf s address (resource_core function) (IntrinsicOf (intrinsic_of function of))
   pub held : IsHeldAs s.types (OfValues (ResourceAt resource)) of
 
+-- the core function is this built-in one, with its core type
+pub record IsBuiltInAt (s : Store) (address : ℕ) (intrinsic : Intrinsic) : Type 0 where
+  pub type : FuncType
+  pub typed : plain_type intrinsic ≡ Some type
+  pub is : IsOpaqueOf s address type (IntrinsicOf intrinsic)
+
 -- the core function is what the target names
 abbrev pub IsServedAs : ComponentWorld → Store → ℕ → Target → Type 0
 IsServedAs w s address (Lowered function options) = IsLoweredFor w s address function options
 IsServedAs w s address (OfResource function id) = IsFunctionOf s address function (resource_of w id)
+IsServedAs w s address (BuiltIn intrinsic) = IsBuiltInAt s address intrinsic
 IsServedAs w s address (ExportOf export_ref) = IsFunctionExported w s address export_ref
 IsServedAs w s address target = ⊥
 
@@ -459,8 +477,8 @@ pub record AreFilled (w : ComponentWorld) (s : Store) (table : ℕ) : Type 0 whe
   pub slots : slice_get s.code.tables table ≡ Some (map (λ f. Some f) functions)
   pub each : AllZip (IsFilledWith w s) (shims_of w) functions
 
--- an instance with the number of the module of shims exports those that are here; where there are none, it is that of a fixup, and
--- exports nothing
+-- an instance with the number of the module of shims exports those that are here; where there are
+-- none, it is that of a fixup, and exports nothing
 abbrev pub exports_if : ComponentWorld → Option ShimsAt → List Export
 exports_if w None = []
 exports_if w (Some at) = exports_of_shims w at
@@ -479,8 +497,8 @@ pub record HasTable (tables : List (List (Option ℕ))) (address : ℕ) : Type 0
   pub slots : List (Option ℕ)
   pub present : slice_get tables address ≡ Some slots
 
--- The instance of the shims is made, where these modules are instantiated. Its slots, where there are shims, are empty until the fixup
--- is made, and then hold what the shims stand for.
+-- The instance of the shims is made, where these modules are instantiated. Its slots, where there
+-- are shims, are empty until the fixup is made, and then hold what the shims stand for.
 pub record AreShims (w : ComponentWorld) (s : Store) (numbers : List ℕ) (at : ShimsAt) : Type 0 where
   pub there : Contains numbers (shims_number w)
   pub any : has_shim_module w ≡ true
@@ -550,8 +568,8 @@ pub record IsRequiredAt (w : ComponentWorld) (s : Store) (r : RequiredFunction) 
   pub exported : function_exported w r.key r.function ≡ Some wit
   pub is : IsLiftedFrom w s address (record { of = r.of; name = name }) (lift_options w r) (type_of_function w wit)
 
--- the export is one; or is an instance that exports one for each function that is required at a key, under its name, and what each
--- type denotes that is
+-- the export is one; or is an instance that exports one for each function that is required at a
+-- key, under its name, and what each type denotes that is
 pub record IsFunctionExport (w : ComponentWorld) (s : Store) (r : RequiredFunction) (e : Export) : Type 0 where
   pub space : e.space ≡ spaces.Func
   pub is : IsRequiredAt w s r e.address

@@ -111,7 +111,8 @@ root_world bytes imported exported groups core_exports = whole_of (record {
   can_use_context_slot_1 = false;
 })
 
--- how a run ended: the core functions, their known items, the functions, what each user instance was given, the exports, the events
+-- how a run ended: the core functions, their known items, the functions, what each user instance
+-- was given, the exports, the events
 pub record Ended : Type 0 where
   pub code : List Func
   pub known : List CoreItem

@@ -1,5 +1,5 @@
--- A worked example: an adapter that imports the memory of main, and two functions from main as a whole, and that exports a function of
--- the world.
+-- A worked example: an adapter that imports the memory of main, and two functions from main as a
+-- whole, and that exports a function of the world.
 use Rattle.std.proofs.Common.{◌≡◌, ℕ, List, [], ◌∷◌, refl, false, Option, Some, None, map}
 use Rattle.std.specs.Prelude.{codes}
 use Rattle.comp_bytes.proofs.Worked.{plain, g, core, function}
@@ -60,7 +60,8 @@ main = record {
   metadata = record { import_encodings = []; export_encodings = [] };
 }
 
--- the adapter imports the memory by its role, and k and g from all that main exports; it exports the function h of the world
+-- the adapter imports the memory by its role, and k and g from all that main exports; it exports
+-- the function h of the world
 abbrev pub adapter : WorldAdapter
 adapter = record {
   info = record {

@@ -1,5 +1,6 @@
--- A worked example: the list with an adapter is composed and linked. With two of the adapter's imports crossed it isn't linked, nor with
--- main's function in the place of one that the adapter has to provide.
+-- A worked example: the list with an adapter is composed and linked. With two of the adapter's
+-- imports crossed it isn't linked, nor with main's function in the place of one that the adapter
+-- has to provide.
 use Rattle.comp_links.specs.Naming.{own_names}
 use Rattle.std.proofs.Common.{◌≡◌, ◌<◌, ◌∙◌, ◌≤◌, ℕ, zero, suc, true≢false, List, [], ◌∷◌, refl, sym, ap, subst, Option, Some, None, arith}
 use Rattle.std.proofs.lemmas.Option.{none-some, same_Some}

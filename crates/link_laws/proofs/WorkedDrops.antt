@@ -1,5 +1,5 @@
--- A worked example: a world that imports two resources, of which main drops handles. Its list links, and with the two drops crossed
--- it isn't linked.
+-- A worked example: a world that imports two resources, of which main drops handles. Its list
+-- links, and with the two drops crossed it isn't linked.
 use Rattle.comp_worlds.specs.WorldContents.{items_of}
 use Rattle.wit_data.specs.Keys.{is_same_key}
 use Rattle.std.specs.Map.{keys_of}

@@ -1,5 +1,5 @@
--- A worked example: a validated world of main and an adapter that imports main's memory and a function that main exports. Its list keeps
--- the rules, and so it links.
+-- A worked example: a validated world of main and an adapter that imports main's memory and a
+-- function that main exports. Its list keeps the rules, and so it links.
 use Rattle.comp_links.specs.Naming.{own_names}
 use Rattle.std.proofs.Common.{inl, ◌≡◌, ℕ, List, [], ◌∷◌, refl, sym, ap, false, Some, None, map, take, arith}
 use Rattle.std.specs.Prelude.{codes}

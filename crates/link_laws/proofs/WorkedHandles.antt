@@ -1,6 +1,7 @@
--- A worked example: a world that exports an interface with two resources r and s, and whose main imports `resource.new`,
--- `resource.rep` and `resource.drop` of r. Its list defines both resources, gives main these functions of r, and links. Where main is
--- given the `resource.rep` of s the run ends too, but the list isn't linked. Of an imported resource neither `resource.new` nor
+-- A worked example: a world that exports an interface with two resources r and s, and whose main
+-- imports `resource.new`, `resource.rep` and `resource.drop` of r. Its list defines both resources,
+-- gives main these functions of r, and links. Where main is given the `resource.rep` of s the run
+-- ends too, but the list isn't linked. Of an imported resource neither `resource.new` nor
 -- `resource.rep` can be made.
 use Rattle.std.proofs.Common.{inl, ◌≡◌, ◌∙◌, ◌++◌, ℕ, Bool, true, false, List, [], ◌∷◌, refl, sym, ap, subst, Some, None, cond, map, take, arith}
 use Rattle.std.proofs.lemmas.Option.{none-some, same_Some}

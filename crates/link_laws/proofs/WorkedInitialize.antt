@@ -1,5 +1,5 @@
--- Worked examples: a main module that exports the function `i` with which it is initialized. The fixup calls it once; where it is not
--- called, or twice, a list runs to its end, and isn't linked.
+-- Worked examples: a main module that exports the function `i` with which it is initialized. The
+-- fixup calls it once; where it is not called, or twice, a list runs to its end, and isn't linked.
 use Rattle.comp_links.specs.Naming.{own_names}
 use Rattle.std.proofs.Common.{◌≡◌, ◌∙◌, ℕ, List, [], ◌∷◌, map, refl, sym, Option, Some, None, false}
 use Rattle.std.specs.Prelude.{codes}

@@ -1,4 +1,5 @@
--- A worked example: two instances are imported, each with a function of one name. Each function is known by the number of its import.
+-- A worked example: two instances are imported, each with a function of one name. Each function is
+-- known by the number of its import.
 use Rattle.std.proofs.Common.{◌≡◌, List, ℕ, [], ◌∷◌, refl, false, Option, Some, None, map, take}
 use Rattle.std.specs.Option.{option_map}
 use Rattle.comp_bytes.proofs.Worked.{plain, f, g, core}

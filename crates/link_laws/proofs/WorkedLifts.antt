@@ -1,5 +1,6 @@
--- A worked example: a world that exports a function of a text, with a post-return. Its lift has a memory, a realloc, a string
--- encoding and the post-return; with the realloc and the post-return crossed the list runs to its end, but it isn't linked.
+-- A worked example: a world that exports a function of a text, with a post-return. Its lift has a
+-- memory, a realloc, a string encoding and the post-return; with the realloc and the post-return
+-- crossed the list runs to its end, but it isn't linked.
 use Rattle.comp_worlds.specs.WorldContents.{items_of}
 use Rattle.wit_data.specs.Keys.{is_same_key}
 use Rattle.std.specs.Map.{keys_of}
@@ -125,7 +126,7 @@ unfolding values_from
 is_world = record {
   present = omega arith;
   imports = tt;
-  exports = ((refl, tt), tt);
+  exports = (refl, tt);
   import_keys_apart = keys_apart;
   import_names_apart = none_apart;
   export_keys_apart = one_key_apart (keys.Name g);

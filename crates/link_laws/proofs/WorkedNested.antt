@@ -1,5 +1,6 @@
--- A worked example: a world that exports an interface with two functions f and h of one type, which main exports as g and k. Its
--- list has a nested component that imports both and exports them again, an instance of it, and an export of that instance.
+-- A worked example: a world that exports an interface with two functions f and h of one type, which
+-- main exports as g and k. Its list has a nested component that imports both and exports them
+-- again, an instance of it, and an export of that instance.
 use Rattle.std.proofs.Common.{inl, ◌≡◌, ◌∙◌, ◌++◌, ℕ, Bool, true, false, List, [], ◌∷◌, refl, sym, Some, None, cond, map, take, arith, Option}
 use Rattle.std.proofs.lemmas.Option.{none-some}
 use Rattle.std.specs.Prelude.{codes}
@@ -115,7 +116,7 @@ unfolding values_from
 is_world = record {
   present = omega arith;
   imports = tt;
-  exports = (((refl, tt), ((refl, tt), tt)), tt);
+  exports = ((refl, (refl, tt)), tt);
   import_keys_apart = no_keys_apart;
   import_names_apart = none_apart;
   export_keys_apart = one_key_apart key;

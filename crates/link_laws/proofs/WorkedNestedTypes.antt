@@ -1,6 +1,7 @@
--- A worked example: a world that exports an interface with a record p and another name q for u8, and no function. Its list has a
--- nested component that exports both, an instance of it, and an export of that instance. Where each is exported under the name of
--- the other the run ends too, but the list isn't linked.
+-- A worked example: a world that exports an interface with a record p and another name q for u8,
+-- and no function. Its list has a nested component that exports both, an instance of it, and an
+-- export of that instance. Where each is exported under the name of the other the run ends too, but
+-- the list isn't linked.
 use Rattle.std.proofs.Common.{inl, ◌≡◌, ◌∙◌, ℕ, Bool, true, false, true≢false, List, [], ◌∷◌, refl, sym, ap, subst, Some, None, cond, take, arith}
 use Rattle.std.proofs.lemmas.Option.{none-some, same_Some}
 use Rattle.std.specs.Prelude.{codes}

@@ -1,5 +1,6 @@
--- A worked example: a world that imports two interfaces, of which the second has a function of a record of the first. Its list, in
--- which the second instance type has an outer alias of the record, links.
+-- A worked example: a world that imports two interfaces, of which the second has a function of a
+-- record of the first. Its list, in which the second instance type has an outer alias of the
+-- record, links.
 use Rattle.std.specs.List.{IsDistinct}
 use Rattle.comp_worlds.specs.WorldContents.{items_of}
 use Rattle.wit_data.specs.Keys.{is_same_key}
@@ -59,7 +60,7 @@ is_world : IsWorld world
 unfolding values_from
 is_world = record {
   present = omega arith;
-  imports = (tt, (((refl, tt), tt), tt));
+  imports = (tt, ((refl, tt), tt));
   exports = tt;
   import_keys_apart = keys_apart;
   import_names_apart = none_apart;
@@ -70,7 +71,7 @@ is_world = record {
   main = record {
     core = refl;
     modules_apart = one_apart from_u;
-    import_roles = ((one_apart f, (((1, omega arith, refl), (0, omega arith, refl), refl), tt)), tt);
+    import_roles = ((one_apart f, (((1, omega arith, refl), (0, omega arith, refl), tt), tt)), tt);
     own_keys = (tt, tt);
     imported = (inl (record { role = f_role; has_role = refl; fits = refl }), tt);
     export_roles = tt;

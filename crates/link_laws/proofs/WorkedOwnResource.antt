@@ -1,6 +1,7 @@
--- A worked example: a world that exports an interface with a resource r, whose destructor main exports as d. Its list makes a shim
--- for the destructor, defines the resource with it, and fills the shim with main's d; the resource is given to a nested component,
--- which exports it. Where the resource is defined without a destructor the run ends too, but the list isn't linked.
+-- A worked example: a world that exports an interface with a resource r, whose destructor main
+-- exports as d. Its list makes a shim for the destructor, defines the resource with it, and fills
+-- the shim with main's d; the resource is given to a nested component, which exports it. Where the
+-- resource is defined without a destructor the run ends too, but the list isn't linked.
 use Rattle.std.proofs.Common.{inl, inr, ◌≡◌, ◌∙◌, ◌++◌, ℕ, Bool, true, false, true≢false, List, [], ◌∷◌, refl, sym, ap, subst, Option, Some, None, cond, map, take, pos, arith}
 use Rattle.std.proofs.lemmas.Option.{none-some, same_Some}
 use Rattle.std.specs.Prelude.{codes}
@@ -486,7 +487,8 @@ straight_links = links own_names world straight is_world exports_apart keeps_the
 abbrev end_with : Option ℕ → Outcome
 end_with destructor = outcome world generated (list_with destructor) made
 
--- how a run ended: the core functions and the tables, the known items, the types, the instances of modules and what instances export
+-- how a run ended: the core functions and the tables, the known items, the types, the instances of
+-- modules and what instances export
 pub record Ended : Type 0 where
   pub code : CodeStore
   pub known : List CoreItem

@@ -1,5 +1,6 @@
--- A worked example: a world that imports two interfaces, of which the second uses a resource of the first. Its list links, and where
--- the second instance has a resource of its own under that name it isn't linked.
+-- A worked example: a world that imports two interfaces, of which the second uses a resource of the
+-- first. Its list links, and where the second instance has a resource of its own under that name it
+-- isn't linked.
 use Rattle.comp_worlds.specs.WorldContents.{items_of}
 use Rattle.wit_data.specs.Keys.{is_same_key}
 use Rattle.std.specs.Map.{keys_of}
@@ -131,7 +132,7 @@ is_world : IsWorld world
 unfolding values_from
 is_world = record {
   present = omega arith;
-  imports = (tt, (((refl, tt), tt), tt));
+  imports = (tt, ((refl, tt), tt));
   exports = tt;
   import_keys_apart = keys_apart;
   import_names_apart = none_apart;
@@ -142,7 +143,7 @@ is_world = record {
   main = record {
     core = refl;
     modules_apart = modules_apart;
-    import_roles = ((one_apart drop_r, (record { present = omega arith; kind = refl }, tt)), ((one_apart f, (((1, omega arith, refl), (0, omega arith, refl), refl), tt)), tt));
+    import_roles = ((one_apart drop_r, (record { present = omega arith; kind = refl }, tt)), ((one_apart f, (((1, omega arith, refl), (0, omega arith, refl), tt), tt)), tt));
     own_keys = (tt, (tt, tt));
     imported = (inl (record { role = drop_role; has_role = refl; fits = refl }), (inl (record { role = f_role; has_role = refl; fits = refl }), tt));
     export_roles = tt;

@@ -1,5 +1,5 @@
--- A worked example: a world that imports a function of a text. Its lowering has a memory, which is main's own, so that main is
--- instantiated with a shim in its place.
+-- A worked example: a world that imports a function of a text. Its lowering has a memory, which is
+-- main's own, so that main is instantiated with a shim in its place.
 use Rattle.std.specs.List.{IsDistinct, list_all}
 use Rattle.comp_worlds.specs.WorldContents.{items_of}
 use Rattle.wit_data.specs.Keys.{is_same_key}
@@ -114,7 +114,7 @@ pub is_world : IsWorld world
 unfolding values_from
 is_world = record {
   present = omega arith;
-  imports = ((refl, tt), tt);
+  imports = (refl, tt);
   exports = tt;
   import_keys_apart = keys_apart;
   import_names_apart = one_apart f;
@@ -125,7 +125,7 @@ is_world = record {
   main = record {
     core = refl;
     modules_apart = one_apart root;
-    import_roles = ((one_apart f, (((0, omega arith, refl), refl, refl), tt)), tt);
+    import_roles = ((one_apart f, (((0, omega arith, refl), refl, tt), tt)), tt);
     own_keys = (tt, tt);
     imported = (inl (record { role = role_f; has_role = refl; fits = refl }), tt);
     export_roles = (tt, tt);

@@ -1,5 +1,5 @@
--- A worked example: the list with the lowering of a function of a text keeps the rules, so that it links; it keeps them with no
--- other options of that lowering.
+-- A worked example: the list with the lowering of a function of a text keeps the rules, so that it
+-- links; it keeps them with no other options of that lowering.
 use Rattle.comp_links.specs.Naming.{own_names}
 use Rattle.std.proofs.Common.{inl, inr, ◌≡◌, ◌∙◌, ℕ, zero, suc, Bool, true, false, true≢false, List, [], ◌∷◌, refl, sym, ap, subst, Option, Some, None, take, arith}
 use Rattle.std.proofs.lemmas.Option.{none-some}
@@ -80,7 +80,7 @@ shim_aliased = record { place = 0; is = shims_made 5 refl; listed = omega arith;
 
 stands_for_f : IsShimOf world only_shim Main role_f
 unfolding values_from
-stands_for_f = record { of_kind = refl; right = ((0, omega arith, refl), refl, refl); typed = refl }
+stands_for_f = record { of_kind = refl; right = ((0, omega arith, refl), refl, tt); typed = refl }
 
 -- main is given the shim
 f_given : IsArgumentFor world Main (ds 7) (record { name = root; instance = 1 }) (root, instances.Names ((f, role_f) ∷ []))

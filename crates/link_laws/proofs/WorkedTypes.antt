@@ -123,8 +123,8 @@ pub is_world : IsWorld world
 unfolding values_from
 is_world = record {
   present = omega arith;
-  imports = (tt, ((refl, tt), tt));
-  exports = ((refl, tt), tt);
+  imports = (tt, (refl, tt));
+  exports = (refl, tt);
   import_keys_apart = keys_apart;
   import_names_apart = one_apart f;
   export_keys_apart = one_key_apart (keys.Name g);
@@ -134,7 +134,7 @@ is_world = record {
   main = record {
     core = refl;
     modules_apart = one_apart root;
-    import_roles = ((one_apart f, (((0, omega arith, refl), refl, refl), tt)), tt);
+    import_roles = ((one_apart f, (((0, omega arith, refl), refl, tt), tt)), tt);
     own_keys = (tt, tt);
     imported = (inl (record { role = imports.WorldFunc (keys.Name f) f GuestImport; has_role = refl; fits = refl }), tt);
     export_roles = (((0, omega arith, refl), refl, refl), tt);
@@ -156,8 +156,8 @@ record_type = items.Type (types.Defined (defined.Record (record { name = codes "
 abbrev from_type : ℕ → Primitive → Item
 from_type index to = items.Type (types.Func (record { async_ = false; params = record { name = a; ty = values.Defined index } ∷ []; result = Some (values.Primitive to) }))
 
--- the list that begins with these definitions, where f has the type of one index, this many types come before the tuple,
--- and the lift is of the type of another index
+-- the list that begins with these definitions, where f has the type of one index, this many types
+-- come before the tuple, and the lift is of the type of another index
 abbrev list_from : List Item → ℕ → ℕ → ℕ → List Def
 list_from front f_kind before g_kind = map defs.Item (
     front

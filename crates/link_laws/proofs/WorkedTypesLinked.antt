@@ -1,5 +1,5 @@
--- A worked example: the list with types keeps the rules, so that it links; with another type of its lift, or of its import, it
--- does not.
+-- A worked example: the list with types keeps the rules, so that it links; with another type of its
+-- lift, or of its import, it does not.
 use Rattle.comp_links.specs.Naming.{own_names}
 use Rattle.std.proofs.Common.{inl, ◌≡◌, ◌∙◌, ℕ, Bool, true, false, true≢false, List, [], ◌∷◌, refl, sym, ap, subst, Option, Some, None, take, arith}
 use Rattle.std.proofs.lemmas.Option.{same_Some}

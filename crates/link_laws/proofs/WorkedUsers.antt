@@ -1,5 +1,5 @@
--- A worked example: a validated world of main and an adapter, each of which has to export a function; the adapter imports one. Its list
--- keeps the rules, and so it links.
+-- A worked example: a validated world of main and an adapter, each of which has to export a
+-- function; the adapter imports one. Its list keeps the rules, and so it links.
 use Rattle.comp_links.specs.Naming.{own_names}
 use Rattle.std.proofs.Common.{inl, ◌≡◌, ℕ, List, [], ◌∷◌, refl, true, false, Some, None, map, take, arith}
 use Rattle.std.specs.List.{IsDistinct, slice_get}
@@ -114,8 +114,8 @@ two_names_apart = ((refl, tt), (tt, tt))
 pub is_world : IsWorld world
 is_world = record {
   present = omega arith;
-  imports = ((refl, tt), tt);
-  exports = ((refl, tt), ((refl, tt), tt));
+  imports = (refl, tt);
+  exports = (refl, (refl, tt));
   import_keys_apart = one_key_apart (keys.Name f);
   import_names_apart = one_apart f;
   export_keys_apart = two_exports_apart;
@@ -137,7 +137,7 @@ is_world = record {
     record {
       core = refl;
       modules_apart = one_apart root;
-      import_roles = ((one_apart f, (((0, omega arith, refl), refl, refl), tt)), tt);
+      import_roles = ((one_apart f, (((0, omega arith, refl), refl, tt), tt)), tt);
       own_keys = (tt, tt);
       imported = (inl (record { role = imports.WorldFunc (keys.Name f) f GuestImport; has_role = refl; fits = refl }), tt);
       export_roles = (((1, omega arith, refl), refl, refl), tt);

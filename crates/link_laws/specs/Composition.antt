@@ -74,8 +74,9 @@ listed (Some x) = x ∷ []
 abbrev pub generated_sections : GeneratedModules → List (List Section)
 generated_sections g = listed g.shims ++ listed g.fixup
 
--- Sections as a module has them, where those before have ids up to this one: their ids ascend, so that each is there at most once, and
--- behind them is the section of names, where debug names are on (core standard, binary format: modules).
+-- Sections as a module has them, where those before have ids up to this one: their ids ascend, so
+-- that each is there at most once, and behind them is the section of names, where debug names are
+-- on (core standard, binary format: modules).
 abbrev pub AreSectionsAfter : ℕ → Bool → List Section → Type 0
 AreSectionsAfter id debug_names [] = debug_names ≡ false
 AreSectionsAfter id debug_names (sections.Names names ∷ ss) = (debug_names ≡ true) × (ss ≡ [])
@@ -112,9 +113,10 @@ IsExportSound earlier sorts.Func index None = Unit {0}
 IsExportSound earlier sorts.Instance index None = IsInstanceOfNested earlier index
 IsExportSound earlier sort index description = ⊥
 
--- A nested component has types, imports and exports, each of which may stand where it does, and nothing else: no core module, no
--- instance, no custom section, and no resource. Its instances, and those of user modules, are given one argument for each import. An
--- imported instance has the types that are needed of it.
+-- A nested component has types, imports and exports, each of which may stand where it does, and
+-- nothing else: no core module, no instance, no custom section, and no resource. Its instances, and
+-- those of user modules, are given one argument for each import. An imported instance has the types
+-- that are needed of it.
 abbrev pub IsSound : ComponentWorld → List Def → Def → Type 0
 IsSound w earlier (defs.Component inner) = IsNestedRight inner
 IsSound w earlier (defs.Item (items.CoreInstantiate number arguments)) = AreArgumentsNamed w number arguments
@@ -149,9 +151,11 @@ pub record EndsWithNames (ds : List Def) : Type 0 where
   pub none_before : flat_map (at_root item_customs) front ≡ []
   pub named : AreNames names
 
--- As a list: the user modules are the first core modules, byte for byte but for the names that adapters may get for debuggers, and all
--- others are generated; the imports and exports are exactly the stated ones; each module is instantiated once, in order; nested
--- components pass on functions and types, under the stated names, and the types of imported instances export what is needed of them.
+-- As a list: the user modules are the first core modules, byte for byte but for the names that
+-- adapters may get for debuggers, and all others are generated; the imports and exports are exactly
+-- the stated ones; each module is instantiated once, in order; nested components pass on functions
+-- and types, under the stated names, and the types of imported instances export what is needed of
+-- them.
 pub record IsComposed (n : Naming) (w : ComponentWorld) (g : GeneratedModules) (ds : List Def) : Type 0 where
   pub generated : List (List ℕ)
   pub modules : flat_map (at_root item_module) ds ≡ user_bytes n.debug_names w ++ generated

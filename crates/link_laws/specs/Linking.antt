@@ -103,8 +103,8 @@ pub record IsOpaque (m : Machine) (address : ℕ) : Type 0 where
   pub signature : FuncType
   pub is : slice_get m.store.code.functions address ≡ Some (Opaque what signature)
 
--- What an import was given is what the link table says of it. A function that is given to an import which has no shim works from the
--- moment that it is given.
+-- What an import was given is what the link table says of it. A function that is given to an import
+-- which has no shim works from the moment that it is given.
 pub record IsServed (w : ComponentWorld) (m : Machine) (origins : TypeId → Resource) (of : WorldModule) (thing : Thing) (i : ImportType) : Type 0 where
   pub target : Target
   pub said : link_at w of i.module_name i.field ≡ Some target
@@ -115,8 +115,8 @@ pub record IsServed (w : ComponentWorld) (m : Machine) (origins : TypeId → Res
 abbrev pub AreServed : ComponentWorld → Machine → (TypeId → Resource) → WorldModule → ModuleInstance → Type 0
 AreServed w m origins of i = AllZip (IsServed w m origins of) i.given of.found.imported
 
--- each instance of a user module, where the types that the component imports, and the resources that it defines, are what they are
--- in the world
+-- each instance of a user module, where the types that the component imports, and the resources
+-- that it defines, are what they are in the world
 pub record UsersServed (w : ComponentWorld) (m : Machine) (origins : TypeId → Resource) : Type 0 where
   pub resources : AllByRecursion (λ id. origins id ≡ resource_of w id) (component_types w ++ own_resources w)
   pub each : (instance : ℕ) (i : ModuleInstance) (of : WorldModule) → slice_get m.store.module_instances instance ≡ Some i → slice_get (user_modules w) i.module_number ≡ Some of → AreServed w m origins of i
@@ -215,9 +215,10 @@ MakesCall w m (Called address arguments) call =
     × ItemIsExport w m call.function item × (arguments ≡ call.arguments)
 MakesCall w m event call = ⊥
 
--- At the end: each module has one instance, in order; each import is served, and each required function and type is
--- provided; each resource that is defined is one of the world's, and each of these is defined; each shim is filled, and no table of
--- a user module is written; and what was seen from outside is the instantiation of each user module, and then the start calls.
+-- At the end: each module has one instance, in order; each import is served, and each required
+-- function and type is provided; each resource that is defined is one of the world's, and each of
+-- these is defined; each shim is filled, and no table of a user module is written; and what was
+-- seen from outside is the instantiation of each user module, and then the start calls.
 pub record IsLinked (n : Naming) (w : ComponentWorld) (g : GeneratedModules) (m : Machine) : Type 0 where
   pub origins : TypeId → Resource
   pub start_events : List Event
@@ -250,8 +251,8 @@ TypesServed w ds m = imported_among (filter (λ d. is_space spaces.Type (space_o
 
 -- ---- before the fixup
 
--- a call of the function traps with no event, for all arguments of its type, and whatever happened since in globals that
--- hold no reference
+-- a call of the function traps with no event, for all arguments of its type, and whatever happened
+-- since in globals that hold no reference
 pub record TrapsAtOnce (m : Machine) (address : ℕ) : Type 0 where
   pub function : Func
   pub is : slice_get m.store.code.functions address ≡ Some function
@@ -269,14 +270,15 @@ pub record ShimsTrapBefore (w : ComponentWorld) (g : GeneratedModules) (ds : Lis
 abbrev pub events_before_start : ComponentWorld → GeneratedModules → ℕ
 events_before_start w g = length (user_modules w) + elim g.fixup [ None ↦ 0 | Some ss ↦ length (parts_of ss).segments ]
 
--- From the first event of the fixup's start function on, each shim is filled and each import is served, also in a run that ends early.
+-- From the first event of the fixup's start function on, each shim is filled and each import is
+-- served, also in a run that ends early.
 pub record ServedThroughout (w : ComponentWorld) (g : GeneratedModules) (ds : List Def) : Type 0 where
   pub each : (answers : List Answer) (m : Machine) → EndsAt m (outcome w g ds answers) → (event : ℕ) (globals : List Cell) → events_before_start w g ≤ event → slice_get m.now.moments event ≡ Some globals →
       ShimsFilled w (record m { now = record m.now { globals = globals } }) × (origins : TypeId → Resource) × UsersServed w (record m { now = record m.now { globals = globals } }) origins
 
--- When it is run, whatever the outside returns: it is never stuck; it is done where the answers let it; where it is done
--- it is linked, and the types that it imports are the world's; shims trap before they are filled, and are filled before
--- anything is called.
+-- When it is run, whatever the outside returns: it is never stuck; it is done where the answers let
+-- it; where it is done it is linked, and the types that it imports are the world's; shims trap
+-- before they are filled, and are filled before anything is called.
 pub record Links (n : Naming) (w : ComponentWorld) (g : GeneratedModules) (ds : List Def) : Type 0 where
   pub never_stuck : (answers : List Answer) → outcome w g ds answers ≢ Stuck
   pub ends : (answers : List Answer) → LetsRun (questions w) answers → (m : Machine) × (outcome w g ds answers ≡ Done m)

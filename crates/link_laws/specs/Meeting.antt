@@ -22,8 +22,9 @@ use Rattle.comp_worlds.specs.declared.world.ComponentWorld.{ComponentWorld}
 use Rattle.comp_trees.specs.Trees.{Origin, Resource, ResourceAt, FunctionTree}
 use Rattle.comp_trees.specs.WitTrees.{wit_function_tree}
 use Rattle.comp_trees.specs.DefinedTrees.{OfValues}
+use Rattle.comp_bytes.specs.declared.canon.Intrinsic.{Intrinsic}
 use Rattle.comp_bytes.specs.declared.canon.Intrinsic.TheVariants as intrinsics
-use Rattle.comp_links.specs.Targets.{Main, WorldFunction, ExportRef, TargetOption, Memory, Realloc, Encoding, Async, PostReturn, Callback, ResourceFunction, New, Rep, Drop, Target, Lowered, ExportOf, MainMemory, OfResource}
+use Rattle.comp_links.specs.Targets.{Main, WorldFunction, ExportRef, TargetOption, Memory, Realloc, Encoding, Async, PostReturn, Callback, ResourceFunction, New, Rep, Drop, Target, Lowered, ExportOf, MainMemory, OfResource, BuiltIn}
 use Rattle.comp_links.specs.Modules.{user_modules, IsModule, function_imported}
 use Rattle.comp_links.specs.Lists.{IsOriginOf}
 use Rattle.comp_runs.specs.Store.{Thing, HeldOption, HeldEncoding, HeldMemory, HeldRealloc, HeldPostReturn, HeldAsync, HeldCallback, CoreItem, Lowering, IntrinsicOf, tree_held, ExportedBy, Imported, Lifting, ModuleInstance}
@@ -142,7 +143,7 @@ abbrev pub MeetOptions : ComponentWorld → Machine → List HeldOption → List
 MeetOptions w m held options = AllZip (MeetsOption w m) held options
 
 -- what is bracketed as the entry of a lift, by the lift's options
-abbrev is_async : TargetOption → Bool
+abbrev pub is_async : TargetOption → Bool
 is_async Async = true
 is_async option = false
 
@@ -185,6 +186,11 @@ ItemIsOfResource m Rep resource (IntrinsicOf (intrinsics.ResourceRep type)) = Is
 ItemIsOfResource m Drop resource (IntrinsicOf (intrinsics.ResourceDrop type)) = IsResourceHeld m resource type
 ItemIsOfResource m function resource item = ⊥
 
+-- a built-in function without operands
+abbrev pub ItemIsBuiltIn : Intrinsic → CoreItem → Type 0
+ItemIsBuiltIn intrinsic (IntrinsicOf same) = same ≡ intrinsic
+ItemIsBuiltIn intrinsic item = ⊥
+
 -- the function at this address is a lift of this type, whose entry and options meet those of the target
 pub record IsLift (w : ComponentWorld) (m : Machine) (address : ℕ) (type : FunctionTree) (entry : ExportRef) (options : List TargetOption) : Type 0 where
   pub core : ℕ
@@ -197,6 +203,7 @@ pub record IsLift (w : ComponentWorld) (m : Machine) (address : ℕ) (type : Fun
 abbrev pub MeetsIn : ComponentWorld → Machine → (TypeId → Resource) → Space → ℕ → Target → Type 0
 MeetsIn w m origins spaces.CoreFunc address (Lowered of options) = CoreMeets w m None address (ItemIsLowering w m origins of options)
 MeetsIn w m origins spaces.CoreFunc address (OfResource function id) = CoreMeets w m None address (ItemIsOfResource m function (origins id))
+MeetsIn w m origins spaces.CoreFunc address (BuiltIn intrinsic) = CoreMeets w m None address (ItemIsBuiltIn intrinsic)
 MeetsIn w m origins spaces.CoreFunc address (ExportOf export_ref) = CoreExportMeets w m None address export_ref
 MeetsIn w m origins spaces.CoreTable address (ExportOf export_ref) = ItemMeets w m spaces.CoreTable address export_ref
 MeetsIn w m origins spaces.CoreMemory address (ExportOf export_ref) = ItemMeets w m spaces.CoreMemory address export_ref

@@ -15,8 +15,9 @@ pub enum Kind {
     Modules,
     /// Two modules, with ` & ` between them.
     Pairs,
-    /// A module, and behind it adapters and libraries, each after ` & ` with its name: `NAME: MODULE` or `library NAME: MODULE`, where
-    /// the name of a library may be followed by its arguments (`argument_cases`).
+    /// A module, and behind it adapters and libraries, each after ` & ` with its name: `NAME:
+    /// MODULE` or `library NAME: MODULE`, where the name of a library may be followed by its
+    /// arguments (`argument_cases`).
     Groups,
 }
 

@@ -214,7 +214,7 @@ module _ (w : ComponentWorld) (ok : IsEncodable w) (key : WorldKey) (id : Interf
       by (keys.Interface other) h = h
 
   pub own_names : AllByRecursion (λ (e : List ℕ × Function). e.0 ≡ e.1.name) entries
-  own_names = AllByRecursion-weaker (λ (e : List ℕ × Function) h. h.0) entries entries_named
+  own_names = entries_named
 
   entry_found : IsDistinct bytes_eq (keys_of entries) → (e : List ℕ × Function) → Contains entries e → function_exported w key e.0 ≡ Some e.1
   entry_found apart e c = ap (λ o. function_of_item w.resolve e.0 o) is ∙ lookup-from_Contains bytes_laws e.0 e.1 entries apart c

@@ -1,5 +1,5 @@
--- What the instance of a nested component exports is what the inventory says: the types that are given for its imports are those
--- that its arguments denote.
+-- What the instance of a nested component exports is what the inventory says: the types that are
+-- given for its imports are those that its arguments denote.
 use Rattle.std.proofs.Common.{◌≡◌, ◌∙◌, ℕ, List, [], ◌∷◌, ◌++◌, Some, None, append-nil, map, get_or, refl, sym, ap}
 use Rattle.std.proofs.lemmas.Option.{get_or_from_slice_get}
 use Rattle.std.specs.List.{AllByRecursion, slice_get}

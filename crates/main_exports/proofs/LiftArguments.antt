@@ -23,8 +23,8 @@ use Rattle.main_exports.proofs.Growth.{argument-kept}
 abbrev Entries : Type 0
 Entries = List (List ℕ × Function)
 
--- Once the functions before the rest have their arguments, the arguments of the rest behind these are those of all; what holds of
--- the rest holds of all; and the rest is among all.
+-- Once the functions before the rest have their arguments, the arguments of the rest behind these
+-- are those of all; what holds of the rest holds of all; and the rest is among all.
 pub record ArgumentsSoFar (w : ComponentWorld) (of : User) (old new : Root) (key : WorldKey) (all : Entries) (names : List (List ℕ)) (rest : Entries) (left : List (List ℕ)) (done : List Argument) : Type 0 where
   pub kept : RootKept w old new
   pub grows : Grows w old.items.defs new.items.defs []

@@ -1,4 +1,5 @@
--- The options that are asked for are those that the link table names for a lift, and what is missing for them is a cause.
+-- The options that are asked for are those that the link table names for a lift, and what is
+-- missing for them is a cause.
 use Rattle.std.proofs.Common.{◌≡◌, ◌∙◌, ℕ, List, [], ◌∷◌, refl, sym, ap, subst, Some, None, Option, IsTrue, IsSome}
 use Rattle.std.specs.Option.{option_map, option_map_or}
 use Rattle.comp_bytes.specs.declared.canon.CanonicalOption.{CanonicalOption}

@@ -1,4 +1,5 @@
--- What is taken as given where the required exports are lifted, and what is lifted for each. (The rules are this project's own.)
+-- What is taken as given where the required exports are lifted, and what is lifted for each. (The
+-- rules are this project's own.)
 use Rattle.std.specs.Prelude.{◌≡◌, ◌<◌, ◌≤◌, ◌+◌, ℕ, length, true, List, [], ◌∷◌, ◌++◌, map, Option, Some, IsSome, slice_get, None}
 use Rattle.std.specs.List.{AllByRecursion, AllZip, IsDistinct, flat_map}
 use Rattle.std.specs.Option.{option_map}
@@ -70,7 +71,8 @@ pub record IsUserInstance (w : ComponentWorld) (ds : List Def) (u : UserInstance
 abbrev pub exporter : ModuleExports → User
 exporter e = user_of e.user.which
 
--- what functions are lifted from is there, interfaces are exported behind those that they use, and the tables of types are right
+-- what functions are lifted from is there, interfaces are exported behind those that they use, and
+-- the tables of types are right
 pub record AreExports (w : ComponentWorld) (e : ModuleExports) (root : Root) : Type 0 where
   pub valid : IsEncodable w
   pub user : IsUserInstance w root.items.defs e.user
@@ -93,7 +95,8 @@ IsOwnExportIf e None None = Unit {0}
 IsOwnExportIf e (Some name) (Some x) = IsOwnExport e name x
 IsOwnExportIf e name x = ⊥
 
--- The types of each interface that has to be exported are at hand: of those that come from this number on, they are in the tables.
+-- The types of each interface that has to be exported are at hand: of those that come from this
+-- number on, they are in the tables.
 pub record AreExportsAtHand (w : ComponentWorld) (met : MetTypes) (number : ℕ) : Type 0 where
   pub before : (n : ℕ) (id : InterfaceId) → n < number → IsExportedAt w n id → is_at_hand met id ≡ true
   pub from : (n : ℕ) (id : InterfaceId) → number ≤ n → IsExportedAt w n id → has_types met id ≡ true
@@ -102,7 +105,8 @@ pub record AreExportsAtHand (w : ComponentWorld) (met : MetTypes) (number : ℕ)
 abbrev pub function_of : User → FunctionKey → RequiredFunction
 function_of of f = record { of = of; key = f.key; function = f.function }
 
--- the function of a name at a key is this one, the module has a core export that implements it, and its types are in the resolve
+-- the function of a name at a key is this one, the module has a core export that implements it, and
+-- its types are in the resolve
 pub record IsModuleFunction (w : ComponentWorld) (of : User) (f : FunctionKey) (function : WitFunction) : Type 0 where
   pub exported : function_exported w f.key f.function ≡ Some function
   pub present : IsSome (core_name w (function_of of f))
@@ -158,12 +162,14 @@ functions_of_key w of key = functions_required w (key_for of key)
 abbrev pub key_marked : Naming → ComponentWorld → User → WorldKey → List Landmark
 key_marked n w of key = export_marked n w (key_for of key)
 
--- from this number on, the keys that the world requires are these of the module, which implements what is required at them
+-- from this number on, the keys that the world requires are these of the module, which implements
+-- what is required at them
 pub record AreNextKeys (w : ComponentWorld) (of : User) (found : ValidatedModule) (first : ℕ) (keys : List WorldKey) : Type 0 where
   pub each : (n : ℕ) (key : WorldKey) → slice_get keys n ≡ Some key → slice_get (required_keys w) (first + n) ≡ Some (key_for of key)
   pub required : AllByRecursion (IsRequired w found) keys
 
--- what is required at these keys is exported, and its functions have the string encodings and the options that lifts need
+-- what is required at these keys is exported, and its functions have the string encodings and the
+-- options that lifts need
 pub record AreExported (n : Naming) (w : ComponentWorld) (old new : List Def) (keys : List RequiredKey) : Type 0 where
   pub grows : Grows w old new (flat_map (export_marked n w) keys)
   pub encoded : AllByRecursion (IsEncodedExport w) (flat_map (functions_required w) keys)
@@ -192,7 +198,8 @@ pub record IsNextAdapter (w : ComponentWorld) (first : ℕ) (name : List ℕ) (a
 abbrev pub nested_mark : List Item → Landmark
 nested_mark definitions = NestedOf (flat_map function_import definitions) (flat_map item_export definitions)
 
--- the arguments are earlier functions and types under distinct names, one for each import of the component, and no others
+-- the arguments are earlier functions and types under distinct names, one for each import of the
+-- component, and no others
 pub record AreArgumentsFor (ds : List Def) (definitions : List Item) (arguments : List Argument) : Type 0 where
   pub given : List ℕ → TypeTree
   pub scoped : AllByRecursion (IsArgumentRight ds) arguments

@@ -1,5 +1,5 @@
-//! What the nested component of an interface is given for its imports: the lifts of the interface's functions, and the types of the
-//! root that they are made of.
+//! What the nested component of an interface is given for its imports: the lifts of the interface's
+//! functions, and the types of the root that they are made of.
 //!
 //! Component model, explainer: instance definitions.
 #![tactic(auto, using(crate::proofs::Growth::growing))]
@@ -29,8 +29,8 @@ use nested_components::{NestedComponent, TypeImport};
 use root_imports::RootScope;
 use wit_data::{Function, InterfaceId, WorldKey};
 
-/// The argument for the import of a type by the nested component of an exported interface: the type of the root that is what the
-/// import stands for.
+/// The argument for the import of a type by the nested component of an exported interface: the type
+/// of the root that is what the import stands for.
 fn type_argument(
     root: &mut RootScope<'_, ComponentWorld>,
     interface: InterfaceId,
@@ -38,11 +38,15 @@ fn type_argument(
 ) -> Result<Argument, StateFault>
     requires valid { IsEncodable root.old.world.now }
     requires usable { IsUsableType root.old.world.now interface import.now.id }
-    requires supplied { IsSupplied root.old.world.now root.old.met interface (length root.old.world.now.resolve.types) }
-    requires tables { AreTablesRight root.old.world.now root.old.met root.old.instances root.old.items.defs root.old.maps }
+    requires supplied { IsSupplied root.old.world.now root.old.met interface
+        (length root.old.world.now.resolve.types) }
+    requires tables { AreTablesRight root.old.world.now root.old.met root.old.instances
+        root.old.items.defs root.old.maps }
     ensures kept { RootKept root.old.world.now root.old root.new }
-    ensures grows { OnOk result (Grows root.old.world.now root.old.items.defs root.new.items.defs []) }
-    ensures given { IfOk result (λ a. IsTypeArgument root.old.world.now root.new.items.defs import.now a) }
+    ensures grows { OnOk result
+        (Grows root.old.world.now root.old.items.defs root.new.items.defs []) }
+    ensures given { IfOk result
+        (λ a. IsTypeArgument root.old.world.now root.new.items.defs import.now a) }
     ensures cause { IfErr result (IsCauseAmong root.old.world.now [] []) }
 {
     let name = import.name.clone(root.items.allocator())?;
@@ -62,11 +66,15 @@ fn type_arguments(
 ) -> Result<Seq<Argument>, StateFault>
     requires valid { IsEncodable root.old.world.now }
     requires usable { AreTypesUsable root.old.world.now interface imports.now }
-    requires supplied { IsSupplied root.old.world.now root.old.met interface (length root.old.world.now.resolve.types) }
-    requires tables { AreTablesRight root.old.world.now root.old.met root.old.instances root.old.items.defs root.old.maps }
+    requires supplied { IsSupplied root.old.world.now root.old.met interface
+        (length root.old.world.now.resolve.types) }
+    requires tables { AreTablesRight root.old.world.now root.old.met root.old.instances
+        root.old.items.defs root.old.maps }
     ensures kept { RootKept root.old.world.now root.old root.new }
-    ensures grows { OnOk result (Grows root.old.world.now root.old.items.defs root.new.items.defs []) }
-    ensures given { IfOk result (λ arguments. AllZip (IsTypeArgument root.old.world.now root.new.items.defs) imports.now arguments) }
+    ensures grows { OnOk result
+        (Grows root.old.world.now root.old.items.defs root.new.items.defs []) }
+    ensures given { IfOk result (λ arguments. AllZip
+        (IsTypeArgument root.old.world.now root.new.items.defs) imports.now arguments) }
     ensures cause { IfErr result (IsCauseAmong root.old.world.now [] []) }
 {
     let mut arguments = Seq::new(root.items.allocator());
@@ -77,7 +85,8 @@ fn type_arguments(
 }
 
 impl ModuleExports<'_> {
-    /// Lifts the functions of an interface: the arguments for the imports of its nested component, the lifts and then the types.
+    /// Lifts the functions of an interface: the arguments for the imports of its nested component,
+    /// the lifts and then the types.
     pub(crate) fn interface_arguments(
         &self,
         root: &mut RootScope<'_, ComponentWorld>,
@@ -88,16 +97,25 @@ impl ModuleExports<'_> {
     ) -> Result<Seq<Argument>, StateFault>
         requires exports { AreExports root.old.world.now self.now root.old }
         requires item { exported_item root.old.world.now key.now ≡ Some (world_items.Interface id) }
-        requires supplied { IsSupplied root.old.world.now root.old.met id (length root.old.world.now.resolve.types) }
-        requires functions { AreModuleFunctions root.old.world.now (exporter self.now) key.now functions.now }
+        requires supplied { IsSupplied root.old.world.now root.old.met id
+            (length root.old.world.now.resolve.types) }
+        requires functions { AreModuleFunctions root.old.world.now (exporter self.now) key.now
+            functions.now }
         requires all { functions.now ≡ functions_of root.old.world.now.resolve id }
-        requires nested { IsNestedOf root.old.world.now (named_types root.old.world.now.resolve id) functions.now nested.now }
+        requires nested { IsNestedOf root.old.world.now (named_types root.old.world.now.resolve id)
+            functions.now nested.now }
         ensures kept { RootKept root.old.world.now root.old root.new }
-        ensures grows { OnOk result (Grows root.old.world.now root.old.items.defs root.new.items.defs []) }
-        ensures given { IfOk result (λ arguments. AreArgumentsOf root.old.world.now (exporter self.now) root.new.items.defs key.now functions.now nested.now arguments) }
-        ensures has { OnOk result (AllByRecursion (HasLiftOptions root.old.world.now) (functions_at (exporter self.now) key.now functions.now)) }
-        ensures encoded { OnOk result (AllByRecursion (IsEncodedExport root.old.world.now) (functions_at (exporter self.now) key.now functions.now)) }
-        ensures cause { IfErr result (IsCauseAmong root.old.world.now [] (functions_at (exporter self.now) key.now functions.now)) }
+        ensures grows { OnOk result
+            (Grows root.old.world.now root.old.items.defs root.new.items.defs []) }
+        ensures given { IfOk result (λ arguments. AreArgumentsOf root.old.world.now
+            (exporter self.now) root.new.items.defs key.now functions.now nested.now
+            arguments) }
+        ensures has { OnOk result (AllByRecursion (HasLiftOptions root.old.world.now)
+            (functions_at (exporter self.now) key.now functions.now)) }
+        ensures encoded { OnOk result (AllByRecursion (IsEncodedExport root.old.world.now)
+            (functions_at (exporter self.now) key.now functions.now)) }
+        ensures cause { IfErr result (IsCauseAmong root.old.world.now []
+            (functions_at (exporter self.now) key.now functions.now)) }
     {
         let names = nested.names.as_slice();
         let mut arguments = self.lift_arguments(root, key, id, functions, names)?;

@@ -1,5 +1,5 @@
-//! The required exports: a function is exported as its lift, an interface as an instance of a nested component, which gives the
-//! lifts of the interface's functions their types.
+//! The required exports: a function is exported as its lift, an interface as an instance of a
+//! nested component, which gives the lifts of the interface's functions their types.
 //!
 //! Component model, explainer: component definitions, instance definitions, export definitions.
 #![tactic(auto, using(crate::proofs::Growth::growing))]
@@ -107,8 +107,14 @@ impl ModuleExports<'_> {
         requires right { IsExportRight root.old.world.now root.old.items.defs sort index None }
         ensures same { root.new ≡ record root.old { items = root.new.items } }
         ensures extends { Extends root.old.items root.new.items }
-        ensures grows { OnOk result (Grows root.old.world.now root.old.items.defs root.new.items.defs (Exported (record { name = name_of (naming_of self.now.names) root.old.world.now.resolve key.now; sort = sort }) ∷ [])) }
-        ensures added { IfOk result (IsExportAdded root.old.items.defs root.new.items.defs sort index) }
+        ensures grows { OnOk result (Grows root.old.world.now root.old.items.defs
+            root.new.items.defs (Exported (record {
+              name = name_of (naming_of self.now.names)
+                  root.old.world.now.resolve key.now;
+              sort = sort;
+            }) ∷ [])) }
+        ensures added { IfOk result
+            (IsExportAdded root.old.items.defs root.new.items.defs sort index) }
         ensures cause { IfErr result (IsCauseAmong root.old.world.now [] []) }
     {
         let world = root.world;
@@ -126,14 +132,22 @@ impl ModuleExports<'_> {
         function: &Function,
     ) -> Result<(), StateFault>
         requires exports { AreExports root.old.world.now self.now root.old }
-        requires next { slice_get (required_keys root.old.world.now) (exports_in root.old.items.defs) ≡ Some (key_for (exporter self.now) key.now) }
-        requires item { exported_item root.old.world.now key.now ≡ Some (items.Function function.now) }
+        requires next { slice_get (required_keys root.old.world.now)
+            (exports_in root.old.items.defs)
+            ≡ Some (key_for (exporter self.now) key.now) }
+        requires item { exported_item root.old.world.now key.now
+            ≡ Some (items.Function function.now) }
         requires required { IsRequired root.old.world.now self.now.user.found.now key.now }
         ensures kept { RootKept root.old.world.now root.old root.new }
-        ensures grows { OnOk result (Grows root.old.world.now root.old.items.defs root.new.items.defs (key_marked (naming_of self.now.names) root.old.world.now (exporter self.now) key.now)) }
-        ensures has { OnOk result (AllByRecursion (HasLiftOptions root.old.world.now) (functions_of_key root.old.world.now (exporter self.now) key.now)) }
-        ensures encoded { OnOk result (AllByRecursion (IsEncodedExport root.old.world.now) (functions_of_key root.old.world.now (exporter self.now) key.now)) }
-        ensures cause { IfErr result (IsCauseAmong root.old.world.now [] (functions_of_key root.old.world.now (exporter self.now) key.now)) }
+        ensures grows { OnOk result (Grows root.old.world.now root.old.items.defs
+            root.new.items.defs (key_marked (naming_of self.now.names) root.old.world.now
+            (exporter self.now) key.now)) }
+        ensures has { OnOk result (AllByRecursion (HasLiftOptions root.old.world.now)
+            (functions_of_key root.old.world.now (exporter self.now) key.now)) }
+        ensures encoded { OnOk result (AllByRecursion (IsEncodedExport root.old.world.now)
+            (functions_of_key root.old.world.now (exporter self.now) key.now)) }
+        ensures cause { IfErr result (IsCauseAmong root.old.world.now []
+            (functions_of_key root.old.world.now (exporter self.now) key.now)) }
     {
         let required = function_key(root.items.allocator(), key, &function.name)?;
         let lifted = self.lift(root, None, &required, function)?;
@@ -141,8 +155,8 @@ impl ModuleExports<'_> {
         Ok(())
     }
 
-    /// Adds the nested component of the interface of a key, and its instance, which is given these arguments. Debug names are made
-    /// from the name under which the interface is exported.
+    /// Adds the nested component of the interface of a key, and its instance, which is given these
+    /// arguments. Debug names are made from the name under which the interface is exported.
     fn nested_instance(
         &self,
         root: &mut RootScope<'_, ComponentWorld>,
@@ -157,9 +171,15 @@ impl ModuleExports<'_> {
         requires right { AreArgumentsFor root.old.items.defs definitions arguments }
         ensures same { root.new ≡ record root.old { items = root.new.items } }
         ensures extends { Extends root.old.items root.new.items }
-        ensures grows { OnOk result (Grows root.old.world.now root.old.items.defs root.new.items.defs (nested_mark definitions ∷ [])) }
-        ensures made { IfOk result (λ index. IsInstantiated root.new.items.defs definitions arguments index) }
-        ensures entry { IfOk result (λ index. slice_get (inventory root.new.items.defs).instances index ≡ Some (NestedInstance (exports_after (given_by (scope_of root.old.items.defs) arguments) empty_scope definitions))) }
+        ensures grows { OnOk result (Grows root.old.world.now root.old.items.defs
+            root.new.items.defs (nested_mark definitions ∷ [])) }
+        ensures made { IfOk result
+            (λ index. IsInstantiated root.new.items.defs definitions arguments index) }
+        ensures entry { IfOk result (λ index. slice_get (inventory root.new.items.defs).instances
+            index
+            ≡ Some (NestedInstance (exports_after
+            (given_by (scope_of root.old.items.defs) arguments) empty_scope
+            definitions))) }
         ensures cause { IfErr result (IsCauseAmong root.old.world.now [] []) }
     {
         let world = root.world;
@@ -174,8 +194,9 @@ impl ModuleExports<'_> {
         Ok(index)
     }
 
-    /// Lifts the functions of an interface, and exports an instance of the interface's nested component, which is given the lifts, and
-    /// the types of which they are made. The answer is the index of the instance that is exported.
+    /// Lifts the functions of an interface, and exports an instance of the interface's nested
+    /// component, which is given the lifts, and the types of which they are made. The answer is the
+    /// index of the instance that is exported.
     fn export_instance(
         &self,
         root: &mut RootScope<'_, ComponentWorld>,
@@ -183,16 +204,24 @@ impl ModuleExports<'_> {
         id: InterfaceId,
     ) -> Result<u32, StateFault>
         requires exports { AreExports root.old.world.now self.now root.old }
-        requires next { slice_get (required_keys root.old.world.now) (exports_in root.old.items.defs) ≡ Some (key_for (exporter self.now) key.now) }
+        requires next { slice_get (required_keys root.old.world.now)
+            (exports_in root.old.items.defs)
+            ≡ Some (key_for (exporter self.now) key.now) }
         requires item { exported_item root.old.world.now key.now ≡ Some (items.Interface id) }
         requires required { IsRequired root.old.world.now self.now.user.found.now key.now }
-        requires supplied { IsSupplied root.old.world.now root.old.met id (length root.old.world.now.resolve.types) }
+        requires supplied { IsSupplied root.old.world.now root.old.met id
+            (length root.old.world.now.resolve.types) }
         ensures kept { RootKept root.old.world.now root.old root.new }
-        ensures grows { OnOk result (Grows root.old.world.now root.old.items.defs root.new.items.defs (key_marked (naming_of self.now.names) root.old.world.now (exporter self.now) key.now)) }
+        ensures grows { OnOk result (Grows root.old.world.now root.old.items.defs
+            root.new.items.defs (key_marked (naming_of self.now.names) root.old.world.now
+            (exporter self.now) key.now)) }
         ensures exports { IfOk result (ExportsListed root.old.world.now root.new.items.defs id) }
-        ensures has { OnOk result (AllByRecursion (HasLiftOptions root.old.world.now) (functions_of_key root.old.world.now (exporter self.now) key.now)) }
-        ensures encoded { OnOk result (AllByRecursion (IsEncodedExport root.old.world.now) (functions_of_key root.old.world.now (exporter self.now) key.now)) }
-        ensures cause { IfErr result (IsCauseAmong root.old.world.now [] (functions_of_key root.old.world.now (exporter self.now) key.now)) }
+        ensures has { OnOk result (AllByRecursion (HasLiftOptions root.old.world.now)
+            (functions_of_key root.old.world.now (exporter self.now) key.now)) }
+        ensures encoded { OnOk result (AllByRecursion (IsEncodedExport root.old.world.now)
+            (functions_of_key root.old.world.now (exporter self.now) key.now)) }
+        ensures cause { IfErr result (IsCauseAmong root.old.world.now []
+            (functions_of_key root.old.world.now (exporter self.now) key.now)) }
     {
         let world = root.world;
         let functions = functions_of(world, id);
@@ -204,7 +233,8 @@ impl ModuleExports<'_> {
         Ok(exported)
     }
 
-    /// Exports an interface. The root forgets its types then, so that others are defined anew, and knows the instance that exports them.
+    /// Exports an interface. The root forgets its types then, so that others are defined anew, and
+    /// knows the instance that exports them.
     fn export_interface(
         &self,
         root: &mut RootScope<'_, ComponentWorld>,
@@ -212,17 +242,26 @@ impl ModuleExports<'_> {
         id: InterfaceId,
     ) -> Result<(), StateFault>
         requires exports { AreExports root.old.world.now self.now root.old }
-        requires at_hand { AreExportsAtHand root.old.world.now root.old.met (exports_in root.old.items.defs) }
-        requires next { slice_get (required_keys root.old.world.now) (exports_in root.old.items.defs) ≡ Some (key_for (exporter self.now) key.now) }
+        requires at_hand { AreExportsAtHand root.old.world.now root.old.met
+            (exports_in root.old.items.defs) }
+        requires next { slice_get (required_keys root.old.world.now)
+            (exports_in root.old.items.defs)
+            ≡ Some (key_for (exporter self.now) key.now) }
         requires item { exported_item root.old.world.now key.now ≡ Some (items.Interface id) }
         requires required { IsRequired root.old.world.now self.now.user.found.now key.now }
         ensures moved { RootMoved root.old.world.now root.old root.new }
-        ensures at_hand { AreExportsAtHand root.old.world.now root.new.met (exports_in root.new.items.defs) }
+        ensures at_hand { AreExportsAtHand root.old.world.now root.new.met
+            (exports_in root.new.items.defs) }
         ensures forgotten { OnOk result (ForgetsTypes root.old.world.now id root.new) }
-        ensures grows { OnOk result (Grows root.old.world.now root.old.items.defs root.new.items.defs (key_marked (naming_of self.now.names) root.old.world.now (exporter self.now) key.now)) }
-        ensures has { OnOk result (AllByRecursion (HasLiftOptions root.old.world.now) (functions_of_key root.old.world.now (exporter self.now) key.now)) }
-        ensures encoded { OnOk result (AllByRecursion (IsEncodedExport root.old.world.now) (functions_of_key root.old.world.now (exporter self.now) key.now)) }
-        ensures cause { IfErr result (IsCauseAmong root.old.world.now [] (functions_of_key root.old.world.now (exporter self.now) key.now)) }
+        ensures grows { OnOk result (Grows root.old.world.now root.old.items.defs
+            root.new.items.defs (key_marked (naming_of self.now.names) root.old.world.now
+            (exporter self.now) key.now)) }
+        ensures has { OnOk result (AllByRecursion (HasLiftOptions root.old.world.now)
+            (functions_of_key root.old.world.now (exporter self.now) key.now)) }
+        ensures encoded { OnOk result (AllByRecursion (IsEncodedExport root.old.world.now)
+            (functions_of_key root.old.world.now (exporter self.now) key.now)) }
+        ensures cause { IfErr result (IsCauseAmong root.old.world.now []
+            (functions_of_key root.old.world.now (exporter self.now) key.now)) }
     {
         let instance = self.export_instance(root, key, id)?;
         root.enter_export(id, instance)?;
@@ -237,15 +276,24 @@ impl ModuleExports<'_> {
         key: &WorldKey,
     ) -> Result<(), StateFault>
         requires exports { AreExports root.old.world.now self.now root.old }
-        requires at_hand { AreExportsAtHand root.old.world.now root.old.met (exports_in root.old.items.defs) }
-        requires next { slice_get (required_keys root.old.world.now) (exports_in root.old.items.defs) ≡ Some (key_for (exporter self.now) key.now) }
+        requires at_hand { AreExportsAtHand root.old.world.now root.old.met
+            (exports_in root.old.items.defs) }
+        requires next { slice_get (required_keys root.old.world.now)
+            (exports_in root.old.items.defs)
+            ≡ Some (key_for (exporter self.now) key.now) }
         requires required { IsRequired root.old.world.now self.now.user.found.now key.now }
         ensures moved { RootMoved root.old.world.now root.old root.new }
-        ensures at_hand { AreExportsAtHand root.old.world.now root.new.met (exports_in root.new.items.defs) }
-        ensures grows { OnOk result (Grows root.old.world.now root.old.items.defs root.new.items.defs (key_marked (naming_of self.now.names) root.old.world.now (exporter self.now) key.now)) }
-        ensures has { OnOk result (AllByRecursion (HasLiftOptions root.old.world.now) (functions_of_key root.old.world.now (exporter self.now) key.now)) }
-        ensures encoded { OnOk result (AllByRecursion (IsEncodedExport root.old.world.now) (functions_of_key root.old.world.now (exporter self.now) key.now)) }
-        ensures cause { IfErr result (IsCauseAmong root.old.world.now [] (functions_of_key root.old.world.now (exporter self.now) key.now)) }
+        ensures at_hand { AreExportsAtHand root.old.world.now root.new.met
+            (exports_in root.new.items.defs) }
+        ensures grows { OnOk result (Grows root.old.world.now root.old.items.defs
+            root.new.items.defs (key_marked (naming_of self.now.names) root.old.world.now
+            (exporter self.now) key.now)) }
+        ensures has { OnOk result (AllByRecursion (HasLiftOptions root.old.world.now)
+            (functions_of_key root.old.world.now (exporter self.now) key.now)) }
+        ensures encoded { OnOk result (AllByRecursion (IsEncodedExport root.old.world.now)
+            (functions_of_key root.old.world.now (exporter self.now) key.now)) }
+        ensures cause { IfErr result (IsCauseAmong root.old.world.now []
+            (functions_of_key root.old.world.now (exporter self.now) key.now)) }
     {
         match root.world.items().exports.get(key).unwrap() {
             WorldItem::Function(function) => self.export_function(root, key, function),
@@ -261,11 +309,16 @@ impl ModuleExports<'_> {
         keys: &[WorldKey],
     ) -> Result<(), StateFault>
         requires exports { AreExports root.old.world.now self.now root.old }
-        requires at_hand { AreExportsAtHand root.old.world.now root.old.met (exports_in root.old.items.defs) }
-        requires next { AreNextKeys root.old.world.now (exporter self.now) self.now.user.found.now (exports_in root.old.items.defs) keys.now }
+        requires at_hand { AreExportsAtHand root.old.world.now root.old.met
+            (exports_in root.old.items.defs) }
+        requires next { AreNextKeys root.old.world.now (exporter self.now) self.now.user.found.now
+            (exports_in root.old.items.defs) keys.now }
         ensures moved { RootMoved root.old.world.now root.old root.new }
-        ensures at_hand { AreExportsAtHand root.old.world.now root.new.met (exports_in root.new.items.defs) }
-        ensures exported { OnOk result (AreExported (naming_of self.now.names) root.old.world.now root.old.items.defs root.new.items.defs (map (key_for (exporter self.now)) keys.now)) }
+        ensures at_hand { AreExportsAtHand root.old.world.now root.new.met
+            (exports_in root.new.items.defs) }
+        ensures exported { OnOk result (AreExported (naming_of self.now.names) root.old.world.now
+            root.old.items.defs root.new.items.defs
+            (map (key_for (exporter self.now)) keys.now)) }
         ensures cause { IfErr result (IsCause root.old.world.now) }
     {
         for key in keys {

@@ -36,11 +36,14 @@ impl ModuleExports<'_> {
         required: &FunctionKey,
     ) -> Result<u32, BuildFault>
         requires exports { AreExports root.old.world.now self.now root.old }
-        requires present { IsSome (core_name root.old.world.now (function_of (exporter self.now) required.now)) }
+        requires present { IsSome
+            (core_name root.old.world.now (function_of (exporter self.now) required.now)) }
         ensures same { root.new ≡ record root.old { items = root.new.items } }
         ensures extends { Extends root.old.items root.new.items }
-        ensures grows { OnOk result (Grows root.old.world.now root.old.items.defs root.new.items.defs []) }
-        ensures entry { IfOk result (λ core. IsEntryOf root.old.world.now (exporter self.now) root.new.items.defs required.now core) }
+        ensures grows { OnOk result
+            (Grows root.old.world.now root.old.items.defs root.new.items.defs []) }
+        ensures entry { IfOk result (λ core. IsEntryOf root.old.world.now (exporter self.now)
+            root.new.items.defs required.now core) }
         ensures cause { IfErr result IsRefusal }
     {
         let name = self.tables.implementation(required).unwrap();
@@ -50,8 +53,9 @@ impl ModuleExports<'_> {
 
     /// Lifts a required function from the core export that implements it: one of an interface, or one at the root.
     ///
-    /// `E7` where its type needs a memory and main has none, `E8` where it needs a realloc and there is none for the module,
-    /// `E9` where it has no string encoding, and `E16` where a space would have more than 2^32 - 1 items.
+    /// `E7` where its type needs a memory and main has none, `E8` where it needs a realloc and
+    /// there is none for the module, `E9` where it has no string encoding, and `E16` where a space
+    /// would have more than 2^32 - 1 items.
     pub(crate) fn lift(
         &self,
         root: &mut RootScope<'_, ComponentWorld>,
@@ -60,15 +64,22 @@ impl ModuleExports<'_> {
         function: &Function,
     ) -> Result<u32, StateFault>
         requires exports { AreExports root.old.world.now self.now root.old }
-        requires required { IsModuleFunction root.old.world.now (exporter self.now) required.now function.now }
-        requires of { interface_of_item (exported_item root.old.world.now required.now.key) ≡ interface }
+        requires required { IsModuleFunction root.old.world.now (exporter self.now) required.now
+            function.now }
+        requires of { interface_of_item (exported_item root.old.world.now required.now.key)
+            ≡ interface }
         requires supplied { IsSuppliedFor root.old.world.now root.old.met interface }
         ensures kept { RootKept root.old.world.now root.old root.new }
-        ensures grows { OnOk result (Grows root.old.world.now root.old.items.defs root.new.items.defs []) }
-        ensures lifted { IfOk result (λ index. IsTypedLift root.old.world.now (exporter self.now) root.new.items.defs required.now function.now index) }
-        ensures has { OnOk result (HasLiftOptions root.old.world.now (function_of (exporter self.now) required.now)) }
-        ensures encoded { OnOk result (IsEncodedExport root.old.world.now (function_of (exporter self.now) required.now)) }
-        ensures cause { IfErr result (IsCauseAmong root.old.world.now [] (function_of (exporter self.now) required.now ∷ [])) }
+        ensures grows { OnOk result
+            (Grows root.old.world.now root.old.items.defs root.new.items.defs []) }
+        ensures lifted { IfOk result (λ index. IsTypedLift root.old.world.now (exporter self.now)
+            root.new.items.defs required.now function.now index) }
+        ensures has { OnOk result
+            (HasLiftOptions root.old.world.now (function_of (exporter self.now) required.now)) }
+        ensures encoded { OnOk result
+            (IsEncodedExport root.old.world.now (function_of (exporter self.now) required.now)) }
+        ensures cause { IfErr result (IsCauseAmong root.old.world.now []
+            (function_of (exporter self.now) required.now ∷ [])) }
     {
         let ty = root.function_type(interface, function)?;
         let core = self.core_entry(root, required)?;
@@ -90,14 +101,21 @@ impl ModuleExports<'_> {
     ) -> Result<Argument, StateFault>
         requires exports { AreExports root.old.world.now self.now root.old }
         requires item { exported_item root.old.world.now key.now ≡ Some (world_items.Interface id) }
-        requires supplied { IsSupplied root.old.world.now root.old.met id (length root.old.world.now.resolve.types) }
-        requires required { IsModuleFunction root.old.world.now (exporter self.now) (at_key key.now name.now) function.now }
+        requires supplied { IsSupplied root.old.world.now root.old.met id
+            (length root.old.world.now.resolve.types) }
+        requires required { IsModuleFunction root.old.world.now (exporter self.now)
+            (at_key key.now name.now) function.now }
         ensures kept { RootKept root.old.world.now root.old root.new }
-        ensures grows { OnOk result (Grows root.old.world.now root.old.items.defs root.new.items.defs []) }
-        ensures lifted { IfOk result (λ a. IsLiftArgument root.old.world.now (exporter self.now) root.new.items.defs key.now (name.now, function.now) import.now a) }
-        ensures has { OnOk result (HasLiftOptions root.old.world.now (function_of (exporter self.now) (at_key key.now name.now))) }
-        ensures encoded { OnOk result (IsEncodedExport root.old.world.now (function_of (exporter self.now) (at_key key.now name.now))) }
-        ensures cause { IfErr result (IsCauseAmong root.old.world.now [] (function_of (exporter self.now) (at_key key.now name.now) ∷ [])) }
+        ensures grows { OnOk result
+            (Grows root.old.world.now root.old.items.defs root.new.items.defs []) }
+        ensures lifted { IfOk result (λ a. IsLiftArgument root.old.world.now (exporter self.now)
+            root.new.items.defs key.now (name.now, function.now) import.now a) }
+        ensures has { OnOk result (HasLiftOptions root.old.world.now
+            (function_of (exporter self.now) (at_key key.now name.now))) }
+        ensures encoded { OnOk result (IsEncodedExport root.old.world.now
+            (function_of (exporter self.now) (at_key key.now name.now))) }
+        ensures cause { IfErr result (IsCauseAmong root.old.world.now []
+            (function_of (exporter self.now) (at_key key.now name.now) ∷ [])) }
     {
         let alloc = root.items.allocator();
         let argument = import.clone(alloc)?;
@@ -121,15 +139,23 @@ impl ModuleExports<'_> {
     ) -> Result<Seq<Argument>, StateFault>
         requires exports { AreExports root.old.world.now self.now root.old }
         requires item { exported_item root.old.world.now key.now ≡ Some (world_items.Interface id) }
-        requires supplied { IsSupplied root.old.world.now root.old.met id (length root.old.world.now.resolve.types) }
-        requires functions { AreModuleFunctions root.old.world.now (exporter self.now) key.now functions.now }
+        requires supplied { IsSupplied root.old.world.now root.old.met id
+            (length root.old.world.now.resolve.types) }
+        requires functions { AreModuleFunctions root.old.world.now (exporter self.now) key.now
+            functions.now }
         requires imports { length imports.now ≡ length functions.now }
         ensures kept { RootKept root.old.world.now root.old root.new }
-        ensures grows { OnOk result (Grows root.old.world.now root.old.items.defs root.new.items.defs []) }
-        ensures lifted { IfOk result (λ arguments. AreLiftArguments root.old.world.now (exporter self.now) root.new.items.defs key.now functions.now imports.now arguments) }
-        ensures has { OnOk result (AllByRecursion (HasLiftOptions root.old.world.now) (functions_at (exporter self.now) key.now functions.now)) }
-        ensures encoded { OnOk result (AllByRecursion (IsEncodedExport root.old.world.now) (functions_at (exporter self.now) key.now functions.now)) }
-        ensures cause { IfErr result (IsCauseAmong root.old.world.now [] (functions_at (exporter self.now) key.now functions.now)) }
+        ensures grows { OnOk result
+            (Grows root.old.world.now root.old.items.defs root.new.items.defs []) }
+        ensures lifted { IfOk result (λ arguments. AreLiftArguments root.old.world.now
+            (exporter self.now) root.new.items.defs key.now functions.now imports.now
+            arguments) }
+        ensures has { OnOk result (AllByRecursion (HasLiftOptions root.old.world.now)
+            (functions_at (exporter self.now) key.now functions.now)) }
+        ensures encoded { OnOk result (AllByRecursion (IsEncodedExport root.old.world.now)
+            (functions_at (exporter self.now) key.now functions.now)) }
+        ensures cause { IfErr result (IsCauseAmong root.old.world.now []
+            (functions_at (exporter self.now) key.now functions.now)) }
     {
         let mut arguments = Seq::new(root.items.allocator());
         let mut rest = imports;

@@ -1,4 +1,5 @@
-//! The required exports of all user modules: what is required of main, and then what is required of each adapter, in order.
+//! The required exports of all user modules: what is required of main, and then what is required of
+//! each adapter, in order.
 //!
 //! Component model, explainer: export definitions; Canonical ABI: `canon lift`.
 #![tactic(auto, using(crate::proofs::Growth::growing))]
@@ -28,8 +29,9 @@ use core_options::{OptionSources, StateFault, UserInstances, export_realloc_of};
 use root_imports::RootScope;
 use wit_data::WorldKey;
 
-/// Lifts and exports what is required of a user module, in order: the next keys of the world. Functions are lifted from the
-/// module's own instance, with its realloc, its string encodings and its post-returns, and with main's memory.
+/// Lifts and exports what is required of a user module, in order: the next keys of the world.
+/// Functions are lifted from the module's own instance, with its realloc, its string encodings and
+/// its post-returns, and with main's memory.
 fn export_module(
     root: &mut RootScope<'_, ComponentWorld>,
     user: UserInstance<'_>,
@@ -40,10 +42,14 @@ fn export_module(
     requires ready { AreExportsReady root.old.world.now root.old }
     requires user { IsUserInstance root.old.world.now root.old.items.defs user }
     requires made { AreUserInstances root.old.world.now root.old.items.defs instances.now }
-    requires next { AreNextKeys root.old.world.now (user_of user.which) user.found.now (exports_in root.old.items.defs) keys.now }
+    requires next { AreNextKeys root.old.world.now (user_of user.which) user.found.now
+        (exports_in root.old.items.defs) keys.now }
     ensures moved { RootMoved root.old.world.now root.old root.new }
-    ensures at_hand { AreExportsAtHand root.old.world.now root.new.met (exports_in root.new.items.defs) }
-    ensures exported { OnOk result (AreExported (naming_of names.now) root.old.world.now root.old.items.defs root.new.items.defs (map (key_for (user_of user.entry.which)) keys.now)) }
+    ensures at_hand { AreExportsAtHand root.old.world.now root.new.met
+        (exports_in root.new.items.defs) }
+    ensures exported { OnOk result (AreExported (naming_of names.now) root.old.world.now
+        root.old.items.defs root.new.items.defs
+        (map (key_for (user_of user.entry.which)) keys.now)) }
     ensures cause { IfErr result (IsCause root.old.world.now) }
 {
     let world = root.world;
@@ -76,8 +82,11 @@ fn export_main(
     requires made { AreUserInstances root.old.world.now root.old.items.defs instances.now }
     requires none { exports_in root.old.items.defs ≡ 0 }
     ensures moved { RootMoved root.old.world.now root.old root.new }
-    ensures at_hand { AreExportsAtHand root.old.world.now root.new.met (exports_in root.new.items.defs) }
-    ensures exported { OnOk result (AreExported (naming_of names.now) root.old.world.now root.old.items.defs root.new.items.defs (map (key_for Main) root.old.world.now.main_exports)) }
+    ensures at_hand { AreExportsAtHand root.old.world.now root.new.met
+        (exports_in root.new.items.defs) }
+    ensures exported { OnOk result (AreExported (naming_of names.now) root.old.world.now
+        root.old.items.defs root.new.items.defs
+        (map (key_for Main) root.old.world.now.main_exports)) }
     ensures cause { IfErr result (IsCause root.old.world.now) }
 {
     let world = root.world;
@@ -121,10 +130,13 @@ fn export_adapter(
 ) -> Result<(), StateFault>
     requires ready { AreExportsReady root.old.world.now root.old }
     requires made { AreUserInstances root.old.world.now root.old.items.defs instances.now }
-    requires next { IsNextAdapter root.old.world.now (exports_in root.old.items.defs) name.now adapter.now }
+    requires next { IsNextAdapter root.old.world.now (exports_in root.old.items.defs) name.now
+        adapter.now }
     ensures moved { RootMoved root.old.world.now root.old root.new }
-    ensures at_hand { AreExportsAtHand root.old.world.now root.new.met (exports_in root.new.items.defs) }
-    ensures exported { OnOk result (AreExported (naming_of names.now) root.old.world.now root.old.items.defs root.new.items.defs (keys_of_adapter (name.now, adapter.now))) }
+    ensures at_hand { AreExportsAtHand root.old.world.now root.new.met
+        (exports_in root.new.items.defs) }
+    ensures exported { OnOk result (AreExported (naming_of names.now) root.old.world.now
+        root.old.items.defs root.new.items.defs (keys_of_adapter (name.now, adapter.now))) }
     ensures cause { IfErr result (IsCause root.old.world.now) }
 {
     let user = adapter_instance(root, instances, name, adapter);
@@ -147,8 +159,11 @@ fn export_adapters(
     requires made { AreUserInstances root.old.world.now root.old.items.defs instances.now }
     requires behind { exports_in root.old.items.defs ≡ length root.old.world.now.main_exports }
     ensures moved { RootMoved root.old.world.now root.old root.new }
-    ensures at_hand { AreExportsAtHand root.old.world.now root.new.met (exports_in root.new.items.defs) }
-    ensures exported { OnOk result (AreExported (naming_of names.now) root.old.world.now root.old.items.defs root.new.items.defs (flat_map keys_of_adapter root.old.world.now.adapters)) }
+    ensures at_hand { AreExportsAtHand root.old.world.now root.new.met
+        (exports_in root.new.items.defs) }
+    ensures exported { OnOk result (AreExported (naming_of names.now) root.old.world.now
+        root.old.items.defs root.new.items.defs
+        (flat_map keys_of_adapter root.old.world.now.adapters)) }
     ensures cause { IfErr result (IsCause root.old.world.now) }
 {
     let world = root.world;
@@ -158,8 +173,9 @@ fn export_adapters(
     Ok(())
 }
 
-/// Lifts and exports what is required of main, and then what is required of each adapter, in the order of the world. `instances`
-/// are those of the user modules, and `names` makes the names of interfaces. Refused as the lift of one of the functions is.
+/// Lifts and exports what is required of main, and then what is required of each adapter, in the
+/// order of the world. `instances` are those of the user modules, and `names` makes the names of
+/// interfaces. Refused as the lift of one of the functions is.
 pub fn export_all(
     root: &mut RootScope<'_, ComponentWorld>,
     instances: &UserInstances,
@@ -167,16 +183,22 @@ pub fn export_all(
 ) -> Result<(), StateFault>
     requires valid { IsEncodable root.old.world.now }
     requires made { AreUserInstances root.old.world.now root.old.items.defs instances.now }
-    requires tables { AreTablesRight root.old.world.now root.old.met root.old.instances root.old.items.defs root.old.maps }
+    requires tables { AreTablesRight root.old.world.now root.old.met root.old.instances
+        root.old.items.defs root.old.maps }
     requires passed { ArePassed root.old.world.now root.old.met }
     requires ordered { AreExportsInOrder root.old.world.now }
-    requires at_hand { AreExportsAtHand root.old.world.now root.old.met (exports_in root.old.items.defs) }
+    requires at_hand { AreExportsAtHand root.old.world.now root.old.met
+        (exports_in root.old.items.defs) }
     requires none { exports_in root.old.items.defs ≡ 0 }
     ensures moved { RootMoved root.old.world.now root.old root.new }
-    ensures at_hand { AreExportsAtHand root.old.world.now root.new.met (exports_in root.new.items.defs) }
-    ensures grows { OnOk result (Grows root.old.world.now root.old.items.defs root.new.items.defs (exports_marked (naming_of names.now) root.old.world.now)) }
-    ensures encoded { OnOk result (AllByRecursion (IsEncodedExport root.old.world.now) (required_functions root.old.world.now)) }
-    ensures has { OnOk result (AllByRecursion (HasLiftOptions root.old.world.now) (required_functions root.old.world.now)) }
+    ensures at_hand { AreExportsAtHand root.old.world.now root.new.met
+        (exports_in root.new.items.defs) }
+    ensures grows { OnOk result (Grows root.old.world.now root.old.items.defs root.new.items.defs
+        (exports_marked (naming_of names.now) root.old.world.now)) }
+    ensures encoded { OnOk result (AllByRecursion (IsEncodedExport root.old.world.now)
+        (required_functions root.old.world.now)) }
+    ensures has { OnOk result (AllByRecursion (HasLiftOptions root.old.world.now)
+        (required_functions root.old.world.now)) }
     ensures cause { IfErr result (IsCause root.old.world.now) }
 {
     export_main(root, instances, names)?;

@@ -1,6 +1,8 @@
-//! The options of a lift: those that its type needs, with main's memory and the realloc of its module, and its post-return.
+//! The options of a lift: those that its type needs, with main's memory and the realloc of its
+//! module, and its post-return.
 //!
-//! Component model, binary format: `canonopt`; Canonical ABI: `canon lift`, `realloc`, `string-encoding`, `post-return`.
+//! Component model, binary format: `canonopt`; Canonical ABI: `canon lift`, `realloc`,
+//! `string-encoding`, `post-return`.
 #![tactic(auto, using(crate::proofs::Growth::growing))]
 
 ghost use Rattle.std.specs.Prelude.{◌≡◌, [], ◌∷◌, ◌++◌, IfOk, IfErr, OnOk, Some};
@@ -29,7 +31,8 @@ fn push_post_return(
     options: &mut Seq<CanonicalOption>,
     post_return: Option<u32>,
 ) -> Result<(), AllocError>
-    ensures { OnOk result (options.new ≡ options.old ++ one_if CanonicalOption.PostReturn post_return) }
+    ensures { OnOk result
+        (options.new ≡ options.old ++ one_if CanonicalOption.PostReturn post_return) }
 {
     if let Some(index) = post_return {
         options.push(CanonicalOption::PostReturn(index))?;
@@ -45,8 +48,11 @@ impl ModuleExports<'_> {
         required: &FunctionKey,
     ) -> Result<StringEncoding, StateFault>
         requires exports { AreExports root.now.world.now self.now root.now }
-        ensures ok { IfOk result (λ encoding. export_encoding root.now.world.now (exporter self.now) required.now.key required.now.function ≡ Some encoding) }
-        ensures cause { IfErr result (IsCauseAmong root.now.world.now [] (function_of (exporter self.now) required.now ∷ [])) }
+        ensures ok { IfOk result (λ encoding. export_encoding root.now.world.now (exporter self.now)
+            required.now.key required.now.function
+            ≡ Some encoding) }
+        ensures cause { IfErr result (IsCauseAmong root.now.world.now []
+            (function_of (exporter self.now) required.now ∷ [])) }
     {
         match self.user.found.metadata.export_encodings.get(required) {
             Some(encoding) => Ok(*encoding),
@@ -65,14 +71,21 @@ impl ModuleExports<'_> {
         function: &Function,
     ) -> Result<Seq<CanonicalOption>, StateFault>
         requires exports { AreExports root.old.world.now self.now root.old }
-        requires required { IsModuleFunction root.old.world.now (exporter self.now) required.now function.now }
+        requires required { IsModuleFunction root.old.world.now (exporter self.now) required.now
+            function.now }
         ensures same { root.new ≡ record root.old { items = root.new.items } }
         ensures extends { Extends root.old.items root.new.items }
-        ensures grows { OnOk result (Grows root.old.world.now root.old.items.defs root.new.items.defs []) }
-        ensures named { IfOk result (λ options. NameOptions root.old.world.now root.new.items.defs options (needed_options root.old.world.now (function_of (exporter self.now) required.now))) }
-        ensures has { OnOk result (HasLiftOptions root.old.world.now (function_of (exporter self.now) required.now)) }
-        ensures encoded { OnOk result (IsEncodedExport root.old.world.now (function_of (exporter self.now) required.now)) }
-        ensures cause { IfErr result (IsCauseAmong root.old.world.now [] (function_of (exporter self.now) required.now ∷ [])) }
+        ensures grows { OnOk result
+            (Grows root.old.world.now root.old.items.defs root.new.items.defs []) }
+        ensures named { IfOk result (λ options. NameOptions root.old.world.now root.new.items.defs
+            options (needed_options root.old.world.now
+            (function_of (exporter self.now) required.now))) }
+        ensures has { OnOk result
+            (HasLiftOptions root.old.world.now (function_of (exporter self.now) required.now)) }
+        ensures encoded { OnOk result
+            (IsEncodedExport root.old.world.now (function_of (exporter self.now) required.now)) }
+        ensures cause { IfErr result (IsCauseAmong root.old.world.now []
+            (function_of (exporter self.now) required.now ∷ [])) }
     {
         let world = root.world;
         let encoding = self.lift_encoding(root, required)?;
@@ -84,8 +97,8 @@ impl ModuleExports<'_> {
 
     /// The options with which a function is lifted: those that its type needs, and its post-return.
     ///
-    /// `E7` where it needs a memory and main has none, `E8` where it needs a realloc and there is none for the module, `E9`
-    /// where it has no string encoding.
+    /// `E7` where it needs a memory and main has none, `E8` where it needs a realloc and there is
+    /// none for the module, `E9` where it has no string encoding.
     pub(crate) fn lift_options(
         &self,
         root: &mut RootScope<'_, ComponentWorld>,
@@ -93,14 +106,21 @@ impl ModuleExports<'_> {
         function: &Function,
     ) -> Result<Seq<CanonicalOption>, StateFault>
         requires exports { AreExports root.old.world.now self.now root.old }
-        requires required { IsModuleFunction root.old.world.now (exporter self.now) required.now function.now }
+        requires required { IsModuleFunction root.old.world.now (exporter self.now) required.now
+            function.now }
         ensures same { root.new ≡ record root.old { items = root.new.items } }
         ensures extends { Extends root.old.items root.new.items }
-        ensures grows { OnOk result (Grows root.old.world.now root.old.items.defs root.new.items.defs []) }
-        ensures named { IfOk result (λ options. NameOptions root.old.world.now root.new.items.defs options (lift_options root.old.world.now (function_of (exporter self.now) required.now))) }
-        ensures has { OnOk result (HasLiftOptions root.old.world.now (function_of (exporter self.now) required.now)) }
-        ensures encoded { OnOk result (IsEncodedExport root.old.world.now (function_of (exporter self.now) required.now)) }
-        ensures cause { IfErr result (IsCauseAmong root.old.world.now [] (function_of (exporter self.now) required.now ∷ [])) }
+        ensures grows { OnOk result
+            (Grows root.old.world.now root.old.items.defs root.new.items.defs []) }
+        ensures named { IfOk result (λ options. NameOptions root.old.world.now root.new.items.defs
+            options
+            (lift_options root.old.world.now (function_of (exporter self.now) required.now))) }
+        ensures has { OnOk result
+            (HasLiftOptions root.old.world.now (function_of (exporter self.now) required.now)) }
+        ensures encoded { OnOk result
+            (IsEncodedExport root.old.world.now (function_of (exporter self.now) required.now)) }
+        ensures cause { IfErr result (IsCauseAmong root.old.world.now []
+            (function_of (exporter self.now) required.now ∷ [])) }
     {
         let mut options = self.needed_options(root, required, function)?;
         let export = self.own_export_if(self.tables.post_return(required));

@@ -15,8 +15,8 @@ use comp_worlds::{Export, FunctionKey};
 use std::alloc::{AllocError, Global};
 use wit_data::WorldKey;
 
-/// The names of a module's exports, by the functions that they implement, and by those whose post-return they are: the first, where
-/// there are several for one function.
+/// The names of a module's exports, by the functions that they implement, and by those whose
+/// post-return they are: the first, where there are several for one function.
 #[derive(Drop)]
 pub(crate) struct ExportTables {
     implementations: Keyed<FunctionKey, Text>,
@@ -41,14 +41,16 @@ impl ExportTables {
 
     /// The core export that implements a function.
     pub(crate) fn implementation(&self, function: &FunctionKey) -> Option<&Text>
-        ensures { option_copied result ≡ lookup (is_same_function function.now) self.now.implementations }
+        ensures { option_copied result
+            ≡ lookup (is_same_function function.now) self.now.implementations }
     {
         self.implementations.get(function)
     }
 
     /// The post-return of a function, if it has one.
     pub(crate) fn post_return(&self, function: &FunctionKey) -> Option<&Text>
-        ensures { option_copied result ≡ lookup (is_same_function function.now) self.now.post_returns }
+        ensures { option_copied result
+            ≡ lookup (is_same_function function.now) self.now.post_returns }
     {
         self.post_returns.get(function)
     }
@@ -95,7 +97,8 @@ fn add_implementation(
     name: &Text,
     export: &Export,
 ) -> Result<(), AllocError>
-    ensures { OnOk result (table.new ≡ with_all is_same_function table.old (implemented_by (name.now, export.now))) }
+    ensures { OnOk result
+        (table.new ≡ with_all is_same_function table.old (implemented_by (name.now, export.now))) }
 {
     match export {
         Export::WorldFunc(key, function, _) => {
@@ -115,7 +118,8 @@ fn add_post_return(
     name: &Text,
     export: &Export,
 ) -> Result<(), AllocError>
-    ensures { OnOk result (table.new ≡ with_all is_same_function table.old (returned_by (name.now, export.now))) }
+    ensures { OnOk result
+        (table.new ≡ with_all is_same_function table.old (returned_by (name.now, export.now))) }
 {
     match post_return_function(alloc, export)? {
         Some(function) => table.insert_if_absent(function, name.clone(alloc)?),

@@ -1,6 +1,5 @@
--- The lowering behind a shim: its options are those of the link table, it keeps its rule, and what is missing is a cause.
+-- The lowering behind a shim: its options are those of the link table, and what is missing is a cause.
 use Rattle.std.proofs.Common.{◌≡◌, ◌∙◌, ℕ, List, [], ◌∷◌, ◌++◌, sym, ap, subst, Some, None, Option, Bool, true, false, is_some, if◌then◌else◌, IsTrue, IsSome, Contains, codes, append_assoc}
-use Rattle.std.specs.List.{AllByRecursion, AllZip}
 use Rattle.std.specs.Option.{option_map}
 use Rattle.std.proofs.lemmas.Option.{same_Some}
 use Rattle.comp_bytes.specs.declared.canon.CanonicalOption.{CanonicalOption}
@@ -16,15 +15,12 @@ use Rattle.comp_links.specs.Roles.{import_encoding, field_path}
 use Rattle.comp_links.specs.Targets.{UserModule as User, ExportRef, TargetOption, Lowered}
 use Rattle.comp_terms.specs.Generated.{OfImport}
 use Rattle.comp_terms.specs.Planned.{IsTermFor}
-use Rattle.comp_terms.specs.Rules.{IsLowerOptionRight}
 use Rattle.comp_terms.specs.Terms.{IsLowering}
 use Rattle.comp_terms.specs.Terms as terms
 use Rattle.comp_items.proofs.Kept.{Longer, imported_function-kept}
 use Rattle.interface_needs.proofs.Lists.{contains_one}
 use Rattle.shim_plan.specs.declared.shims.Shim.{Shim}
-use Rattle.shim_targets.proofs.Synchronous.{role_waits}
 use Rattle.shim_targets.specs.ShimTargets.{StandsFor}
-use Rattle.core_options.proofs.LoweredOptions.{lowered_right}
 use Rattle.core_options.proofs.Refusals.{among_more, one_import_refused}
 use Rattle.core_options.specs.Causes.{indirect_name, lowering_place, IsCauseAmong, IsOptionRefusal}
 use Rattle.core_options.specs.MainOptions.{NameOptions}
@@ -68,12 +64,6 @@ options_linked w s i encoding own h encoded is =
 module _ (w : ComponentWorld) (s : Shim) (encoding : StringEncoding) (own : Option ExportRef) where
   abbrev wanted : List TargetOption
   wanted = options_in s.options.0 own (Some encoding)
-
-  -- the options keep the rule of a lowering
-  pub lower_options_right : (ds : List Def) (i : UserImport) → StandsFor w s i → (written : List CanonicalOption) → NameOptions w ds written wanted → AllByRecursion (IsLowerOptionRight ds) written
-  lower_options_right ds i h written named =
-      let waits : needs s.options.0 8 ≡ false = ap (λ (set : ℕ). needs set 8) h.options ∙ role_waits w i.core.role h.is.right in
-      lowered_right w ds s.options.0 own (Some encoding) written waits named
 
   -- a lowering with these options is what the shim stands for
   pub lowering_for : (mid new : List Def) (function index : ℕ) (written : List CanonicalOption) → (b : IsBehind w mid s encoding own function) → (named : NameOptions w mid written wanted) → IsLowering new index b.is.origin b.is.type named.terms →

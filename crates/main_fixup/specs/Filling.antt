@@ -1,5 +1,5 @@
--- What is behind shims, and what that needs (Canonical ABI: `canon lower`; component model, explainer: core instances, the
--- destructor of a resource type).
+-- What is behind shims, and what that needs (Canonical ABI: `canon lower`; component model,
+-- explainer: core instances, the destructor of a resource type).
 use Rattle.std.specs.Prelude.{◌≡◌, ℕ, List, [], Option, Some, None, true, map, Contains, IsTrue}
 use Rattle.std.specs.List.{AllByRecursion}
 use Rattle.std.specs.Option.{option_map}
@@ -38,7 +38,8 @@ use Rattle.core_options.specs.MainOptions.{IsFunctionOf, AreUserInstances, Offer
 use Rattle.shim_targets.specs.ShimTargets.{StandsFor}
 use Rattle.main_fixup.specs.declared.sources.FillSources.{FillSources}
 
--- what the lowerings need is there, and the tables of types are right, with the instances of the interfaces and of the user modules
+-- what the lowerings need is there, and the tables of types are right, with the instances of the
+-- interfaces and of the user modules
 pub record AreFillSources (w : ComponentWorld) (s : FillSources) (met : MetTypes) (ds : List Def) (maps : TypeEncodingMaps) (instances : List (InterfaceId × ℕ)) : Type 0 where
   pub valid : IsEncodable w
   pub imports : FindsImports w ds s.functions.now
@@ -112,7 +113,8 @@ IsFunctionAt w ds interface name index = (function : WorldFunction) → function
 
 -- ---- shims
 
--- the function of this index is the one that the shim stands for, which is called with this string encoding and this realloc
+-- the function of this index is the one that the shim stands for, which is called with this string
+-- encoding and this realloc
 pub record IsBehind (w : ComponentWorld) (ds : List Def) (s : Shim) (encoding : StringEncoding) (realloc : Option ExportRef) (index : ℕ) : Type 0 where
   pub given : UserImport
   pub stands : StandsFor w s given

@@ -18,7 +18,8 @@ use fixup_modules::{ImportedInstance, InstanceTable};
 use root_imports::RootScope;
 use shim_plan::Shims;
 
-/// The instance that the fixup imports from: one with what the shims stand for, which is made here, main, or the module of shims.
+/// The instance that the fixup imports from: one with what the shims stand for, which is made here,
+/// main, or the module of shims.
 fn source_instance(
     root: &mut RootScope<'_, ComponentWorld>,
     sources: &FillSources<'_>,
@@ -32,7 +33,8 @@ fn source_instance(
     ensures same { root.new ≡ record root.old { items = root.new.items } }
     ensures extends { Extends root.old.items root.new.items }
     ensures grows { OnOk result (GrowsInside root.old root.new) }
-    ensures serves { IfOk result (λ index. IsFixupSource root.old.world.now root.new.items.defs index from.now) }
+    ensures serves { IfOk result
+        (λ index. IsFixupSource root.old.world.now root.new.items.defs index from.now) }
     ensures offered { OnOk result (HasSourceOptions root.old.world.now from.now) }
     ensures cause { IfErr result (IsFillCause root.old) }
 {
@@ -59,7 +61,8 @@ fn fixup_argument(
     ensures same { root.new ≡ record root.old { items = root.new.items } }
     ensures extends { Extends root.old.items root.new.items }
     ensures grows { OnOk result (GrowsInside root.old root.new) }
-    ensures serves { IfOk result (λ argument. IsFixupArgument root.old.world.now root.new.items.defs argument (name.now, from.now)) }
+    ensures serves { IfOk result (λ argument. IsFixupArgument root.old.world.now root.new.items.defs
+        argument (name.now, from.now)) }
     ensures offered { OnOk result (HasSourceOptions root.old.world.now from.now) }
     ensures cause { IfErr result (IsFillCause root.old) }
 {
@@ -78,12 +81,16 @@ pub(crate) fn fixup_arguments(
 ) -> Result<Seq<CoreArgument>, StateFault>
     requires sources { HasFillSources root.old sources.now }
     requires shims { shims.now ≡ shims_of root.old.world.now }
-    requires there { AllByRecursion (λ i. IsSourceThere root.old.world.now root.old.items.defs shim_instance i.1) instances.now }
+    requires there { AllByRecursion
+        (λ i. IsSourceThere root.old.world.now root.old.items.defs shim_instance i.1)
+        instances.now }
     ensures same { root.new ≡ record root.old { items = root.new.items } }
     ensures extends { Extends root.old.items root.new.items }
     ensures grows { OnOk result (GrowsInside root.old root.new) }
-    ensures serve { IfOk result (λ arguments. AllZip (IsFixupArgument root.old.world.now root.new.items.defs) arguments instances.now) }
-    ensures offered { OnOk result (AllByRecursion (λ i. HasSourceOptions root.old.world.now i.1) instances.now) }
+    ensures serve { IfOk result (λ arguments. AllZip
+        (IsFixupArgument root.old.world.now root.new.items.defs) arguments instances.now) }
+    ensures offered { OnOk result
+        (AllByRecursion (λ i. HasSourceOptions root.old.world.now i.1) instances.now) }
     ensures cause { IfErr result (IsFillCause root.old) }
 {
     let mut arguments = Seq::new(root.items.allocator());

@@ -1,5 +1,5 @@
-//! Functions that user modules export: destructors (component model, explainer: the destructor of a resource type), and what an
-//! adapter is called for.
+//! Functions that user modules export: destructors (component model, explainer: the destructor of a
+//! resource type), and what an adapter is called for.
 #![tactic(auto, using(comp_items::proofs::Extending::extends_none, comp_items::proofs::Extending::extends_same, comp_items::proofs::Extending::extends_then))]
 
 ghost use Rattle.std.specs.Prelude.{◌≡◌, IfOk, IfErr, OnOk};
@@ -26,11 +26,13 @@ fn export_at(
     of: CustomModule<'_>,
     name: &Text,
 ) -> Result<u32, BuildFault>
-    requires made { IsExportAt root.old.world.now root.old.items.defs instance (export_of (user_of of) name.now) }
+    requires made { IsExportAt root.old.world.now root.old.items.defs instance
+        (export_of (user_of of) name.now) }
     ensures same { root.new ≡ record root.old { items = root.new.items } }
     ensures extends { Extends root.old.items root.new.items }
     ensures grows { OnOk result (GrowsInside root.old root.new) }
-    ensures alias { IfOk result (λ index. IsAliasOf root.old.world.now root.new.items.defs index (export_of (user_of of.entry) name.now)) }
+    ensures alias { IfOk result (λ index. IsAliasOf root.old.world.now root.new.items.defs index
+        (export_of (user_of of.entry) name.now)) }
     ensures cause { IfErr result IsRefusal }
 {
     let export = InstanceExport {
@@ -54,7 +56,8 @@ pub(crate) fn export_of_module(
     ensures same { root.new ≡ record root.old { items = root.new.items } }
     ensures extends { Extends root.old.items root.new.items }
     ensures grows { OnOk result (GrowsInside root.old root.new) }
-    ensures alias { IfOk result (λ index. IsAliasOf root.old.world.now root.new.items.defs index (export_of (module_of which.now) name.now)) }
+    ensures alias { IfOk result (λ index. IsAliasOf root.old.world.now root.new.items.defs index
+        (export_of (module_of which.now) name.now)) }
     ensures cause { IfErr result IsRefusal }
 {
     let instance = instance_of_module(root, sources, which);
@@ -75,7 +78,8 @@ pub(crate) fn export_of_adapter(
     ensures same { root.new ≡ record root.old { items = root.new.items } }
     ensures extends { Extends root.old.items root.new.items }
     ensures grows { OnOk result (GrowsInside root.old root.new) }
-    ensures alias { IfOk result (λ index. IsAliasOf root.old.world.now root.new.items.defs index (export_of (Adapter adapter.now) name.now)) }
+    ensures alias { IfOk result (λ index. IsAliasOf root.old.world.now root.new.items.defs index
+        (export_of (Adapter adapter.now) name.now)) }
     ensures cause { IfErr result IsRefusal }
 {
     let instance = instance_of_adapter(root, sources, adapter);

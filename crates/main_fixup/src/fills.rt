@@ -30,7 +30,8 @@ fn fill(
     ensures same { root.new ≡ record root.old { items = root.new.items } }
     ensures extends { Extends root.old.items root.new.items }
     ensures grows { OnOk result (GrowsInside root.old root.new) }
-    ensures fills { IfOk result (λ entry. IsFillFor root.old.world.now root.new.items.defs entry shim.now) }
+    ensures fills { IfOk result
+        (λ entry. IsFillFor root.old.world.now root.new.items.defs entry shim.now) }
     ensures offered { OnOk result (HasShimOptions root.old.world.now shim.now) }
     ensures cause { IfErr result (IsFillCause root.old) }
 {
@@ -54,8 +55,11 @@ fn fills(
     ensures same { root.new ≡ record root.old { items = root.new.items } }
     ensures extends { Extends root.old.items root.new.items }
     ensures grows { OnOk result (GrowsInside root.old root.new) }
-    ensures fills { IfOk result (λ entries. AllZip (IsFillFor root.old.world.now root.new.items.defs) entries (shims_of root.old.world.now)) }
-    ensures offered { OnOk result (AllByRecursion (HasShimOptions root.old.world.now) (shims_of root.old.world.now)) }
+    ensures fills { IfOk result (λ entries. AllZip
+        (IsFillFor root.old.world.now root.new.items.defs) entries
+        (shims_of root.old.world.now)) }
+    ensures offered { OnOk result
+        (AllByRecursion (HasShimOptions root.old.world.now) (shims_of root.old.world.now)) }
     ensures few { OnOk result (length (shims_of root.old.world.now) < 2 ^ 64) }
     ensures cause { IfErr result (IsFillCause root.old) }
 {
@@ -79,7 +83,8 @@ pub(crate) fn actual_instance(
     ensures extends { Extends root.old.items root.new.items }
     ensures grows { OnOk result (GrowsInside root.old root.new) }
     ensures fills { IfOk result (AreFillsFor root.old.world.now root.new.items.defs) }
-    ensures offered { OnOk result (AllByRecursion (HasShimOptions root.old.world.now) (shims_of root.old.world.now)) }
+    ensures offered { OnOk result
+        (AllByRecursion (HasShimOptions root.old.world.now) (shims_of root.old.world.now)) }
     ensures cause { IfErr result (IsFillCause root.old) }
 {
     let entries = fills(root, sources, shims)?;

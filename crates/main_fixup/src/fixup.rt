@@ -21,12 +21,13 @@ use fixup_modules::InstanceTable;
 use root_imports::RootScope;
 use shim_plan::Shims;
 
-/// Adds the fixup's module, by its bytes, and its instance, which is given an instance for each that the module imports from: what the
-/// shims stand for, main, and the instance of the module of shims, whose index is `shim_instance`. It is the last core instance of a
-/// component.
+/// Adds the fixup's module, by its bytes, and its instance, which is given an instance for each
+/// that the module imports from: what the shims stand for, main, and the instance of the module of
+/// shims, whose index is `shim_instance`. It is the last core instance of a component.
 ///
-/// `E7` where what a shim stands for is lowered with a memory and main has none, `E8` where it is lowered with a realloc and
-/// there is none for the imports of the module. After a refusal the definitions that were made until then stay.
+/// `E7` where what a shim stands for is lowered with a memory and main has none, `E8` where it is
+/// lowered with a realloc and there is none for the imports of the module. After a refusal the
+/// definitions that were made until then stay.
 pub fn encode_fixup(
     root: &mut RootScope<'_, ComponentWorld>,
     sources: &FillSources<'_>,
@@ -38,15 +39,20 @@ pub fn encode_fixup(
     requires sources { HasFillSources root.old sources.now }
     requires shims { shims.now ≡ shims_of root.old.world.now }
     requires any { has_fixup root.old.world.now ≡ true }
-    requires made { (shims_of root.old.world.now ≡ [] → ⊥) → IsShimsAt root.old.world.now root.old.items.defs shim_instance }
+    requires made { (shims_of root.old.world.now ≡ [] → ⊥)
+        → IsShimsAt root.old.world.now root.old.items.defs shim_instance }
     requires binary { IsCoreModule «module».now }
-    requires instances { instances.now ≡ fixup_instances (shims_of root.old.world.now) (initialize_of root.old.world.now) }
+    requires instances { instances.now
+        ≡ fixup_instances (shims_of root.old.world.now) (initialize_of root.old.world.now) }
     requires last { instances_in root.old.items.defs ≡ made_before_fixup root.old.world.now }
-    requires next { items_in spaces.CoreModule root.old.items.defs ≡ fixup_number root.old.world.now }
+    requires next { items_in spaces.CoreModule root.old.items.defs
+        ≡ fixup_number root.old.world.now }
     ensures same { root.new ≡ record root.old { items = root.new.items } }
     ensures extends { Extends root.old.items root.new.items }
-    ensures grows { OnOk result (Grows root.old.world.now root.old.items.defs root.new.items.defs (ModuleIs «module».now ∷ InstanceOf (fixup_number root.old.world.now) ∷ [])) }
-    ensures offered { OnOk result (AllByRecursion (HasShimOptions root.old.world.now) (shims_of root.old.world.now)) }
+    ensures grows { OnOk result (Grows root.old.world.now root.old.items.defs root.new.items.defs
+        (ModuleIs «module».now ∷ InstanceOf (fixup_number root.old.world.now) ∷ [])) }
+    ensures offered { OnOk result
+        (AllByRecursion (HasShimOptions root.old.world.now) (shims_of root.old.world.now)) }
     ensures cause { IfErr result (IsFillCause root.old) }
 {
     let index = root.items.core_module(Some("wit-component-fixup"), module)?;

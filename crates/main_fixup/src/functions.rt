@@ -65,7 +65,8 @@ fn interface_function(
     ensures same { root.new ≡ record root.old { items = root.new.items } }
     ensures extends { Extends root.old.items root.new.items }
     ensures grows { OnOk result (GrowsInside root.old root.new) }
-    ensures function { IfOk result (λ index. IsFunctionOf root.old.world.now root.new.items.defs index (OfInterface interface name.now)) }
+    ensures function { IfOk result (λ index. IsFunctionOf root.old.world.now root.new.items.defs
+        index (OfInterface interface name.now)) }
     ensures cause { IfErr result IsRefusal }
 {
     let instance = *root.instances.get(&interface).unwrap();
@@ -73,8 +74,8 @@ fn interface_function(
     Ok(index)
 }
 
-/// The function of this name at the root, as it was imported, or an alias of that of an imported interface, by the key of the
-/// interface.
+/// The function of this name at the root, as it was imported, or an alias of that of an imported
+/// interface, by the key of the interface.
 pub(crate) fn imported_function(
     root: &mut RootScope<'_, ComponentWorld>,
     sources: &FillSources<'_>,
@@ -86,7 +87,8 @@ pub(crate) fn imported_function(
     ensures same { root.new ≡ record root.old { items = root.new.items } }
     ensures extends { Extends root.old.items root.new.items }
     ensures grows { OnOk result (GrowsInside root.old root.new) }
-    ensures function { IfOk result (IsFunctionAt root.old.world.now root.new.items.defs interface.now name.now) }
+    ensures function { IfOk result
+        (IsFunctionAt root.old.world.now root.new.items.defs interface.now name.now) }
     ensures cause { IfErr result IsRefusal }
 {
     match interface {

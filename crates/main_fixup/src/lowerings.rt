@@ -25,7 +25,8 @@ use standard_kinds::StringEncoding;
 
 /// Lowers the function that a shim stands for, with the shim's options and a string encoding.
 ///
-/// `E7` where the options need a memory and main has none, `E8` where they need a realloc and there is none for these calls.
+/// `E7` where the options need a memory and main has none, `E8` where they need a realloc and there
+/// is none for these calls.
 fn lower_function(
     root: &mut RootScope<'_, ComponentWorld>,
     sources: &OptionSources<'_>,
@@ -35,7 +36,8 @@ fn lower_function(
 ) -> Result<u32, StateFault>
     requires valid { IsEncodable root.old.world.now }
     requires sources { AreOptionSources root.old.world.now root.old.items.defs sources.now }
-    requires behind { IsBehind root.old.world.now root.old.items.defs shim.now encoding (option_map export_ref_of sources.now.realloc) function }
+    requires behind { IsBehind root.old.world.now root.old.items.defs shim.now encoding
+        (option_map export_ref_of sources.now.realloc) function }
     ensures same { root.new ≡ record root.old { items = root.new.items } }
     ensures extends { Extends root.old.items root.new.items }
     ensures grows { OnOk result (GrowsInside root.old root.new) }
@@ -59,7 +61,8 @@ fn export_behind(
 ) -> Result<u32, StateFault>
     requires sources { HasFillSources root.old sources.now }
     requires stands { StandsForOne root.old.world.now shim.now }
-    requires kind { export_of_kind shim.now.kind ≡ Some (export_of (module_of which.now) export.now) }
+    requires kind { export_of_kind shim.now.kind
+        ≡ Some (export_of (module_of which.now) export.now) }
     ensures same { root.new ≡ record root.old { items = root.new.items } }
     ensures extends { Extends root.old.items root.new.items }
     ensures grows { OnOk result (GrowsInside root.old root.new) }
@@ -71,11 +74,11 @@ fn export_behind(
     Ok(aliased)
 }
 
-/// The core function that a shim stands for: the lowering of the function at the root, or of an alias of that of an imported
-/// interface; or an alias of what a user module exports.
+/// The core function that a shim stands for: the lowering of the function at the root, or of an
+/// alias of that of an imported interface; or an alias of what a user module exports.
 ///
-/// `E7` where a lowering needs a memory and main has none, `E8` where it needs a realloc and there is none for the imports of
-/// the module.
+/// `E7` where a lowering needs a memory and main has none, `E8` where it needs a realloc and there
+/// is none for the imports of the module.
 pub(crate) fn function_behind(
     root: &mut RootScope<'_, ComponentWorld>,
     sources: &FillSources<'_>,

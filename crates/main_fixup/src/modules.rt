@@ -45,7 +45,9 @@ pub(crate) fn instance_of_adapter(
 ) -> u32
     requires sources { HasFillSources root.now sources.now }
     requires named { IsUserNamed root.now.world.now (Adapter name.now) }
-    ensures { (number : ℕ) → IsModule root.now.world.now number (Adapter name.now) → IsInstanceOf root.now.items.defs result number }
+    ensures { (number : ℕ)
+        → IsModule root.now.world.now number (Adapter name.now)
+        → IsInstanceOf root.now.items.defs result number }
 {
     *sources.instances.adapters.get(name).unwrap()
 }
@@ -58,7 +60,9 @@ pub(crate) fn instance_of_module(
 ) -> u32
     requires sources { HasFillSources root.now sources.now }
     requires named { IsUserNamed root.now.world.now (module_of which.now) }
-    ensures { (number : ℕ) → IsModule root.now.world.now number (module_of which.now) → IsInstanceOf root.now.items.defs result number }
+    ensures { (number : ℕ)
+        → IsModule root.now.world.now number (module_of which.now)
+        → IsInstanceOf root.now.items.defs result number }
 {
     match which {
         MainOrAdapter::Main => sources.instances.main,
@@ -74,7 +78,8 @@ fn realloc_of_calls<'a>(
 ) -> Option<InstanceExport<'a>>
     requires sources { HasFillSources root.now sources.now }
     requires named { IsUserNamed root.now.world.now (module_of which.now) }
-    ensures same { option_map export_ref_of result ≡ lower_realloc root.now.world.now (module_of which.now) }
+    ensures same { option_map export_ref_of result
+        ≡ lower_realloc root.now.world.now (module_of which.now) }
     ensures made { IfSome result (IsInstanceExport root.now.world.now root.now.items.defs) }
 {
     let of = custom_module(which);
@@ -92,7 +97,8 @@ pub(crate) fn options_of_calls<'a>(
     requires sources { HasFillSources root.now sources.now }
     requires named { IsUserNamed root.now.world.now (module_of which.now) }
     ensures options { AreOptionSources root.now.world.now root.now.items.defs result }
-    ensures realloc { option_map export_ref_of result.realloc ≡ lower_realloc root.now.world.now (module_of which.now) }
+    ensures realloc { option_map export_ref_of result.realloc
+        ≡ lower_realloc root.now.world.now (module_of which.now) }
 {
     let realloc = realloc_of_calls(root, sources, which);
     OptionSources {

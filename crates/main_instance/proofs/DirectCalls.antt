@@ -1,7 +1,7 @@
 -- Functions that are lowered directly: their options are those of the link table, and what is missing is a cause.
-use Rattle.std.proofs.Common.{◌≡◌, ◌∙◌, ℕ, false, true≢false, List, [], ◌∷◌, Contains, Option, Some, None, is_some, if◌then◌else◌, IsTrue, IsSome, refl, sym, ap, subst, inr}
+use Rattle.std.proofs.Common.{◌≡◌, ◌∙◌, ◌&&◌, ℕ, false, true≢false, List, [], ◌∷◌, Contains, Option, Some, None, is_some, if◌then◌else◌, IsTrue, IsSome, refl, sym, ap, subst, inr}
 use Rattle.std.proofs.lemmas.Option.{none-some, same_Some}
-use Rattle.std.specs.List.{AllByRecursion}
+use Rattle.std.specs.Prelude.{not}
 use Rattle.std.specs.Option.{option_copied, option_map}
 use denote.Ref.{Bor}
 use Rattle.comp_roles.specs.Reallocs.{realloc_for, is_import_realloc}
@@ -30,7 +30,6 @@ use Rattle.comp_links.specs.Targets.{UserModule as User, Main, Adapter, WorldFun
 use Rattle.comp_links.specs.Targets as targets
 use Rattle.comp_terms.specs.Generated.{shims_number}
 use Rattle.comp_terms.specs.Planned.{memory_from, main_memory, shim_export, IsItemFor}
-use Rattle.comp_terms.specs.Rules.{IsLowerOptionRight}
 use Rattle.comp_terms.specs.Terms.{IsExported, IsLowering}
 use Rattle.comp_terms.specs.Terms as terms
 use Rattle.shim_plan.specs.Needed.{module_of_name, name_of_module, realloc_shim, import_realloc}
@@ -38,15 +37,12 @@ use Rattle.shim_plan.specs.Plans.{shim_of}
 use Rattle.shim_plan.specs.declared.kinds.ShimKind.{ShimKind}
 use Rattle.shim_targets.specs.ShimTargets.{which_of}
 use Rattle.comp_options.specs.declared.required.RequiredOptions.{RequiredOptions}
-use Rattle.shim_targets.specs.CallOptions.{lowering_of_import, options_of_lowering}
+use Rattle.shim_targets.specs.CallOptions.{lowering_of_import, options_of_lowering, NamesNoExport}
 use Rattle.shim_targets.proofs.CallOptions.{options_needed}
 use Rattle.shim_targets.proofs.GivenReallocs.{realloc_planned, given_realloc}
 use Rattle.shim_targets.proofs.NeededShims.{realloc_there}
-use Rattle.shim_targets.proofs.Roles.{import_role}
-use Rattle.shim_targets.proofs.Synchronous.{role_waits}
 use Rattle.shim_targets.proofs.Users.{of_module}
 use Rattle.world_shims.specs.WorldShims.{shims_of}
-use Rattle.core_options.proofs.LoweredOptions.{lowered_right}
 use Rattle.core_options.proofs.OptionTerms.{AreListed, named_for, has_realloc, option_refused}
 use Rattle.core_options.proofs.Refusals.{one_import_refused}
 use Rattle.core_options.specs.Causes.{IsCauseAmong, IsListRefusal, indirect_name, lowering_place}
@@ -122,24 +118,25 @@ pub needed_is : (w : ComponentWorld) → IsEncodable w → (of : User) (m : Vali
     options.0 ≡ lower_needs w i.role
 needed_is w ok of m there i present options is = ap (λ (o : RequiredOptions). o.0) is ∙ options_needed w ok (record { of = of; core = i }) (of_module w of m i there present)
 
-module _ (w : ComponentWorld) (ok : IsEncodable w) (of : User) (m : ValidatedModule) (there : module_found w of ≡ Some m) (i : CoreImport) (present : Contains (imports_of m) i) (plain : shared_memory w ≡ None → lower_needs w i.role ≡ 0) (set : ℕ) (same : set ≡ lower_needs w i.role) where
-  listed : Contains (user_imports w) (record { of = of; core = i })
-  listed = of_module w of m i there present
+module _ (w : ComponentWorld) (ok : IsEncodable w) (of : User) (m : ValidatedModule) (there : module_found w of ≡ Some m) (i : CoreImport) (present : Contains (imports_of m) i) (plain : shared_memory w ≡ None → NamesNoExport (lower_needs w i.role)) (set : ℕ) (same : set ≡ lower_needs w i.role) where
+  -- where main imports no memory, the options name neither a memory nor a realloc
+  unnamed : (bit : ℕ) → (NamesNoExport (lower_needs w i.role) → needs (lower_needs w i.role) bit ≡ false) → shared_memory w ≡ None → needs set bit ≡ false
+  unnamed bit none e = ap (λ n. needs n bit) same ∙ none (plain e)
 
-  -- a call with an option is one where main imports its memory
-  shared_by : (bit : ℕ) → needs 0 bit ≡ false → IsTrue (needs set bit) → IsSome (shared_memory w)
+  -- a call with such an option is one where main imports its memory
+  shared_by : (bit : ℕ) → (NamesNoExport (lower_needs w i.role) → needs (lower_needs w i.role) bit ≡ false) → IsTrue (needs set bit) → IsSome (shared_memory w)
   shared_by bit none needed = by (shared_memory w) refl
     where
       by : (o : Option MemoryType) → shared_memory w ≡ o → IsSome o
       by (Some type) e = refl
-      by None e = absurd (true≢false (sym needed ∙ (ap (λ n. needs n bit) (same ∙ plain e) ∙ none)))
+      by None e = absurd (true≢false (sym needed ∙ unnamed bit none e))
 
   pub direct_memory : (ds : List Def) (memory : Option ℕ) → IsMemoryBefore w ds of memory → IsTrue (needs set 1) → IsMemoryIf ds (main_memory w) memory
-  direct_memory ds memory h needed = memory_before w ds of memory (shared_by 1 refl needed) h
+  direct_memory ds memory h needed = memory_before w ds of memory (shared_by 1 (λ n. n.memory) needed) h
 
   -- its realloc has a shim
   pub realloc_planned_for : IsTrue (needs set 2) → HasReallocShim w of m
-  realloc_planned_for needed r is = realloc_there w ok (shared_by 2 refl needed) of m there i present (subst (λ n. IsTrue (needs n 2)) same needed) r is
+  realloc_planned_for needed r is = realloc_there w ok (shared_by 2 (λ n. n.realloc) needed) of m there i present (subst (λ n. IsTrue (needs n 2)) same needed) r is
 
   -- its options are those of the link table
   pub direct_named : (ds : List Def) (memory realloc : Option ℕ) (encoding : StringEncoding) (written : List CanonicalOption) → import_encoding w of i.role ≡ Some encoding → IsMemoryBefore w ds of memory → (IsTrue (needs set 2) → IsReallocIf w ds (lower_realloc w of) realloc) →
@@ -159,27 +156,22 @@ module _ (w : ComponentWorld) (ok : IsEncodable w) (of : User) (m : ValidatedMod
       IsListRefusal set memory realloc place e → IsCauseAmong w (record { of = of; core = i } ∷ []) [] e
   direct_refused ds memory realloc place at before reallocs e h = by (shared_memory w) refl
     where
-      -- no option is missing where none is needed
-      nothing : (e : StateFault) → set ≡ 0 → IsListRefusal set memory realloc place e → IsCauseAmong w (record { of = of; core = i } ∷ []) [] e
+      -- no option is missing where none is named
+      nothing : (e : StateFault) → shared_memory w ≡ None → IsListRefusal set memory realloc place e → IsCauseAmong w (record { of = of; core = i } ∷ []) [] e
       nothing faults.Memory none h = tt
-      nothing (faults.NoMemory x) none h = absurd (true≢false (sym (subst (λ n. IsTrue (lacks_memory n memory)) none h.0)))
-      nothing (faults.NoRealloc x) none h = absurd (true≢false (sym (subst (λ n. IsTrue (lacks_realloc n realloc)) none h.0)))
+      nothing (faults.NoMemory x) none h = absurd (true≢false (sym h.0 ∙ ap (λ b. b && not (is_some memory)) (unnamed 1 (λ n. n.memory) none)))
+      nothing (faults.NoRealloc x) none h = absurd (true≢false (sym h.0 ∙ ap (λ b. b && not (is_some realloc)) (unnamed 2 (λ n. n.realloc) none)))
       nothing (faults.NoEncoding x) none h = absurd h
       nothing (faults.NotYetMade adapter name) none h = absurd h
       nothing (faults.LaterExport interface used) none h = absurd h
       nothing (faults.TooMany excess) none h = absurd h
 
       by : (o : Option MemoryType) → shared_memory w ≡ o → IsCauseAmong w (record { of = of; core = i } ∷ []) [] e
-      by None unshared = nothing e (same ∙ plain unshared) h
+      by None unshared = nothing e unshared h
       by (Some type) shared =
           let named : place ≡ lowering_place w i = at ∙ ap (λ o. if is_some o then field_path i.module_name i.field else indirect_name i) (sym shared) in
           one_import_refused w (record { of = of; core = i }) (lower_realloc w of) set place same named (λ none. none) e
           (option_refused w ds set memory realloc (lower_realloc w of) (direct_memory ds memory before) reallocs place e h)
-
-  -- they keep the rule of a lowering
-  pub direct_right : (ds : List Def) (written : List CanonicalOption) → NameOptions w ds written (lower_options w of i.role) → AllByRecursion (IsLowerOptionRight ds) written
-  direct_right ds written named_as =
-      lowered_right w ds (lower_needs w i.role) (lower_realloc w of) (import_encoding w of i.role) written (role_waits w i.role (import_role w ok (record { of = of; core = i }) listed)) named_as
 
 -- a lowering with these options is what the link table names
 pub lowered_item : (w : ComponentWorld) (old mid new : List Def) (function index : ℕ) (written : List CanonicalOption) (options : List targets.TargetOption) (called : WorldFunction) → (f : IsFunctionOf w old function called) → (named_as : NameOptions w mid written options) → IsLowering new index f.origin f.type named_as.terms →

@@ -19,6 +19,7 @@ use Rattle.comp_terms.specs.Planned.{IsItemFor, IsGivenFor}
 use Rattle.core_options.specs.MainOptions.{IsUser, user_of}
 use Rattle.core_options.specs.declared.modules.UserModule.{UserModule}
 use Rattle.shim_plan.specs.declared.kinds.ShimKind.{ShimKind}
+use Rattle.shim_targets.specs.CallOptions.{NamesNoExport}
 use Rattle.shim_targets.specs.ShimTargets.{kind_of_import}
 use Rattle.main_instance.specs.Sources.{IsShimAlias}
 use Rattle.main_instance.proofs.Giving.{given_by_shim, unshared_by_shim, plain_without}
@@ -42,8 +43,8 @@ module _ (w : ComponentWorld) (ok : IsEncodable w) (u : UserModule) (user : IsUs
   pub call_given : (ds : List Def) (index : ℕ) → IsShimAlias w ds kind (Some index) → IsGivenFor w (user_of u.which) ds spaces.CoreFunc index i.role
   call_given ds index h = given_by_shim w ok (record { of = user_of u.which; core = i }) among encoding call_encoded kind own_kind ds index h
 
-  -- without one it needs no options, unless main imports its memory
-  pub call_plain : (ds : List Def) → IsShimAlias w ds kind None → shared_memory w ≡ None → lower_needs w i.role ≡ 0
+  -- without one its options name nothing that a module exports, unless main imports its memory
+  pub call_plain : (ds : List Def) → IsShimAlias w ds kind None → shared_memory w ≡ None → NamesNoExport (lower_needs w i.role)
   call_plain ds h unshared = plain_without w ok (record { of = user_of u.which; core = i }) among encoding call_encoded kind own_kind ds 0 h unshared
 
   -- a call whose realloc is there, where main imports its memory, has what it needs

@@ -29,6 +29,7 @@ use Rattle.shim_plan.specs.declared.kinds.ShimKind.{ShimKind}
 use Rattle.shim_plan.specs.declared.shims.Shim.{Shim}
 use Rattle.world_shims.specs.WorldShims.{shims_of}
 use Rattle.std.specs.Prelude.{Contains, IsSome}
+use Rattle.shim_targets.specs.CallOptions.{NamesNoExport}
 use Rattle.shim_targets.specs.ShimTargets.{kind_of_import}
 use Rattle.shim_targets.proofs.FoundShims.{found_shim}
 use Rattle.shim_targets.proofs.GivenShims.{given_shim, given_unshared, given_shimmed}
@@ -70,8 +71,8 @@ module _ (w : ComponentWorld) (ok : IsEncodable w) (i : UserImport) (present : C
   pub unshared_by_shim : IsShimAlias w ds kind (Some index) → shared_memory w ≡ None
   unshared_by_shim h = given_unshared w ok i.of i.core.role encoding kind of_kind h.0 h.1
 
-  -- without one, it needs no options, unless main imports its memory
-  pub plain_without : IsShimAlias w ds kind None → shared_memory w ≡ None → lower_needs w i.core.role ≡ 0
+  -- without one, its options name nothing that a module exports, unless main imports its memory
+  pub plain_without : IsShimAlias w ds kind None → shared_memory w ≡ None → NamesNoExport (lower_needs w i.core.role)
   plain_without h unshared = direct w ok unshared i present encoding encoded kind of_kind h
 
 -- the shim of an adapter's export stands for it

@@ -6,4 +6,5 @@ mod GivenCalls
 pub mod DirectCalls
 pub mod Instantiating
 mod OwnHandles
+pub mod BuiltIns
 pub mod OfMain

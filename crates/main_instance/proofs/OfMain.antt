@@ -1,4 +1,5 @@
--- What imports are given of other user modules: the memory and the exports of main, and the instances and items that libraries name.
+-- What imports are given of other user modules: the memory and the exports of main, and the
+-- instances and items that libraries name.
 use Rattle.std.proofs.Common.{◌≡◌, ◌∙◌, ℕ, List, [], ◌∷◌, map, Option, Some, None, is_some, true≢false, refl, sym, ap, subst, Contains, inl, inr}
 use Rattle.std.specs.List.{flat_map}
 use Rattle.std.proofs.lemmas.List.Elements.{Contains-append_right}

@@ -1,5 +1,5 @@
--- Functions that are lowered before the modules are instantiated that export what their options name (Canonical ABI: `canon lower`,
--- `realloc`).
+-- Functions that are lowered before the modules are instantiated that export what their options
+-- name (Canonical ABI: `canon lower`, `realloc`).
 use Rattle.std.specs.Prelude.{◌≡◌, ℕ, List, Option, Some, None, IsSome, Contains}
 use Rattle.comp_bytes.specs.declared.def.Def.{Def}
 use Rattle.comp_bytes.specs.declared.space.Space.TheVariants as spaces
@@ -14,18 +14,21 @@ use Rattle.comp_worlds.specs.declared.world.ValidatedModule.{ValidatedModule}
 use Rattle.core_options.specs.MainOptions.{IsFunctionOf}
 use Rattle.shim_plan.specs.Needed.{realloc_shim, import_realloc}
 use Rattle.shim_plan.specs.Plans.{shim_of}
+use Rattle.shim_targets.specs.CallOptions.{NamesNoExport}
 use Rattle.shim_targets.specs.ShimTargets.{which_of}
 use Rattle.world_shims.specs.WorldShims.{shims_of}
 use Rattle.main_instance.specs.Calls.{import_at}
 use Rattle.main_instance.specs.declared.direct.DirectCall.{DirectCall}
 
--- a call of an import of the module that has an encoding and no shim: where main imports no memory, it needs no options
+-- a call of an import of the module that has an encoding and no shim: where main imports no memory,
+-- its options name nothing that a module exports
 pub record IsDirectCall (w : ComponentWorld) (of : User) (m : ValidatedModule) (c : DirectCall) : Type 0 where
   pub present : Contains (imports_of m) (import_at c.place c.import.now)
   pub encoded : import_encoding w of c.import.now ≡ Some c.encoding
-  pub plain : shared_memory w ≡ None → lower_needs w c.import.now ≡ 0
+  pub plain : shared_memory w ≡ None → NamesNoExport (lower_needs w c.import.now)
 
--- the core function of this index is a lowering of an imported function, whichever of the world it is, with these options
+-- the core function of this index is a lowering of an imported function, whichever of the world it
+-- is, with these options
 abbrev pub IsLoweringWith : ComponentWorld → List Def → List Def → ℕ → List TargetOption → ℕ → Type 0
 IsLoweringWith w old new function options index = (called : WorldFunction) → IsFunctionOf w old function called → IsItemFor w new spaces.CoreFunc index (Lowered called options)
 

@@ -1,4 +1,5 @@
--- What is taken as given where the imports of a user module are given what they need. (The rules are this project's own.)
+-- What is taken as given where the imports of a user module are given what they need. (The rules
+-- are this project's own.)
 use Rattle.std.specs.Prelude.{◌≡◌, ℕ, List, [], Option, Some, None, true, map, Contains}
 use Rattle.std.specs.List.{AllByRecursion}
 use Rattle.standard_kinds.specs.declared.kinds.ExportKind.TheVariants as kinds
@@ -100,7 +101,8 @@ pub record IsMade (w : ComponentWorld) (ds : List Def) (main : Option ℕ) (adap
 abbrev pub adapter_kind : List ℕ → List ℕ → ShimKind
 adapter_kind adapter function = kinds_of_shims.Adapter adapter function
 
--- what the imports of a user module are given is there, and the tables of types are right, with the instances of the interfaces
+-- what the imports of a user module are given is there, and the tables of types are right, with the
+-- instances of the interfaces
 pub record AreSources (w : ComponentWorld) (s : ImportSources) (met : MetTypes) (ds : List Def) (maps : TypeEncodingMaps) (instances : List (InterfaceId × ℕ)) : Type 0 where
   pub valid : IsEncodable w
   pub user : IsUser w s.user

@@ -27,7 +27,8 @@ pub(crate) struct CorePlace<'a> {
 
 /// The text that names a core import in faults: `module::field`.
 pub(crate) fn path_of_import(alloc: Global, place: CorePlace<'_>) -> Result<Text, AllocError>
-    ensures { IfOk result (λ path. path ≡ field_path place.entry.«module».now place.entry.field.now) }
+    ensures { IfOk result
+        (λ path. path ≡ field_path place.entry.«module».now place.entry.field.now) }
 {
     let mut path = String::from_str(alloc, place.module.as_str())?;
     path.push_str("::")?;
@@ -35,8 +36,8 @@ pub(crate) fn path_of_import(alloc: Global, place: CorePlace<'_>) -> Result<Text
     Ok(Text::from_string(path))
 }
 
-/// The string encoding with which a module calls a function, by the key of the import that has it and its name there. `place` names
-/// the core import in faults.
+/// The string encoding with which a module calls a function, by the key of the import that has it
+/// and its name there. `place` names the core import in faults.
 ///
 /// `E9` where there is none.
 pub(crate) fn import_encoding(
@@ -46,8 +47,12 @@ pub(crate) fn import_encoding(
     key: &WorldKey,
     function: &Text,
 ) -> Result<StringEncoding, StateFault>
-    ensures ok { IfOk result (λ encoding. of_function key.now function.now validated.now.metadata.import_encodings ≡ Some encoding) }
-    ensures cause { IfErr result (IsUnencoded (of_function key.now function.now validated.now.metadata.import_encodings) (field_path place.entry.«module».now place.entry.field.now)) }
+    ensures ok { IfOk result (λ encoding. of_function key.now function.now
+        validated.now.metadata.import_encodings
+        ≡ Some encoding) }
+    ensures cause { IfErr result (IsUnencoded
+        (of_function key.now function.now validated.now.metadata.import_encodings)
+        (field_path place.entry.«module».now place.entry.field.now)) }
 {
     match encoding_of(alloc, &validated.metadata.import_encodings, key, function)? {
         Some(encoding) => Ok(encoding),
@@ -68,8 +73,8 @@ pub fn main_or_adapter(alloc: Global, which: CustomModule<'_>) -> Result<MainOrA
     }
 }
 
-/// The kind of the shim for calls of a function by a module: `interface` is the key of its interface, none for a function at the
-/// root.
+/// The kind of the shim for calls of a function by a module: `interface` is the key of its
+/// interface, none for a function at the root.
 pub(crate) fn kind_of_call(
     alloc: Global,
     which: CustomModule<'_>,
@@ -78,7 +83,9 @@ pub(crate) fn kind_of_call(
     abi: AbiVariant,
     encoding: StringEncoding,
 ) -> Result<ShimKind, AllocError>
-    ensures { IfOk result (λ kind. kind ≡ lowering_kind (which_of (user_of which.entry)) (option_copied interface.entry) name.now abi encoding) }
+    ensures { IfOk result (λ kind. kind
+        ≡ lowering_kind (which_of (user_of which.entry)) (option_copied interface.entry)
+        name.now abi encoding) }
 {
     let interface = match interface {
         Some(key) => Some(key.try_clone(alloc)?),

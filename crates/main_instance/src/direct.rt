@@ -1,5 +1,6 @@
-//! The options of functions that are lowered directly: for calls without a shim. Where main imports its memory, these may need all
-//! options, and their reallocs are shims, since they are lowered before the modules are instantiated that export these.
+//! The options of functions that are lowered directly: for calls without a shim. Where main imports
+//! its memory, these may need all options, and their reallocs are shims, since they are lowered
+//! before the modules are instantiated that export these.
 //!
 //! Canonical ABI: `canon lower`, `realloc`.
 #![tactic(auto, using(crate::proofs::Growth::growing))]
@@ -9,7 +10,7 @@ ghost use Rattle.std.specs.Option.{option_copied, option_map};
 ghost use Rattle.comp_items.specs.Items.{Extends};
 ghost use Rattle.comp_links.specs.Links.{lower_needs, lower_options, lower_realloc};
 ghost use Rattle.comp_links.specs.Modules.{module_found};
-ghost use Rattle.comp_options.specs.Options.{needs};
+ghost use Rattle.comp_options.specs.Options.{needs, realloc_bit};
 ghost use Rattle.comp_terms.specs.Rules.{Grows};
 ghost use Rattle.core_options.specs.Causes.{IsCauseAmong};
 ghost use Rattle.core_options.specs.MainOptions.{user_of, NameOptions, IsReallocIf};
@@ -76,7 +77,9 @@ fn options_of_call(
     name: &Text,
     abi: AbiVariant,
 ) -> Result<RequiredOptions, AllocError>
-    ensures { IfOk result (λ options. options ≡ options_of_lowering (lowering_at world.now interface (record { name = name.now; abi = abi }))) }
+    ensures { IfOk result (λ options. options
+        ≡ options_of_lowering
+        (lowering_at world.now interface (record { name = name.now; abi = abi }))) }
 {
     let name = name.clone(alloc)?;
     let function = LoweringKey { name, abi };
@@ -89,7 +92,8 @@ fn options_of_import(
     world: &ComponentWorld,
     import: &Import,
 ) -> Result<RequiredOptions, AllocError>
-    ensures { IfOk result (λ options. options ≡ options_of_lowering (lowering_of_import world.now import.now)) }
+    ensures { IfOk result
+        (λ options. options ≡ options_of_lowering (lowering_of_import world.now import.now)) }
 {
     match import {
         Import::WorldFunc(_, name, abi) => options_of_call(alloc, world, None, name, *abi),
@@ -107,7 +111,9 @@ fn realloc_kind(
     world: &ComponentWorld,
     user: UserModule<'_>,
 ) -> Result<Option<ShimKind>, AllocError>
-    ensures { IfOk result (λ kind. kind ≡ option_map (λ r. (realloc_shim r).kind) (import_realloc world.now (which_of (user_of user.entry.which)) user.entry.found.now)) }
+    ensures { IfOk result (λ kind. kind
+        ≡ option_map (λ r. (realloc_shim r).kind) (import_realloc world.now
+        (which_of (user_of user.entry.which)) user.entry.found.now)) }
 {
     let own = user.found.exports.import_realloc_for(None, "");
     match world.resolve_realloc(user.which, own) {
@@ -127,12 +133,18 @@ impl ImportSources<'_> {
         root: &mut RootScope<'_, ComponentWorld>,
         needed: RequiredOptions,
     ) -> Result<Option<u32>, BuildFault>
-        requires sources { AreSources root.old.world.now self.now root.old.met root.old.items.defs root.old.maps root.old.instances }
-        requires planned { IsTrue (needs needed.0 2) → HasReallocShim root.old.world.now (user_of self.now.user.which) self.now.user.found.now }
+        requires sources { AreSources root.old.world.now self.now root.old.met root.old.items.defs
+            root.old.maps root.old.instances }
+        requires planned { IsTrue (needs needed.0 realloc_bit)
+            → HasReallocShim root.old.world.now (user_of self.now.user.which)
+            self.now.user.found.now }
         ensures same { root.new ≡ record root.old { items = root.new.items } }
         ensures extends { Extends root.old.items root.new.items }
-        ensures grows { OnOk result (Grows root.old.world.now root.old.items.defs root.new.items.defs []) }
-        ensures realloc { IfOk result (λ index. IsTrue (needs needed.0 2) → IsReallocIf root.old.world.now root.new.items.defs (lower_realloc root.old.world.now (user_of self.now.user.which)) index) }
+        ensures grows { OnOk result
+            (Grows root.old.world.now root.old.items.defs root.new.items.defs []) }
+        ensures realloc { IfOk result (λ index. IsTrue (needs needed.0 realloc_bit)
+            → IsReallocIf root.old.world.now root.new.items.defs
+            (lower_realloc root.old.world.now (user_of self.now.user.which)) index) }
         ensures cause { IfErr result IsRefusal }
     {
         if !needed.contains(RequiredOptions::REALLOC) {
@@ -155,14 +167,25 @@ impl ImportSources<'_> {
         root: &mut RootScope<'_, ComponentWorld>,
         call: DirectCall<'_>,
     ) -> Result<Seq<CanonicalOption>, StateFault>
-        requires sources { AreSources root.old.world.now self.now root.old.met root.old.items.defs root.old.maps root.old.instances }
-        requires direct { IsDirectCall root.old.world.now (user_of self.now.user.which) self.now.user.found.now call }
+        requires sources { AreSources root.old.world.now self.now root.old.met root.old.items.defs
+            root.old.maps root.old.instances }
+        requires direct { IsDirectCall root.old.world.now (user_of self.now.user.which)
+            self.now.user.found.now call }
         ensures same { root.new ≡ record root.old { items = root.new.items } }
         ensures extends { Extends root.old.items root.new.items }
-        ensures grows { OnOk result (Grows root.old.world.now root.old.items.defs root.new.items.defs []) }
-        ensures named { IfOk result (λ options. NameOptions root.old.world.now root.new.items.defs options (lower_options root.old.world.now (user_of self.now.user.which) call.entry.import.now)) }
-        ensures realloc { OnOk result (IsTrue (needs (lower_needs root.old.world.now call.entry.import.now) 2) → IsSome (lower_realloc root.old.world.now (user_of self.now.user.which))) }
-        ensures cause { IfErr result (IsCauseAmong root.old.world.now (record { of = user_of self.now.user.which; core = import_at call.entry.place call.entry.import.now } ∷ []) []) }
+        ensures grows { OnOk result
+            (Grows root.old.world.now root.old.items.defs root.new.items.defs []) }
+        ensures named { IfOk result (λ options. NameOptions root.old.world.now root.new.items.defs
+            options (lower_options root.old.world.now (user_of self.now.user.which)
+            call.entry.import.now)) }
+        ensures realloc { OnOk result (IsTrue
+            (needs (lower_needs root.old.world.now call.entry.import.now) realloc_bit)
+            → IsSome (lower_realloc root.old.world.now (user_of self.now.user.which))) }
+        ensures cause { IfErr result (IsCauseAmong root.old.world.now (record {
+          of = user_of
+              self.now.user.which;
+          core = import_at call.entry.place call.entry.import.now;
+        } ∷ []) []) }
     {
         let alloc = root.items.allocator();
         let needed = options_of_import(alloc, root.world, call.import)?;

@@ -5,12 +5,13 @@ ghost use Rattle.std.specs.Prelude.{◌≡◌, [], ◌∷◌, None, IfOk, IfErr,
 ghost use Rattle.std.specs.List.{AllZip, IsDistinct};
 ghost use Rattle.std.specs.Option.{option_copied};
 ghost use Rattle.std.specs.Str.{bytes_eq};
+ghost use Rattle.built_ins.specs.BuiltIns.{plain_intrinsic};
 ghost use Rattle.comp_bytes.specs.Spaces.{kind_space};
 ghost use Rattle.comp_bytes.specs.declared.space.Space.TheVariants.{CoreFunc};
 ghost use Rattle.comp_items.specs.Items.{Extends};
 ghost use Rattle.comp_links.specs.Supplied.{IsSuppliedImport};
 ghost use Rattle.comp_links.specs.Links.{lower_needs, lower_options, lower_realloc};
-ghost use Rattle.comp_options.specs.Options.{needs};
+ghost use Rattle.comp_options.specs.Options.{needs, realloc_bit};
 ghost use Rattle.comp_links.specs.Targets.{OfRoot, OfInterface, Drop, Lowered, OfResource};
 ghost use Rattle.comp_lists.specs.Found.{found};
 ghost use Rattle.comp_roles.specs.CoreImports.{imports_from};
@@ -32,6 +33,7 @@ ghost use Rattle.wit_data.specs.declared.worlds.WorldKey.TheVariants as keys;
 use crate::calls::{CorePlace, import_encoding, kind_of_call};
 use crate::direct::DirectCall;
 use crate::shims::shim_alias;
+use built_ins::plain_intrinsic;
 use byte_encoding::BuildFault;
 use comp_bytes::{CoreArgument, CoreInlineExport};
 use comp_lists::{Keyed, Seq, Text};
@@ -42,8 +44,8 @@ use shim_plan::{ShimKind, Shims};
 use standard_kinds::{ExportKind, StringEncoding};
 use wit_data::{AbiVariant, InterfaceId, TypeId, WorldKey};
 
-/// What the imports of a user module are given, beside what the root has: the root functions that were imported, by their names,
-/// and the shims, with their instance.
+/// What the imports of a user module are given, beside what the root has: the root functions that
+/// were imported, by their names, and the shims, with their instance.
 #[derive(Clone, Copy)]
 pub struct ImportSources<'a> {
     /// The module whose imports these are.
@@ -52,8 +54,8 @@ pub struct ImportSources<'a> {
     pub shims: &'a Shims,
     /// The instance of the module of shims, where there is one.
     pub shim_instance: Option<u32>,
-    /// The alias of main's memory, where it is there by now: for main's own imports the one that main imports, for those of
-    /// other modules the one that it imports or exports.
+    /// The alias of main's memory, where it is there by now: for main's own imports the one that
+    /// main imports, for those of other modules the one that it imports or exports.
     pub memory: Option<u32>,
     /// Main's instance, where these are the imports of another module.
     pub main: Option<u32>,
@@ -72,15 +74,26 @@ impl ImportSources<'_> {
         name: &Text,
         function: u32,
     ) -> Result<u32, StateFault>
-        requires sources { AreSources root.old.world.now self.now root.old.met root.old.items.defs root.old.maps root.old.instances }
-        requires direct { IsDirectCall root.old.world.now (user_of self.now.user.which) self.now.user.found.now call }
+        requires sources { AreSources root.old.world.now self.now root.old.met root.old.items.defs
+            root.old.maps root.old.instances }
+        requires direct { IsDirectCall root.old.world.now (user_of self.now.user.which)
+            self.now.user.found.now call }
         requires imported { HasImportedFunction root.old.items.defs function }
         ensures same { root.new ≡ record root.old { items = root.new.items } }
         ensures extends { Extends root.old.items root.new.items }
-        ensures grows { OnOk result (Grows root.old.world.now root.old.items.defs root.new.items.defs []) }
-        ensures lowered { IfOk result (IsLoweringWith root.old.world.now root.old.items.defs root.new.items.defs function (lower_options root.old.world.now (user_of self.now.user.which) call.entry.import.now)) }
-        ensures realloc { OnOk result (IsTrue (needs (lower_needs root.old.world.now call.entry.import.now) 2) → IsSome (lower_realloc root.old.world.now (user_of self.now.user.which))) }
-        ensures cause { IfErr result (IsCauseAmong root.old.world.now (record { of = user_of self.now.user.which; core = import_at call.entry.place call.entry.import.now } ∷ []) []) }
+        ensures grows { OnOk result
+            (Grows root.old.world.now root.old.items.defs root.new.items.defs []) }
+        ensures lowered { IfOk result (IsLoweringWith root.old.world.now root.old.items.defs
+            root.new.items.defs function (lower_options root.old.world.now
+            (user_of self.now.user.which) call.entry.import.now)) }
+        ensures realloc { OnOk result (IsTrue
+            (needs (lower_needs root.old.world.now call.entry.import.now) realloc_bit)
+            → IsSome (lower_realloc root.old.world.now (user_of self.now.user.which))) }
+        ensures cause { IfErr result (IsCauseAmong root.old.world.now (record {
+          of = user_of
+              self.now.user.which;
+          core = import_at call.entry.place call.entry.import.now;
+        } ∷ []) []) }
     {
         let options = self.direct_options(root, call)?;
         let index = root
@@ -98,15 +111,26 @@ impl ImportSources<'_> {
         call: DirectCall<'_>,
         name: &Text,
     ) -> Result<u32, StateFault>
-        requires sources { AreSources root.old.world.now self.now root.old.met root.old.items.defs root.old.maps root.old.instances }
-        requires direct { IsDirectCall root.old.world.now (user_of self.now.user.which) self.now.user.found.now call }
+        requires sources { AreSources root.old.world.now self.now root.old.met root.old.items.defs
+            root.old.maps root.old.instances }
+        requires direct { IsDirectCall root.old.world.now (user_of self.now.user.which)
+            self.now.user.found.now call }
         requires used { IsSome (found name.now self.now.functions.now) }
         ensures same { root.new ≡ record root.old { items = root.new.items } }
         ensures extends { Extends root.old.items root.new.items }
-        ensures grows { OnOk result (Grows root.old.world.now root.old.items.defs root.new.items.defs []) }
-        ensures lowered { IfOk result (λ index. IsItemFor root.old.world.now root.new.items.defs CoreFunc index (Lowered (OfRoot name.now) (lower_options root.old.world.now (user_of self.now.user.which) call.entry.import.now))) }
-        ensures realloc { OnOk result (IsTrue (needs (lower_needs root.old.world.now call.entry.import.now) 2) → IsSome (lower_realloc root.old.world.now (user_of self.now.user.which))) }
-        ensures cause { IfErr result (IsCauseAmong root.old.world.now (record { of = user_of self.now.user.which; core = import_at call.entry.place call.entry.import.now } ∷ []) []) }
+        ensures grows { OnOk result
+            (Grows root.old.world.now root.old.items.defs root.new.items.defs []) }
+        ensures lowered { IfOk result (λ index. IsItemFor root.old.world.now root.new.items.defs
+            CoreFunc index (Lowered (OfRoot name.now) (lower_options root.old.world.now
+            (user_of self.now.user.which) call.entry.import.now))) }
+        ensures realloc { OnOk result (IsTrue
+            (needs (lower_needs root.old.world.now call.entry.import.now) realloc_bit)
+            → IsSome (lower_realloc root.old.world.now (user_of self.now.user.which))) }
+        ensures cause { IfErr result (IsCauseAmong root.old.world.now (record {
+          of = user_of
+              self.now.user.which;
+          core = import_at call.entry.place call.entry.import.now;
+        } ∷ []) []) }
     {
         let function = *self.functions.get(name).unwrap();
         let index = self.lower_call(root, call, name, function)?;
@@ -123,15 +147,26 @@ impl ImportSources<'_> {
         interface: InterfaceId,
         name: &Text,
     ) -> Result<u32, StateFault>
-        requires sources { AreSources root.old.world.now self.now root.old.met root.old.items.defs root.old.maps root.old.instances }
-        requires direct { IsDirectCall root.old.world.now (user_of self.now.user.which) self.now.user.found.now call }
+        requires sources { AreSources root.old.world.now self.now root.old.met root.old.items.defs
+            root.old.maps root.old.instances }
+        requires direct { IsDirectCall root.old.world.now (user_of self.now.user.which)
+            self.now.user.found.now call }
         requires imported { IsUsedOfInterface root.old.world.now interface name.now }
         ensures same { root.new ≡ record root.old { items = root.new.items } }
         ensures extends { Extends root.old.items root.new.items }
-        ensures grows { OnOk result (Grows root.old.world.now root.old.items.defs root.new.items.defs []) }
-        ensures lowered { IfOk result (λ index. IsItemFor root.old.world.now root.new.items.defs CoreFunc index (Lowered (OfInterface interface name.now) (lower_options root.old.world.now (user_of self.now.user.which) call.entry.import.now))) }
-        ensures realloc { OnOk result (IsTrue (needs (lower_needs root.old.world.now call.entry.import.now) 2) → IsSome (lower_realloc root.old.world.now (user_of self.now.user.which))) }
-        ensures cause { IfErr result (IsCauseAmong root.old.world.now (record { of = user_of self.now.user.which; core = import_at call.entry.place call.entry.import.now } ∷ []) []) }
+        ensures grows { OnOk result
+            (Grows root.old.world.now root.old.items.defs root.new.items.defs []) }
+        ensures lowered { IfOk result (λ index. IsItemFor root.old.world.now root.new.items.defs
+            CoreFunc index (Lowered (OfInterface interface name.now) (lower_options
+            root.old.world.now (user_of self.now.user.which) call.entry.import.now))) }
+        ensures realloc { OnOk result (IsTrue
+            (needs (lower_needs root.old.world.now call.entry.import.now) realloc_bit)
+            → IsSome (lower_realloc root.old.world.now (user_of self.now.user.which))) }
+        ensures cause { IfErr result (IsCauseAmong root.old.world.now (record {
+          of = user_of
+              self.now.user.which;
+          core = import_at call.entry.place call.entry.import.now;
+        } ∷ []) []) }
     {
         let instance = *root.instances.get(&interface).unwrap();
         let aliased = root.items.alias_function(instance, name)?;
@@ -145,12 +180,15 @@ impl ImportSources<'_> {
         root: &mut RootScope<'_, ComponentWorld>,
         id: TypeId,
     ) -> Result<u32, BuildFault>
-        requires sources { AreSources root.old.world.now self.now root.old.met root.old.items.defs root.old.maps root.old.instances }
+        requires sources { AreSources root.old.world.now self.now root.old.met root.old.items.defs
+            root.old.maps root.old.instances }
         requires known { IsDropKnown root.old.world.now id }
         ensures same { root.new ≡ record root.old { items = root.new.items } }
         ensures extends { Extends root.old.items root.new.items }
-        ensures grows { OnOk result (Grows root.old.world.now root.old.items.defs root.new.items.defs []) }
-        ensures dropped { IfOk result (λ index. IsItemFor root.old.world.now root.new.items.defs CoreFunc index (OfResource Drop id)) }
+        ensures grows { OnOk result
+            (Grows root.old.world.now root.old.items.defs root.new.items.defs []) }
+        ensures dropped { IfOk result (λ index. IsItemFor root.old.world.now root.new.items.defs
+            CoreFunc index (OfResource Drop id)) }
         ensures cause { IfErr result IsRefusal }
     {
         let ty = root.dropped_resource(id)?;
@@ -164,10 +202,12 @@ impl ImportSources<'_> {
         root: &mut RootScope<'_, ComponentWorld>,
         kind: &ShimKind,
     ) -> Result<Option<u32>, BuildFault>
-        requires sources { AreSources root.old.world.now self.now root.old.met root.old.items.defs root.old.maps root.old.instances }
+        requires sources { AreSources root.old.world.now self.now root.old.met root.old.items.defs
+            root.old.maps root.old.instances }
         ensures same { root.new ≡ record root.old { items = root.new.items } }
         ensures extends { Extends root.old.items root.new.items }
-        ensures grows { OnOk result (Grows root.old.world.now root.old.items.defs root.new.items.defs []) }
+        ensures grows { OnOk result
+            (Grows root.old.world.now root.old.items.defs root.new.items.defs []) }
         ensures shim { IfOk result (IsShimAlias root.old.world.now root.new.items.defs kind.now) }
         ensures cause { IfErr result IsRefusal }
     {
@@ -175,8 +215,8 @@ impl ImportSources<'_> {
         Ok(index)
     }
 
-    /// The shim for calls of a function, if there is one: `interface` is the key of its interface, none for a function at the
-    /// root.
+    /// The shim for calls of a function, if there is one: `interface` is the key of its interface,
+    /// none for a function at the root.
     fn shim_of_call(
         &self,
         root: &mut RootScope<'_, ComponentWorld>,
@@ -185,11 +225,15 @@ impl ImportSources<'_> {
         abi: AbiVariant,
         encoding: StringEncoding,
     ) -> Result<Option<u32>, BuildFault>
-        requires sources { AreSources root.old.world.now self.now root.old.met root.old.items.defs root.old.maps root.old.instances }
+        requires sources { AreSources root.old.world.now self.now root.old.met root.old.items.defs
+            root.old.maps root.old.instances }
         ensures same { root.new ≡ record root.old { items = root.new.items } }
         ensures extends { Extends root.old.items root.new.items }
-        ensures grows { OnOk result (Grows root.old.world.now root.old.items.defs root.new.items.defs []) }
-        ensures shim { IfOk result (IsShimAlias root.old.world.now root.new.items.defs (lowering_kind (which_of (user_of self.now.user.which)) (option_copied interface.entry) name.now abi encoding)) }
+        ensures grows { OnOk result
+            (Grows root.old.world.now root.old.items.defs root.new.items.defs []) }
+        ensures shim { IfOk result (IsShimAlias root.old.world.now root.new.items.defs
+            (lowering_kind (which_of (user_of self.now.user.which))
+            (option_copied interface.entry) name.now abi encoding)) }
         ensures cause { IfErr result IsRefusal }
     {
         let kind = kind_of_call(
@@ -215,15 +259,25 @@ impl ImportSources<'_> {
         function: &Text,
         abi: AbiVariant,
     ) -> Result<u32, StateFault>
-        requires sources { AreSources root.old.world.now self.now root.old.met root.old.items.defs root.old.maps root.old.instances }
+        requires sources { AreSources root.old.world.now self.now root.old.met root.old.items.defs
+            root.old.maps root.old.instances }
         requires role { import.now ≡ imports.WorldFunc (keys.Name name.now) function.now abi }
-        requires present { Contains (imports_of self.now.user.found.now) (import_at place import.now) }
+        requires present { Contains (imports_of self.now.user.found.now)
+            (import_at place import.now) }
         ensures same { root.new ≡ record root.old { items = root.new.items } }
         ensures extends { Extends root.old.items root.new.items }
-        ensures grows { OnOk result (Grows root.old.world.now root.old.items.defs root.new.items.defs []) }
-        ensures given { IfOk result (λ index. IsGivenFor root.old.world.now (user_of self.now.user.which) root.new.items.defs CoreFunc index import.now) }
-        ensures supplied { OnOk result (IsSuppliedImport root.old.world.now (user_of self.now.user.which) import.now) }
-        ensures cause { IfErr result (IsCauseAmong root.old.world.now (record { of = user_of self.now.user.which; core = import_at place.entry import.now } ∷ []) []) }
+        ensures grows { OnOk result
+            (Grows root.old.world.now root.old.items.defs root.new.items.defs []) }
+        ensures given { IfOk result (λ index. IsGivenFor root.old.world.now
+            (user_of self.now.user.which) root.new.items.defs CoreFunc index import.now) }
+        ensures supplied { OnOk result
+            (IsSuppliedImport root.old.world.now (user_of self.now.user.which) import.now) }
+        ensures cause { IfErr result (IsCauseAmong root.old.world.now (record {
+          of = user_of
+              self.now.user.which;
+          core = import_at place.entry import.now;
+        } ∷ [])
+            []) }
     {
         let alloc = root.items.allocator();
         let key = WorldKey::Name(name.clone(alloc)?);
@@ -242,7 +296,8 @@ impl ImportSources<'_> {
         }
     }
 
-    /// What an import of a function of an interface is given: its shim, or else a lowering of what the interface's instance exports.
+    /// What an import of a function of an interface is given: its shim, or else a lowering of what
+    /// the interface's instance exports.
     ///
     /// `E8` where it is lowered with a realloc and there is none for the module, `E9` where it has no string encoding.
     fn give_interface_function(
@@ -255,15 +310,25 @@ impl ImportSources<'_> {
         function: &Text,
         abi: AbiVariant,
     ) -> Result<u32, StateFault>
-        requires sources { AreSources root.old.world.now self.now root.old.met root.old.items.defs root.old.maps root.old.instances }
+        requires sources { AreSources root.old.world.now self.now root.old.met root.old.items.defs
+            root.old.maps root.old.instances }
         requires role { import.now ≡ imports.InterfaceFunc key.now interface function.now abi }
-        requires present { Contains (imports_of self.now.user.found.now) (import_at place import.now) }
+        requires present { Contains (imports_of self.now.user.found.now)
+            (import_at place import.now) }
         ensures same { root.new ≡ record root.old { items = root.new.items } }
         ensures extends { Extends root.old.items root.new.items }
-        ensures grows { OnOk result (Grows root.old.world.now root.old.items.defs root.new.items.defs []) }
-        ensures given { IfOk result (λ index. IsGivenFor root.old.world.now (user_of self.now.user.which) root.new.items.defs CoreFunc index import.now) }
-        ensures supplied { OnOk result (IsSuppliedImport root.old.world.now (user_of self.now.user.which) import.now) }
-        ensures cause { IfErr result (IsCauseAmong root.old.world.now (record { of = user_of self.now.user.which; core = import_at place.entry import.now } ∷ []) []) }
+        ensures grows { OnOk result
+            (Grows root.old.world.now root.old.items.defs root.new.items.defs []) }
+        ensures given { IfOk result (λ index. IsGivenFor root.old.world.now
+            (user_of self.now.user.which) root.new.items.defs CoreFunc index import.now) }
+        ensures supplied { OnOk result
+            (IsSuppliedImport root.old.world.now (user_of self.now.user.which) import.now) }
+        ensures cause { IfErr result (IsCauseAmong root.old.world.now (record {
+          of = user_of
+              self.now.user.which;
+          core = import_at place.entry import.now;
+        } ∷ [])
+            []) }
     {
         let alloc = root.items.allocator();
         let encoding = import_encoding(alloc, self.user.found, place, key, function)?;
@@ -281,25 +346,36 @@ impl ImportSources<'_> {
         }
     }
 
-    /// What an import of the module is given: the kind and the index of a core item.
+    /// What an import is given that is no built-in function without operands.
     ///
-    /// `E7` where the import is main's memory and main has none, `E8` where the function of the import is lowered with a realloc and
-    /// there is none for the module, `E9` where it has no string encoding.
-    pub fn materialize_import(
+    /// `E7` where the import is main's memory and main has none, `E8` where the function of the
+    /// import is lowered with a realloc and there is none for the module, `E9` where it has no
+    /// string encoding.
+    fn link_import(
         &self,
         root: &mut RootScope<'_, ComponentWorld>,
         module: &Text,
         field: &Text,
         import: &Import,
     ) -> Result<(ExportKind, u32), StateFault>
-        requires sources { AreSources root.old.world.now self.now root.old.met root.old.items.defs root.old.maps root.old.instances }
-        requires present { Contains (imports_of self.now.user.found.now) (record { module_name = «module».now; field = field.now; role = import.now }) }
+        requires sources { AreSources root.old.world.now self.now root.old.met root.old.items.defs root.old.maps
+            root.old.instances }
+        requires present { Contains (imports_of self.now.user.found.now)
+            (record { module_name = «module».now; field = field.now; role = import.now }) }
+        requires linked { plain_intrinsic root.old.world.now.can_use_context_slot_1 import.now
+            ≡ None }
         ensures same { root.new ≡ record root.old { items = root.new.items } }
         ensures extends { Extends root.old.items root.new.items }
-        ensures grows { OnOk result (Grows root.old.world.now root.old.items.defs root.new.items.defs []) }
-        ensures made { IfOk result (λ item. IsGivenFor root.old.world.now (user_of self.now.user.which) root.new.items.defs (kind_space item.0) item.1 import.now) }
-        ensures supplied { OnOk result (IsSuppliedImport root.old.world.now (user_of self.now.user.which) import.now) }
-        ensures cause { IfErr result (IsCauseAmong root.old.world.now (record { of = user_of self.now.user.which; core = record { module_name = «module».now; field = field.now; role = import.now } } ∷ []) []) }
+        ensures grows { OnOk result (Grows root.old.world.now root.old.items.defs root.new.items.defs
+            []) }
+        ensures made { IfOk result (λ item. IsGivenFor root.old.world.now (user_of self.now.user.which)
+            root.new.items.defs (kind_space item.0) item.1 import.now) }
+        ensures supplied { OnOk result (IsSuppliedImport root.old.world.now (user_of self.now.user.which)
+            import.now) }
+        ensures cause { IfErr result (IsCauseAmong root.old.world.now (record {
+          of = user_of self.now.user.which;
+          core = record { module_name = «module».now; field = field.now; role = import.now };
+        } ∷ []) []) }
     {
         let place = CorePlace { module, field };
         match import {
@@ -349,6 +425,44 @@ impl ImportSources<'_> {
         }
     }
 
+    /// What an import of the module is given: the kind and the index of a core item.
+    ///
+    /// `E7` where the import is main's memory and main has none, `E8` where the function of the
+    /// import is lowered with a realloc and there is none for the module, `E9` where it has no
+    /// string encoding.
+    pub fn materialize_import(
+        &self,
+        root: &mut RootScope<'_, ComponentWorld>,
+        module: &Text,
+        field: &Text,
+        import: &Import,
+    ) -> Result<(ExportKind, u32), StateFault>
+        requires sources { AreSources root.old.world.now self.now root.old.met root.old.items.defs root.old.maps
+            root.old.instances }
+        requires present { Contains (imports_of self.now.user.found.now)
+            (record { module_name = «module».now; field = field.now; role = import.now }) }
+        ensures same { root.new ≡ record root.old { items = root.new.items } }
+        ensures extends { Extends root.old.items root.new.items }
+        ensures grows { OnOk result (Grows root.old.world.now root.old.items.defs root.new.items.defs
+            []) }
+        ensures made { IfOk result (λ item. IsGivenFor root.old.world.now (user_of self.now.user.which)
+            root.new.items.defs (kind_space item.0) item.1 import.now) }
+        ensures supplied { OnOk result (IsSuppliedImport root.old.world.now (user_of self.now.user.which)
+            import.now) }
+        ensures cause { IfErr result (IsCauseAmong root.old.world.now (record {
+          of = user_of self.now.user.which;
+          core = record { module_name = «module».now; field = field.now; role = import.now };
+        } ∷ []) []) }
+    {
+        match plain_intrinsic(root.world.can_use_context_slot_1, import) {
+            Some(intrinsic) => {
+                let index = root.items.built_in(intrinsic)?;
+                Ok((ExportKind::Func, index))
+            }
+            None => self.link_import(root, module, field, import),
+        }
+    }
+
     /// What the import of a field is given, as an entry of an inline instance.
     fn entry(
         &self,
@@ -357,13 +471,20 @@ impl ImportSources<'_> {
         field: &Text,
         import: &Import,
     ) -> Result<CoreInlineExport, StateFault>
-        requires sources { AreSources root.old.world.now self.now root.old.met root.old.items.defs root.old.maps root.old.instances }
-        requires present { Contains (imports_of self.now.user.found.now) (record { module_name = «module».now; field = field.now; role = import.now }) }
+        requires sources { AreSources root.old.world.now self.now root.old.met root.old.items.defs
+            root.old.maps root.old.instances }
+        requires present { Contains (imports_of self.now.user.found.now)
+            (record { module_name = «module».now; field = field.now; role = import.now }) }
         ensures same { root.new ≡ record root.old { items = root.new.items } }
         ensures extends { Extends root.old.items root.new.items }
-        ensures grows { OnOk result (Grows root.old.world.now root.old.items.defs root.new.items.defs []) }
-        ensures serves { IfOk result (λ entry. IsEntryFor root.old.world.now (user_of self.now.user.which) root.new.items.defs entry (field.now, import.now)) }
-        ensures cause { IfErr result (IsCauseAmong root.old.world.now (record { of = user_of self.now.user.which; core = record { module_name = «module».now; field = field.now; role = import.now } } ∷ []) []) }
+        ensures grows { OnOk result
+            (Grows root.old.world.now root.old.items.defs root.new.items.defs []) }
+        ensures serves { IfOk result (λ entry. IsEntryFor root.old.world.now
+            (user_of self.now.user.which) root.new.items.defs entry (field.now, import.now)) }
+        ensures cause { IfErr result (IsCauseAmong root.old.world.now (record {
+          of = user_of self.now.user.which;
+          core = record { module_name = «module».now; field = field.now; role = import.now };
+        } ∷ []) []) }
     {
         let name = field.clone(root.items.allocator())?;
         let (kind, index) = self.materialize_import(root, module, field, import)?;
@@ -377,14 +498,21 @@ impl ImportSources<'_> {
         module: &Text,
         fields: &Keyed<Text, Import>,
     ) -> Result<Seq<CoreInlineExport>, StateFault>
-        requires sources { AreSources root.old.world.now self.now root.old.met root.old.items.defs root.old.maps root.old.instances }
-        requires present { Contains self.now.user.found.now.imports.modules («module».now, Names fields.now) }
+        requires sources { AreSources root.old.world.now self.now root.old.met root.old.items.defs
+            root.old.maps root.old.instances }
+        requires present { Contains self.now.user.found.now.imports.modules
+            («module».now, Names fields.now) }
         ensures same { root.new ≡ record root.old { items = root.new.items } }
         ensures extends { Extends root.old.items root.new.items }
-        ensures grows { OnOk result (Grows root.old.world.now root.old.items.defs root.new.items.defs []) }
-        ensures serves { IfOk result (λ entries. AllZip (IsEntryFor root.old.world.now (user_of self.now.user.which) root.new.items.defs) entries fields.now) }
+        ensures grows { OnOk result
+            (Grows root.old.world.now root.old.items.defs root.new.items.defs []) }
+        ensures serves { IfOk result (λ entries. AllZip
+            (IsEntryFor root.old.world.now (user_of self.now.user.which) root.new.items.defs)
+            entries fields.now) }
         ensures apart { IfOk result (λ entries. IsDistinct bytes_eq (map (λ e. e.name) entries)) }
-        ensures cause { IfErr result (IsCauseAmong root.old.world.now (imports_by (user_of self.now.user.which) (imports_from («module».now, Names fields.now))) []) }
+        ensures cause { IfErr result (IsCauseAmong root.old.world.now (imports_by
+            (user_of self.now.user.which) (imports_from («module».now, Names fields.now)))
+            []) }
     {
         let mut entries = Seq::new(root.items.allocator());
         for (field, import) in fields.iter() {
@@ -401,13 +529,20 @@ impl ImportSources<'_> {
         module: &Text,
         fields: &Keyed<Text, Import>,
     ) -> Result<CoreArgument, StateFault>
-        requires sources { AreSources root.old.world.now self.now root.old.met root.old.items.defs root.old.maps root.old.instances }
-        requires present { Contains self.now.user.found.now.imports.modules («module».now, Names fields.now) }
+        requires sources { AreSources root.old.world.now self.now root.old.met root.old.items.defs
+            root.old.maps root.old.instances }
+        requires present { Contains self.now.user.found.now.imports.modules
+            («module».now, Names fields.now) }
         ensures same { root.new ≡ record root.old { items = root.new.items } }
         ensures extends { Extends root.old.items root.new.items }
-        ensures grows { OnOk result (Grows root.old.world.now root.old.items.defs root.new.items.defs []) }
-        ensures serves { IfOk result (λ argument. IsArgumentFor root.old.world.now (user_of self.now.user.which) root.new.items.defs argument («module».now, Names fields.now)) }
-        ensures cause { IfErr result (IsCauseAmong root.old.world.now (imports_by (user_of self.now.user.which) (imports_from («module».now, Names fields.now))) []) }
+        ensures grows { OnOk result
+            (Grows root.old.world.now root.old.items.defs root.new.items.defs []) }
+        ensures serves { IfOk result (λ argument. IsArgumentFor root.old.world.now
+            (user_of self.now.user.which) root.new.items.defs argument
+            («module».now, Names fields.now)) }
+        ensures cause { IfErr result (IsCauseAmong root.old.world.now (imports_by
+            (user_of self.now.user.which) (imports_from («module».now, Names fields.now)))
+            []) }
     {
         let name = module.clone(root.items.allocator())?;
         let entries = self.entries(root, module, fields)?;
@@ -422,13 +557,19 @@ impl ImportSources<'_> {
         module: &Text,
         instance: &ImportInstance,
     ) -> Result<CoreArgument, StateFault>
-        requires sources { AreSources root.old.world.now self.now root.old.met root.old.items.defs root.old.maps root.old.instances }
-        requires present { Contains self.now.user.found.now.imports.modules («module».now, instance.now) }
+        requires sources { AreSources root.old.world.now self.now root.old.met root.old.items.defs
+            root.old.maps root.old.instances }
+        requires present { Contains self.now.user.found.now.imports.modules
+            («module».now, instance.now) }
         ensures same { root.new ≡ record root.old { items = root.new.items } }
         ensures extends { Extends root.old.items root.new.items }
-        ensures grows { OnOk result (Grows root.old.world.now root.old.items.defs root.new.items.defs []) }
-        ensures serves { IfOk result (λ argument. IsArgumentFor root.old.world.now (user_of self.now.user.which) root.new.items.defs argument («module».now, instance.now)) }
-        ensures cause { IfErr result (IsCauseAmong root.old.world.now (imports_by (user_of self.now.user.which) (imports_from («module».now, instance.now))) []) }
+        ensures grows { OnOk result
+            (Grows root.old.world.now root.old.items.defs root.new.items.defs []) }
+        ensures serves { IfOk result (λ argument. IsArgumentFor root.old.world.now
+            (user_of self.now.user.which) root.new.items.defs argument
+            («module».now, instance.now)) }
+        ensures cause { IfErr result (IsCauseAmong root.old.world.now (imports_by
+            (user_of self.now.user.which) (imports_from («module».now, instance.now))) []) }
     {
         match instance {
             ImportInstance::Names(fields) => self.inline_instance(root, module, fields),
@@ -445,11 +586,15 @@ impl ImportSources<'_> {
         &self,
         root: &mut RootScope<'_, ComponentWorld>,
     ) -> Result<Seq<CoreArgument>, StateFault>
-        requires sources { AreSources root.old.world.now self.now root.old.met root.old.items.defs root.old.maps root.old.instances }
+        requires sources { AreSources root.old.world.now self.now root.old.met root.old.items.defs
+            root.old.maps root.old.instances }
         ensures same { root.new ≡ record root.old { items = root.new.items } }
         ensures extends { Extends root.old.items root.new.items }
-        ensures grows { OnOk result (Grows root.old.world.now root.old.items.defs root.new.items.defs []) }
-        ensures serves { IfOk result (λ arguments. AllZip (IsArgumentFor root.old.world.now (user_of self.now.user.which) root.new.items.defs) arguments self.now.user.found.now.imports.modules) }
+        ensures grows { OnOk result
+            (Grows root.old.world.now root.old.items.defs root.new.items.defs []) }
+        ensures serves { IfOk result (λ arguments. AllZip
+            (IsArgumentFor root.old.world.now (user_of self.now.user.which) root.new.items.defs)
+            arguments self.now.user.found.now.imports.modules) }
         ensures cause { IfErr result (IsCause root.old.world.now) }
     {
         let mut arguments = Seq::new(root.items.allocator());

@@ -1,16 +1,21 @@
 //! What the imports of a user module are given, when it is instantiated.
 //!
-//! A function of the world is given as a lowering, or, where its calls need a memory and main doesn't import its memory, as a shim: an
-//! export of the instance of shims, which stands for a lowering that is made after the user modules. The functions of a resource's handles are
-//! given as themselves, and so are main's memory and what main exports; a function that an adapter exports is given as a shim, since the
-//! adapter is instantiated later. There is an inline instance for each module that the user module imports from, with an entry for each field.
+//! A function of the world is given as a lowering, or, where its calls need a memory and main
+//! doesn't import its memory, as a shim: an export of the instance of shims, which stands for a
+//! lowering that is made after the user modules. The functions of a resource's handles are given as
+//! themselves, and so are main's memory and what main exports; a function that an adapter exports
+//! is given as a shim, since the adapter is instantiated later. There is an inline instance for
+//! each module that the user module imports from, with an entry for each field.
 //!
-//! In reading order: `calls` (string encodings, and the kinds of shims), `shims` (their module and its instance), `own_handles`
-//! (functions of the handles of own resources), `direct` (the options of lowerings without a shim), `others` (what other user modules export), `instances` (what each import is given). In `specs/`: `Calls`, `Direct`,
-//! `Shims`, and `Sources` (what is taken as given).
+//! In reading order: `calls` (string encodings, and the kinds of shims), `shims` (their module and
+//! its instance), `own_handles` (functions of the handles of own resources), `direct` (the options
+//! of lowerings without a shim), `others` (what other user modules export), `instances` (what each
+//! import is given). In `specs/`: `Calls`, `Direct`, `Shims`, and `Sources` (what is taken as
+//! given).
 //!
-//! Upward this crate promises: each argument is what the link table names for each of its fields, or a shim that stands for it
-//! (`IsArgumentFor` of `comp_terms`); definitions grow at their end, and each keeps its rule.
+//! Upward this crate promises: each argument is what the link table names for each of its fields,
+//! or a shim that stands for it (`IsArgumentFor` of `comp_terms`); definitions grow at their end,
+//! and each keeps its rule.
 #![tactic(auto)]
 
 mod calls;

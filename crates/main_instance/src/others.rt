@@ -1,5 +1,6 @@
-//! What the imports of a user module are given that other user modules export: main's memory, what main exports, functions that
-//! adapters export, and the instances and items that the arguments of a library name.
+//! What the imports of a user module are given that other user modules export: main's memory, what
+//! main exports, functions that adapters export, and the instances and items that the arguments of
+//! a library name.
 //!
 //! Core standard, execution: module instances, instantiation.
 #![tactic(auto, using(crate::proofs::Growth::growing))]
@@ -51,10 +52,13 @@ impl ImportSources<'_> {
         root: &RootScope<'_, ComponentWorld>,
         place: CorePlace<'_>,
     ) -> Result<u32, StateFault>
-        requires memory { IsMemoryIf root.now.items.defs (main_memory root.now.world.now) self.now.memory }
-        ensures given { IfOk result (λ index. IsItemFor root.now.world.now root.now.items.defs CoreMemory index MainMemory) }
+        requires memory { IsMemoryIf root.now.items.defs (main_memory root.now.world.now)
+            self.now.memory }
+        ensures given { IfOk result (λ index. IsItemFor root.now.world.now root.now.items.defs
+            CoreMemory index MainMemory) }
         ensures there { OnOk result (IsSome (memory_of_main root.now.world.now.main)) }
-        ensures cause { IfErr result (IsMemoryRefusal root.now.world.now (field_path place.entry.«module».now place.entry.field.now)) }
+        ensures cause { IfErr result (IsMemoryRefusal root.now.world.now
+            (field_path place.entry.«module».now place.entry.field.now)) }
     {
         match self.memory {
             Some(index) => Ok(index),
@@ -72,13 +76,16 @@ impl ImportSources<'_> {
         name: &Text,
         kind: ExportKind,
     ) -> Result<u32, BuildFault>
-        requires sources { AreSources root.old.world.now self.now root.old.met root.old.items.defs root.old.maps root.old.instances }
+        requires sources { AreSources root.old.world.now self.now root.old.met root.old.items.defs
+            root.old.maps root.old.instances }
         requires behind { IsBehindMain root.old.items.defs self.now.main }
         requires offered { OffersItem root.old.world.now.main name.now kind }
         ensures same { root.new ≡ record root.old { items = root.new.items } }
         ensures extends { Extends root.old.items root.new.items }
-        ensures grows { OnOk result (Grows root.old.world.now root.old.items.defs root.new.items.defs []) }
-        ensures given { IfOk result (λ index. IsItemFor root.old.world.now root.new.items.defs (kind_space kind) index (ExportOf (record { of = Main; name = name.now }))) }
+        ensures grows { OnOk result
+            (Grows root.old.world.now root.old.items.defs root.new.items.defs []) }
+        ensures given { IfOk result (λ index. IsItemFor root.old.world.now root.new.items.defs
+            (kind_space kind) index (ExportOf (record { of = Main; name = name.now }))) }
         ensures cause { IfErr result IsRefusal }
     {
         let instance = self.main.unwrap();
@@ -93,12 +100,17 @@ impl ImportSources<'_> {
         adapter: &Text,
         function: &Text,
     ) -> Result<u32, BuildFault>
-        requires sources { AreSources root.old.world.now self.now root.old.met root.old.items.defs root.old.maps root.old.instances }
-        requires needed { IsSome (shim_of (adapter_kind adapter.now function.now) (shims_of root.old.world.now)) }
+        requires sources { AreSources root.old.world.now self.now root.old.met root.old.items.defs
+            root.old.maps root.old.instances }
+        requires needed { IsSome
+            (shim_of (adapter_kind adapter.now function.now) (shims_of root.old.world.now)) }
         ensures same { root.new ≡ record root.old { items = root.new.items } }
         ensures extends { Extends root.old.items root.new.items }
-        ensures grows { OnOk result (Grows root.old.world.now root.old.items.defs root.new.items.defs []) }
-        ensures given { IfOk result (λ index. IsShimOfKind root.old.world.now root.new.items.defs CoreFunc index (ExportOf (record { of = Adapter adapter.now; name = function.now })) (adapter_kind adapter.now function.now)) }
+        ensures grows { OnOk result
+            (Grows root.old.world.now root.old.items.defs root.new.items.defs []) }
+        ensures given { IfOk result (λ index. IsShimOfKind root.old.world.now root.new.items.defs
+            CoreFunc index (ExportOf (record { of = Adapter adapter.now; name = function.now }))
+            (adapter_kind adapter.now function.now)) }
         ensures cause { IfErr result IsRefusal }
     {
         let kind = kind_of_adapter(root.items.allocator(), adapter, function)?;
@@ -125,13 +137,19 @@ impl ImportSources<'_> {
         root: &mut RootScope<'_, ComponentWorld>,
         item: &Item,
     ) -> Result<u32, BuildFault>
-        requires sources { AreSources root.old.world.now self.now root.old.met root.old.items.defs root.old.maps root.old.instances }
-        requires made { IsMade root.old.world.now root.old.items.defs self.now.main self.now.adapters.now item.now.which }
-        requires offered { NamedOffers root.old.world.now item.now.which item.now.name item.now.kind }
+        requires sources { AreSources root.old.world.now self.now root.old.met root.old.items.defs
+            root.old.maps root.old.instances }
+        requires made { IsMade root.old.world.now root.old.items.defs self.now.main
+            self.now.adapters.now item.now.which }
+        requires offered { NamedOffers root.old.world.now item.now.which item.now.name
+            item.now.kind }
         ensures same { root.new ≡ record root.old { items = root.new.items } }
         ensures extends { Extends root.old.items root.new.items }
-        ensures grows { OnOk result (Grows root.old.world.now root.old.items.defs root.new.items.defs []) }
-        ensures given { IfOk result (λ index. IsItemFor root.old.world.now root.new.items.defs (kind_space item.now.kind) index (ExportOf (record { of = module_of item.now.which; name = item.now.name }))) }
+        ensures grows { OnOk result
+            (Grows root.old.world.now root.old.items.defs root.new.items.defs []) }
+        ensures given { IfOk result (λ index. IsItemFor root.old.world.now root.new.items.defs
+            (kind_space item.now.kind) index
+            (ExportOf (record { of = module_of item.now.which; name = item.now.name }))) }
         ensures cause { IfErr result IsRefusal }
     {
         let instance = self.instance_of(&item.which);
@@ -149,7 +167,9 @@ impl ImportSources<'_> {
         which: &MainOrAdapter,
     ) -> Result<CoreArgument, AllocError>
         requires there { IsSome (instance_in self.now.main self.now.adapters.now which.now) }
-        ensures { IfOk result (λ argument. (argument.name ≡ «module».now) × (instance_in self.now.main self.now.adapters.now which.now ≡ Some argument.instance)) }
+        ensures { IfOk result (λ argument. (argument.name ≡ «module».now)
+            × (instance_in self.now.main self.now.adapters.now which.now
+            ≡ Some argument.instance)) }
     {
         let name = module.clone(alloc)?;
         let instance = self.instance_of(which);

@@ -23,12 +23,15 @@ impl ImportSources<'_> {
         root: &mut RootScope<'_, ComponentWorld>,
         id: TypeId,
     ) -> Result<u32, BuildFault>
-        requires sources { AreSources root.old.world.now self.now root.old.met root.old.items.defs root.old.maps root.old.instances }
+        requires sources { AreSources root.old.world.now self.now root.old.met root.old.items.defs
+            root.old.maps root.old.instances }
         requires own { IsDefinedHere root.old.world.now id }
         ensures same { root.new ≡ record root.old { items = root.new.items } }
         ensures extends { Extends root.old.items root.new.items }
-        ensures grows { OnOk result (Grows root.old.world.now root.old.items.defs root.new.items.defs []) }
-        ensures dropped { IfOk result (λ index. IsItemFor root.old.world.now root.new.items.defs CoreFunc index (OfResource Drop id)) }
+        ensures grows { OnOk result
+            (Grows root.old.world.now root.old.items.defs root.new.items.defs []) }
+        ensures dropped { IfOk result (λ index. IsItemFor root.old.world.now root.new.items.defs
+            CoreFunc index (OfResource Drop id)) }
         ensures cause { IfErr result IsRefusal }
     {
         let ty = root.own_resource(id);
@@ -42,12 +45,15 @@ impl ImportSources<'_> {
         root: &mut RootScope<'_, ComponentWorld>,
         id: TypeId,
     ) -> Result<u32, BuildFault>
-        requires sources { AreSources root.old.world.now self.now root.old.met root.old.items.defs root.old.maps root.old.instances }
+        requires sources { AreSources root.old.world.now self.now root.old.met root.old.items.defs
+            root.old.maps root.old.instances }
         requires own { IsDefinedHere root.old.world.now id }
         ensures same { root.new ≡ record root.old { items = root.new.items } }
         ensures extends { Extends root.old.items root.new.items }
-        ensures grows { OnOk result (Grows root.old.world.now root.old.items.defs root.new.items.defs []) }
-        ensures represented { IfOk result (λ index. IsItemFor root.old.world.now root.new.items.defs CoreFunc index (OfResource Rep id)) }
+        ensures grows { OnOk result
+            (Grows root.old.world.now root.old.items.defs root.new.items.defs []) }
+        ensures represented { IfOk result (λ index. IsItemFor root.old.world.now root.new.items.defs
+            CoreFunc index (OfResource Rep id)) }
         ensures cause { IfErr result IsRefusal }
     {
         let ty = root.own_resource(id);
@@ -61,12 +67,15 @@ impl ImportSources<'_> {
         root: &mut RootScope<'_, ComponentWorld>,
         id: TypeId,
     ) -> Result<u32, BuildFault>
-        requires sources { AreSources root.old.world.now self.now root.old.met root.old.items.defs root.old.maps root.old.instances }
+        requires sources { AreSources root.old.world.now self.now root.old.met root.old.items.defs
+            root.old.maps root.old.instances }
         requires own { IsDefinedHere root.old.world.now id }
         ensures same { root.new ≡ record root.old { items = root.new.items } }
         ensures extends { Extends root.old.items root.new.items }
-        ensures grows { OnOk result (Grows root.old.world.now root.old.items.defs root.new.items.defs []) }
-        ensures made { IfOk result (λ index. IsItemFor root.old.world.now root.new.items.defs CoreFunc index (OfResource New id)) }
+        ensures grows { OnOk result
+            (Grows root.old.world.now root.old.items.defs root.new.items.defs []) }
+        ensures made { IfOk result (λ index. IsItemFor root.old.world.now root.new.items.defs
+            CoreFunc index (OfResource New id)) }
         ensures cause { IfErr result IsRefusal }
     {
         let ty = root.own_resource(id);

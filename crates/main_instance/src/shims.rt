@@ -31,14 +31,18 @@ fn instantiate_shims(
     module: &Module,
     debug_names: bool,
 ) -> Result<u32, BuildFault>
-    requires module { «module».now ≡ sections_of_shims (shared_memory root.old.world.now) (shims_of root.old.world.now) debug_names }
+    requires module { «module».now
+        ≡ sections_of_shims (shared_memory root.old.world.now) (shims_of root.old.world.now)
+        debug_names }
     requires room { length (shims_of root.old.world.now) < 2 ^ 32 }
     requires any { has_shim_module root.old.world.now ≡ true }
     requires first { instances_in root.old.items.defs ≡ [] }
-    requires next { items_in spaces.CoreModule root.old.items.defs ≡ shims_number root.old.world.now }
+    requires next { items_in spaces.CoreModule root.old.items.defs
+        ≡ shims_number root.old.world.now }
     ensures same { root.new ≡ record root.old { items = root.new.items } }
     ensures extends { Extends root.old.items root.new.items }
-    ensures added { IfOk result (AddsShims root.old.world.now debug_names root.old.items.defs root.new.items.defs) }
+    ensures added { IfOk result
+        (AddsShims root.old.world.now debug_names root.old.items.defs root.new.items.defs) }
     ensures cause { IfErr result IsRefusal }
 {
     let alloc = root.items.allocator();
@@ -66,7 +70,8 @@ pub fn shim_alias(
     requires made { IsShimInstance root.old.world.now root.old.items.defs shim_instance }
     ensures same { root.new ≡ record root.old { items = root.new.items } }
     ensures extends { Extends root.old.items root.new.items }
-    ensures grows { OnOk result (Grows root.old.world.now root.old.items.defs root.new.items.defs []) }
+    ensures grows { OnOk result
+        (Grows root.old.world.now root.old.items.defs root.new.items.defs []) }
     ensures shim { IfOk result (IsShimAlias root.old.world.now root.new.items.defs kind.now) }
     ensures cause { IfErr result IsRefusal }
 {
@@ -85,11 +90,14 @@ fn shared_memory(
     root: &mut RootScope<'_, ComponentWorld>,
     shim_instance: u32,
 ) -> Result<Option<u32>, BuildFault>
-    requires made { IsInstanceOf root.old.items.defs shim_instance (shims_number root.old.world.now) }
+    requires made { IsInstanceOf root.old.items.defs shim_instance
+        (shims_number root.old.world.now) }
     ensures same { root.new ≡ record root.old { items = root.new.items } }
     ensures extends { Extends root.old.items root.new.items }
-    ensures grows { OnOk result (Grows root.old.world.now root.old.items.defs root.new.items.defs []) }
-    ensures memory { IfOk result (IsMemoryIf root.new.items.defs (shared_export root.old.world.now)) }
+    ensures grows { OnOk result
+        (Grows root.old.world.now root.old.items.defs root.new.items.defs []) }
+    ensures memory { IfOk result
+        (IsMemoryIf root.new.items.defs (shared_export root.old.world.now)) }
     ensures cause { IfErr result IsRefusal }
 {
     match root.world.main.imports.imported_memory() {
@@ -110,8 +118,9 @@ pub struct MadeShims {
     pub memory: Option<u32>,
 }
 
-/// Adds the module of shims and its instance, where there are shims or main imports its memory: it is the first core instance of a
-/// component. With an alias of that memory. After a refusal the definitions that were made until then stay.
+/// Adds the module of shims and its instance, where there are shims or main imports its memory: it
+/// is the first core instance of a component. With an alias of that memory. After a refusal the
+/// definitions that were made until then stay.
 pub fn encode_shim_instantiation(
     root: &mut RootScope<'_, ComponentWorld>,
     shims: &Shims,
@@ -119,11 +128,14 @@ pub fn encode_shim_instantiation(
 ) -> Result<MadeShims, BuildFault>
     requires shims { shims.now ≡ shims_of root.old.world.now }
     requires first { instances_in root.old.items.defs ≡ [] }
-    requires next { items_in spaces.CoreModule root.old.items.defs ≡ shims_number root.old.world.now }
+    requires next { items_in spaces.CoreModule root.old.items.defs
+        ≡ shims_number root.old.world.now }
     ensures same { root.new ≡ record root.old { items = root.new.items } }
     ensures extends { Extends root.old.items root.new.items }
-    ensures added { IfOk result (λ made. MayAddShims root.old.world.now debug_names root.old.items.defs root.new.items.defs made.instance) }
-    ensures memory { IfOk result (λ made. IsMemoryIf root.new.items.defs (shared_export root.old.world.now) made.memory) }
+    ensures added { IfOk result (λ made. MayAddShims root.old.world.now debug_names
+        root.old.items.defs root.new.items.defs made.instance) }
+    ensures memory { IfOk result
+        (λ made. IsMemoryIf root.new.items.defs (shared_export root.old.world.now) made.memory) }
     ensures cause { IfErr result IsRefusal }
 {
     let memory = root.world.main.imports.imported_memory();

@@ -95,8 +95,9 @@ fn put_again<T: Emit>(out: &mut Output, measured: &Output, value: &T)
     }
 }
 
-/// Writes the size of a value, and the value. To learn the size, the value is measured; then an output that only measures
-/// takes it from there, so that it passes over each value once, however deep sizes are nested.
+/// Writes the size of a value, and the value. To learn the size, the value is measured; then an
+/// output that only measures takes it from there, so that it passes over each value once, however
+/// deep sizes are nested.
 pub fn put_sized<T: Emit>(out: &mut Output, value: &T)
     ensures { Puts out.old out.new (sized (T.encoding value.now)) }
 {

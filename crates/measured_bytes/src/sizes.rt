@@ -12,7 +12,9 @@ use std::alloc::Global;
 
 /// The size of what a value is written as, or the first count or size in it that passes 2^32 - 1; capped at 2^128 - 1.
 fn measured<T: Emit>(alloc: Global, value: &T) -> Result<u128, Excess>
-    ensures { MatchResult result (λ n. Fits (T.encoding value.now).counts × (n ≡ capped (length (T.encoding value.now).bytes))) (IsExcess (T.encoding value.now).counts) }
+    ensures { MatchResult result (λ n. Fits (T.encoding value.now).counts
+        × (n ≡ capped (length (T.encoding value.now).bytes)))
+        (IsExcess (T.encoding value.now).counts) }
 {
     let mut out = Output::new(alloc);
     value.emit(&mut out);
@@ -22,8 +24,9 @@ fn measured<T: Emit>(alloc: Global, value: &T) -> Result<u128, Excess>
     }
 }
 
-/// The size of what a value is written as. It takes no memory, and is refused exactly where a count or a size in it, or its
-/// own size, passes 2^32 - 1: with the first such count or size, or with 2^128 - 1 where that is more.
+/// The size of what a value is written as. It takes no memory, and is refused exactly where a count
+/// or a size in it, or its own size, passes 2^32 - 1: with the first such count or size, or with
+/// 2^128 - 1 where that is more.
 pub fn encoded_size<T: Emit>(alloc: Global, value: &T) -> Result<u32, Excess>
     ensures { IsSize (T.encoding value.now) result }
 {
@@ -34,7 +37,8 @@ pub fn encoded_size<T: Emit>(alloc: Global, value: &T) -> Result<u32, Excess>
 
 /// The room for what a value is written as: all that can be asked for, where 2^128 - 1 stands for more.
 fn room_for<T: Emit>(alloc: Global, value: &T) -> Result<usize, Excess>
-    ensures ok { IfOk result (λ room. room < 2 ^ 63 → Fits (T.encoding value.now).counts × (room ≡ length (T.encoding value.now).bytes)) }
+    ensures ok { IfOk result (λ room. room < 2 ^ 63
+        → Fits (T.encoding value.now).counts × (room ≡ length (T.encoding value.now).bytes)) }
     ensures err { IfErr result (λ e. (2 ^ 32 ≤ e) × Contains (T.encoding value.now).counts e) }
 {
     match measured(alloc, value) {

@@ -8,8 +8,8 @@ use Rattle.core_parts.specs.Functions.{is_exported, bodies_of, instructions_of}
 use Rattle.core_parts.specs.declared.exports.ExportedIndex.{ExportedIndex}
 use Rattle.module_edits.specs.declared.additions.NewFunction.{NewFunction}
 
--- The function that is added: the entries of its type and of its export, the indices of its type and of itself, and its body
--- without its size.
+-- The function that is added: the entries of its type and of its export, the indices of its type
+-- and of itself, and its body without its size.
 pub record Added : Type 0 where
   pub func_type : List ℕ
   pub type_index : ℕ
@@ -83,7 +83,7 @@ edited_body es first f whole (coded id contents) = edited_section es first f who
 abbrev pub edited : List ExportedIndex → ℕ → Added → Piece → Encoding
 edited es first f p = edited_body es first f p.whole p.body
 
--- The module of these sections, whose exports are these, with the function; `first` is the index of the first function that
--- isn't imported.
+-- The module of these sections, whose exports are these, with the function; `first` is the index of
+-- the first function that isn't imported.
 abbrev pub with_function : List ExportedIndex → ℕ → Added → List Piece → Encoding
 with_function es first f ps = raw preamble ⊕ each (edited es first f) ps

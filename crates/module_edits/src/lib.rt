@@ -1,10 +1,11 @@
-//! A core module with one more function, its last, which each exported function calls before all that it does; and a core
-//! module whose imports of one name have another one.
+//! A core module with one more function, its last, which each exported function calls before all
+//! that it does; and a core module whose imports of one name have another one.
 //!
-//! Of the first, the sections of types, functions and code, and that of exports where the function is exported, get one more entry at
-//! their end, so that no index of the module changes its meaning. An exported function has a call of the new one
-//! in front of its instructions, behind its locals; one that is imported has no body, and stays as it is. All else is kept, byte for byte (`specs/Additions.antt`); the counts and sizes
-//! of what is changed are written the shortest way.
+//! Of the first, the sections of types, functions and code, and that of exports where the function
+//! is exported, get one more entry at their end, so that no index of the module changes its
+//! meaning. An exported function has a call of the new one in front of its instructions, behind its
+//! locals; one that is imported has no body, and stays as it is. All else is kept, byte for byte
+//! (`specs/Additions.antt`); the counts and sizes of what is changed are written the shortest way.
 //!
 //! In reading order: `additions` (the function), `entries` (lists with one more entry), `code` (bodies),
 //! `sections`, `laws` (what holds of all modules that get one); `renaming` (of imports).

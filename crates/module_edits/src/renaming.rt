@@ -155,8 +155,9 @@ fn put_all_renamed(
     Ok(())
 }
 
-/// Writes the module of these sections, whose imports of that name have the new field; all else is the old module's, but for the
-/// counts and sizes around the imports, which are written the shortest way.
+/// Writes the module of these sections, whose imports of that name have the new field; all else is
+/// the old module's, but for the counts and sizes around the imports, which are written the
+/// shortest way.
 ///
 /// It fails with [`BuildFault::TooMany`] only where a count or a size would exceed 2^32 - 1, and reports that one.
 pub fn put_with_import_name(

@@ -89,8 +89,9 @@ fn put_sections(
     Ok(())
 }
 
-/// Writes the module of these sections, whose exports are these, with a new function, which each exported function calls before
-/// all that it does, unless it is imported; `first` is the index of the first function that isn't.
+/// Writes the module of these sections, whose exports are these, with a new function, which each
+/// exported function calls before all that it does, unless it is imported; `first` is the index of
+/// the first function that isn't.
 ///
 /// It fails with [`BuildFault::TooMany`] only where a count or a size would exceed 2^32 - 1, and reports that one.
 pub fn put_with_function(

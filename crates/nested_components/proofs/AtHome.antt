@@ -1,5 +1,5 @@
--- What is made of types of an interface, of types without names, and of types of other interfaces that were imported may be encoded in
--- its nested component.
+-- What is made of types of an interface, of types without names, and of types of other interfaces
+-- that were imported may be encoded in its nested component.
 use Rattle.std.proofs.Common.{◌≡◌, ◌∙◌, ◌<◌, ◌≤◌, ◌==◌, ◌&&◌, ◌||◌, not, arith, ℕ, zero, suc, Bool, true, false, true≢false, List, [], ◌∷◌, length, map, get_or, refl, ap, sym, subst, Option, Some, None, is_none, is_some, if◌then◌else◌, lt-ltb, rules}
 use Rattle.std.specs.List.{AllByRecursion, IsDistinct, list_all}
 use Rattle.std.specs.Map.{keys_of}
@@ -201,8 +201,8 @@ module _ (origin : TypeId → Resource) (lent : ℕ → Bool) (home : Home) (sta
     below k zero most known id l m e c = absurd (omega (arith, l))
     below k (suc bound) most known id l m e c = step id (omega (arith, most, m)) (known id.index m) (λ j n q d. below k bound most known j (omega (arith, l, n)) (omega (arith, n, m)) q d) e c
 
-    -- the parts of a type at home may be made, once those of the interface below it are known, and those of others that are met in it were
-    -- imported
+    -- the parts of a type at home may be made, once those of the interface below it are known, and
+    -- those of others that are met in it were imported
     pub parts_defined : (id : TypeId) → id.index < length types → AreKnown id.index → passes (Some (Id id)) ≡ true → is_parts_covered types home.here home.foreign id.index ≡ true → HasParts s (kind_at types id.index)
     parts_defined id within known e c =
         let w = whole id within e in

@@ -1,5 +1,5 @@
--- A worked example: an interface that lists one resource, of which its function takes an own handle; and one whose function takes an own
--- handle of a resource of another interface.
+-- A worked example: an interface that lists one resource, of which its function takes an own
+-- handle; and one whose function takes an own handle of a resource of another interface.
 use Rattle.std.proofs.Common.{◌≡◌, ◌<◌, ◌==◌, arith, ℕ, zero, suc, Bool, true, false, true≢false, sym, List, [], ◌∷◌, map, refl, ap, Some, None}
 use Rattle.std.specs.Prelude.{codes, Contains, IsSome}
 use Rattle.std.proofs.lemmas.Option.{same_Some}

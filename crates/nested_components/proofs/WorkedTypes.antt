@@ -1,5 +1,5 @@
--- A worked example: an interface that lists one type, a stream, which its function takes; and one whose function takes a type of
--- another interface.
+-- A worked example: an interface that lists one type, a stream, which its function takes; and one
+-- whose function takes a type of another interface.
 use Rattle.std.proofs.Common.{◌≡◌, ◌<◌, ◌==◌, ◌&&◌, arith, ℕ, zero, suc, Bool, true, false, true≢false, sym, List, [], ◌∷◌, refl, ap, Some, None}
 use Rattle.std.specs.List.{IsDistinct}
 use Rattle.std.specs.Prelude.{codes, Contains, IsSome}

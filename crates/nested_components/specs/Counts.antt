@@ -1,4 +1,5 @@
--- How many type indices the items of a nested component make (component model, explainer: index spaces; binary: type indices).
+-- How many type indices the items of a nested component make (component model, explainer: index
+-- spaces; binary: type indices).
 use Rattle.std.specs.Prelude.{ℕ, ◌≡◌, ◌+◌, ◌≤◌, ◌^◌, Bool, true, false, List, count_by}
 use Rattle.comp_bytes.specs.declared.space.Sort.TheVariants as sorts
 use Rattle.comp_bytes.specs.declared.types.Description.TheVariants as descriptions

@@ -28,7 +28,8 @@ pub record IsForeignType (types : List TypeDef) (here : InterfaceId) (id : TypeI
   pub other : InterfaceId
   pub owner : foreign (Some here) (owner_at types id.index) ≡ Some other
 
--- A type of another interface that is made of those before it, and of which the interface may be made, and of no resource of its own.
+-- A type of another interface that is made of those before it, and of which the interface may be
+-- made, and of no resource of its own.
 pub record IsUsable (types : List TypeDef) (lent : ℕ → Bool) (here : InterfaceId) (before : List TypeId) (id : TypeId) : Type 0 where
   pub ready : IsReady types here before id
   pub passes : value (each_passes (is_home_before types lent here)) types (Some (Id id)) ≡ true
@@ -38,7 +39,8 @@ abbrev pub AreUsableAfter : List TypeDef → (ℕ → Bool) → InterfaceId → 
 AreUsableAfter types lent here before [] = Unit {0}
 AreUsableAfter types lent here before (id ∷ ids) = IsUsable types lent here before id × AreUsableAfter types lent here (before ++ id ∷ []) ids
 
--- types that can be imported for an interface, one after the other, under names that are made of theirs, and for which they are given
+-- types that can be imported for an interface, one after the other, under names that are made of
+-- theirs, and for which they are given
 pub record AreUsable (given : List ℕ → TypeTree) (origin : TypeId → Resource) (home : Home) (ts : List TypeImport) : Type 0 where
   pub lent : ℕ → Bool
   pub known : IsHome lent home

@@ -1,5 +1,6 @@
--- What the nested component of an interface imports and exports: its functions, each imported under a name that is free and
--- exported under its own, behind its types (component model, explainer: import and export definitions).
+-- What the nested component of an interface imports and exports: its functions, each imported under
+-- a name that is free and exported under its own, behind its types (component model, explainer:
+-- import and export definitions).
 use Rattle.std.specs.Prelude.{ℕ, ◌≡◌, List, [], ◌∷◌, ◌++◌, map}
 use Rattle.std.specs.List.{AllByRecursion, IsDistinct, flat_map}
 use Rattle.std.specs.Str.{bytes_eq}
@@ -39,8 +40,8 @@ exported fs gs = []
 abbrev pub IsTyped : (TypeId → Resource) → List TypeDef → NestedFunction → Function → Type 0
 IsTyped origin types g f = g.type ≡ type_of origin types f
 
--- items of a nested component that import these functions and types, and export the types that are listed, and then the functions
--- under the names of the interface
+-- items of a nested component that import these functions and types, and export the types that are
+-- listed, and then the functions under the names of the interface
 pub record PassesOn (given : List ℕ → TypeTree) (origin : TypeId → Resource) (all : List TypeDef) (named : List (List ℕ × TypeId)) (entries : List (List ℕ × Function)) (gs : List NestedFunction) (imports : List TypeImport) (is : List Item) : Type 0 where
   pub right : AreItemsRight given empty_scope is
   pub functions : functions_imported (imports_after given empty_scope is) ≡ gs
@@ -48,8 +49,8 @@ pub record PassesOn (given : List ℕ → TypeTree) (origin : TypeId → Resourc
   pub own : AllByRecursion (IsImportOf all named entries) imports
   pub exports : exports_after given empty_scope is ≡ map (exported_type origin all) named ++ exported (functions_of entries) gs
 
--- The nested component of an interface that lists these types and has these functions, once it is said what is given for its imports
--- of resources. No two of its imports have one name.
+-- The nested component of an interface that lists these types and has these functions, once it is
+-- said what is given for its imports of resources. No two of its imports have one name.
 pub record IsNestedComponent (origin : TypeId → Resource) (all : List TypeDef) (named : List (List ℕ × TypeId)) (entries : List (List ℕ × Function)) (c : NestedComponent) : Type 0 where
   pub given : List ℕ → TypeTree
   pub names : AreNames (functions_of entries) c.names

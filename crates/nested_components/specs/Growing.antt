@@ -1,5 +1,5 @@
--- How the items of a nested component grow, with the names that its imports take (component model, explainer: index spaces; binary:
--- type indices).
+-- How the items of a nested component grow, with the names that its imports take (component model,
+-- explainer: index spaces; binary: type indices).
 use Rattle.std.specs.Prelude.{ℕ, ◌≡◌, ◌<◌, ◌⊎◌, length, map, get_or, Bool, true, false, List, [], ◌∷◌, ◌++◌, Option, Some, None, Contains}
 use Rattle.std.specs.List.{AllByRecursion}
 use Rattle.std.specs.Map.{keys_of, lookup}
@@ -41,7 +41,8 @@ plain text = record { name = text; version_suffix = None }
 abbrev pub AreTablesRight : (List ℕ → TypeTree) → (TypeId → Resource) → Home → Stage → List Item → TypeEncodingMaps → Type 0
 AreTablesRight given origin home stage is maps = Faithful (nested_setting origin home stage) (scope_of given is).types any_index (Unit {0}) maps
 
--- items that have grown at their end, by right ones, which import and export these and no other, and make these functions
+-- items that have grown at their end, by right ones, which import and export these and no other,
+-- and make these functions
 pub record ItemsGrow (given : List ℕ → TypeTree) (old new : List Item) (imports : List NestedFunction) (types : List (List ℕ × TypeTree)) (exports : List NestedExport) (functions : List NestedFunction) : Type 0 where
   pub more : List Item
   pub grown : new ≡ old ++ more
@@ -61,8 +62,8 @@ type_entry t = (t.name, Some t.id)
 
 -- ---- imports
 
--- The types that are imported, one after the other, with whether the name of each was chosen before: those of which it was, the
--- others, which were met, and all.
+-- The types that are imported, one after the other, with whether the name of each was chosen
+-- before: those of which it was, the others, which were met, and all.
 abbrev pub planned_among : List (Bool × TypeImport) → List TypeImport
 planned_among [] = []
 planned_among ((true, t) ∷ ts) = t ∷ planned_among ts
@@ -76,16 +77,16 @@ met_among ((false, t) ∷ ts) = t ∷ met_among ts
 abbrev pub all_among : List (Bool × TypeImport) → List TypeImport
 all_among ts = map (λ t. t.1) ts
 
--- the import is one of a type that is listed under a name, or of a type of another interface that has the name; its own name is made
--- of that
+-- the import is one of a type that is listed under a name, or of a type of another interface that
+-- has the name; its own name is made of that
 pub record IsImportIn (home : Home) (t : TypeImport) : Type 0 where
   pub text : List ℕ
   pub from : Contains home.named (text, t.id) ⊎ Contains home.foreign t.id × (name_at home.types t.id.index ≡ Some text)
   pub count : ℕ
   pub same : t.name ≡ numbered count (type_import_name text)
 
--- functions are imported, and types of the interface or of others: these, whose names were chosen before, and such as are met, each
--- under a name that was free
+-- functions are imported, and types of the interface or of others: these, whose names were chosen
+-- before, and such as are met, each under a name that was free
 pub record GrowsBy (given : List ℕ → TypeTree) (origin : TypeId → Resource) (home : Home) (stage : Stage) (planned : List TypeImport) (old new : Contents) (functions : List NestedFunction) : Type 0 where
   pub more : List (Bool × TypeImport)
   pub staged : MayImport stage more

@@ -19,8 +19,8 @@ use Rattle.nested_components.specs.declared.stage.Stage.TheVariants as stages
 use Rattle.nested_components.specs.declared.type_import.TypeImport.{TypeImport}
 use Rattle.nested_components.specs.Types.{IsEachListed, listed_ids}
 
--- the types of the resolve, the interface, the types that it lists, those of other interfaces that were imported, and its own resources
--- that were
+-- the types of the resolve, the interface, the types that it lists, those of other interfaces that
+-- were imported, and its own resources that were
 pub record Home : Type 0 where
   pub types : List TypeDef
   pub here : InterfaceId
@@ -68,8 +68,8 @@ next_of (Some id) = suc id.index
 abbrev pub is_passed : Home → Option TypeId → TypeId → Bool
 is_passed home last id = nat_lt id.index (next_of last) && is_one_of (listed_ids home.named) id.index
 
--- whether a type is in the tables: one of another interface that was imported, and, while functions are imported, a resource of the
--- interface that was, or else one that was exported
+-- whether a type is in the tables: one of another interface that was imported, and, while functions
+-- are imported, a resource of the interface that was, or else one that was exported
 abbrev pub is_met : Stage → Home → TypeId → Bool
 is_met stages.Importing home id = is_one_of home.foreign id.index || is_one_of home.resources id.index
 is_met (stages.Exporting last) home id = is_one_of home.foreign id.index || is_passed home last id
@@ -84,9 +84,11 @@ may_own_named None stage home n = true
 may_own_named (Some name) stages.Importing home n = is_listed home.named name n
 may_own_named (Some name) (stages.Exporting last) home n = false
 
--- What definitions take as given. A type of another interface is imported by itself, before what is made of it: so it is in the
--- tables, or nothing asks for it. So is a resource of the interface. While functions are imported, a type of values of the interface is
--- defined where it is met, and is imported as equal. Afterwards each type is exported by itself, as those of others were imported.
+-- What definitions take as given. A type of another interface is imported by itself, before what is
+-- made of it: so it is in the tables, or nothing asks for it. So is a resource of the interface.
+-- While functions are imported, a type of values of the interface is defined where it is met, and
+-- is imported as equal. Afterwards each type is exported by itself, as those of others were
+-- imported.
 abbrev pub nested_setting : (TypeId → Resource) → Home → Stage → Setting
 nested_setting origin home stage =
     record {

@@ -1,5 +1,6 @@
--- The names of the imports of a nested component, which are chosen before anything is imported (component model, explainer: import
--- definitions; that a name is lengthened by numbers is this project's own, as `wit-component` has it).
+-- The names of the imports of a nested component, which are chosen before anything is imported
+-- (component model, explainer: import definitions; that a name is lengthened by numbers is this
+-- project's own, as `wit-component` has it).
 use Rattle.std.specs.Prelude.{ℕ, ◌≡◌, ◌<◌, length, map, List, [], ◌∷◌, ◌++◌, Option, Some, None, IsSome}
 use Rattle.std.specs.List.{AllByRecursion, IsDistinct}
 use Rattle.std.specs.Map.{keys_of, lookup}
@@ -49,9 +50,9 @@ pub record PlansTypes (types : List TypeDef) (old new : List (List ℕ × Option
   pub named : AllByRecursion (IsNamedImport types) ts
   pub taken : new ≡ old ++ map type_entry ts
 
--- The names of the imports of an interface that lists these types and has these functions: those of its functions, those of the
--- types of other interfaces of which it is made, and those of the resources that it lists. These names are taken, and no others, and
--- they are distinct.
+-- The names of the imports of an interface that lists these types and has these functions: those of
+-- its functions, those of the types of other interfaces of which it is made, and those of the
+-- resources that it lists. These names are taken, and no others, and they are distinct.
 pub record IsPlan (types : List TypeDef) (here : InterfaceId) (named : List (List ℕ × TypeId)) (entries : List (List ℕ × Function)) (names : ImportNames) (taken : List (List ℕ × Option TypeId)) : Type 0 where
   pub functions : AreNames (functions_of entries) names.functions
   pub foreign : AreForeignTypes types here named entries (imported_ids names.foreign)

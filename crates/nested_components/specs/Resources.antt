@@ -1,5 +1,6 @@
--- The resources of an interface, each imported as one that is given, and exported again as what was imported (component model,
--- explainer: import and export definitions, type bounds; WIT: resources).
+-- The resources of an interface, each imported as one that is given, and exported again as what was
+-- imported (component model, explainer: import and export definitions, type bounds; WIT:
+-- resources).
 use Rattle.std.specs.Prelude.{ℕ, ◌≡◌, ◌<◌, length, true, List, Some, Contains}
 use Rattle.std.specs.Map.{lookup}
 use Rattle.wit_data.specs.declared.ids.TypeId.{TypeId}

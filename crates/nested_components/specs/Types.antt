@@ -1,5 +1,5 @@
--- The types that the nested component of an interface imports, and those that it exports (component model, explainer: import and
--- export definitions, type bounds).
+-- The types that the nested component of an interface imports, and those that it exports (component
+-- model, explainer: import and export definitions, type bounds).
 use Rattle.std.specs.Prelude.{ℕ, ◌≡◌, ◌<◌, ◌&&◌, Bool, true, not, List, map, filter, Some, Contains, length, is_none, IsSome}
 use Rattle.std.specs.List.{AllByRecursion}
 use Rattle.wit_data.specs.declared.ids.InterfaceId.{InterfaceId}
@@ -46,9 +46,10 @@ is_home_before types lent here n kind = is_at_home types lent here n kind && not
 pub record AreResourcesLater (types : List TypeDef) (lent : ℕ → Bool) (here : InterfaceId) : Type 0 where
   pub each : (id : TypeId) → id.index < length types → IsSome (foreign (Some here) (owner_at types id.index)) → type_passes (is_at_home types lent here) types id → type_passes (is_home_before types lent here) types id
 
--- An interface whose nested component can be made: it lists types of its own, each under its name, in the order of the resolve;
--- they and its functions are made of these, of types without names, and of types that other interfaces lend under names. A resource
--- of its own is lent under a name too.
+-- An interface whose nested component can be made: it lists types of its own, each under its name,
+-- in the order of the resolve; they and its functions are made of these, of types without names,
+-- and of types that other interfaces lend under names. A resource of its own is lent under a name
+-- too.
 pub record IsAtHome (all : List TypeDef) (here : InterfaceId) (named : List (List ℕ × TypeId)) (entries : List (List ℕ × Function)) : Type 0 where
   pub lent : ℕ → Bool
   pub titled : AllByRecursion (λ t. IsTitled all here t.1 t.0) named
@@ -66,7 +67,8 @@ type_given origin types t = (t.name, OfValues (wit_tree origin types (Some (Id t
 abbrev pub exported_type : (TypeId → Resource) → List TypeDef → List ℕ × TypeId → NestedExport
 exported_type origin types t = ExportedType t.0 (OfValues (wit_tree origin types (Some (Id t.1))))
 
--- the import is one of a type that has a name, of which the interface is made; its name is made of the name of that type
+-- the import is one of a type that has a name, of which the interface is made; its name is made of
+-- the name of that type
 pub record IsImportOf (all : List TypeDef) (named : List (List ℕ × TypeId)) (entries : List (List ℕ × Function)) (t : TypeImport) : Type 0 where
   pub within : t.id.index < length all
   pub text : List ℕ

@@ -38,8 +38,8 @@ use std::alloc::Global;
 use std::marker::Brand;
 use wit_data::{Function, InterfaceId, Resolve, TypeId};
 
-/// The items of a nested component, the names under which it imports the functions of the interface, in their order, and the
-/// types that it imports, in order.
+/// The items of a nested component, the names under which it imports the functions of the
+/// interface, in their order, and the types that it imports, in order.
 pub struct NestedComponent {
     pub items: Seq<Item>,
     pub names: Seq<Text>,
@@ -73,12 +73,15 @@ impl NestedComponent {
 /// The nested component of an interface that lists these types, and has these functions. It imports each function, and
 /// exports the types and then the functions under the names that they have in the interface.
 ///
-/// The types of other interfaces of which the interface is made are imported first, each as equal to its definition and behind those
-/// of which it is made, and each resource as one that is given. The resources that the interface lists are imported next, as given
-/// ones too, and exported by the indices of these imports. The type of a function stands right before the import, unless an equal
-/// one was written before, and behind what it is made of; a type of values of the interface is imported as equal to its definition as
-/// soon as that is written, and stands for it from then on. The exports use no type that was written for the imports of functions.
-/// (No clause says which types are imported: those of other interfaces, the resources, and those of which the functions are made.)
+/// The types of other interfaces of which the interface is made are imported first, each as equal
+/// to its definition and behind those of which it is made, and each resource as one that is given.
+/// The resources that the interface lists are imported next, as given ones too, and exported by the
+/// indices of these imports. The type of a function stands right before the import, unless an equal
+/// one was written before, and behind what it is made of; a type of values of the interface is
+/// imported as equal to its definition as soon as that is written, and stands for it from then on.
+/// The exports use no type that was written for the imports of functions. (No clause says which
+/// types are imported: those of other interfaces, the resources, and those of which the functions
+/// are made.)
 pub fn nested_component(
     alloc: Global,
     resolve: &Resolve,
@@ -90,7 +93,8 @@ pub fn nested_component(
     requires sound { IsSound resolve.now }
     requires present { AllByRecursion (λ e. HasFunction resolve.now e.1) functions.now }
     requires home { IsAtHome resolve.now.types interface types.now functions.now }
-    ensures nested { IfOk result (IsNestedComponent origin resolve.now.types types.now functions.now) }
+    ensures nested { IfOk result
+        (IsNestedComponent origin resolve.now.types types.now functions.now) }
     ensures cause { IfErr result IsExcess }
 {
     let plan = plan_imports(alloc, resolve, interface, types, functions)?;
@@ -109,10 +113,15 @@ fn placed_component<P: Placement>(
     requires sound { IsSound resolve.now }
     requires present { AllByRecursion (λ e. HasFunction resolve.now e.1) functions.now }
     requires home { IsAtHome resolve.now.types interface types.now functions.now }
-    requires planned { IsPlan resolve.now.types interface types.now functions.now plan.names plan.taken }
-    requires given { AllByRecursion (IsGiven P.given P.origin resolve.now.types) (plan.names.foreign ++ plan.names.resources) }
+    requires planned { IsPlan resolve.now.types interface types.now functions.now plan.names
+        plan.taken }
+    requires given { AllByRecursion (IsGiven P.given P.origin resolve.now.types)
+        (plan.names.foreign ++ plan.names.resources) }
     ensures names { IfOk result (λ c. AreNames (functions_of functions.now) c.names) }
-    ensures passes { IfOk result (λ c. PassesOn P.given P.origin resolve.now.types types.now functions.now (nested_functions P.origin resolve.now.types (functions_of functions.now) c.names) c.types c.items) }
+    ensures passes { IfOk result (λ c. PassesOn P.given P.origin resolve.now.types types.now
+        functions.now
+        (nested_functions P.origin resolve.now.types (functions_of functions.now) c.names)
+        c.types c.items) }
     ensures apart { IfOk result (λ c. IsDistinct bytes_eq (flat_map item_import c.items)) }
     ensures cause { IfErr result IsExcess }
 {
@@ -154,8 +163,11 @@ fn begin_component<'a, P: Placement>(
     taken: Keyed<Text, Option<TypeId>>,
 ) -> Result<NestedEncoder<'a, P>, BuildFault>
     requires sound { IsSound resolve.now }
-    requires usable { AreUsable P.given P.origin (new_home resolve.now.types interface types.now) foreign.now }
-    ensures begun { IfOk result (λ e. IsBegun P.given P.origin (new_home resolve.now.types interface types.now) taken foreign.now e.home e.stage e.contents e.maps) }
+    requires usable { AreUsable P.given P.origin (new_home resolve.now.types interface types.now)
+        foreign.now }
+    ensures begun { IfOk result (λ e. IsBegun P.given P.origin
+        (new_home resolve.now.types interface types.now) taken foreign.now e.home e.stage
+        e.contents e.maps) }
     ensures cause { IfErr result IsExcess }
 {
     let home = OwnTypes::new(alloc, resolve, interface, types);
@@ -178,8 +190,10 @@ fn contents_of<P: Placement>(
     requires present { AllByRecursion (λ e. HasFunction resolve.now e.1) functions.now }
     requires home { IsAtHome resolve.now.types interface types.now functions.now }
     requires planned { IsPlan resolve.now.types interface types.now functions.now names.now taken }
-    requires given { AllByRecursion (IsGiven P.given P.origin resolve.now.types) (names.now.foreign ++ names.now.resources) }
-    ensures passed { IfOk result (ArePassedOn P.given P.origin resolve.now.types types.now functions.now names.now.functions) }
+    requires given { AllByRecursion (IsGiven P.given P.origin resolve.now.types)
+        (names.now.foreign ++ names.now.resources) }
+    ensures passed { IfOk result (ArePassedOn P.given P.origin resolve.now.types types.now
+        functions.now names.now.functions) }
     ensures cause { IfErr result IsExcess }
 {
     names_apart(types);
@@ -207,13 +221,22 @@ fn import_all<P: Placement>(
     requires same { encoder.old.home.types ≡ resolve.now.types }
     requires stage { encoder.old.stage ≡ stages.Importing }
     requires present { AllByRecursion (λ e. HasFunction resolve.now e.1) functions.now }
-    requires own { AllByRecursion (IsOwnResource P.given P.origin encoder.old.home) names.now.resources }
-    requires allowed { AllByRecursion (λ f. allows_function (nested_setting P.origin (with_resources encoder.old.home (imported_ids names.now.resources)) encoder.old.stage) f ≡ true) (functions_of functions.now) }
-    requires right { AreTablesRight P.given P.origin encoder.old.home encoder.old.stage encoder.old.contents.items encoder.old.maps }
-    ensures home { OnOk result (encoder.new.home ≡ with_resources encoder.old.home (imported_ids names.now.resources)) }
+    requires own { AllByRecursion (IsOwnResource P.given P.origin encoder.old.home)
+        names.now.resources }
+    requires allowed { AllByRecursion (λ f. allows_function (nested_setting P.origin
+        (with_resources encoder.old.home (imported_ids names.now.resources))
+        encoder.old.stage) f
+        ≡ true) (functions_of functions.now) }
+    requires right { AreTablesRight P.given P.origin encoder.old.home encoder.old.stage
+        encoder.old.contents.items encoder.old.maps }
+    ensures home { OnOk result
+        (encoder.new.home ≡ with_resources encoder.old.home (imported_ids names.now.resources)) }
     ensures stage { OnOk result (encoder.new.stage ≡ encoder.old.stage) }
-    ensures grows { OnOk result (GrowsBy P.given P.origin encoder.new.home encoder.old.stage names.now.resources encoder.old.contents encoder.new.contents (nested_functions P.origin encoder.old.home.types (functions_of functions.now) names.now.functions)) }
-    ensures right { OnOk result (AreTablesRight P.given P.origin encoder.new.home encoder.new.stage encoder.new.contents.items encoder.new.maps) }
+    ensures grows { OnOk result (GrowsBy P.given P.origin encoder.new.home encoder.old.stage
+        names.now.resources encoder.old.contents encoder.new.contents (nested_functions P.origin
+        encoder.old.home.types (functions_of functions.now) names.now.functions)) }
+    ensures right { OnOk result (AreTablesRight P.given P.origin encoder.new.home encoder.new.stage
+        encoder.new.contents.items encoder.new.maps) }
     ensures cause { IfErr result IsExcess }
 {
     import_resources(encoder, names.resources.as_slice())?;
@@ -236,11 +259,18 @@ fn export_all<P: Placement>(
     requires stage { encoder.old.stage ≡ stages.Exporting None }
     requires home { CanExport encoder.old.home functions.now }
     requires named { types.now ≡ encoder.old.home.named }
-    requires imported { AreResourcesImported P.given P.origin encoder.old.home encoder.old.contents.items imported.now }
+    requires imported { AreResourcesImported P.given P.origin encoder.old.home
+        encoder.old.contents.items imported.now }
     requires present { AllByRecursion (λ e. HasFunction resolve.now e.1) functions.now }
-    requires right { AreTablesRight P.given P.origin encoder.old.home encoder.old.stage encoder.old.contents.items encoder.old.maps }
-    requires typed { AllZip (IsTyped P.origin encoder.old.home.types) (scope_of P.given encoder.old.contents.items).functions (functions_of functions.now) }
-    ensures exports { OnOk result (Exports P.given encoder.old.contents encoder.new.contents (map (exported_type P.origin encoder.old.home.types) encoder.old.home.named ++ exported (functions_of functions.now) (scope_of P.given encoder.old.contents.items).functions) (scope_of P.given encoder.old.contents.items).functions) }
+    requires right { AreTablesRight P.given P.origin encoder.old.home encoder.old.stage
+        encoder.old.contents.items encoder.old.maps }
+    requires typed { AllZip (IsTyped P.origin encoder.old.home.types)
+        (scope_of P.given encoder.old.contents.items).functions (functions_of functions.now) }
+    ensures exports { OnOk result (Exports P.given encoder.old.contents encoder.new.contents
+        (map (exported_type P.origin encoder.old.home.types) encoder.old.home.named
+        ++ exported (functions_of functions.now)
+        (scope_of P.given encoder.old.contents.items).functions)
+        (scope_of P.given encoder.old.contents.items).functions) }
     ensures cause { IfErr result IsExcess }
 {
     export_types(alloc, encoder, resolve, imported, types)?;

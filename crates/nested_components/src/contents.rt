@@ -15,9 +15,9 @@ use comp_lists::{Keyed, Seq, Text};
 use std::alloc::Global;
 use wit_data::TypeId;
 
-/// The items of a nested component, the names that its imports take, and the types that were imported, in order. The names are those
-/// that were chosen before, of functions and of types, whether they were imported yet or not, and those of other types that were
-/// imported.
+/// The items of a nested component, the names that its imports take, and the types that were
+/// imported, in order. The names are those that were chosen before, of functions and of types,
+/// whether they were imported yet or not, and those of other types that were imported.
 pub struct Contents {
     pub items: ItemList,
     pub taken: Keyed<Text, Option<TypeId>>,
@@ -45,7 +45,8 @@ fn add_import(
 ) -> Result<u32, BuildFault>
     ensures index { IfOk result (λ new_index. new_index ≡ types_in items.old) }
     ensures items { OnOk result (items.new ≡ items.old ++ type_item name.now equal ∷ []) }
-    ensures types { OnOk result (types.new ≡ types.old ++ record { name = name.now; id = id } ∷ []) }
+    ensures types { OnOk result
+        (types.new ≡ types.old ++ record { name = name.now; id = id } ∷ []) }
     ensures kept { OnErr result ((items.new ≡ items.old) × (types.new ≡ types.old)) }
     ensures cause { IfErr result (IsCause is_full items.new) }
 {
@@ -79,8 +80,8 @@ impl Contents {
         (items.into_items(), types.into_seq())
     }
 
-    /// Imports a type under a name that was chosen before, as equal to the one with an index, or as a resource, and returns the index
-    /// of the import.
+    /// Imports a type under a name that was chosen before, as equal to the one with an index, or as
+    /// a resource, and returns the index of the import.
     pub fn import_planned(
         &mut self,
         alloc: Global,
@@ -102,8 +103,8 @@ impl Contents {
         Ok(index)
     }
 
-    /// Imports a type of a name as equal to the one with an index, under a name that is free, and returns the index of the
-    /// import. After a refusal all is as it was.
+    /// Imports a type of a name as equal to the one with an index, under a name that is free, and
+    /// returns the index of the import. After a refusal all is as it was.
     pub fn import_type(
         &mut self,
         alloc: Global,

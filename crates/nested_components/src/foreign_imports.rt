@@ -36,11 +36,15 @@ pub(crate) fn import_foreign_types<P: Placement>(
     requires same { encoder.old.home.types ≡ resolve.now.types }
     requires stage { encoder.old.stage ≡ stages.Importing }
     requires usable { AreUsable P.given P.origin encoder.old.home imports.now }
-    requires right { AreTablesRight P.given P.origin encoder.old.home encoder.old.stage encoder.old.contents.items encoder.old.maps }
-    ensures home { OnOk result (encoder.new.home ≡ with_foreign encoder.old.home (imported_ids imports.now)) }
+    requires right { AreTablesRight P.given P.origin encoder.old.home encoder.old.stage
+        encoder.old.contents.items encoder.old.maps }
+    ensures home { OnOk result
+        (encoder.new.home ≡ with_foreign encoder.old.home (imported_ids imports.now)) }
     ensures stage { OnOk result (encoder.new.stage ≡ encoder.old.stage) }
-    ensures grows { OnOk result (GrowsBy P.given P.origin encoder.new.home encoder.old.stage imports.now encoder.old.contents encoder.new.contents []) }
-    ensures right { OnOk result (AreTablesRight P.given P.origin encoder.new.home encoder.new.stage encoder.new.contents.items encoder.new.maps) }
+    ensures grows { OnOk result (GrowsBy P.given P.origin encoder.new.home encoder.old.stage
+        imports.now encoder.old.contents encoder.new.contents []) }
+    ensures right { OnOk result (AreTablesRight P.given P.origin encoder.new.home encoder.new.stage
+        encoder.new.contents.items encoder.new.maps) }
     ensures cause { IfErr result (IsCause is_full encoder.new.contents.items) }
 {
     for import in imports {
@@ -62,12 +66,18 @@ fn import_foreign_type<P: Placement>(
     requires foreign { IsForeignType encoder.old.home.types encoder.old.home.here import.now.id }
     requires named { IsNamedImport encoder.old.home.types import.now }
     requires given { IsGiven P.given P.origin encoder.old.home.types import.now }
-    requires parts { HasParts (nested_setting P.origin encoder.old.home encoder.old.stage) (kind_at resolve.now.types import.now.id.index) }
-    requires right { AreTablesRight P.given P.origin encoder.old.home encoder.old.stage encoder.old.contents.items encoder.old.maps }
-    ensures home { OnOk result (encoder.new.home ≡ with_foreign encoder.old.home (import.now.id ∷ [])) }
+    requires parts { HasParts (nested_setting P.origin encoder.old.home encoder.old.stage)
+        (kind_at resolve.now.types import.now.id.index) }
+    requires right { AreTablesRight P.given P.origin encoder.old.home encoder.old.stage
+        encoder.old.contents.items encoder.old.maps }
+    ensures home { OnOk result
+        (encoder.new.home ≡ with_foreign encoder.old.home (import.now.id ∷ [])) }
     ensures stage { OnOk result (encoder.new.stage ≡ encoder.old.stage) }
-    ensures grows { OnOk result (GrowsBy P.given P.origin (with_foreign encoder.old.home (import.now.id ∷ [])) encoder.old.stage (import.now ∷ []) encoder.old.contents encoder.new.contents []) }
-    ensures right { OnOk result (AreTablesRight P.given P.origin encoder.new.home encoder.new.stage encoder.new.contents.items encoder.new.maps) }
+    ensures grows { OnOk result (GrowsBy P.given P.origin
+        (with_foreign encoder.old.home (import.now.id ∷ [])) encoder.old.stage (import.now ∷ [])
+        encoder.old.contents encoder.new.contents []) }
+    ensures right { OnOk result (AreTablesRight P.given P.origin encoder.new.home encoder.new.stage
+        encoder.new.contents.items encoder.new.maps) }
     ensures cause { IfErr result (IsCause is_full encoder.new.contents.items) }
 {
     record_foreign_type(alloc, encoder, resolve, import)?;
@@ -88,13 +98,18 @@ fn record_foreign_type<P: Placement>(
     requires foreign { IsForeignType encoder.old.home.types encoder.old.home.here import.now.id }
     requires named { IsNamedImport encoder.old.home.types import.now }
     requires given { IsGiven P.given P.origin encoder.old.home.types import.now }
-    requires parts { HasParts (nested_setting P.origin encoder.old.home encoder.old.stage) (kind_at resolve.now.types import.now.id.index) }
-    requires right { AreTablesRight P.given P.origin encoder.old.home encoder.old.stage encoder.old.contents.items encoder.old.maps }
+    requires parts { HasParts (nested_setting P.origin encoder.old.home encoder.old.stage)
+        (kind_at resolve.now.types import.now.id.index) }
+    requires right { AreTablesRight P.given P.origin encoder.old.home encoder.old.stage
+        encoder.old.contents.items encoder.old.maps }
     ensures home { OnOk result (encoder.new.home ≡ encoder.old.home) }
     ensures stage { OnOk result (encoder.new.stage ≡ encoder.old.stage) }
-    ensures grows { OnOk result (GrowsBy P.given P.origin (with_foreign encoder.old.home (import.now.id ∷ [])) encoder.old.stage (import.now ∷ []) encoder.old.contents encoder.new.contents []) }
+    ensures grows { OnOk result (GrowsBy P.given P.origin
+        (with_foreign encoder.old.home (import.now.id ∷ [])) encoder.old.stage (import.now ∷ [])
+        encoder.old.contents encoder.new.contents []) }
     ensures recorded { OnOk result (HasIndex encoder.new.maps import.now.id) }
-    ensures right { OnOk result (AreTablesRight P.given P.origin encoder.new.home encoder.new.stage encoder.new.contents.items encoder.new.maps) }
+    ensures right { OnOk result (AreTablesRight P.given P.origin encoder.new.home encoder.new.stage
+        encoder.new.contents.items encoder.new.maps) }
     ensures cause { IfErr result (IsCause is_full encoder.new.contents.items) }
 {
     let equal = define_foreign_type(alloc, encoder, resolve, import)?;
@@ -114,13 +129,19 @@ fn define_foreign_type<P: Placement>(
     requires same { encoder.old.home.types ≡ resolve.now.types }
     requires present { import.now.id.index < length resolve.now.types }
     requires given { IsGiven P.given P.origin encoder.old.home.types import.now }
-    requires parts { HasParts (nested_setting P.origin encoder.old.home encoder.old.stage) (kind_at resolve.now.types import.now.id.index) }
-    requires right { AreTablesRight P.given P.origin encoder.old.home encoder.old.stage encoder.old.contents.items encoder.old.maps }
+    requires parts { HasParts (nested_setting P.origin encoder.old.home encoder.old.stage)
+        (kind_at resolve.now.types import.now.id.index) }
+    requires right { AreTablesRight P.given P.origin encoder.old.home encoder.old.stage
+        encoder.old.contents.items encoder.old.maps }
     ensures home { OnOk result (encoder.new.home ≡ encoder.old.home) }
     ensures stage { OnOk result (encoder.new.stage ≡ encoder.old.stage) }
-    ensures grows { OnOk result (Grows P.given P.origin encoder.old.home encoder.old.stage encoder.old.contents encoder.new.contents []) }
-    ensures bound { IfOk result (λ equal. IsBoundRight P.given (scope_of P.given encoder.new.contents.items) import.now.name (OfValues (wit_tree P.origin encoder.old.home.types (Some (Id import.now.id)))) equal) }
-    ensures right { OnOk result (AreTablesRight P.given P.origin encoder.new.home encoder.new.stage encoder.new.contents.items encoder.new.maps) }
+    ensures grows { OnOk result (Grows P.given P.origin encoder.old.home encoder.old.stage
+        encoder.old.contents encoder.new.contents []) }
+    ensures bound { IfOk result (λ equal. IsBoundRight P.given
+        (scope_of P.given encoder.new.contents.items) import.now.name
+        (OfValues (wit_tree P.origin encoder.old.home.types (Some (Id import.now.id)))) equal) }
+    ensures right { OnOk result (AreTablesRight P.given P.origin encoder.new.home encoder.new.stage
+        encoder.new.contents.items encoder.new.maps) }
     ensures cause { IfErr result (IsCause is_full encoder.new.contents.items) }
 {
     if is_resource(kind_of(resolve.types.as_slice(), import.id.index)) {

@@ -10,7 +10,8 @@ use std::alloc::{AllocError, Global};
 use std::marker::Model;
 use wit_data::{InterfaceId, Resolve, TypeId};
 
-/// An interface, the types that it lists, and those of other interfaces and the resources of its own that were imported for it.
+/// An interface, the types that it lists, and those of other interfaces and the resources of its
+/// own that were imported for it.
 pub struct OwnTypes<'a> {
     resolve: &'a Resolve,
     interface: InterfaceId,

@@ -84,7 +84,8 @@ impl ItemList {
         equal: Option<u32>,
     ) -> Result<u32, BuildFault>
         ensures index { IfOk result (λ index. index ≡ types_in self.old) }
-        ensures ok { OnOk result (self.new ≡ self.old ++ items.Import name (type_bound equal) ∷ []) }
+        ensures ok { OnOk result
+            (self.new ≡ self.old ++ items.Import name (type_bound equal) ∷ []) }
         ensures err { OnErr result (self.new ≡ self.old) }
         ensures cause { IfErr result (IsCause is_full self.new) }
     {
@@ -103,7 +104,8 @@ impl ItemList {
     /// Exports the type with an index, and returns the index of the export.
     pub(crate) fn export_type(&mut self, name: ExternName, ty: u32) -> Result<u32, BuildFault>
         ensures index { IfOk result (λ index. index ≡ types_in self.old) }
-        ensures ok { OnOk result (self.new ≡ self.old ++ items.Export name sorts.Type ty None ∷ []) }
+        ensures ok { OnOk result
+            (self.new ≡ self.old ++ items.Export name sorts.Type ty None ∷ []) }
         ensures err { OnErr result (self.new ≡ self.old) }
         ensures cause { IfErr result (IsCause is_full self.new) }
     {
@@ -117,7 +119,8 @@ impl ItemList {
 
     /// Imports a function of the type with an index.
     pub(crate) fn import_function(&mut self, name: ExternName, ty: u32) -> Result<(), AllocError>
-        ensures ok { OnOk result (self.new ≡ self.old ++ items.Import name (descriptions.Func ty) ∷ []) }
+        ensures ok { OnOk result
+            (self.new ≡ self.old ++ items.Import name (descriptions.Func ty) ∷ []) }
         ensures err { OnErr result (self.new ≡ self.old) }
     {
         let description = Description::Func(ty);
@@ -132,7 +135,9 @@ impl ItemList {
         index: u32,
         ty: u32,
     ) -> Result<(), AllocError>
-        ensures ok { OnOk result (self.new ≡ self.old ++ items.Export name sorts.Func index (Some (descriptions.Func ty)) ∷ []) }
+        ensures ok { OnOk result (self.new
+            ≡ self.old ++ items.Export name sorts.Func index (Some (descriptions.Func ty))
+            ∷ []) }
         ensures err { OnErr result (self.new ≡ self.old) }
     {
         let sort = Sort::Func;

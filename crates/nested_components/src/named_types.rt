@@ -29,8 +29,8 @@ use std::alloc::Global;
 use wit_data::{Resolve, TypeId, kind_of};
 use wit_types::{encode_definition, record_type_index};
 
-/// Exports the types that are listed, one after the other, each under its name and behind what it is made of. The resources among
-/// them have indices, those of their imports.
+/// Exports the types that are listed, one after the other, each under its name and behind what it
+/// is made of. The resources among them have indices, those of their imports.
 pub(crate) fn export_types<P: Placement>(
     alloc: Global,
     encoder: &mut NestedEncoder<'_, P>,
@@ -43,12 +43,16 @@ pub(crate) fn export_types<P: Placement>(
     requires home { CanExportTypes encoder.old.home }
     requires named { types.now ≡ encoder.old.home.named }
     requires stage { encoder.old.stage ≡ stages.Exporting None }
-    requires imported { AreResourcesImported P.given P.origin encoder.old.home encoder.old.contents.items imported.now }
-    requires right { AreTablesRight P.given P.origin encoder.old.home encoder.old.stage encoder.old.contents.items encoder.old.maps }
-    ensures exports { OnOk result (ExportsTypes P.given P.origin encoder.old.home.types encoder.old.contents encoder.new.contents encoder.old.home.named) }
+    requires imported { AreResourcesImported P.given P.origin encoder.old.home
+        encoder.old.contents.items imported.now }
+    requires right { AreTablesRight P.given P.origin encoder.old.home encoder.old.stage
+        encoder.old.contents.items encoder.old.maps }
+    ensures exports { OnOk result (ExportsTypes P.given P.origin encoder.old.home.types
+        encoder.old.contents encoder.new.contents encoder.old.home.named) }
     ensures home { OnOk result (encoder.new.home ≡ encoder.old.home) }
     ensures passed { OnOk result (AreAllPassed encoder.new.home encoder.new.stage) }
-    ensures right { OnOk result (AreTablesRight P.given P.origin encoder.new.home encoder.new.stage encoder.new.contents.items encoder.new.maps) }
+    ensures right { OnOk result (AreTablesRight P.given P.origin encoder.new.home encoder.new.stage
+        encoder.new.contents.items encoder.new.maps) }
     ensures cause { IfErr result (IsCause is_full encoder.new.contents.items) }
 {
     for (name, id) in types.iter() {
@@ -71,14 +75,19 @@ fn export_next<P: Placement>(
     requires stage { IsExporting encoder.old.stage }
     requires titled { IsTitled encoder.old.home.types encoder.old.home.here id name.now }
     requires listed { is_one_of (listed_ids encoder.old.home.named) id.index ≡ true }
-    requires parts { HasParts (nested_setting P.origin encoder.old.home encoder.old.stage) (kind_at resolve.now.types id.index) }
-    requires imported { AreResourcesImported P.given P.origin encoder.old.home encoder.old.contents.items imported.now }
+    requires parts { HasParts (nested_setting P.origin encoder.old.home encoder.old.stage)
+        (kind_at resolve.now.types id.index) }
+    requires imported { AreResourcesImported P.given P.origin encoder.old.home
+        encoder.old.contents.items imported.now }
     requires next { IsNextOf encoder.old.home encoder.old.stage id }
-    requires right { AreTablesRight P.given P.origin encoder.old.home encoder.old.stage encoder.old.contents.items encoder.old.maps }
-    ensures exports { OnOk result (Exports P.given encoder.old.contents encoder.new.contents (exported_type P.origin encoder.old.home.types (name.now, id) ∷ []) []) }
+    requires right { AreTablesRight P.given P.origin encoder.old.home encoder.old.stage
+        encoder.old.contents.items encoder.old.maps }
+    ensures exports { OnOk result (Exports P.given encoder.old.contents encoder.new.contents
+        (exported_type P.origin encoder.old.home.types (name.now, id) ∷ []) []) }
     ensures home { OnOk result (encoder.new.home ≡ encoder.old.home) }
     ensures stage { OnOk result (encoder.new.stage ≡ stages.Exporting (Some id)) }
-    ensures right { OnOk result (AreTablesRight P.given P.origin encoder.new.home encoder.new.stage encoder.new.contents.items encoder.new.maps) }
+    ensures right { OnOk result (AreTablesRight P.given P.origin encoder.new.home encoder.new.stage
+        encoder.new.contents.items encoder.new.maps) }
     ensures cause { IfErr result (IsCause is_full encoder.new.contents.items) }
 {
     export_type(alloc, encoder, resolve, imported, name, id)?;
@@ -100,14 +109,19 @@ fn export_type<P: Placement>(
     requires stage { IsExporting encoder.old.stage }
     requires titled { IsTitled encoder.old.home.types encoder.old.home.here id name.now }
     requires listed { is_one_of (listed_ids encoder.old.home.named) id.index ≡ true }
-    requires parts { HasParts (nested_setting P.origin encoder.old.home encoder.old.stage) (kind_at resolve.now.types id.index) }
-    requires imported { AreResourcesImported P.given P.origin encoder.old.home encoder.old.contents.items imported.now }
-    requires right { AreTablesRight P.given P.origin encoder.old.home encoder.old.stage encoder.old.contents.items encoder.old.maps }
-    ensures exports { OnOk result (Exports P.given encoder.old.contents encoder.new.contents (exported_type P.origin encoder.old.home.types (name.now, id) ∷ []) []) }
+    requires parts { HasParts (nested_setting P.origin encoder.old.home encoder.old.stage)
+        (kind_at resolve.now.types id.index) }
+    requires imported { AreResourcesImported P.given P.origin encoder.old.home
+        encoder.old.contents.items imported.now }
+    requires right { AreTablesRight P.given P.origin encoder.old.home encoder.old.stage
+        encoder.old.contents.items encoder.old.maps }
+    ensures exports { OnOk result (Exports P.given encoder.old.contents encoder.new.contents
+        (exported_type P.origin encoder.old.home.types (name.now, id) ∷ []) []) }
     ensures home { OnOk result (encoder.new.home ≡ encoder.old.home) }
     ensures stage { OnOk result (encoder.new.stage ≡ encoder.old.stage) }
     ensures recorded { OnOk result (HasIndex encoder.new.maps id) }
-    ensures right { OnOk result (AreTablesRight P.given P.origin encoder.new.home encoder.new.stage encoder.new.contents.items encoder.new.maps) }
+    ensures right { OnOk result (AreTablesRight P.given P.origin encoder.new.home encoder.new.stage
+        encoder.new.contents.items encoder.new.maps) }
     ensures cause { IfErr result (IsCause is_full encoder.new.contents.items) }
 {
     let index = define_listed(alloc, encoder, resolve, imported, id)?;
@@ -117,7 +131,8 @@ fn export_type<P: Placement>(
     Ok(())
 }
 
-/// Defines a type that is listed, and returns the index of the definition. A resource has none: it is what was imported.
+/// Defines a type that is listed, and returns the index of the definition. A resource has none: it
+/// is what was imported.
 fn define_listed<P: Placement>(
     alloc: Global,
     encoder: &mut NestedEncoder<'_, P>,
@@ -129,14 +144,21 @@ fn define_listed<P: Placement>(
     requires same { encoder.old.home.types ≡ resolve.now.types }
     requires present { id.index < length resolve.now.types }
     requires listed { is_one_of (listed_ids encoder.old.home.named) id.index ≡ true }
-    requires parts { HasParts (nested_setting P.origin encoder.old.home encoder.old.stage) (kind_at resolve.now.types id.index) }
-    requires imported { AreResourcesImported P.given P.origin encoder.old.home encoder.old.contents.items imported.now }
-    requires right { AreTablesRight P.given P.origin encoder.old.home encoder.old.stage encoder.old.contents.items encoder.old.maps }
-    ensures denotes { IfOk result (λ index. Denotes (scope_of P.given encoder.new.contents.items).types index (OfValues (wit_tree P.origin encoder.old.home.types (Some (Id id))))) }
+    requires parts { HasParts (nested_setting P.origin encoder.old.home encoder.old.stage)
+        (kind_at resolve.now.types id.index) }
+    requires imported { AreResourcesImported P.given P.origin encoder.old.home
+        encoder.old.contents.items imported.now }
+    requires right { AreTablesRight P.given P.origin encoder.old.home encoder.old.stage
+        encoder.old.contents.items encoder.old.maps }
+    ensures denotes { IfOk result (λ index. Denotes
+        (scope_of P.given encoder.new.contents.items).types index
+        (OfValues (wit_tree P.origin encoder.old.home.types (Some (Id id))))) }
     ensures home { OnOk result (encoder.new.home ≡ encoder.old.home) }
     ensures stage { OnOk result (encoder.new.stage ≡ encoder.old.stage) }
-    ensures grows { OnOk result (Grows P.given P.origin encoder.old.home encoder.old.stage encoder.old.contents encoder.new.contents []) }
-    ensures right { OnOk result (AreTablesRight P.given P.origin encoder.new.home encoder.new.stage encoder.new.contents.items encoder.new.maps) }
+    ensures grows { OnOk result (Grows P.given P.origin encoder.old.home encoder.old.stage
+        encoder.old.contents encoder.new.contents []) }
+    ensures right { OnOk result (AreTablesRight P.given P.origin encoder.new.home encoder.new.stage
+        encoder.new.contents.items encoder.new.maps) }
     ensures cause { IfErr result (IsCause is_full encoder.new.contents.items) }
 {
     if is_resource(kind_of(resolve.types.as_slice(), id.index)) {

@@ -15,8 +15,8 @@ use std::alloc::{AllocError, Global};
 use std::fmt::Write;
 use wit_data::{Function, FunctionKind, TypeId};
 
-/// The names of the imports of functions, in the order of the functions, and the table of names that are taken, which has
-/// these.
+/// The names of the imports of functions, in the order of the functions, and the table of names
+/// that are taken, which has these.
 pub(crate) struct FunctionNames {
     pub(crate) names: Seq<Text>,
     pub(crate) taken: Keyed<Text, Option<TypeId>>,
@@ -98,7 +98,8 @@ pub(crate) fn free_type_name(
     taken: &Keyed<Text, Option<TypeId>>,
     name: &Text,
 ) -> Result<Text, AllocError>
-    ensures { IfOk result (λ free. IsFirstFree (keys_of taken.now) (type_import_name name.now) free) }
+    ensures { IfOk result
+        (λ free. IsFirstFree (keys_of taken.now) (type_import_name name.now) free) }
 {
     let plain = type_import_name(alloc, name.as_str())?;
     first_free(alloc, taken, plain)
@@ -181,7 +182,8 @@ fn method_name(alloc: Global, name: &str) -> Result<Text, AllocError>
 
 /// Writes a name without its brackets and dots.
 fn put_letters(out: &mut String, name: &str) -> Result<(), AllocError>
-    ensures { OnOk result (string_bytes out.new ≡ string_bytes out.old ++ flat_map letter name.now) }
+    ensures { OnOk result
+        (string_bytes out.new ≡ string_bytes out.old ++ flat_map letter name.now) }
 {
     for c in name.chars() {
         put_letter(out, c)?;
@@ -192,7 +194,8 @@ fn put_letters(out: &mut String, name: &str) -> Result<(), AllocError>
 /// Writes a character of a name: no bracket before it, and a hyphen for a bracket behind it or a dot.
 #[tactic(auto, using(crate::proofs::Letters::letters))]
 fn put_letter(out: &mut String, c: char) -> Result<(), AllocError>
-    ensures { OnOk result (string_bytes out.new ≡ string_bytes out.old ++ flat_map letter (encode_utf8 c)) }
+    ensures { OnOk result
+        (string_bytes out.new ≡ string_bytes out.old ++ flat_map letter (encode_utf8 c)) }
 {
     if c == '[' {
         Ok(())

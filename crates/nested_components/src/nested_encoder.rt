@@ -38,8 +38,8 @@ use std::mem;
 use wit_data::{InterfaceId, TypeId};
 use wit_types::{TypeEncodingMaps, ValtypeEncoder};
 
-/// A nested component that is being built, as far as a stage. Types of WIT are defined in it; while it imports, those that the
-/// interface lists are imported as soon as they are defined.
+/// A nested component that is being built, as far as a stage. Types of WIT are defined in it; while
+/// it imports, those that the interface lists are imported as soon as they are defined.
 pub(crate) struct NestedEncoder<'a, P: Placement> {
     alloc: Global,
     home: OwnTypes<'a>,
@@ -95,8 +95,8 @@ impl<'a, P: Placement> NestedEncoder<'a, P> {
         copy_type_tables(self.alloc, &self.maps)
     }
 
-    /// Imports a type under the name that was chosen for it, as equal to the one with an index, or as a resource, and returns the
-    /// index of the import.
+    /// Imports a type under the name that was chosen for it, as equal to the one with an index, or
+    /// as a resource, and returns the index of the import.
     pub(crate) fn add_type_import(
         &mut self,
         import: &TypeImport,
@@ -105,7 +105,8 @@ impl<'a, P: Placement> NestedEncoder<'a, P> {
         ensures home { self.new.home ≡ self.old.home }
         ensures stage { self.new.stage ≡ self.old.stage }
         ensures maps { self.new.maps ≡ self.old.maps }
-        ensures imported { OnOk result (ImportsPlanned self.old.contents self.new.contents import.now equal) }
+        ensures imported { OnOk result
+            (ImportsPlanned self.old.contents self.new.contents import.now equal) }
         ensures index { IfOk result (λ index. index ≡ types_in self.old.contents.items) }
         ensures cause { IfErr result (IsCause is_full self.new.contents.items) }
     {
@@ -114,23 +115,26 @@ impl<'a, P: Placement> NestedEncoder<'a, P> {
 
     /// A type of another interface was imported, and recorded.
     pub(crate) fn pass_foreign(&mut self, id: TypeId) -> Result<(), AllocError>
-        ensures { OnOk result (self.new ≡ record self.old { home = with_foreign self.old.home (id ∷ []) }) }
+        ensures { OnOk result
+            (self.new ≡ record self.old { home = with_foreign self.old.home (id ∷ []) }) }
     {
         self.home.add_foreign(id)
     }
 
     /// A resource of the interface was imported, and recorded.
     pub(crate) fn pass_resource(&mut self, id: TypeId) -> Result<(), AllocError>
-        ensures { OnOk result (self.new ≡ record self.old { home = with_resources self.old.home (id ∷ []) }) }
+        ensures { OnOk result
+            (self.new ≡ record self.old { home = with_resources self.old.home (id ∷ []) }) }
     {
         self.home.add_resource(id)
     }
 
-    /// All was imported. The tables are those that there were when types of other interfaces had been imported: what is exported is
-    /// made of these, and of types that are defined anew. It returns the tables that there are, which have the resources of the
-    /// interface.
+    /// All was imported. The tables are those that there were when types of other interfaces had
+    /// been imported: what is exported is made of these, and of types that are defined anew. It
+    /// returns the tables that there are, which have the resources of the interface.
     pub(crate) fn begin_exports(&mut self, tables: TypeEncodingMaps) -> TypeEncodingMaps
-        ensures begun { self.new ≡ record self.old { stage = stages.Exporting None; maps = tables } }
+        ensures begun { self.new
+            ≡ record self.old { stage = stages.Exporting None; maps = tables } }
         ensures maps { result ≡ self.old.maps }
     {
         self.stage = Stage::Exporting(None);
@@ -146,7 +150,14 @@ impl<'a, P: Placement> NestedEncoder<'a, P> {
 
     /// Exports the type with an index, and returns the index of the export.
     pub(crate) fn add_type_export(&mut self, name: Text, ty: u32) -> Result<u32, BuildFault>
-        ensures added { OnOk result (self.new ≡ record self.old { contents = record self.old.contents { items = self.old.contents.items ++ items.Export (plain name) sorts.Type ty None ∷ [] } }) }
+        ensures added { OnOk result (self.new
+            ≡ record self.old {
+              contents = record self.old.contents {
+                items =
+                    self.old.contents.items
+                    ++ items.Export (plain name) sorts.Type ty None ∷ [];
+              };
+            }) }
         ensures index { IfOk result (λ index. index ≡ types_in self.old.contents.items) }
         ensures cause { IfErr result (IsCause is_full self.new.contents.items) }
     {
@@ -162,7 +173,14 @@ impl<'a, P: Placement> NestedEncoder<'a, P> {
 
     /// Imports a function of the type with an index.
     pub(crate) fn add_import(&mut self, name: Text, ty: u32) -> Result<(), AllocError>
-        ensures added { OnOk result (self.new ≡ record self.old { contents = record self.old.contents { items = self.old.contents.items ++ items.Import (plain name) (descriptions.Func ty) ∷ [] } }) }
+        ensures added { OnOk result (self.new
+            ≡ record self.old {
+              contents = record self.old.contents {
+                items =
+                    self.old.contents.items
+                    ++ items.Import (plain name) (descriptions.Func ty) ∷ [];
+              };
+            }) }
     {
         let version_suffix = None;
         self.contents.items.import_function(
@@ -176,7 +194,14 @@ impl<'a, P: Placement> NestedEncoder<'a, P> {
 
     /// Exports the function with an index, as one of the type with an index.
     pub(crate) fn add_export(&mut self, name: Text, index: u32, ty: u32) -> Result<(), AllocError>
-        ensures added { OnOk result (self.new ≡ record self.old { contents = record self.old.contents { items = self.old.contents.items ++ items.Export (plain name) sorts.Func index (Some (descriptions.Func ty)) ∷ [] } }) }
+        ensures added { OnOk result (self.new
+            ≡ record self.old {
+              contents = record self.old.contents {
+                items =
+                    self.old.contents.items ++ items.Export (plain name) sorts.Func
+                    index (Some (descriptions.Func ty)) ∷ [];
+              };
+            }) }
     {
         let version_suffix = None;
         self.contents.items.export_function(
@@ -214,7 +239,8 @@ fn import_named(
     index: u32,
 ) -> Result<Option<u32>, BuildFault>
     requires listed { is_some (lookup (bytes_eq name.now) home.now.named) ≡ true }
-    ensures imported { OnOk result (ImportsNamed home.now contents.old contents.new name.now index) }
+    ensures imported { OnOk result
+        (ImportsNamed home.now contents.old contents.new name.now index) }
     ensures index { IfOk result (λ new_index. new_index ≡ Some (types_in contents.old.items)) }
     ensures kept { OnErr result (contents.new ≡ contents.old) }
     ensures cause { IfErr result (IsCause is_full contents.new.items) }
@@ -269,16 +295,24 @@ impl<'a, P: Placement> ValtypeEncoder for NestedEncoder<'a, P> {
         self.contents.items.add_type(TypeDef::Func(ty))
     }
 
-    /// While functions are imported, a type that has a name is imported as equal to its definition. Afterwards no caller may ask
-    /// for this (`nested_setting`): a type that has a name is exported by itself, before what is made of it.
+    /// While functions are imported, a type that has a name is imported as equal to its definition.
+    /// Afterwards no caller may ask for this (`nested_setting`): a type that has a name is exported
+    /// by itself, before what is made of it.
     fn export_type(&mut self, index: u32, name: ExternName) -> Result<Option<u32>, BuildFault>
         requires present { index < length (scope_of P.given self.old.contents.items).types }
-        requires named { NamesType (nested_setting P.origin self.old.home self.old.stage) name (get_or (scope_of P.given self.old.contents.items).types index OfOthers) }
+        requires named { NamesType (nested_setting P.origin self.old.home self.old.stage) name
+            (get_or (scope_of P.given self.old.contents.items).types index OfOthers) }
         ensures names { IfOk result (λ exported. any_index name.name (exported_or exported index)) }
-        ensures makes { MayMake (scope_of P.given self.old.contents.items).types (scope_of P.given self.new.contents.items).types result (get_or (scope_of P.given self.old.contents.items).types index OfOthers) }
-        ensures setting { nested_setting P.origin self.new.home self.new.stage ≡ nested_setting P.origin self.old.home self.old.stage }
+        ensures makes { MayMake (scope_of P.given self.old.contents.items).types
+            (scope_of P.given self.new.contents.items).types result
+            (get_or (scope_of P.given self.old.contents.items).types index OfOthers) }
+        ensures setting { nested_setting P.origin self.new.home self.new.stage
+            ≡ nested_setting P.origin self.old.home self.old.stage }
         ensures maps { self.new.maps ≡ self.old.maps }
-        ensures follows { (self.new.home ≡ self.old.home) × (self.new.stage ≡ self.old.stage) × Grows P.given P.origin self.old.home self.old.stage self.old.contents self.new.contents [] }
+        ensures follows { (self.new.home ≡ self.old.home)
+            × (self.new.stage ≡ self.old.stage)
+            × Grows P.given P.origin self.old.home self.old.stage self.old.contents
+            self.new.contents [] }
         ensures cause { IfErr result (IsCause is_full self.new.contents.items) }
     {
         match self.stage {
@@ -296,10 +330,16 @@ impl<'a, P: Placement> ValtypeEncoder for NestedEncoder<'a, P> {
     /// No resource may be exported here (`nested_setting`), so that no caller may ask for this: it refuses.
     fn export_resource(&mut self, name: ExternName) -> Result<u32, BuildFault>
         ensures names { IfOk result (λ index. any_index name.name index) }
-        ensures makes { Makes (scope_of P.given self.old.contents.items).types (scope_of P.given self.new.contents.items).types result (OfValues (ResourceAt (DefinedAt 0))) }
-        ensures setting { nested_setting P.origin self.new.home self.new.stage ≡ nested_setting P.origin self.old.home self.old.stage }
+        ensures makes { Makes (scope_of P.given self.old.contents.items).types
+            (scope_of P.given self.new.contents.items).types result
+            (OfValues (ResourceAt (DefinedAt 0))) }
+        ensures setting { nested_setting P.origin self.new.home self.new.stage
+            ≡ nested_setting P.origin self.old.home self.old.stage }
         ensures maps { self.new.maps ≡ self.old.maps }
-        ensures follows { (self.new.home ≡ self.old.home) × (self.new.stage ≡ self.old.stage) × Grows P.given P.origin self.old.home self.old.stage self.old.contents self.new.contents [] }
+        ensures follows { (self.new.home ≡ self.old.home)
+            × (self.new.stage ≡ self.old.stage)
+            × Grows P.given P.origin self.old.home self.old.stage self.old.contents
+            self.new.contents [] }
         ensures cause { IfErr result (IsCause is_full self.new.contents.items) }
     {
         let _ = name;
@@ -308,10 +348,16 @@ impl<'a, P: Placement> ValtypeEncoder for NestedEncoder<'a, P> {
 
     /// No type may be imported here (`nested_setting`), so that no caller may ask for this: it refuses.
     fn import_type(&mut self, interface: InterfaceId, id: TypeId) -> Result<u32, BuildFault>
-        ensures makes { Makes (scope_of P.given self.old.contents.items).types (scope_of P.given self.new.contents.items).types result (OfValues (tree_in (nested_setting P.origin self.old.home self.old.stage) (Some (Id id)))) }
-        ensures setting { nested_setting P.origin self.new.home self.new.stage ≡ nested_setting P.origin self.old.home self.old.stage }
+        ensures makes { Makes (scope_of P.given self.old.contents.items).types
+            (scope_of P.given self.new.contents.items).types result (OfValues
+            (tree_in (nested_setting P.origin self.old.home self.old.stage) (Some (Id id)))) }
+        ensures setting { nested_setting P.origin self.new.home self.new.stage
+            ≡ nested_setting P.origin self.old.home self.old.stage }
         ensures maps { self.new.maps ≡ self.old.maps }
-        ensures follows { (self.new.home ≡ self.old.home) × (self.new.stage ≡ self.old.stage) × Grows P.given P.origin self.old.home self.old.stage self.old.contents self.new.contents [] }
+        ensures follows { (self.new.home ≡ self.old.home)
+            × (self.new.stage ≡ self.old.stage)
+            × Grows P.given P.origin self.old.home self.old.stage self.old.contents
+            self.new.contents [] }
         ensures cause { IfErr result (IsCause is_full self.new.contents.items) }
     {
         let _ = (interface, id);

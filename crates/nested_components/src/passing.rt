@@ -30,12 +30,18 @@ pub(crate) fn import_functions<P: Placement>(
     requires sound { IsSound resolve.now }
     requires same { encoder.old.home.types ≡ resolve.now.types }
     requires present { AllByRecursion (λ e. HasFunction resolve.now e.1) functions.now }
-    requires allowed { AllByRecursion (λ f. allows_function (nested_setting P.origin encoder.old.home encoder.old.stage) f ≡ true) (functions_of functions.now) }
-    requires right { AreTablesRight P.given P.origin encoder.old.home encoder.old.stage encoder.old.contents.items encoder.old.maps }
-    ensures grows { OnOk result (Grows P.given P.origin encoder.old.home encoder.old.stage encoder.old.contents encoder.new.contents (nested_functions P.origin encoder.old.home.types (functions_of functions.now) names.now)) }
+    requires allowed { AllByRecursion
+        (λ f. allows_function (nested_setting P.origin encoder.old.home encoder.old.stage) f ≡ true)
+        (functions_of functions.now) }
+    requires right { AreTablesRight P.given P.origin encoder.old.home encoder.old.stage
+        encoder.old.contents.items encoder.old.maps }
+    ensures grows { OnOk result (Grows P.given P.origin encoder.old.home encoder.old.stage
+        encoder.old.contents encoder.new.contents (nested_functions P.origin
+        encoder.old.home.types (functions_of functions.now) names.now)) }
     ensures home { OnOk result (encoder.new.home ≡ encoder.old.home) }
     ensures stage { OnOk result (encoder.new.stage ≡ encoder.old.stage) }
-    ensures right { OnOk result (AreTablesRight P.given P.origin encoder.old.home encoder.old.stage encoder.new.contents.items encoder.new.maps) }
+    ensures right { OnOk result (AreTablesRight P.given P.origin encoder.old.home encoder.old.stage
+        encoder.new.contents.items encoder.new.maps) }
     ensures cause { IfErr result (IsCause is_full encoder.new.contents.items) }
 {
     let mut rest = names;
@@ -60,12 +66,19 @@ fn import_function<P: Placement>(
     requires sound { IsSound resolve.now }
     requires same { encoder.old.home.types ≡ resolve.now.types }
     requires present { HasFunction resolve.now function.now }
-    requires allowed { IsTrue (allows_function (nested_setting P.origin encoder.old.home encoder.old.stage) function.now) }
-    requires right { AreTablesRight P.given P.origin encoder.old.home encoder.old.stage encoder.old.contents.items encoder.old.maps }
-    ensures grows { OnOk result (Grows P.given P.origin encoder.old.home encoder.old.stage encoder.old.contents encoder.new.contents (record { argument = name.now; type = type_of P.origin encoder.old.home.types function.now } ∷ [])) }
+    requires allowed { IsTrue (allows_function
+        (nested_setting P.origin encoder.old.home encoder.old.stage) function.now) }
+    requires right { AreTablesRight P.given P.origin encoder.old.home encoder.old.stage
+        encoder.old.contents.items encoder.old.maps }
+    ensures grows { OnOk result (Grows P.given P.origin encoder.old.home encoder.old.stage
+        encoder.old.contents encoder.new.contents (record {
+          argument = name.now;
+          type = type_of P.origin encoder.old.home.types function.now;
+        } ∷ [])) }
     ensures home { OnOk result (encoder.new.home ≡ encoder.old.home) }
     ensures stage { OnOk result (encoder.new.stage ≡ encoder.old.stage) }
-    ensures right { OnOk result (AreTablesRight P.given P.origin encoder.old.home encoder.old.stage encoder.new.contents.items encoder.new.maps) }
+    ensures right { OnOk result (AreTablesRight P.given P.origin encoder.old.home encoder.old.stage
+        encoder.new.contents.items encoder.new.maps) }
     ensures cause { IfErr result (IsCause is_full encoder.new.contents.items) }
 {
     let ty = encode_func_type(alloc, encoder, resolve, function)?;
@@ -74,8 +87,8 @@ fn import_function<P: Placement>(
     Ok(())
 }
 
-/// Exports the functions of the nested component, one after the other, each under the name that it has in the interface, and
-/// each right behind its type.
+/// Exports the functions of the nested component, one after the other, each under the name that it
+/// has in the interface, and each right behind its type.
 pub(crate) fn export_functions<P: Placement>(
     alloc: Global,
     encoder: &mut NestedEncoder<'_, P>,
@@ -86,10 +99,15 @@ pub(crate) fn export_functions<P: Placement>(
     requires same { encoder.old.home.types ≡ resolve.now.types }
     requires stage { IsExporting encoder.old.stage }
     requires present { AllByRecursion (λ e. HasFunction resolve.now e.1) functions.now }
-    requires allowed { AllByRecursion (λ f. allows_function (nested_setting P.origin encoder.old.home encoder.old.stage) f ≡ true) (functions_of functions.now) }
-    requires right { AreTablesRight P.given P.origin encoder.old.home encoder.old.stage encoder.old.contents.items encoder.old.maps }
-    requires typed { AllZip (IsTyped P.origin encoder.old.home.types) (scope_of P.given encoder.old.contents.items).functions (functions_of functions.now) }
-    ensures exports { OnOk result (ExportsAll P.given encoder.old.contents encoder.new.contents (functions_of functions.now)) }
+    requires allowed { AllByRecursion
+        (λ f. allows_function (nested_setting P.origin encoder.old.home encoder.old.stage) f ≡ true)
+        (functions_of functions.now) }
+    requires right { AreTablesRight P.given P.origin encoder.old.home encoder.old.stage
+        encoder.old.contents.items encoder.old.maps }
+    requires typed { AllZip (IsTyped P.origin encoder.old.home.types)
+        (scope_of P.given encoder.old.contents.items).functions (functions_of functions.now) }
+    ensures exports { OnOk result (ExportsAll P.given encoder.old.contents encoder.new.contents
+        (functions_of functions.now)) }
     ensures cause { IfErr result IsExcess }
 {
     let mut index: u32 = 0;
@@ -112,13 +130,18 @@ fn export_function<P: Placement>(
     requires same { encoder.old.home.types ≡ resolve.now.types }
     requires stage { IsExporting encoder.old.stage }
     requires present { HasFunction resolve.now function.now }
-    requires allowed { IsTrue (allows_function (nested_setting P.origin encoder.old.home encoder.old.stage) function.now) }
-    requires right { AreTablesRight P.given P.origin encoder.old.home encoder.old.stage encoder.old.contents.items encoder.old.maps }
-    requires typed { IsTypedAt P.origin encoder.old.home.types (scope_of P.given encoder.old.contents.items) index function.now }
-    ensures exports { OnOk result (ExportsOne P.given encoder.old.contents encoder.new.contents function.now.name (function_at (scope_of P.given encoder.old.contents.items) index)) }
+    requires allowed { IsTrue (allows_function
+        (nested_setting P.origin encoder.old.home encoder.old.stage) function.now) }
+    requires right { AreTablesRight P.given P.origin encoder.old.home encoder.old.stage
+        encoder.old.contents.items encoder.old.maps }
+    requires typed { IsTypedAt P.origin encoder.old.home.types
+        (scope_of P.given encoder.old.contents.items) index function.now }
+    ensures exports { OnOk result (ExportsOne P.given encoder.old.contents encoder.new.contents
+        function.now.name (function_at (scope_of P.given encoder.old.contents.items) index)) }
     ensures home { OnOk result (encoder.new.home ≡ encoder.old.home) }
     ensures stage { OnOk result (encoder.new.stage ≡ encoder.old.stage) }
-    ensures right { OnOk result (AreTablesRight P.given P.origin encoder.old.home encoder.old.stage encoder.new.contents.items encoder.new.maps) }
+    ensures right { OnOk result (AreTablesRight P.given P.origin encoder.old.home encoder.old.stage
+        encoder.new.contents.items encoder.new.maps) }
     ensures cause { IfErr result (IsCause is_full encoder.new.contents.items) }
 {
     let ty = encode_func_type(alloc, encoder, resolve, function)?;

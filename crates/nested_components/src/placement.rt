@@ -2,8 +2,8 @@
 
 use std::marker::Brand;
 
-/// What is given for the imports of a nested component. No code knows more of it: a caller that passes `Brand` picks in its
-/// proofs what it is.
+/// What is given for the imports of a nested component. No code knows more of it: a caller that
+/// passes `Brand` picks in its proofs what it is.
 pub trait Placement {
     ghost use Rattle.std.specs.Prelude.{List, ℕ};
     ghost use Rattle.comp_trees.specs.Trees.{Resource};

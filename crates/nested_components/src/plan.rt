@@ -1,5 +1,6 @@
-//! The names of the imports of a nested component, which are chosen before anything is imported: those of the functions of the
-//! interface, those of the types of other interfaces of which it is made, and then those of the resources that it lists.
+//! The names of the imports of a nested component, which are chosen before anything is imported:
+//! those of the functions of the interface, those of the types of other interfaces of which it is
+//! made, and then those of the resources that it lists.
 
 ghost use Rattle.std.specs.Prelude.{◌≡◌, ◌<◌, length, Some, IsSome, IfOk, OnOk};
 ghost use Rattle.std.specs.List.{AllByRecursion, IsDistinct};
@@ -18,8 +19,8 @@ use foreign_types::all_foreign_types;
 use std::alloc::{AllocError, Global};
 use wit_data::{Function, InterfaceId, Resolve, TypeId};
 
-/// The names of the imports of functions, in the order of the functions, of types of other interfaces, and of the resources of the
-/// interface, in the order in which they are imported.
+/// The names of the imports of functions, in the order of the functions, of types of other
+/// interfaces, and of the resources of the interface, in the order in which they are imported.
 pub(crate) struct ImportNames {
     pub(crate) functions: Seq<Text>,
     pub(crate) foreign: Seq<TypeImport>,
@@ -94,7 +95,8 @@ fn add_type_name(
     id: TypeId,
 ) -> Result<(), AllocError>
     requires named { HasName resolve.now.types id }
-    ensures { OnOk result (PlansType resolve.now.types taken.old taken.new imports.old imports.new id) }
+    ensures { OnOk result
+        (PlansType resolve.now.types taken.old taken.new imports.old imports.new id) }
 {
     let name = free_type_name(alloc, taken, name_of(resolve, id))?;
     let key = name.clone(alloc)?;
@@ -137,7 +139,8 @@ pub(crate) fn plan_imports(
     requires sound { IsSound resolve.now }
     requires present { AllByRecursion (λ e. HasFunction resolve.now e.1) functions.now }
     requires home { IsAtHome resolve.now.types interface types.now functions.now }
-    ensures { IfOk result (λ plan. IsPlan resolve.now.types interface types.now functions.now plan.names plan.taken) }
+    ensures { IfOk result
+        (λ plan. IsPlan resolve.now.types interface types.now functions.now plan.names plan.taken) }
 {
     let ids = all_foreign_types(alloc, resolve, interface, types, functions)?;
     let own = own_resources(alloc, resolve, types)?;

@@ -33,7 +33,8 @@ pub(crate) fn is_resource(kind: &TypeDefKind) -> bool
 /// Adds a type, if it is a resource.
 fn add_resource(ids: &mut Seq<TypeId>, resolve: &Resolve, id: TypeId) -> Result<(), AllocError>
     requires { id.index < length resolve.now.types }
-    ensures { OnOk result (ids.new ≡ ids.old ++ filter (λ i. is_resource (kind_at resolve.now.types i.index)) (id ∷ [])) }
+    ensures { OnOk result (ids.new
+        ≡ ids.old ++ filter (λ i. is_resource (kind_at resolve.now.types i.index)) (id ∷ [])) }
 {
     if is_resource(kind_of(resolve.types.as_slice(), id.index)) {
         ids.push(id)?;
@@ -65,11 +66,15 @@ pub(crate) fn import_resources<P: Placement>(
     requires back { RefersBack encoder.old.home.types }
     requires stage { encoder.old.stage ≡ stages.Importing }
     requires own { AllByRecursion (IsOwnResource P.given P.origin encoder.old.home) imports.now }
-    requires right { AreTablesRight P.given P.origin encoder.old.home encoder.old.stage encoder.old.contents.items encoder.old.maps }
-    ensures home { OnOk result (encoder.new.home ≡ with_resources encoder.old.home (imported_ids imports.now)) }
+    requires right { AreTablesRight P.given P.origin encoder.old.home encoder.old.stage
+        encoder.old.contents.items encoder.old.maps }
+    ensures home { OnOk result
+        (encoder.new.home ≡ with_resources encoder.old.home (imported_ids imports.now)) }
     ensures stage { OnOk result (encoder.new.stage ≡ encoder.old.stage) }
-    ensures grows { OnOk result (GrowsBy P.given P.origin encoder.new.home encoder.old.stage imports.now encoder.old.contents encoder.new.contents []) }
-    ensures right { OnOk result (AreTablesRight P.given P.origin encoder.new.home encoder.new.stage encoder.new.contents.items encoder.new.maps) }
+    ensures grows { OnOk result (GrowsBy P.given P.origin encoder.new.home encoder.old.stage
+        imports.now encoder.old.contents encoder.new.contents []) }
+    ensures right { OnOk result (AreTablesRight P.given P.origin encoder.new.home encoder.new.stage
+        encoder.new.contents.items encoder.new.maps) }
     ensures cause { IfErr result (IsCause is_full encoder.new.contents.items) }
 {
     for import in imports {
@@ -86,11 +91,15 @@ fn import_resource<P: Placement>(
     requires back { RefersBack encoder.old.home.types }
     requires stage { encoder.old.stage ≡ stages.Importing }
     requires own { IsOwnResource P.given P.origin encoder.old.home import.now }
-    requires right { AreTablesRight P.given P.origin encoder.old.home encoder.old.stage encoder.old.contents.items encoder.old.maps }
-    ensures home { OnOk result (encoder.new.home ≡ with_resources encoder.old.home (import.now.id ∷ [])) }
+    requires right { AreTablesRight P.given P.origin encoder.old.home encoder.old.stage
+        encoder.old.contents.items encoder.old.maps }
+    ensures home { OnOk result
+        (encoder.new.home ≡ with_resources encoder.old.home (import.now.id ∷ [])) }
     ensures stage { OnOk result (encoder.new.stage ≡ encoder.old.stage) }
-    ensures grows { OnOk result (GrowsBy P.given P.origin encoder.old.home encoder.old.stage (import.now ∷ []) encoder.old.contents encoder.new.contents []) }
-    ensures right { OnOk result (AreTablesRight P.given P.origin encoder.new.home encoder.new.stage encoder.new.contents.items encoder.new.maps) }
+    ensures grows { OnOk result (GrowsBy P.given P.origin encoder.old.home encoder.old.stage
+        (import.now ∷ []) encoder.old.contents encoder.new.contents []) }
+    ensures right { OnOk result (AreTablesRight P.given P.origin encoder.new.home encoder.new.stage
+        encoder.new.contents.items encoder.new.maps) }
     ensures cause { IfErr result (IsCause is_full encoder.new.contents.items) }
 {
     record_resource(encoder, import)?;
@@ -106,12 +115,15 @@ fn record_resource<P: Placement>(
     requires back { RefersBack encoder.old.home.types }
     requires stage { encoder.old.stage ≡ stages.Importing }
     requires own { IsOwnResource P.given P.origin encoder.old.home import.now }
-    requires right { AreTablesRight P.given P.origin encoder.old.home encoder.old.stage encoder.old.contents.items encoder.old.maps }
+    requires right { AreTablesRight P.given P.origin encoder.old.home encoder.old.stage
+        encoder.old.contents.items encoder.old.maps }
     ensures home { OnOk result (encoder.new.home ≡ encoder.old.home) }
     ensures stage { OnOk result (encoder.new.stage ≡ encoder.old.stage) }
-    ensures grows { OnOk result (GrowsBy P.given P.origin encoder.old.home encoder.old.stage (import.now ∷ []) encoder.old.contents encoder.new.contents []) }
+    ensures grows { OnOk result (GrowsBy P.given P.origin encoder.old.home encoder.old.stage
+        (import.now ∷ []) encoder.old.contents encoder.new.contents []) }
     ensures recorded { OnOk result (HasIndex encoder.new.maps import.now.id) }
-    ensures right { OnOk result (AreTablesRight P.given P.origin encoder.new.home encoder.new.stage encoder.new.contents.items encoder.new.maps) }
+    ensures right { OnOk result (AreTablesRight P.given P.origin encoder.new.home encoder.new.stage
+        encoder.new.contents.items encoder.new.maps) }
     ensures cause { IfErr result (IsCause is_full encoder.new.contents.items) }
 {
     let index = encoder.add_type_import(import, None)?;

@@ -58,8 +58,9 @@ module _ (arguments : List Export) where
   }
 
   module _ (modules : List ModuleMeaning) (given : List ℕ → TypeTree) where
-    -- The items of a right nested component run, whatever follows. The types and functions of the scope are then those that the
-    -- items say, and each item that exports has made an export that is what it says.
+    -- The items of a right nested component run, whatever follows. The types and functions of the
+    -- scope are then those that the items say, and each item that exports has made an export that
+    -- is what it says.
     pub items_run_right : (s : NestedScope) (all : List Item) (m : Machine) → IsNestedScope arguments s m → AreItemsRight given s all → AreGiven m.store.types arguments (imports_after given s all) →
         RunsItems modules given arguments s all m
     items_run_right s [] m a h g = record { growth = not_grown s m a; runs = λ now next. refl }
@@ -78,8 +79,9 @@ module _ (arguments : List Export) where
           runs = λ now next. one.runs now (λ next_machine. items_run modules (met_by_argument arguments) made_by_none is next_machine next) ∙ rest.runs now next;
         }
 
--- An instantiation of a right nested component, whose imports all have an argument, runs: there is one instance more, with the
--- exports that its items say. A function that it exports is the one that it was given under the name of the import.
+-- An instantiation of a right nested component, whose imports all have an argument, runs: there is
+-- one instance more, with the exports that its items say. A function that it exports is the one
+-- that it was given under the name of the import.
 pub nested_runs : (modules : List ModuleMeaning) (given : List ℕ → TypeTree) (component : ComponentItem) (arguments : List Export) (m : Machine) → AreItemsRight given empty_scope component.definitions →
     AreGiven m.store.types arguments (imports_after given empty_scope component.definitions) → RunsNested modules given component arguments m
 nested_runs modules given component arguments m h g =

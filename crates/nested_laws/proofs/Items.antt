@@ -1,4 +1,5 @@
--- One item of a right nested component runs: a type is made, an import is its argument, and an export is an item that is there.
+-- One item of a right nested component runs: a type is made, an import is its argument, and an
+-- export is an item that is there.
 use Rattle.std.proofs.Common.{◌≡◌, ◌∙◌, ℕ, ◌<◌, true, List, [], ◌∷◌, ◌++◌, length, get_or, append-nil, refl, sym, ap, Some, None, if◌then◌else◌}
 use Rattle.std.specs.Option.{option_map}
 use Rattle.comp_bytes.specs.declared.space.Space.TheVariants as spaces

@@ -1,5 +1,5 @@
--- What a nested component is given, and what it exports, stays so while the store grows; and what one item more does to the
--- types and functions of the scope.
+-- What a nested component is given, and what it exports, stays so while the store grows; and what
+-- one item more does to the types and functions of the scope.
 use Rattle.std.proofs.Common.{◌≡◌, ℕ, ◌<◌, Bool, true, false, List, [], ◌∷◌, ◌++◌, append-nil, length, filter, get_or, refl, sym, ap, subst, Some, cond, if◌then◌else◌}
 use Rattle.std.proofs.lemmas.List.Elements.{filter-append}
 use Rattle.std.proofs.lemmas.Option.{get_or_from_slice_get, none-some, same_Some}

@@ -1,5 +1,6 @@
--- What an instance exports is determined by its arguments: where the imports of a nested component are given these, it is the same
--- whatever resources are said to be given for the imports of resources.
+-- What an instance exports is determined by its arguments: where the imports of a nested component
+-- are given these, it is the same whatever resources are said to be given for the imports of
+-- resources.
 use Rattle.std.proofs.Common.{◌≡◌, ◌∙◌, ℕ, List, [], ◌∷◌, ◌++◌, get_or, refl, sym, ap, subst}
 use Rattle.std.proofs.lemmas.Option.{same_Some}
 use Rattle.comp_bytes.specs.declared.space.Sort.TheVariants as sorts

@@ -1,5 +1,5 @@
--- Worked examples: a nested component with two functions of one type is instantiated, one with a resource and its handle, and one
--- with a type that is given as equal to its definition.
+-- Worked examples: a nested component with two functions of one type is instantiated, one with a
+-- resource and its handle, and one with a type that is given as equal to its definition.
 use Rattle.std.proofs.Common.{◌≡◌, ℕ, false, List, [], ◌∷◌, refl, Some, None, arith}
 use Rattle.std.specs.Prelude.{codes}
 use Rattle.comp_bytes.specs.declared.space.Space.TheVariants as spaces

@@ -1,6 +1,6 @@
--- What a nested component is given for its imports, and what a run has after its items: what the type indices denote, which
--- argument each function is, and what the instance exports (component model, explainer: component definitions, instance
--- definitions).
+-- What a nested component is given for its imports, and what a run has after its items: what the
+-- type indices denote, which argument each function is, and what the instance exports (component
+-- model, explainer: component definitions, instance definitions).
 use Rattle.std.specs.Prelude.{ℕ, ◌≡◌, Bool, false, List, ◌++◌, Some, filter}
 use Rattle.std.specs.List.{AllZip, AllByRecursion}
 use Rattle.std.specs.Str.{bytes_eq}
@@ -76,8 +76,8 @@ pub record IsNestedScope (arguments : List Export) (s : NestedScope) (m : Machin
   pub types : AreHeldAs m.store.types s.types m.scope.items
   pub functions : AreArguments arguments s.functions m.scope.items
 
--- The machine has more: the types and functions of its scope are those of `s` then, and `exported` was exported. What was at
--- an address is there, and no resource is defined.
+-- The machine has more: the types and functions of its scope are those of `s` then, and `exported`
+-- was exported. What was at an address is there, and no resource is defined.
 pub record GrownNested (arguments : List Export) (s : NestedScope) (exported : List NestedExport) (m : Machine) : Type 0 where
   pub items : List Thing
   pub types : List TypeItem
@@ -108,8 +108,9 @@ pub record RunsItems (modules : List ModuleMeaning) (given : List ℕ → TypeTr
 abbrev pub with_nested : Machine → List TypeItem → List Export → Machine
 with_nested m types exports = new_instance exports (record m { store = record m.store { types = types } })
 
--- A nested component runs with these arguments: there is one instance more, with the exports that its items say. Beside it the
--- store has nothing new but types, none of which is a resource that is defined.
+-- A nested component runs with these arguments: there is one instance more, with the exports that
+-- its items say. Beside it the store has nothing new but types, none of which is a resource that is
+-- defined.
 pub record RunsNested (modules : List ModuleMeaning) (given : List ℕ → TypeTree) (component : ComponentItem) (arguments : List Export) (m : Machine) : Type 0 where
   pub types : List TypeItem
   pub exports : List Export

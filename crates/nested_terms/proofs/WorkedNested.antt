@@ -1,5 +1,5 @@
--- Worked examples: the nested component of an interface with two functions of one type, one of an interface that uses a resource,
--- and one of an interface with a type of its own.
+-- Worked examples: the nested component of an interface with two functions of one type, one of an
+-- interface that uses a resource, and one of an interface with a type of its own.
 use Rattle.std.proofs.Common.{◌≡◌, ℕ, false, List, [], ◌∷◌, refl, Some, None, arith}
 use Rattle.std.specs.Prelude.{codes}
 use Rattle.comp_bytes.specs.declared.space.Sort.TheVariants as sorts

@@ -1,5 +1,5 @@
--- The names under which a nested component imports the functions of an interface (this project's own, as `wit-component` has
--- them). A name that is taken already is lengthened by numbers.
+-- The names under which a nested component imports the functions of an interface (this project's
+-- own, as `wit-component` has them). A name that is taken already is lengthened by numbers.
 use Rattle.std.specs.Prelude.{ℕ, zero, suc, ◌≡◌, ◌==◌, ◌||◌, ◌<◌, ◌^◌, Bool, true, false, List, [], ◌∷◌, ◌++◌, length, codes, if◌then◌else◌}
 use Rattle.std.specs.Fmt.{decimal}
 use Rattle.std.specs.List.{flat_map, list_any, range_with_len}

@@ -1,5 +1,6 @@
--- What the items of a nested component are, and which may stand in one (component model, explainer: component definitions,
--- index spaces, import and export definitions). Here a nested component only imports types and functions, and exports them.
+-- What the items of a nested component are, and which may stand in one (component model, explainer:
+-- component definitions, index spaces, import and export definitions). Here a nested component only
+-- imports types and functions, and exports them.
 use Rattle.std.specs.Prelude.{ℕ, ◌≡◌, ◌<◌, true, List, [], ◌∷◌, ◌++◌, length, get_or, Option, Some, None, if◌then◌else◌}
 use Rattle.std.specs.Str.{bytes_eq}
 use Rattle.comp_bytes.specs.declared.space.Sort.TheVariants as sorts
@@ -81,8 +82,8 @@ pub record IsOfResource (tree : TypeTree) : Type 0 where
   pub resource : Resource
   pub same : tree ≡ OfValues (ResourceAt resource)
 
--- `given` says which resources are given for the imports of resources, by their names. The import of a type that equals an earlier
--- one denotes what that does.
+-- `given` says which resources are given for the imports of resources, by their names. The import
+-- of a type that equals an earlier one denotes what that does.
 module _ (given : List ℕ → TypeTree) where
   -- the types and the functions that an item makes
   abbrev types_made : NestedScope → Item → List TypeTree
@@ -125,9 +126,9 @@ module _ (given : List ℕ → TypeTree) where
   exports_after s [] = []
   exports_after s (i ∷ is) = export_made s i ++ exports_after (with_item s i) is
 
-  -- An item that may stand in a nested component: a type of values or functions whose parts are types of values; an import of a
-  -- function, of a type that equals an earlier one, or of a resource; an export of a function, with its type, or of a type. No
-  -- other is written.
+  -- An item that may stand in a nested component: a type of values or functions whose parts are
+  -- types of values; an import of a function, of a type that equals an earlier one, or of a
+  -- resource; an export of a function, with its type, or of a type. No other is written.
   abbrev pub IsItemRight : NestedScope → Item → Type 0
   IsItemRight s (items.Type (types.Func f)) = is_known_function (function_tree s.types f) ≡ true
   IsItemRight s (items.Type (types.Defined t)) = is_known (defined_tree s.types t) ≡ true

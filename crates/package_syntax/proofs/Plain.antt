@@ -1,4 +1,5 @@
--- What a reader finds, apart from where it stops, a plain reader finds too; and the plain readers of declarations are exact.
+-- What a reader finds, apart from where it stops, a plain reader finds too; and the plain readers
+-- of declarations are exact.
 use Rattle.std.proofs.Common.{◌≡◌, ℕ, zero, suc, Bool, true, false, cond, eqb, List, [], ◌∷◌, ◌++◌, length, Option, Some, None, refl, sym, ap, ◌∙◌}
 use Rattle.std.specs.Prelude.{◌==◌, if◌then◌else◌, Result, Ok, Err}
 use Rattle.byte_encoding.specs.Encoding.{Fits, ◌⊕◌, octet}

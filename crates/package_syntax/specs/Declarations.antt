@@ -1,6 +1,6 @@
--- Reading the declarations of a world and of an instance type. Component model, binary format: `componentdecl`,
--- `instancedecl`, `importdecl`, `exportdecl`. What can't be read stops at the declaration, for a reason that its first bytes
--- tell.
+-- Reading the declarations of a world and of an instance type. Component model, binary format:
+-- `componentdecl`, `instancedecl`, `importdecl`, `exportdecl`. What can't be read stops at the
+-- declaration, for a reason that its first bytes tell.
 use Rattle.std.specs.Prelude.{ℕ, ◌==◌, List, [], ◌∷◌, length, if◌then◌else◌, Ok, Err}
 use Rattle.comp_bytes.specs.declared.types.TypeDef.{TypeDef}
 use Rattle.comp_bytes.specs.declared.types.Alias.{Alias}

@@ -1,6 +1,6 @@
--- Reading the sections of a package. Core standard, binary format: sections. Component model, binary format: `component`,
--- `section`. What can't be read is reported at the offset of its section, of the section's contents, or of the declaration
--- where reading stops.
+-- Reading the sections of a package. Core standard, binary format: sections. Component model,
+-- binary format: `component`, `section`. What can't be read is reported at the offset of its
+-- section, of the section's contents, or of the declaration where reading stops.
 use Rattle.std.specs.Prelude.{◌≡◌, ℕ, zero, suc, ◌+◌, ◌-◌, ◌==◌, nat_eq, if◌then◌else◌, List, [], ◌∷◌, length, drop, Option, Some, None, Result, Ok, Err}
 use Rattle.std.specs.List.{starts_with}
 use Rattle.comp_bytes.specs.Sections.{preamble}

@@ -76,7 +76,8 @@ impl<T: Drop> From<AllocFailed<T>> for StopFault {
 
 /// A refusal: the offset of what can't be read, in bytes from the start of the package, and what is wrong there.
 ///
-/// It is the offset of a section, of the contents of a section, or of a declaration of the world or of an instance type.
+/// It is the offset of a section, of the contents of a section, or of a declaration of the world or
+/// of an instance type.
 #[derive(Clone, Copy, Debug, PartialEq, Eq)]
 pub struct Refusal {
     pub place: usize,

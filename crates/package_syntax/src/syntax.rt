@@ -1,6 +1,7 @@
 //! Sections and declarations.
 //!
-//! Component model, binary format: `component`, `section`, `componenttype`, `componentdecl`, `importdecl`, `exportdecl`.
+//! Component model, binary format: `component`, `section`, `componenttype`, `componentdecl`,
+//! `importdecl`, `exportdecl`.
 
 use comp_bytes::{Alias, Description, ExternName, InstanceType, TypeDef};
 use comp_lists::{Bytes, Seq, Text};
@@ -45,8 +46,8 @@ pub struct WorldType {
     pub id: ExternName,
 }
 
-/// A section of a package: a custom section, the type of the package, which has the world in it, or the export of that type
-/// under the name of the world.
+/// A section of a package: a custom section, the type of the package, which has the world in it, or
+/// the export of that type under the name of the world.
 #[derive(Drop)]
 pub enum Section {
     Custom { name: Text, contents: Bytes },

@@ -31,7 +31,8 @@ use Rattle.package_types.specs.Types.{Checked, ◌>>>◌}
 use Rattle.package_types.specs.Functions.{entry_of, function_by}
 use Rattle.package_types.specs.Named.{meaning_by, resource, plain_name}
 
--- the entry that an alias of an outer entry adds: it is what the other is; a type of functions or of instances has no alias
+-- the entry that an alias of an outer entry adds: it is what the other is; a type of functions or
+-- of instances has no alias
 abbrev pub alias_entry : Option Entry → Checked Entry
 alias_entry None = Err causes.Index
 alias_entry (Some (entries.Name name facts)) = Ok (entries.Name name facts)

@@ -1,5 +1,6 @@
--- Sizes of types: how many types are nested in a type, and how many nodes its tree has. An absent part is a node too, but
--- no level. (The component model sets no limit; these are this project's own, and those of records.)
+-- Sizes of types: how many types are nested in a type, and how many nodes its tree has. An absent
+-- part is a node too, but no level. (The component model sets no limit; these are this project's
+-- own, and those of records.)
 use Rattle.std.specs.Prelude.{◌+◌, min, max, nat_le, Result, Ok, Err, if◌then◌else◌}
 use Rattle.package_types.specs.declared.fault.Cause.{Cause}
 use Rattle.package_types.specs.declared.fault.Cause.TheVariants as causes

@@ -1,7 +1,7 @@
 -- What types of values mean in a scope. Component model, binary format: `valtype`, `defvaltype`.
 --
--- A scope is a list of entries. A reference to a name is the name; a reference to a definition is the definition itself. So
--- a type is a list of nodes, each after its parts.
+-- A scope is a list of entries. A reference to a name is the name; a reference to a definition is
+-- the definition itself. So a type is a list of nodes, each after its parts.
 use Rattle.std.specs.Prelude.{◌≡◌, ℕ, ◌==◌, nat_lt, List, [], ◌∷◌, ◌++◌, length, map, slice_get, Option, Some, None, is_some, Result, Ok, Err, if◌then◌else◌}
 use Rattle.comp_bytes.specs.declared.types.ComponentValType.{ComponentValType}
 use Rattle.comp_bytes.specs.declared.types.ComponentValType.TheVariants as values

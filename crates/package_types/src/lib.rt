@@ -7,9 +7,10 @@
 //! The size of a type is counted before its nodes are made, since a chain of pairs is exponential in its length. A type
 //! has at most 100 levels and 10,000 nodes, as in records.
 //!
-//! Upward this crate promises that the entry of a type ([`entry_of`]) and the content of an instance type
-//! ([`content_of`]) are those of `specs/Types.antt`, `Functions.antt` and `Instances.antt`, memory aside, and that where they refuse, it is for the cause
-//! that these definitions give.
+//! Upward this crate promises that the entry of a type ([`entry_of`]) and the content of an
+//! instance type ([`content_of`]) are those of `specs/Types.antt`, `Functions.antt` and
+//! `Instances.antt`, memory aside, and that where they refuse, it is for the cause that these
+//! definitions give.
 //!
 //! In reading order: `fault` (causes), `scopes` (entries), `sizes`, `types` and `nodes` (types
 //! of values), `functions`, `named` (types

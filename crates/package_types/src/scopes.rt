@@ -3,8 +3,8 @@
 use comp_lists::{Keyed, Seq, Text};
 use record_values::{Interface, Node, TypeName, Typed};
 
-/// The size of a type: how many types are nested in it, and how many nodes its tree has. Named types count with all that they
-/// are made of.
+/// The size of a type: how many types are nested in it, and how many nodes its tree has. Named
+/// types count with all that they are made of.
 #[derive(Clone, Copy, Debug, PartialEq, Eq)]
 pub struct Size {
     pub levels: usize,

@@ -17,7 +17,7 @@ use Rattle.json_paths.specs.declared.fault.Failure.{Failure as RecordFailure}
 use Rattle.json_paths.specs.declared.fault.Failure.TheVariants as record_failures
 use Rattle.json_paths.specs.declared.fault.Refusal.{Refusal as RecordRefusal}
 use Rattle.json_paths.specs.Faults.{◌>>=◌ as ◌>>+=◌}
-use Rattle.record_merge.specs.Causes.{RecordsConflict, WorldConflict}
+use Rattle.record_merge.specs.Causes.{RecordsConflict}
 use Rattle.record_merge.specs.declared.bindgen.Bindgen.{Bindgen}
 use Rattle.record_merge.specs.Tables.{conflict as conflict_of}
 use Rattle.records.specs.Records.{record_in}
@@ -29,7 +29,7 @@ use Rattle.record_faults.specs.declared.fault.Refusal.TheVariants as refusals
 use Rattle.record_faults.specs.declared.fault.PlainFault.{PlainFault}
 use Rattle.record_faults.specs.Faults.{lifted, of_section, of_record, of_record_refusal, flat, flat_refusal}
 use Rattle.plain_lower.specs.ModuleRecords.{records_in}
-use Rattle.plain_lower.specs.Causes.{SaidCause, misread, conflicting, AreApart, DecodeCause, not_module, cut, binary, misspelt, conflict, MergeCause, conflict_of_worlds}
+use Rattle.plain_lower.specs.Causes.{SaidCause, misread, conflicting, AreApart, DecodeCause, not_module, cut, binary, misspelt, conflict}
 use Rattle.record_faults.proofs.Chains.{refused, same_refusal}
 
 abbrev IsRead : List ℕ → Record → Type 0
@@ -189,11 +189,6 @@ no_cause bytes s rs is read_so apart f c = let t = taken bytes s is in by t.0 t.
 
 -- ---- the steps, as calls return them
 
--- what holds of the failure holds of the one that a `?` makes of it
-pub handed_out : {A : Type 0} (P : Failure → Type 0) (r : Result A Failure) (d : Failure) → IsErrAnd r (λ e. e ≡ d) → (d ≢ failures.Memory → P d) → IfErr r (λ e. e ≢ failures.Memory → P e)
-handed_out P (Ok x) d is h = tt
-handed_out P (Err e) d is h = subst (λ (x : Failure). x ≢ failures.Memory → P x) (sym is) h
-
 pub said_by_reading : {A : Type 0} (texts : List (List ℕ)) (r : Result A RecordFailure) (d : RecordFailure) → IsErrAnd r (λ e. e ≡ d) → (d ≢ record_failures.Memory → records_in texts ≡ Err d)
     → IfErr r (λ e. e ≢ record_failures.Memory → SaidCause texts e)
 said_by_reading texts (Ok x) d is h = tt
@@ -208,18 +203,6 @@ pub said_apart : (texts : List (List ℕ)) (records : List Record) (r : Result B
     → (IsOk r → (name : List ℕ) → RecordsConflict records name → ⊥) → IfOk r (λ _. AreApart texts)
 said_apart texts records (Ok b) are h = record { records = records; are_read = are; no_conflict = h refl }
 said_apart texts records (Err e) are h = tt
-
--- ---- merging
-
-pub merge_caused : (a b : Bindgen) (e : RecordFailure) → (e ≢ record_failures.Memory → (name : List ℕ) × (e ≡ conflict_of name) × WorldConflict a.wit b.wit name)
-    → (of_record e ≢ failures.Memory) → MergeCause a b (flat (of_record e))
-merge_caused a b record_failures.Memory h other = absurd (other refl)
-merge_caused a b (record_failures.Refused r) h other =
-    let c = h (λ m. cc) in
-    subst (λ (x : RecordFailure). MergeCause a b (flat (of_record x))) (sym c.1) (conflict_of_worlds c.0 c.2)
-
-pub merge_has_none : (a b : Bindgen) → ((name : List ℕ) → WorldConflict a.wit b.wit name → ⊥) → (f : PlainFault) → MergeCause a b f → ⊥
-merge_has_none a b h f (conflict_of_worlds name c) = h name c
 
 -- ---- decoding, with the texts as the calls pass them on
 

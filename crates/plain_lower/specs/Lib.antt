@@ -1,13 +1,3 @@
-pub mod Equalities
 pub mod ModuleRecords
-pub mod Reports
-pub mod Arguments
-pub mod Reach
-pub mod Giving
-pub mod Linking
-pub mod Preparing
-pub mod Guarantees
 pub mod Layer
-pub mod LinkCauses
 pub mod Causes
-pub mod Adding

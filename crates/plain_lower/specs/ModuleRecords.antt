@@ -1,16 +1,14 @@
 -- What the records of a module say, and what several modules say of their world. (This project's own.)
 use Rattle.std.specs.Prelude.{ℕ, List, [], ◌∷◌, Result, Ok}
-use Rattle.world_values.specs.declared.gathered.Merged.{Merged}
 use Rattle.core_sections.specs.Stripping.{stripped}
 use Rattle.json_paths.specs.declared.fault.Failure.{Failure as RecordFailure}
 use Rattle.json_paths.specs.Faults.{◌>>=◌ as ◌>>>=◌}
 use Rattle.record_merge.specs.declared.bindgen.Bindgen.{Bindgen}
 use Rattle.record_merge.specs.ModuleRecords.{bindgen_of}
-use Rattle.record_merge.specs.Merging.{merged}
 use Rattle.records.specs.Records.{record_in}
 use Rattle.record_values.specs.declared.record.Record.{Record}
 use Rattle.record_faults.specs.declared.fault.Failure.{Failure}
-use Rattle.plain_lower.specs.Equalities.{tests, role_tests}
+use Rattle.gathered_worlds.specs.Equalities.{tests, role_tests}
 use Rattle.record_faults.specs.Faults.{◌>>=◌, lifted, read}
 
 -- the records that texts encode
@@ -28,6 +26,3 @@ decoding bytes = do
   s ← lifted (stripped bytes)
   b ← read (said_in s.1)
   Ok (s.0, b)
-
-abbrev pub merging : Bindgen → Bindgen → Result (Merged Bindgen) Failure
-merging a b = read (merged tests a b)

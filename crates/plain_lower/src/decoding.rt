@@ -1,13 +1,13 @@
-//! What the records of a module say, and what several modules say of their world.
+//! What the records of a module say.
 
 ghost use Rattle.std.specs.Prelude.{◌≡◌, ◌≢◌, map, IfOk, IfErr, IsOk};
 ghost use Rattle.json_paths.specs.declared.fault.Failure.TheVariants as records;
 ghost use Rattle.record_faults.specs.declared.fault.Failure.TheVariants as failures;
 ghost use Rattle.record_faults.specs.declared.fault.PlainFault.{PlainFault};
-ghost use Rattle.plain_lower.specs.Causes.{SaidCause, AreApart, DecodeCause, MergeCause};
+ghost use Rattle.plain_lower.specs.Causes.{SaidCause, AreApart, DecodeCause};
 ghost use Rattle.record_faults.specs.Faults.{Gives, flat};
 ghost use Rattle.json_paths.specs.Faults.{Gives as GivesRecord};
-ghost use Rattle.plain_lower.specs.ModuleRecords.{records_in, said_in, decoding, merging};
+ghost use Rattle.plain_lower.specs.ModuleRecords.{records_in, said_in, decoding};
 
 use comp_lists::{Seq, SharedBytes};
 use core_sections::{Stripped, strip};
@@ -17,7 +17,6 @@ use record_merge::{Bindgen, bindgen_of};
 use record_values::Record;
 use records::read_record;
 use std::alloc::Global;
-use world_values::Merged;
 
 /// The records that texts encode.
 fn read_records(alloc: Global, texts: &[&[u8]]) -> Result<Seq<Record>, RecordFailure>
@@ -35,7 +34,8 @@ fn read_records(alloc: Global, texts: &[&[u8]]) -> Result<Seq<Record>, RecordFai
 #[tactic(auto, unfolding(crate::specs::ModuleRecords::said_in), using(crate::proofs::Records::said_by_reading))]
 fn read_said(alloc: Global, texts: &[&[u8]]) -> Result<Bindgen, RecordFailure>
     ensures exact { GivesRecord (λ b. b) result (said_in (map (λ t. t.now) texts.now)) }
-    ensures cause { IfErr result (λ e. e ≢ records.Memory → SaidCause (map (λ t. t.now) texts.now) e) }
+    ensures cause { IfErr result
+        (λ e. e ≢ records.Memory → SaidCause (map (λ t. t.now) texts.now) e) }
     ensures apart { IfOk result (λ _. AreApart (map (λ t. t.now) texts.now)) }
 {
     let records = read_records(alloc, texts)?;
@@ -59,17 +59,4 @@ pub(crate) fn decode(alloc: Global, mut bytes: Vec<u8>) -> Result<(SharedBytes, 
     bytes.truncate(prefix);
     bytes.extend_from_slice(&rest)?;
     Ok((SharedBytes::from_vec(bytes)?, said))
-}
-
-/// What two modules say of their world together.
-pub(crate) fn merge(
-    alloc: Global,
-    first: &Bindgen,
-    second: &Bindgen,
-) -> Result<Merged<Bindgen>, Failure>
-    ensures exact { Gives (λ m. m) result (merging first.now second.now) }
-    ensures cause { IfErr result (λ e. e ≢ failures.Memory → MergeCause first.now second.now (flat e)) }
-    ensures refused { IsOk result → (f : PlainFault) → ¬ MergeCause first.now second.now f }
-{
-    Ok(record_merge::merge(alloc, first, second)?)
 }

@@ -2,10 +2,10 @@
 
 ghost use Rattle.std.specs.Prelude.{◌≡◌};
 
-use crate::decoding::{decode, merge};
-use crate::preparing::prepare;
+use crate::decoding::decode;
 use comp_lists::SharedBytes;
 use comp_worlds::{ComponentWorld, Lower};
+use gathered_worlds::{merge, prepare};
 use record_faults::PlainFault;
 use record_merge::{Bindgen, no_bindgen};
 use std::alloc::Global;
@@ -24,8 +24,10 @@ impl PlainLower {
 
 impl Lower for PlainLower {
     ghost use Rattle.record_merge.specs.Said.{nothing_said};
-    ghost use Rattle.plain_lower.specs.Causes.{DecodeCause, MergeCause, PrepareCause};
-    ghost use Rattle.plain_lower.specs.Layer.{is_memory, decoded, merged, prepared};
+    ghost use Rattle.plain_lower.specs.Causes.{DecodeCause};
+    ghost use Rattle.plain_lower.specs.Layer.{decoded};
+    ghost use Rattle.gathered_worlds.specs.Causes.{MergeCause, PrepareCause};
+    ghost use Rattle.gathered_worlds.specs.Layer.{is_memory, merged, prepared};
 
     type Bindgen = Bindgen;
 

@@ -1,9 +1,11 @@
-//! The program `record_cases`: cases of records and of modules, with the fault that the lower layer by records reports of
-//! each, or that it prepares a world (`test_cases` says how the files are read; each says where its expected answers are from).
+//! The program `record_cases`: cases of records and of modules, with the fault that the lower layer
+//! by records reports of each, or that it prepares a world (`test_cases` says how the files are
+//! read; each says where its expected answers are from).
 //!
-//! An input is the records of a module, with ` & ` between two of them; a whole module in hexadecimal digits; two modules
-//! that are given as main one after the other; or main with adapters and libraries beside it (`lower_answers` says how).
-//! Which of these the inputs of a file are, its name says.
+//! An input is the records of a module, with ` & ` between two of them; a whole module in
+//! hexadecimal digits; two modules that are given as main one after the other; or main with
+//! adapters and libraries beside it (`lower_answers` says how). Which of these the inputs of a file
+//! are, its name says.
 #![tactic(auto)]
 
 use lower_answers::{Kind, answer_of};

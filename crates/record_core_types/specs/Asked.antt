@@ -1,5 +1,5 @@
--- The core type that each role requires (Canonical ABI: `flatten_functype`, `canon lift`, `canon lower`, and the built-in
--- functions; core standard, structure: external types).
+-- The core type that each role requires (Canonical ABI: `flatten_functype`, `canon lift`, `canon
+-- lower`, and the built-in functions; core standard, structure: external types).
 use Rattle.std.specs.Prelude.{ℕ, List, [], ◌∷◌, map, Option, Some, None, option_map}
 use Rattle.std.specs.List.{slice_get}
 use Rattle.std.specs.Map.{lookup}
@@ -138,8 +138,9 @@ built_in role = None
 abbrev pub intrinsic : Import → Option FuncType
 intrinsic role = option_or (built_in role) (payload_function role)
 
--- The type of the function that an import's role requires. It is none where the role names a function that does not exist,
--- where it requires a memory, and where it is an export of another module, whose type only that module gives.
+-- The type of the function that an import's role requires. It is none where the role names a
+-- function that does not exist, where it requires a memory, and where it is an export of another
+-- module, whose type only that module gives.
 abbrev pub expected_import : Resolve → WorldId → Import → Option FuncType
 expected_import r w (imports.WorldFunc key name abi) = option_map (called r abi) (imported_function r w key)
 expected_import r w (imports.InterfaceFunc key id name abi) = option_map (called r abi) (function_of r id name)
@@ -168,8 +169,8 @@ plain_export exports.Initialize = Some (function [] [])
 plain_export exports.WasmTaskHook = Some (function (I32 ∷ []) [])
 plain_export role = None
 
--- The type of the function that an export's role requires. It is none where the role names a function that does not exist,
--- and where it requires a memory.
+-- The type of the function that an export's role requires. It is none where the role names a
+-- function that does not exist, and where it requires a memory.
 abbrev pub expected_export : Resolve → WorldId → Export → Option FuncType
 expected_export r w (exports.WorldFunc key name abi) = option_map (called r abi) (exported_function r w key)
 expected_export r w (exports.InterfaceFunc key id name abi) = option_map (called r abi) (function_of r id name)

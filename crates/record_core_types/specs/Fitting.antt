@@ -57,8 +57,8 @@ abbrev pub is_of_type : Option ExternType → OfferedFunc → Bool
 is_of_type (Some (externs.Func f)) ty = same_function.eq-value.it f ty
 is_of_type other ty = false
 
--- An import fits its role. What main exports is given where it matches the import, which only main's module says; of what an
--- adapter exports the role has the type of the import itself.
+-- An import fits its role. What main exports is given where it matches the import, which only
+-- main's module says; of what an adapter exports the role has the type of the import itself.
 abbrev pub fits_import : Resolve → WorldId → CoreModule → Import → EntityType → Bool
 fits_import r w m (imports.MainModuleMemory ty) e = is_memory e ty
 fits_import r w m (imports.MainModuleExport name kind) e = true

@@ -1,5 +1,6 @@
--- What holds of the roles of a main module: the world has the function that the role of a root function, or of an interface's
--- function, names, under the role's key; and each function that must be exported has a core export.
+-- What holds of the roles of a main module: the world has the function that the role of a root
+-- function, or of an interface's function, names, under the role's key; and each function that must
+-- be exported has a core export.
 use Rattle.std.specs.Prelude.{◌≡◌, ℕ, List, [], ◌∷◌, Option, Some, Contains, IsSome, get_or, map}
 use Rattle.std.specs.List.{AllByRecursion}
 use Rattle.wit_data.specs.declared.ids.InterfaceId.{InterfaceId}
@@ -19,15 +20,15 @@ use Rattle.world_values.specs.CoreExports.{implementations}
 use Rattle.world_values.specs.Items.{no_items, functions_of}
 use Rattle.record_core_types.specs.Asked.{imported_function, exported_function, exported_item, function_of, imported_interface, exported_interface}
 
--- the world imports the root function of an import's role, under its own name, or the interface of its role, which has the
--- function
+-- the world imports the root function of an import's role, under its own name, or the interface of
+-- its role, which has the function
 abbrev pub IsCalled : Resolve → WorldId → Import → Type 0
 IsCalled r w (imports.WorldFunc (keys.Name text) function abi) = (function ≡ text) × IsSome (imported_function r w (keys.Name text))
 IsCalled r w (imports.InterfaceFunc key id function abi) = (imported_interface r w key ≡ Some id) × IsSome (function_of r id function)
 IsCalled r w role = Unit {0}
 
--- the world exports the root function of an export's role, under its own name, and that of a post-return; or the interface of
--- the role, which has the function
+-- the world exports the root function of an export's role, under its own name, and that of a
+-- post-return; or the interface of the role, which has the function
 abbrev pub IsLifted : Resolve → WorldId → Export → Type 0
 IsLifted r w (exports.WorldFunc (keys.Name text) function abi) = (function ≡ text) × IsSome (exported_function r w (keys.Name text))
 IsLifted r w (exports.InterfaceFunc key id function abi) = (exported_interface r w key ≡ Some id) × IsSome (function_of r id function)

@@ -1,6 +1,6 @@
--- What a core module imports, and what it offers to others: its imports in order, and its exports by name, if their types
--- are made of the four number types and references to any function, with addresses of 32 bits (core standard, structure:
--- external types, limits).
+-- What a core module imports, and what it offers to others: its imports in order, and its exports
+-- by name, if their types are made of the four number types and references to any function, with
+-- addresses of 32 bits (core standard, structure: external types, limits).
 use Rattle.std.specs.Prelude.{ℕ, ◌^◌, nat_lt, if◌then◌else◌, List, [], ◌∷◌, Option, Some, None, option_map}
 use Rattle.std.specs.List.{flat_map, slice_get}
 use Rattle.std.specs.Option.{option_to_list}

@@ -68,7 +68,9 @@ fn is_called(
 ) -> Result<bool, AllocError>
     requires sound { IsSound resolve.now }
     requires present { HasFound resolve.now (option_copied function) }
-    ensures { IfOk result (λ fits. fits ≡ is_asked ty.now (option_map (called resolve.now abi) (option_copied function.entry))) }
+    ensures { IfOk result (λ fits. fits
+        ≡ is_asked ty.now
+        (option_map (called resolve.now abi) (option_copied function.entry))) }
 {
     let Some(function) = function else {
         return Ok(false);
@@ -89,7 +91,9 @@ fn is_post_return(
 ) -> Result<bool, AllocError>
     requires sound { IsSound resolve.now }
     requires present { HasFound resolve.now (option_copied function) }
-    ensures { IfOk result (λ fits. fits ≡ is_asked ty.now (option_map (post_return resolve.now) (option_copied function.entry))) }
+    ensures { IfOk result (λ fits. fits
+        ≡ is_asked ty.now
+        (option_map (post_return resolve.now) (option_copied function.entry))) }
 {
     let Some(function) = function else {
         return Ok(false);
@@ -125,7 +129,8 @@ fn is_task_return(
 ) -> Result<bool, AllocError>
     requires sound { IsSound resolve.now }
     requires present { HasFunction resolve.now function.now }
-    ensures { IfOk result (λ fits. fits ≡ is_same ty.now (called resolve.now GuestImport (returning function.now))) }
+    ensures { IfOk result
+        (λ fits. fits ≡ is_same ty.now (called resolve.now GuestImport (returning function.now))) }
 {
     let returned = returning(alloc, function)?;
     is_called(alloc, resolve, AbiVariant::GuestImport, Some(&returned), ty)
@@ -142,7 +147,8 @@ fn is_expected_import(
 ) -> Result<bool, AllocError>
     requires sound { IsSound resolve.now }
     requires present { HasReturned resolve.now import.now }
-    ensures { IfOk result (λ fits. fits ≡ is_asked ty.now (expected_import resolve.now world import.now)) }
+    ensures { IfOk result
+        (λ fits. fits ≡ is_asked ty.now (expected_import resolve.now world import.now)) }
 {
     match import {
         Import::WorldFunc(key, _, abi) => {
@@ -168,7 +174,8 @@ fn is_expected_export(
     ty: &FuncType,
 ) -> Result<bool, AllocError>
     requires sound { IsSound resolve.now }
-    ensures { IfOk result (λ fits. fits ≡ is_asked ty.now (expected_export resolve.now world export.now)) }
+    ensures { IfOk result
+        (λ fits. fits ≡ is_asked ty.now (expected_export resolve.now world export.now)) }
 {
     match export {
         Export::WorldFunc(key, _, abi) => {
@@ -225,7 +232,8 @@ fn has_expected_type(
 ) -> Result<bool, AllocError>
     requires sound { IsSound resolve.now }
     requires present { HasReturned resolve.now import.now }
-    ensures { IfOk result (λ fits. fits ≡ is_function core.now entity.now (expected_import resolve.now world import.now)) }
+    ensures { IfOk result (λ fits. fits
+        ≡ is_function core.now entity.now (expected_import resolve.now world import.now)) }
 {
     match function_type(core, entity) {
         Some(ty) => is_expected_import(alloc, resolve, world, import, ty),
@@ -266,7 +274,8 @@ pub fn fits_import(
 ) -> Result<bool, AllocError>
     requires sound { IsSound resolve.now }
     requires present { HasReturned resolve.now import.now }
-    ensures { IfOk result (λ fits. fits ≡ fits_import resolve.now world core.now import.now entity.now) }
+    ensures { IfOk result
+        (λ fits. fits ≡ fits_import resolve.now world core.now import.now entity.now) }
 {
     match import {
         Import::MainModuleMemory(ty) => Ok(is_memory(entity, *ty)),
@@ -291,7 +300,8 @@ pub fn fits_export(
     item: &ExportedItem,
 ) -> Result<bool, AllocError>
     requires { IsSound resolve.now }
-    ensures { IfOk result (λ fits. fits ≡ fits_export resolve.now world core.now export.now item.now) }
+    ensures { IfOk result
+        (λ fits. fits ≡ fits_export resolve.now world core.now export.now item.now) }
 {
     let ExportedItem::Entity(entity) = item else {
         return Ok(false);

@@ -127,7 +127,9 @@ fn function_at(
 
 /// The type of a global, where it holds a number or a reference to any function.
 fn global_type(value: core_sections::ValType, mutable: bool) -> Option<ExternType>
-    ensures { result ≡ option_map (λ t. externs.Global (record { val_type = t; mutable = mutable })) (value_type value) }
+    ensures { result
+        ≡ option_map (λ t. externs.Global (record { val_type = t; mutable = mutable }))
+        (value_type value) }
 {
     let val_type = value_type(value)?;
     Some(ExternType::Global(GlobalType { val_type, mutable }))

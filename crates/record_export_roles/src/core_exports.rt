@@ -47,7 +47,8 @@ fn export_at(
     index: usize,
     value: &Value,
 ) -> Result<Assigned<Text, ExportRole>, Failure>
-    ensures { Gives (λ a. a) result (under (decimal index) (core_export_of world.now (view value.now))) }
+    ensures { Gives (λ a. a) result
+        (under (decimal index) (core_export_of world.now (view value.now))) }
 {
     let export = read_core_export(alloc, world, value);
     under_index(alloc, index, export)
@@ -59,7 +60,8 @@ fn read_exports(
     world: &RecordWorld,
     values: &[Value],
 ) -> Result<Seq<Assigned<Text, ExportRole>>, Failure>
-    ensures { Gives (λ x. x) result (items_from (core_export_of world.now) 0 (items_view values.now)) }
+    ensures { Gives (λ x. x) result
+        (items_from (core_export_of world.now) 0 (items_view values.now)) }
 {
     let mut items = Seq::new(alloc);
     for (index, value) in values.iter().enumerate() {

@@ -19,7 +19,8 @@ use serde_json::Value;
 use std::alloc::Global;
 
 fn read_world_func(alloc: Global, world: &RecordWorld, value: &Value) -> Result<ExportRole, Failure>
-    ensures { Gives (λ r. r) result (function_of (world_function_of world.now sides.Export (view value.now))) }
+    ensures { Gives (λ r. r) result
+        (function_of (world_function_of world.now sides.Export (view value.now))) }
 {
     let Called { owner, name, abi } = read_world_function(alloc, world, Side::Export, value)?;
     Ok(ExportRole::Function { owner, name, abi })
@@ -30,7 +31,8 @@ fn read_interface_func(
     world: &RecordWorld,
     value: &Value,
 ) -> Result<ExportRole, Failure>
-    ensures { Gives (λ r. r) result (function_of (interface_function_of world.now sides.Export (view value.now))) }
+    ensures { Gives (λ r. r) result
+        (function_of (interface_function_of world.now sides.Export (view value.now))) }
 {
     let Called { owner, name, abi } = read_interface_function(alloc, world, Side::Export, value)?;
     Ok(ExportRole::Function { owner, name, abi })

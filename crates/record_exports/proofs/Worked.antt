@@ -1,5 +1,5 @@
--- What the exports of a small module must have, worked. The world exports the functions f and g and the interface i, which
--- has a and b; none has parameters or results.
+-- What the exports of a small module must have, worked. The world exports the functions f and g and
+-- the interface i, which has a and b; none has parameters or results.
 use Rattle.std.proofs.Common.{◌≡◌, ℕ, List, [], ◌∷◌, None, Ok, Err, refl}
 use Rattle.std.specs.Prelude.{codes}
 use Rattle.core_sections.specs.declared.core_module.CoreModule.{CoreModule}

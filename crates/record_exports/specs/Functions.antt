@@ -1,4 +1,5 @@
--- What is known of functions from core exports: how each is called, and whether it has a callback (Canonical ABI: `canon lift`).
+-- What is known of functions from core exports: how each is called, and whether it has a callback
+-- (Canonical ABI: `canon lift`).
 use Rattle.std.specs.Prelude.{◌≡◌, ℕ, Bool, List, [], ◌∷◌, Option, Some, None, is_some}
 use Rattle.std.specs.List.{flat_map}
 use Rattle.std.specs.Map.{lookup}

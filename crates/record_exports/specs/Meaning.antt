@@ -1,4 +1,5 @@
--- The role of one core export, which must have the type that its role requires (Canonical ABI: `canon lift` and its options).
+-- The role of one core export, which must have the type that its role requires (Canonical ABI:
+-- `canon lift` and its options).
 use Rattle.std.specs.Prelude.{ℕ, List, Result, Ok, Err, ok_or, if◌then◌else◌}
 use Rattle.core_sections.specs.declared.core_module.CoreModule.{CoreModule}
 use Rattle.core_sections.specs.declared.entries.ExportedItem.{ExportedItem}

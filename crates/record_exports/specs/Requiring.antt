@@ -1,5 +1,6 @@
--- Whether a module has the exports that are required of it: each function of a required key is a core export, and one that
--- is asynchronous with a callback has its callback (Canonical ABI: `canon lift`).
+-- Whether a module has the exports that are required of it: each function of a required key is a
+-- core export, and one that is asynchronous with a callback has its callback (Canonical ABI: `canon
+-- lift`).
 use Rattle.std.specs.Prelude.{ℕ, Bool, true, false, if◌then◌else◌, List, [], ◌∷◌, ◌++◌, Option, Some, None, Result, Ok, Err, ok_or, ⊤}
 use Rattle.wit_data.specs.declared.functions.AbiVariant.{AbiVariant}
 use Rattle.wit_data.specs.declared.functions.AbiVariant.TheVariants as abis
@@ -29,7 +30,8 @@ key_text (export_keys.Interface id) = id
 
 -- ---- the functions of a key
 
--- the names of the functions that the world exports at a key: that of the function itself, or those of an interface, in order
+-- the names of the functions that the world exports at a key: that of the function itself, or those
+-- of an interface, in order
 abbrev pub functions_at : Resolved → WorldKey → List (List ℕ)
 functions_at r key = own_names r.resolve (exported_item r.resolve world_id key)
 

@@ -33,7 +33,8 @@ fn add_export(
     role: Option<&ExportRole>,
 ) -> Result<(), Failure>
     requires { IsSound resolved.now.resolve }
-    ensures { Gives (λ _. all.new) result (with_role resolved.now core.now all.old name.now item.now (option_copied role.entry)) }
+    ensures { Gives (λ _. all.new) result
+        (with_role resolved.now core.now all.old name.now item.now (option_copied role.entry)) }
 {
     match role {
         None => Ok(()),
@@ -54,7 +55,8 @@ fn exports_with_roles(
     core: &CoreModule,
 ) -> Result<Keyed<Text, Export>, Failure>
     requires { IsSound resolved.now.resolve }
-    ensures { Gives (λ t. t) result (exports_after resolved.now roles.now core.now [] core.now.exports) }
+    ensures { Gives (λ t. t) result
+        (exports_after resolved.now roles.now core.now [] core.now.exports) }
 {
     let mut all = Keyed::new(alloc);
     for (name, item) in core.exports.iter() {
@@ -75,7 +77,8 @@ fn exports_of(
 ) -> Result<Keyed<Text, Export>, Failure>
     requires { IsSound resolved.now.resolve }
     ensures exact { Gives (λ t. t) result (exports_of resolved.now roles.now core.now) }
-    ensures lifted { IfOk result (λ t. AllByRecursion (λ e. IsLifted resolved.now.resolve world_id e.1) t) }
+    ensures lifted { IfOk result
+        (λ t. AllByRecursion (λ e. IsLifted resolved.now.resolve world_id e.1) t) }
 {
     let all = exports_with_roles(alloc, resolved, roles, core)?;
     check_taken(alloc, &all)?;
@@ -101,9 +104,12 @@ pub fn read_exports(
 ) -> Result<Keyed<Text, Export>, Failure>
     requires { IsSound resolved.now.resolve }
     ensures exact { Gives (λ t. t) result (exports_of resolved.now roles.now core.now) }
-    ensures lifted { IfOk result (λ t. AllByRecursion (λ e. IsLifted resolved.now.resolve world_id e.1) t) }
+    ensures lifted { IfOk result
+        (λ t. AllByRecursion (λ e. IsLifted resolved.now.resolve world_id e.1) t) }
     ensures refused { IsOk result → (f : Refusal) → ExportCause resolved.now roles.now core.now f → ⊥ }
-    ensures cause { IfErr result (λ e. (f : Refusal) → e ≡ failures.Refused f → ExportCause resolved.now roles.now core.now f) }
+    ensures cause { IfErr result (λ e. (f : Refusal)
+        → e ≡ failures.Refused f
+        → ExportCause resolved.now roles.now core.now f) }
 {
     let all = exports_of(alloc, resolved, roles, core)?;
     Ok(all)

@@ -100,7 +100,8 @@ fn add_lifted(
     abis: &mut Keyed<FunctionKey, AbiVariant>,
     export: &Export,
 ) -> Result<(), AllocError>
-    ensures { OnOk result (abis.new ≡ with_all is_same_function abis.old (lifted_function export.now)) }
+    ensures { OnOk result
+        (abis.new ≡ with_all is_same_function abis.old (lifted_function export.now)) }
 {
     match export {
         Export::WorldFunc(key, name, abi) => {
@@ -119,7 +120,8 @@ fn add_callback(
     callbacks: &mut Keyed<FunctionKey, ()>,
     export: &Export,
 ) -> Result<(), AllocError>
-    ensures { OnOk result (callbacks.new ≡ with_all is_same_function callbacks.old (alone (callback_function export.now))) }
+    ensures { OnOk result (callbacks.new
+        ≡ with_all is_same_function callbacks.old (alone (callback_function export.now))) }
 {
     match callback_function(alloc, export)? {
         Some(function) => callbacks.insert_if_absent(function, ()),

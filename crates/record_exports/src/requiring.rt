@@ -86,7 +86,8 @@ fn check_functions(
     key: &WorldKey,
     all: &Keyed<Text, Function>,
 ) -> Result<(), Failure>
-    ensures { Gives (λ _. tt) result (all_there (known_by functions.now) key.now (map (λ e. e.1.name) all.now)) }
+    ensures { Gives (λ _. tt) result
+        (all_there (known_by functions.now) key.now (map (λ e. e.1.name) all.now)) }
 {
     for (_, function) in all.iter() {
         check_function(alloc, functions, key, &function.name)?;
@@ -101,7 +102,8 @@ fn check_interface(
     key: &WorldKey,
     id: InterfaceId,
 ) -> Result<(), Failure>
-    ensures { Gives (λ _. tt) result (all_there (known_by functions.now) key.now (map (λ e. e.1.name) (functions_of resolved.now.resolve id))) }
+    ensures { Gives (λ _. tt) result (all_there (known_by functions.now) key.now
+        (map (λ e. e.1.name) (functions_of resolved.now.resolve id))) }
 {
     match resolved.resolve.interfaces.as_slice().get(id.index) {
         Some(interface) => check_functions(alloc, functions, key, &interface.functions),
@@ -124,7 +126,8 @@ fn check_key(
     functions: &Functions,
     key: &WorldKey,
 ) -> Result<(), Failure>
-    ensures { Gives (λ _. tt) result (all_there (known_by functions.now) key.now (functions_at resolved.now key.now)) }
+    ensures { Gives (λ _. tt) result
+        (all_there (known_by functions.now) key.now (functions_at resolved.now key.now)) }
 {
     match exported_item(resolved, key) {
         Some(WorldItem::Function(function)) => {
@@ -144,7 +147,8 @@ fn required_key(
     functions: &Functions,
     required: &ExportKey,
 ) -> Result<WorldKey, Failure>
-    ensures { Gives (λ k. k) result (required_key resolved.now (known_by functions.now) required.now) }
+    ensures { Gives (λ k. k) result
+        (required_key resolved.now (known_by functions.now) required.now) }
 {
     match resolved_export_key(alloc, resolved, required)? {
         Some(key) => {
@@ -161,7 +165,8 @@ fn required_by(
     functions: &Functions,
     required: &[ExportKey],
 ) -> Result<Seq<WorldKey>, Failure>
-    ensures { Gives (λ ks. ks) result (required_after resolved.now (known_by functions.now) [] required.now) }
+    ensures { Gives (λ ks. ks) result
+        (required_after resolved.now (known_by functions.now) [] required.now) }
 {
     let mut keys = Seq::new(alloc);
     for key in required {
@@ -199,9 +204,12 @@ pub fn require_all(
     required: &[ExportKey],
 ) -> Result<Seq<WorldKey>, Failure>
     ensures exact { Gives (λ ks. ks) result (required_of resolved.now exports.now required.now) }
-    ensures kept { IfOk result (λ ks. AllByRecursion (IsKept resolved.now.resolve world_id exports.now) ks) }
+    ensures kept { IfOk result
+        (λ ks. AllByRecursion (IsKept resolved.now.resolve world_id exports.now) ks) }
     ensures refused { IsOk result → (f : Refusal) → RequiredCause resolved.now exports.now required.now f → ⊥ }
-    ensures cause { IfErr result (λ e. (f : Refusal) → e ≡ failures.Refused f → RequiredCause resolved.now exports.now required.now f) }
+    ensures cause { IfErr result (λ e. (f : Refusal)
+        → e ≡ failures.Refused f
+        → RequiredCause resolved.now exports.now required.now f) }
 {
     let keys = required_of(alloc, resolved, exports, required)?;
     Ok(keys)

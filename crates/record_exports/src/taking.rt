@@ -39,7 +39,9 @@ fn takes_callback(abi: Option<AbiVariant>) -> bool
 
 /// Whether an export is not a post-return of a function that can't have one.
 fn returns_well(alloc: Global, functions: &Functions, export: &Export) -> Result<bool, AllocError>
-    ensures { IfOk result (λ b. b ≡ option_map_or (λ f. takes_post_return ((known_by functions.now).abi f)) (post_return_function export.now) true) }
+    ensures { IfOk result (λ b. b
+        ≡ option_map_or (λ f. takes_post_return ((known_by functions.now).abi f))
+        (post_return_function export.now) true) }
 {
     match post_return_function(alloc, export)? {
         Some(function) => Ok(takes_post_return(functions.abi(&function))),
@@ -53,7 +55,9 @@ fn calls_back_well(
     functions: &Functions,
     export: &Export,
 ) -> Result<bool, AllocError>
-    ensures { IfOk result (λ b. b ≡ option_map_or (λ f. takes_callback ((known_by functions.now).abi f)) (callback_function export.now) true) }
+    ensures { IfOk result (λ b. b
+        ≡ option_map_or (λ f. takes_callback ((known_by functions.now).abi f))
+        (callback_function export.now) true) }
 {
     match callback_function(alloc, export)? {
         Some(function) => Ok(takes_callback(functions.abi(&function))),

@@ -1,5 +1,5 @@
--- The roles of all core imports: the member `core-imports` of a record, a list of {"module", "field", "role"}, which may be
--- left out.
+-- The roles of all core imports: the member `core-imports` of a record, a list of {"module",
+-- "field", "role"}, which may be left out.
 use Rattle.std.specs.Prelude.{List, [], ◌∷◌, codes, Option, Some, None, ok_or, Result, Ok, Err}
 use Rattle.serde_json.specs.Data.{Data}
 use Rattle.serde_json.specs.Find.{as_array}

@@ -1,5 +1,5 @@
--- The streams and futures that occur in a function: those of its parameters in order, then those of its result, each after
--- the ones inside it. Types that have a name are entered, handles are not.
+-- The streams and futures that occur in a function: those of its parameters in order, then those of
+-- its result, each after the ones inside it. Types that have a name are entered, handles are not.
 use Rattle.std.specs.Prelude.{List, [], ◌∷◌, ◌++◌}
 use Rattle.std.specs.Option.{option_map_or, unwrap_or}
 use Rattle.std.specs.List.{flat_map}

@@ -22,7 +22,8 @@ fn import_role_member(
     met: &mut MetWorld<'_>,
     value: &Value,
 ) -> Result<ImportRole, Failure>
-    ensures exact { Gives (λ r. r) result (import_role_at met.old.world met.old.types (view value.now)) }
+    ensures exact { Gives (λ r. r) result
+        (import_role_at met.old.world met.old.types (view value.now)) }
     ensures same { met.new ≡ met.old }
 {
     let member = required(alloc, value, "role")?;
@@ -35,7 +36,8 @@ fn read_core_import(
     met: &mut MetWorld<'_>,
     value: &Value,
 ) -> Result<Assigned<ImportName, ImportRole>, Failure>
-    ensures exact { Gives (λ a. a) result (core_import_of met.old.world met.old.types (view value.now)) }
+    ensures exact { Gives (λ a. a) result
+        (core_import_of met.old.world met.old.types (view value.now)) }
     ensures same { met.new ≡ met.old }
 {
     check_members(alloc, value, &["module", "field", "role"])?;
@@ -55,7 +57,8 @@ fn import_at(
     index: usize,
     value: &Value,
 ) -> Result<Assigned<ImportName, ImportRole>, Failure>
-    ensures exact { Gives (λ a. a) result (under (decimal index) (core_import_of met.old.world met.old.types (view value.now))) }
+    ensures exact { Gives (λ a. a) result
+        (under (decimal index) (core_import_of met.old.world met.old.types (view value.now))) }
     ensures same { met.new ≡ met.old }
 {
     let import = read_core_import(alloc, met, value);
@@ -68,7 +71,8 @@ fn read_imports(
     met: &mut MetWorld<'_>,
     values: &[Value],
 ) -> Result<Seq<Assigned<ImportName, ImportRole>>, Failure>
-    ensures exact { Gives (λ x. x) result (items_from (core_import_of met.old.world met.old.types) 0 (items_view values.now)) }
+    ensures exact { Gives (λ x. x) result
+        (items_from (core_import_of met.old.world met.old.types) 0 (items_view values.now)) }
     ensures same { met.new ≡ met.old }
 {
     let mut items = Seq::new(alloc);
@@ -85,7 +89,8 @@ fn read_array(
     met: &mut MetWorld<'_>,
     value: &Value,
 ) -> Result<Seq<Assigned<ImportName, ImportRole>>, Failure>
-    ensures exact { Gives (λ x. x) result (core_imports_of met.old.world met.old.types (view value.now)) }
+    ensures exact { Gives (λ x. x) result
+        (core_imports_of met.old.world met.old.types (view value.now)) }
     ensures same { met.new ≡ met.old }
 {
     match value.as_array() {
@@ -99,7 +104,8 @@ fn core_imports_member(
     met: &mut MetWorld<'_>,
     member: Option<Value>,
 ) -> Result<Seq<Assigned<ImportName, ImportRole>>, Failure>
-    ensures exact { Gives (λ x. x) result (core_imports_if met.old.world met.old.types (option_map view member)) }
+    ensures exact { Gives (λ x. x) result
+        (core_imports_if met.old.world met.old.types (option_map view member)) }
     ensures same { met.new ≡ met.old }
 {
     match member {
@@ -117,7 +123,8 @@ pub fn read_core_imports(
     world: &RecordWorld,
     member: Option<Value>,
 ) -> Result<Seq<Assigned<ImportName, ImportRole>>, Failure>
-    ensures { Gives (λ x. x) result (core_imports_if world.now (all_met world.now.wit) (option_map view member)) }
+    ensures { Gives (λ x. x) result
+        (core_imports_if world.now (all_met world.now.wit) (option_map view member)) }
 {
     let mut met = MetWorld::of(alloc, world)?;
     core_imports_member(alloc, &mut met, member)

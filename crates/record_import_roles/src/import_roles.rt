@@ -33,7 +33,8 @@ fn called(function: Called) -> ImportRole
 }
 
 fn read_world_func(alloc: Global, world: &RecordWorld, value: &Value) -> Result<ImportRole, Failure>
-    ensures { Gives (λ r. r) result (made called (world_function_of world.now sides.Import (view value.now))) }
+    ensures { Gives (λ r. r) result
+        (made called (world_function_of world.now sides.Import (view value.now))) }
 {
     let function = read_world_function(alloc, world, Side::Import, value)?;
     Ok(called(function))
@@ -44,7 +45,8 @@ fn read_interface_func(
     world: &RecordWorld,
     value: &Value,
 ) -> Result<ImportRole, Failure>
-    ensures { Gives (λ r. r) result (made called (interface_function_of world.now sides.Import (view value.now))) }
+    ensures { Gives (λ r. r) result
+        (made called (interface_function_of world.now sides.Import (view value.now))) }
 {
     let function = read_interface_function(alloc, world, Side::Import, value)?;
     Ok(called(function))
@@ -55,7 +57,8 @@ fn read_imported_drop(
     world: &RecordWorld,
     value: &Value,
 ) -> Result<ImportRole, Failure>
-    ensures { Gives (λ r. r) result (made ImportRole.ImportedDrop (resource_of world.now sides.Import owning.All (view value.now))) }
+    ensures { Gives (λ r. r) result (made ImportRole.ImportedDrop
+        (resource_of world.now sides.Import owning.All (view value.now))) }
 {
     let named = read_resource(alloc, world, Side::Import, Owners::All, value)?;
     Ok(ImportRole::ImportedDrop(named))
@@ -66,7 +69,8 @@ fn read_exported_drop(
     world: &RecordWorld,
     value: &Value,
 ) -> Result<ImportRole, Failure>
-    ensures { Gives (λ r. r) result (made ImportRole.ExportedDrop (resource_of world.now sides.Export owning.Interfaces (view value.now))) }
+    ensures { Gives (λ r. r) result (made ImportRole.ExportedDrop
+        (resource_of world.now sides.Export owning.Interfaces (view value.now))) }
 {
     let named = read_resource(alloc, world, Side::Export, Owners::Interfaces, value)?;
     Ok(ImportRole::ExportedDrop(named))
@@ -77,7 +81,8 @@ fn read_exported_rep(
     world: &RecordWorld,
     value: &Value,
 ) -> Result<ImportRole, Failure>
-    ensures { Gives (λ r. r) result (made ImportRole.ExportedRep (resource_of world.now sides.Export owning.Interfaces (view value.now))) }
+    ensures { Gives (λ r. r) result (made ImportRole.ExportedRep
+        (resource_of world.now sides.Export owning.Interfaces (view value.now))) }
 {
     let named = read_resource(alloc, world, Side::Export, Owners::Interfaces, value)?;
     Ok(ImportRole::ExportedRep(named))
@@ -88,7 +93,8 @@ fn read_exported_new(
     world: &RecordWorld,
     value: &Value,
 ) -> Result<ImportRole, Failure>
-    ensures { Gives (λ r. r) result (made ImportRole.ExportedNew (resource_of world.now sides.Export owning.Interfaces (view value.now))) }
+    ensures { Gives (λ r. r) result (made ImportRole.ExportedNew
+        (resource_of world.now sides.Export owning.Interfaces (view value.now))) }
 {
     let named = read_resource(alloc, world, Side::Export, Owners::Interfaces, value)?;
     Ok(ImportRole::ExportedNew(named))
@@ -144,14 +150,16 @@ fn encoding_argument(alloc: Global, value: &Value) -> Result<StringEncoding, Fai
 }
 
 fn read_error_context_new(alloc: Global, value: &Value) -> Result<ImportRole, Failure>
-    ensures { Gives (λ r. r) result (made ImportRole.ErrorContextNew (encoding_argument (view value.now))) }
+    ensures { Gives (λ r. r) result
+        (made ImportRole.ErrorContextNew (encoding_argument (view value.now))) }
 {
     let encoding = encoding_argument(alloc, value)?;
     Ok(ImportRole::ErrorContextNew(encoding))
 }
 
 fn read_debug_message(alloc: Global, value: &Value) -> Result<ImportRole, Failure>
-    ensures { Gives (λ r. r) result (made ImportRole.ErrorContextDebugMessage (encoding_argument (view value.now))) }
+    ensures { Gives (λ r. r) result
+        (made ImportRole.ErrorContextDebugMessage (encoding_argument (view value.now))) }
 {
     let encoding = encoding_argument(alloc, value)?;
     Ok(ImportRole::ErrorContextDebugMessage(encoding))
@@ -192,14 +200,16 @@ fn slot_argument(alloc: Global, value: &Value) -> Result<(ValType, u32), Failure
 }
 
 fn read_context_get(alloc: Global, value: &Value) -> Result<ImportRole, Failure>
-    ensures { Gives (λ r. r) result (made (λ s. ImportRole.ContextGet s.0 s.1) (slot_argument (view value.now))) }
+    ensures { Gives (λ r. r) result
+        (made (λ s. ImportRole.ContextGet s.0 s.1) (slot_argument (view value.now))) }
 {
     let (ty, slot) = slot_argument(alloc, value)?;
     Ok(ImportRole::ContextGet { ty, slot })
 }
 
 fn read_context_set(alloc: Global, value: &Value) -> Result<ImportRole, Failure>
-    ensures { Gives (λ r. r) result (made (λ s. ImportRole.ContextSet s.0 s.1) (slot_argument (view value.now))) }
+    ensures { Gives (λ r. r) result
+        (made (λ s. ImportRole.ContextSet s.0 s.1) (slot_argument (view value.now))) }
 {
     let (ty, slot) = slot_argument(alloc, value)?;
     Ok(ImportRole::ContextSet { ty, slot })
@@ -231,7 +241,8 @@ fn read_import_kind(
     value: &Value,
     kind: ImportKind,
 ) -> Result<ImportRole, Failure>
-    ensures exact { Gives (λ r. r) result (import_role_of_kind met.old.world met.old.types (view value.now) kind) }
+    ensures exact { Gives (λ r. r) result
+        (import_role_of_kind met.old.world met.old.types (view value.now) kind) }
     ensures same { met.new ≡ met.old }
 {
     let world = met.world();
@@ -269,7 +280,8 @@ pub(crate) fn read_import_role(
     met: &mut MetWorld<'_>,
     value: &Value,
 ) -> Result<ImportRole, Failure>
-    ensures exact { Gives (λ r. r) result (import_role_of met.old.world met.old.types (view value.now)) }
+    ensures exact { Gives (λ r. r) result
+        (import_role_of met.old.world met.old.types (view value.now)) }
     ensures same { met.new ≡ met.old }
 {
     let name = read_kind(alloc, value)?;

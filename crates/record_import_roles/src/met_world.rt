@@ -123,7 +123,8 @@ fn add_list(
 ) -> Result<(), AllocError>
     requires { AreListed world.now types.now lists.old }
     ensures kept { AreListed world.now types.now lists.new }
-    ensures added { OnOk result (lookup (is_same_function function.now) lists.new ≡ Some (kinds_of world.now types.now function.now)) }
+    ensures added { OnOk result (lookup (is_same_function function.now) lists.new
+        ≡ Some (kinds_of world.now types.now function.now)) }
 {
     if lists.contains_key(function) {
         return Ok(());
@@ -146,7 +147,8 @@ fn is_among(lists: &Lists, kind: PayloadKind, function: &FunctionName, index: us
     }
 }
 
-/// Whether what occurs at an index in a function is of this kind. The list of the function is made where there is none yet.
+/// Whether what occurs at an index in a function is of this kind. The list of the function is made
+/// where there is none yet.
 #[tactic(auto, using(crate::proofs::Listing::met_by_list))]
 fn is_met(
     alloc: Global,
@@ -159,7 +161,9 @@ fn is_met(
 ) -> Result<bool, AllocError>
     requires { AreListed world.now types.now lists.old }
     ensures kept { AreListed world.now types.now lists.new }
-    ensures exact { IfOk result (λ b. b ≡ is_met world.now types.now kind (side_of function.now.imported) function.now.owner_index function.now.name index) }
+    ensures exact { IfOk result (λ b. b
+        ≡ is_met world.now types.now kind (side_of function.now.imported)
+        function.now.owner_index function.now.name index) }
 {
     add_list(alloc, world, types, lists, function)?;
     Ok(is_among(lists, kind, function, index))
@@ -188,7 +192,8 @@ impl<'w> Model for MetWorld<'w> {
 impl<'w> MetWorld<'w> {
     /// A world, of which no function was asked for yet.
     pub(crate) fn of(alloc: Global, world: &'w RecordWorld) -> Result<MetWorld<'w>, AllocError>
-        ensures { IfOk result (λ m. m ≡ record { world = world.now; types = all_met world.now.wit }) }
+        ensures { IfOk result
+            (λ m. m ≡ record { world = world.now; types = all_met world.now.wit }) }
     {
         let types = all_met(alloc, &world.wit)?;
         Ok(MetWorld {
@@ -212,7 +217,9 @@ impl<'w> MetWorld<'w> {
         function: &FunctionName,
         index: usize,
     ) -> Result<bool, AllocError>
-        ensures exact { IfOk result (λ b. b ≡ is_met self.old.world self.old.types kind (side_of function.now.imported) function.now.owner_index function.now.name index) }
+        ensures exact { IfOk result (λ b. b
+            ≡ is_met self.old.world self.old.types kind (side_of function.now.imported)
+            function.now.owner_index function.now.name index) }
         ensures same { self.new ≡ self.old }
     {
         is_met(

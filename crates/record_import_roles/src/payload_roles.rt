@@ -88,7 +88,8 @@ fn met_payload(
     function: FunctionName,
     index: u32,
 ) -> Result<Payload, Failure>
-    ensures exact { Gives (λ p. p) result (met_payload met.old.world met.old.types kind function.imported function.owner_index function.name index) }
+    ensures exact { Gives (λ p. p) result (met_payload met.old.world met.old.types kind
+        function.imported function.owner_index function.name index) }
     ensures same { met.new ≡ met.old }
 {
     if !met.is_met(alloc, kind, &function, index as usize)? {
@@ -111,7 +112,8 @@ fn read_met(
     kind: PayloadKind,
     value: &Value,
 ) -> Result<Payload, Failure>
-    ensures exact { Gives (λ p. p) result (met_of met.old.world met.old.types kind (view value.now)) }
+    ensures exact { Gives (λ p. p) result
+        (met_of met.old.world met.old.types kind (view value.now)) }
     ensures same { met.new ≡ met.old }
 {
     check_members(
@@ -140,7 +142,8 @@ fn read_payload(
     kind: PayloadKind,
     value: &Value,
 ) -> Result<Payload, Failure>
-    ensures exact { Gives (λ p. p) result (payload_of met.old.world met.old.types kind (view value.now)) }
+    ensures exact { Gives (λ p. p) result
+        (payload_of met.old.world met.old.types kind (view value.now)) }
     ensures same { met.new ≡ met.old }
 {
     if value.get("unit").is_some() {
@@ -158,7 +161,8 @@ fn read_sync(
     operation: PayloadOperation,
     value: &Value,
 ) -> Result<ImportRole, Failure>
-    ensures exact { Gives (λ r. r) result (sync_payload_of met.old.world met.old.types kind operation (view value.now)) }
+    ensures exact { Gives (λ r. r) result
+        (sync_payload_of met.old.world met.old.types kind operation (view value.now)) }
     ensures same { met.new ≡ met.old }
 {
     let argument = one_argument(alloc, value)?;
@@ -180,7 +184,8 @@ fn read_async(
     operation: PayloadOperation,
     value: &Value,
 ) -> Result<ImportRole, Failure>
-    ensures exact { Gives (λ r. r) result (async_payload_of met.old.world met.old.types kind operation (view value.now)) }
+    ensures exact { Gives (λ r. r) result
+        (async_payload_of met.old.world met.old.types kind operation (view value.now)) }
     ensures same { met.new ≡ met.old }
 {
     let (payload, flag) = two_arguments(alloc, value)?;
@@ -216,7 +221,8 @@ pub(crate) fn read_payload_role(
     operation: PayloadOperation,
     value: &Value,
 ) -> Result<ImportRole, Failure>
-    ensures exact { Gives (λ r. r) result (payload_role_of met.old.world met.old.types kind operation (view value.now)) }
+    ensures exact { Gives (λ r. r) result
+        (payload_role_of met.old.world met.old.types kind operation (view value.now)) }
     ensures same { met.new ≡ met.old }
 {
     if can_be_async(operation) {

@@ -1,4 +1,5 @@
--- The roles of the imports of small modules, worked: a world that imports one function "f", with no parameter and no result.
+-- The roles of the imports of small modules, worked: a world that imports one function "f", with no
+-- parameter and no result.
 use Rattle.std.proofs.Common.{◌≡◌, ℕ, List, [], ◌∷◌, Option, Some, None, Result, Ok, refl, true, false}
 use Rattle.std.specs.Prelude.{codes, ⊤}
 use Rattle.core_sections.specs.Entries.{no_entries}

@@ -1,5 +1,5 @@
--- What satisfies the imports of a library from a module that stands in its arguments (component model, explainer: core instances; the
--- names are this project's own).
+-- What satisfies the imports of a library from a module that stands in its arguments (component
+-- model, explainer: core instances; the names are this project's own).
 use Rattle.std.specs.Prelude.{ℕ, List, [], ◌∷◌, Option, Some, None, if◌then◌else◌}
 use Rattle.std.specs.Str.{bytes_eq}
 use Rattle.comp_roles.specs.Matching.{kind_of}

@@ -1,5 +1,6 @@
--- When each refusal of core imports is right: what is wrong with the imports of the module, or with their roles. (The roles
--- are this project's own; what they require of types is from the core standard and the Canonical ABI.)
+-- When each refusal of core imports is right: what is wrong with the imports of the module, or with
+-- their roles. (The roles are this project's own; what they require of types is from the core
+-- standard and the Canonical ABI.)
 use Rattle.std.specs.Prelude.{◌≡◌, ℕ, true, false, List, ◌∷◌, ◌++◌, Some, None, Contains}
 use Rattle.std.specs.List.{flat_map}
 use Rattle.core_types.specs.declared.types.MemoryType.{MemoryType}

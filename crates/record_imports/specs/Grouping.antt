@@ -1,5 +1,5 @@
--- Groups of core imports by module, and the position of the group of each module (core standard: an import has a module's
--- name and a field's).
+-- Groups of core imports by module, and the position of the group of each module (core standard: an
+-- import has a module's name and a field's).
 use Rattle.std.specs.Prelude.{ℕ, ◌+◌, List, [], ◌∷◌, ◌++◌, map, is_some, Result, Ok, Err, if◌then◌else◌}
 use Rattle.std.specs.Str.{bytes_eq}
 use Rattle.comp_lists.specs.Found.{found}

@@ -1,9 +1,10 @@
 -- The role of one core import of a module (the roles are this project's own; what they require is from the Canonical
 -- ABI: `canon lower` and the built-in functions).
 --
--- An import must have a role, the role must resolve in the world, and the import must have the type that the resolved role
--- requires. A role that is an export of another module must be one that the module may import, of a module that is there. A library's
--- import from a module that stands in its arguments has its role from the first such argument, and none from the record.
+-- An import must have a role, the role must resolve in the world, and the import must have the type
+-- that the resolved role requires. A role that is an export of another module must be one that the
+-- module may import, of a module that is there. A library's import from a module that stands in its
+-- arguments has its role from the first such argument, and none from the record.
 use Rattle.std.specs.Prelude.{Bool, true, false, List, Option, Some, None, option_map, ok_or, Result, Ok, Err, ⊤, if◌then◌else◌}
 use Rattle.std.specs.Map.{lookup}
 use Rattle.std.specs.Option.{option_and_then}
@@ -43,7 +44,8 @@ world_id = record { index = 0 }
 abbrev pub role_of : Roles → CoreImport → Option ImportRole
 role_of table i = lookup (is_same_import (record { «module» = i.«module»; field = i.field })) table
 
--- the role of an import, unless it names an export of another module that the module may not import, or that isn't there
+-- the role of an import, unless it names an export of another module that the module may not
+-- import, or that isn't there
 abbrev pub unless_unknown : OtherModules → ImportRole → Option ImportRole
 unless_unknown others role = if is_unknown others role then None else Some role
 
@@ -68,8 +70,8 @@ no_role i = failures.Refused (refusals.RoleMissing i.«module» i.field)
 abbrev pub unfit : CoreImport → Failure
 unfit i = failures.Refused (refusals.CoreType i.field)
 
--- The role of a memory doesn't resolve where the import is no memory, that of a function of an adapter where it is no function, and
--- any other where what it names does not exist.
+-- The role of a memory doesn't resolve where the import is no memory, that of a function of an
+-- adapter where it is no function, and any other where what it names does not exist.
 abbrev pub meaningless : CoreImport → ImportRole → Failure
 meaningless i role = if is_by_type role then unfit i else no_role i
 

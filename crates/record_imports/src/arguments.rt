@@ -15,8 +15,8 @@ use std::marker::Model;
 
 // ---- tables
 
-/// What satisfies the imports from one module, with the first item under each alias where it has items. Contracts see what
-/// satisfies them, without the table.
+/// What satisfies the imports from one module, with the first item under each alias where it has
+/// items. Contracts see what satisfies them, without the table.
 #[derive(Drop)]
 pub(crate) struct Argument<'a> {
     instance: &'a Instance,
@@ -36,7 +36,8 @@ impl<'a> Model for Argument<'a> {
 
 /// The arguments of a library, which contracts see as their list.
 ///
-/// It is made once of that list. Then a look-up by the name of a module, or by the alias of an item, takes the time of a hash.
+/// It is made once of that list. Then a look-up by the name of a module, or by the alias of an
+/// item, takes the time of a hash.
 #[derive(Drop)]
 pub struct Arguments<'a> {
     /// What contracts see. No look-up reads it.
@@ -124,8 +125,8 @@ impl<'a> Argument<'a> {
 }
 
 impl<'a> Arguments<'a> {
-    /// These arguments. Of two for one module the first counts, and of two items under one alias. The only error is out of
-    /// memory.
+    /// These arguments. Of two for one module the first counts, and of two items under one alias.
+    /// The only error is out of memory.
     pub fn of(alloc: Global, list: &'a [LibraryArgument]) -> Result<Arguments<'a>, AllocError>
         ensures { IfOk result (λ a. a ≡ list.now) }
     {
@@ -158,7 +159,8 @@ fn export_of(
     name: &Text,
     ty: &ExternType,
 ) -> Result<Item, AllocError>
-    ensures { IfOk result (λ i. Some i ≡ item_of (arguments.MainOrAdapter which.now) name.now ty.now) }
+    ensures { IfOk result
+        (λ i. Some i ≡ item_of (arguments.MainOrAdapter which.now) name.now ty.now) }
 {
     let alias = name.clone(alloc)?;
     let which = which.clone(alloc)?;
@@ -184,7 +186,8 @@ fn copied_item(alloc: Global, item: Option<&Item>) -> Result<Option<Item>, Alloc
     }
 }
 
-/// The item that an import of this field and type is given, by what satisfies the imports from its module, and its items.
+/// The item that an import of this field and type is given, by what satisfies the imports from its
+/// module, and its items.
 fn item_of(
     alloc: Global,
     instance: &Instance,

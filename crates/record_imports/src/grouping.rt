@@ -65,7 +65,9 @@ fn add_field(
     role: Import,
 ) -> Result<Grouping, AllocError>
     requires below { position < length grouping.groups.items }
-    requires absent { (g : GroupRecord) → slice_get grouping.groups.items position ≡ Some g → found field g.fields ≡ None }
+    requires absent { (g : GroupRecord)
+        → slice_get grouping.groups.items position ≡ Some g
+        → found field g.fields ≡ None }
     ensures positions { IfOk result (λ x. x.positions ≡ grouping.positions) }
     ensures groups { IfOk result (λ x. (g : GroupRecord) → slice_get grouping.groups.items position ≡ Some g
         → x.groups.items ≡ slice_set grouping.groups.items position (record { name = g.name; fields = g.fields ++ (field, role) ∷ [] })) }
@@ -91,7 +93,8 @@ fn group_of(alloc: Global, name: Text, field: Text, role: Import) -> Result<Grou
 /// prover.
 fn push_group(grouping: Grouping, name: Text, group: Group) -> Result<Grouping, AllocError>
     requires { found name grouping.positions ≡ None }
-    ensures positions { IfOk result (λ g. g.positions ≡ grouping.positions ++ (name, length grouping.groups.items) ∷ []) }
+    ensures positions { IfOk result
+        (λ g. g.positions ≡ grouping.positions ++ (name, length grouping.groups.items) ∷ []) }
     ensures groups { IfOk result (λ g. g.groups.items ≡ grouping.groups.items ++ group ∷ []) }
 {
     let Grouping {
@@ -112,8 +115,10 @@ fn add_group(
     role: Import,
 ) -> Result<Grouping, AllocError>
     requires { found name grouping.positions ≡ None }
-    ensures positions { IfOk result (λ g. g.positions ≡ grouping.positions ++ (name, length grouping.groups.items) ∷ []) }
-    ensures groups { IfOk result (λ g. g.groups.items ≡ grouping.groups.items ++ record { name = name; fields = (field, role) ∷ [] } ∷ []) }
+    ensures positions { IfOk result
+        (λ g. g.positions ≡ grouping.positions ++ (name, length grouping.groups.items) ∷ []) }
+    ensures groups { IfOk result (λ g. g.groups.items
+        ≡ grouping.groups.items ++ record { name = name; fields = (field, role) ∷ [] } ∷ []) }
 {
     let group = group_of(alloc, name, field, role)?;
     let name = group.name.clone(alloc)?;
@@ -130,7 +135,8 @@ fn put_field(
 ) -> Result<Grouping, AllocError>
     requires indexed { grouping.positions ≡ positions_of 0 grouping.groups.items }
     requires absent { found field (fields_in grouping.groups.items «module») ≡ None }
-    ensures put { IfOk result (λ g. g.groups.items ≡ with_field grouping.groups.items «module» field role) }
+    ensures put { IfOk result
+        (λ g. g.groups.items ≡ with_field grouping.groups.items «module» field role) }
     ensures indexed { IfOk result (λ g. g.positions ≡ positions_of 0 g.groups.items) }
 {
     match position_of(&grouping, &module) {
@@ -163,7 +169,8 @@ fn add_import(
     requires sound { IsSound targets.now.resolved.resolve }
     requires indexed { grouping.positions ≡ positions_of 0 grouping.groups.items }
     requires good { AreGood targets.now.resolved.resolve grouping.groups.items }
-    ensures exact { Gives (λ g. g.groups.items) result (group_after targets.now.resolved others.now arguments.now targets.now.table core.now grouping.groups.items import.now) }
+    ensures exact { Gives (λ g. g.groups.items) result (group_after targets.now.resolved others.now
+        arguments.now targets.now.table core.now grouping.groups.items import.now) }
     ensures indexed { IfOk result (λ g. g.positions ≡ positions_of 0 g.groups.items) }
     ensures good { IfOk result (λ g. AreGood targets.now.resolved.resolve g.groups.items) }
 {
@@ -185,7 +192,8 @@ fn group_imports(
     core: &CoreModule,
 ) -> Result<Grouping, Failure>
     requires { IsSound targets.now.resolved.resolve }
-    ensures exact { Gives (λ g. g.groups.items) result (groups_after targets.now.resolved others.now arguments.now targets.now.table core.now [] core.now.imports) }
+    ensures exact { Gives (λ g. g.groups.items) result (groups_after targets.now.resolved others.now
+        arguments.now targets.now.table core.now [] core.now.imports) }
     ensures indexed { IfOk result (λ g. g.positions ≡ positions_of 0 g.groups.items) }
     ensures good { IfOk result (λ g. AreGood targets.now.resolved.resolve g.groups.items) }
 {
@@ -227,7 +235,8 @@ pub(crate) fn read_groups(
     core: &CoreModule,
 ) -> Result<Vec<Group>, Failure>
     requires { IsSound resolved.now.resolve }
-    ensures exact { Gives (λ g. g.items) result (groups_after resolved.now others.now arguments.now roles.now core.now [] core.now.imports) }
+    ensures exact { Gives (λ g. g.items) result (groups_after resolved.now others.now arguments.now
+        roles.now core.now [] core.now.imports) }
     ensures apart { IfOk result (λ g. IsDistinct bytes_eq (names_of g.items)) }
     ensures good { IfOk result (λ g. AreGood resolved.now.resolve g.items) }
 {

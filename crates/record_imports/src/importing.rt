@@ -73,7 +73,8 @@ fn read_all(
     core: &CoreModule,
 ) -> Result<ImportMap, Failure>
     requires { IsSound resolved.now.resolve }
-    ensures exact { Gives (λ m. m.modules) result (imports_of resolved.now others.now arguments.now roles.now core.now) }
+    ensures exact { Gives (λ m. m.modules) result
+        (imports_of resolved.now others.now arguments.now roles.now core.now) }
     ensures checks { IfOk result (λ m. AreChecked resolved.now.resolve m.modules) }
 {
     let groups = read_groups(alloc, resolved, others, arguments, roles, core)?;
@@ -106,13 +107,22 @@ pub fn read_imports(
     core: &CoreModule,
 ) -> Result<ImportMap, Failure>
     requires { IsSound resolved.now.resolve }
-    ensures exact { Gives (λ m. m.modules) result (imports_of resolved.now others.now arguments.now roles.now core.now) }
-    ensures present { IfOk result (λ m. AllByRecursion (λ i. HasRole resolved.now.resolve i.role) (flat_map imports_from m.modules)) }
-    ensures called { IfOk result (λ m. AllByRecursion (λ i. IsCalled resolved.now.resolve world_id i.role) (flat_map imports_from m.modules)) }
+    ensures exact { Gives (λ m. m.modules) result
+        (imports_of resolved.now others.now arguments.now roles.now core.now) }
+    ensures present { IfOk result (λ m. AllByRecursion (λ i. HasRole resolved.now.resolve i.role)
+        (flat_map imports_from m.modules)) }
+    ensures called { IfOk result (λ m. AllByRecursion
+        (λ i. IsCalled resolved.now.resolve world_id i.role)
+        (flat_map imports_from m.modules)) }
     ensures apart { IfOk result (λ m. IsDistinct bytes_eq (keys_of m.modules)) }
     ensures fields { IfOk result (λ m. AllByRecursion HasDistinctFields m.modules) }
-    ensures refused { IsOk result → (f : RefusalRecord) → ImportCause resolved.now others.now arguments.now roles.now core.now f → ⊥ }
-    ensures cause { IfErr result (λ e. (f : RefusalRecord) → e ≡ Refused f → ImportCause resolved.now others.now arguments.now roles.now core.now f) }
+    ensures refused { IsOk result
+        → (f : RefusalRecord)
+        → ImportCause resolved.now others.now arguments.now roles.now core.now f
+        → ⊥ }
+    ensures cause { IfErr result (λ e. (f : RefusalRecord)
+        → e ≡ Refused f
+        → ImportCause resolved.now others.now arguments.now roles.now core.now f) }
 {
     let map = read_all(alloc, resolved, others, arguments, roles, core)?;
     Ok(map)

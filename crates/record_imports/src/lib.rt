@@ -18,8 +18,8 @@
 //! the first argument for that module, or, as all others from there, an export of the whole instance that
 //! stands there.
 //!
-//! In reading order: `others` (exports of other modules), `arguments` (those of a library), `meaning` (one import), `grouping` (the
-//! imports of each module), `memories`, `importing`.
+//! In reading order: `others` (exports of other modules), `arguments` (those of a library),
+//! `meaning` (one import), `grouping` (the imports of each module), `memories`, `importing`.
 #![tactic(auto)]
 
 mod arguments;

@@ -55,7 +55,8 @@ fn meaningless<T>(alloc: Global, import: &CoreImport, role: &ImportRole) -> Resu
 
 /// The type of an import, where it is made of numbers and references to any function.
 fn typed(alloc: Global, core: &CoreModule, import: &CoreImport) -> Result<ExternType, Failure>
-    ensures { Gives (λ t. t) result (ok_or (extern_type core.now import.now.entity) (unfit import.now)) }
+    ensures { Gives (λ t. t) result
+        (ok_or (extern_type core.now import.now.entity) (unfit import.now)) }
 {
     match extern_type(alloc, core, &import.entity)? {
         Some(ty) => Ok(ty),
@@ -65,7 +66,8 @@ fn typed(alloc: Global, core: &CoreModule, import: &CoreImport) -> Result<Extern
 
 /// The name by which an import has its role.
 fn name_of(alloc: Global, import: &CoreImport) -> Result<ImportName, AllocError>
-    ensures { IfOk result (λ n. n ≡ record { «module» = import.now.«module»; field = import.now.field }) }
+    ensures { IfOk result
+        (λ n. n ≡ record { «module» = import.now.«module»; field = import.now.field }) }
 {
     Ok(ImportName {
         module: import.module.clone(alloc)?,
@@ -79,7 +81,9 @@ fn known_role<'a>(
     targets: &'a ImportTargets<'_>,
     name: &ImportName,
 ) -> Option<&'a ImportRole>
-    ensures { option_copied result ≡ option_and_then (unless_unknown others.now) (lookup (is_same_import name.now) targets.now.table) }
+    ensures { option_copied result
+        ≡ option_and_then (unless_unknown others.now)
+        (lookup (is_same_import name.now) targets.now.table) }
 {
     let role = targets.role(name)?;
     if is_unknown(others, role) {
@@ -101,7 +105,9 @@ fn meaning_of(
     requires sound { IsSound targets.now.resolved.resolve }
     requires field { name.now.field ≡ import.now.field }
     requires known { lookup (is_same_import name.now) targets.now.table ≡ Some role.now }
-    ensures exact { Gives (λ i. i) result (ok_or (target targets.now.resolved import.now role.now ty.now) (meaningless import.now role.now)) }
+    ensures exact { Gives (λ i. i) result (ok_or
+        (target targets.now.resolved import.now role.now ty.now)
+        (meaningless import.now role.now)) }
     ensures present { IfOk result (HasNamed targets.now.resolved.resolve) }
 {
     match targets.resolve(alloc, name, Some(ty))? {
@@ -121,7 +127,8 @@ fn check_type(
 ) -> Result<(), Failure>
     requires sound { IsSound resolved.now.resolve }
     requires present { HasNamed resolved.now.resolve meaning.now }
-    ensures { Gives (λ x. meaning.now) result (fitting resolved.now core.now import.now meaning.now) }
+    ensures { Gives (λ x. meaning.now) result
+        (fitting resolved.now core.now import.now meaning.now) }
 {
     let world = WorldId { index: 0 };
     let resolve = &resolved.resolve;
@@ -150,7 +157,8 @@ fn by_record(
     ty: &ExternType,
 ) -> Result<Import, Failure>
     requires { IsSound targets.now.resolved.resolve }
-    ensures exact { Gives (λ i. i) result (by_record targets.now.resolved others.now targets.now.table core.now import.now ty.now) }
+    ensures exact { Gives (λ i. i) result
+        (by_record targets.now.resolved others.now targets.now.table core.now import.now ty.now) }
     ensures present { IfOk result (HasNamed targets.now.resolved.resolve) }
 {
     let name = name_of(alloc, import)?;
@@ -189,7 +197,8 @@ fn read_import(
     import: &CoreImport,
 ) -> Result<Import, Failure>
     requires { IsSound targets.now.resolved.resolve }
-    ensures exact { Gives (λ i. i) result (import_of targets.now.resolved others.now arguments.now targets.now.table core.now import.now) }
+    ensures exact { Gives (λ i. i) result (import_of targets.now.resolved others.now arguments.now
+        targets.now.table core.now import.now) }
     ensures present { IfOk result (HasNamed targets.now.resolved.resolve) }
 {
     let ty = typed(alloc, core, import)?;
@@ -214,7 +223,8 @@ pub(crate) fn import_of(
     import: &CoreImport,
 ) -> Result<Import, Failure>
     requires { IsSound targets.now.resolved.resolve }
-    ensures exact { Gives (λ i. i) result (import_of targets.now.resolved others.now arguments.now targets.now.table core.now import.now) }
+    ensures exact { Gives (λ i. i) result (import_of targets.now.resolved others.now arguments.now
+        targets.now.table core.now import.now) }
     ensures checks { IfOk result (IsChecked targets.now.resolved.resolve) }
 {
     let meaning = read_import(alloc, targets, others, arguments, core, import)?;

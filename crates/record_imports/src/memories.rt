@@ -82,7 +82,8 @@ fn compare_memories(alloc: Global, map: &ImportMap) -> Result<(), Failure>
 pub fn check_memories(alloc: Global, map: &ImportMap) -> Result<(), Failure>
     ensures exact { Gives (λ x. x) result (memories_fit map.now.modules) }
     ensures refused { IsOk result → (f : RefusalRecord) → MemoryCause map.now.modules f → ⊥ }
-    ensures cause { IfErr result (λ e. (f : RefusalRecord) → e ≡ Refused f → MemoryCause map.now.modules f) }
+    ensures cause { IfErr result
+        (λ e. (f : RefusalRecord) → e ≡ Refused f → MemoryCause map.now.modules f) }
 {
     let compared = compare_memories(alloc, map)?;
     Ok(compared)

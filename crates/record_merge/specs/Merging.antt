@@ -1,7 +1,7 @@
 -- What two modules, or two records, say of their world together.
 --
--- Interfaces of one name must be equal. Imports are merged by key, in order, and equal keys must be equal items. No export
--- may be in both.
+-- Interfaces of one name must be equal. Imports are merged by key, in order, and equal keys must be
+-- equal items. No export may be in both.
 use Rattle.std.specs.Prelude.{◌≡◌, Bool, List, Result, Ok, map}
 use Rattle.std.specs.Map.{lookup}
 use Rattle.world_values.specs.declared.gathered.ExportKey.{ExportKey}

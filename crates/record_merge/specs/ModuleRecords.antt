@@ -1,7 +1,8 @@
 -- What the records of one module say together.
 --
--- Their worlds are merged like those of modules. The role of a core import or export may be given several times, but not
--- two different ones, and an export role, except for its form of calls, is that of one field.
+-- Their worlds are merged like those of modules. The role of a core import or export may be given
+-- several times, but not two different ones, and an export role, except for its form of calls, is
+-- that of one field.
 use Rattle.std.specs.Prelude.{ℕ, Bool, List, [], ◌∷◌, Result, Ok, map}
 use Rattle.std.specs.List.{flat_map, list_any}
 use Rattle.std.specs.Str.{bytes_eq}

@@ -65,7 +65,8 @@ fn add_role<K: Key, R: PartialEq + Drop>(
     table: &mut Keyed<K, R>,
     assigned: Assigned<K, R>,
 ) -> Result<(), Failure>
-    ensures { Gives (λ _. table.new) result (with_entry K.eq R.eq K.name table.old assigned.key assigned.role) }
+    ensures { Gives (λ _. table.new) result
+        (with_entry K.eq R.eq K.name table.old assigned.key assigned.role) }
 {
     let Assigned { key, role } = assigned;
     match table.get(&key) {
@@ -127,7 +128,8 @@ fn put_field(
     role: ExportRole,
     field: Text,
 ) -> Result<(), Failure>
-    ensures { Gives (λ _. fields.new) result (apart ⟦<ExportRole as PartialEq>⟧.eq (λ e. e.1) fields.old ((role, field) ∷ [])) }
+    ensures { Gives (λ _. fields.new) result
+        (apart ⟦<ExportRole as PartialEq>⟧.eq (λ e. e.1) fields.old ((role, field) ∷ [])) }
 {
     if fields.contains_key(&role) {
         return Err(Failure::Refused(Refusal::MergeConflict { name: field }));
@@ -142,7 +144,8 @@ fn add_field(
     field: &Text,
     role: &ExportRole,
 ) -> Result<(), Failure>
-    ensures { Gives (λ _. fields.new) result (apart ⟦<ExportRole as PartialEq>⟧.eq (λ e. e.1) fields.old ((without_abi role.now, field.now) ∷ [])) }
+    ensures { Gives (λ _. fields.new) result (apart ⟦<ExportRole as PartialEq>⟧.eq (λ e. e.1)
+        fields.old ((without_abi role.now, field.now) ∷ [])) }
 {
     let field = field.clone(alloc)?;
     let role = copy_without_abi(alloc, role)?;

@@ -48,7 +48,8 @@ fn add_item(
     item: &Item,
     encoding: StringEncoding,
 ) -> Result<(), AllocError>
-    ensures { OnOk result (table.new ≡ with_item interfaces.now encoding table.old key.now item.now) }
+    ensures { OnOk result
+        (table.new ≡ with_item interfaces.now encoding table.old key.now item.now) }
 {
     match item {
         Item::Interface(name) => match interfaces.get(name) {
@@ -122,8 +123,10 @@ fn export_encodings(alloc: Global, records: &[Record]) -> Result<Encodings, Allo
 
 /// The encodings of the functions that records import and export.
 pub(crate) fn both_encodings(alloc: Global, records: &[Record]) -> Result<BothEncodings, AllocError>
-    ensures imports { IfOk result (λ e. e.imports ≡ encodings_after (λ w. w.imports) [] records.now) }
-    ensures exports { IfOk result (λ e. e.exports ≡ encodings_after (λ w. w.exports) [] records.now) }
+    ensures imports { IfOk result
+        (λ e. e.imports ≡ encodings_after (λ w. w.imports) [] records.now) }
+    ensures exports { IfOk result
+        (λ e. e.exports ≡ encodings_after (λ w. w.exports) [] records.now) }
 {
     let imports = import_encodings(alloc, records)?;
     let exports = export_encodings(alloc, records)?;

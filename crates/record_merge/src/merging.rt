@@ -76,7 +76,8 @@ pub fn merge_wit(alloc: Global, first: &Wit, second: &Wit) -> Result<Wit, Failur
       item = ⟦<Item as PartialEq>⟧.eq;
     }) first.now second.now) }
     ensures says { IfOk result (Says first.now second.now) }
-    ensures cause { IfErr result (λ e. e ≢ failures.Memory → (name : List ℕ) × (e ≡ conflict name) × WorldConflict first.now second.now name) }
+    ensures cause { IfErr result (λ e. e ≢ failures.Memory
+        → (name : List ℕ) × (e ≡ conflict name) × WorldConflict first.now second.now name) }
     ensures refused { IsOk result → (name : List ℕ) → ¬ WorldConflict first.now second.now name }
 {
     let combined = merge_wits(alloc, first, second)?;
@@ -120,7 +121,8 @@ pub fn merge(alloc: Global, first: &Bindgen, second: &Bindgen) -> Result<Merged<
       interface = ⟦<Interface as PartialEq>⟧.eq;
       item = ⟦<Item as PartialEq>⟧.eq;
     }) first.now second.now) }
-    ensures cause { IfErr result (λ e. e ≢ failures.Memory → (name : List ℕ) × (e ≡ conflict name) × WorldConflict first.now.wit second.now.wit name) }
+    ensures cause { IfErr result (λ e. e ≢ failures.Memory
+        → (name : List ℕ) × (e ≡ conflict name) × WorldConflict first.now.wit second.now.wit name) }
     ensures refused { IsOk result → (name : List ℕ) → ¬ WorldConflict first.now.wit second.now.wit name }
 {
     let wit = merge_wit(alloc, &first.wit, &second.wit)?;

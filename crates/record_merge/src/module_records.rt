@@ -88,7 +88,8 @@ pub fn bindgen_of(alloc: Global, records: Seq<Record>) -> Result<Bindgen, Failur
         (record { interface = ⟦<Interface as PartialEq>⟧.eq; item = ⟦<Item as PartialEq>⟧.eq })
         (record { import_role = ⟦<ImportRole as PartialEq>⟧.eq; export_role = ⟦<ExportRole as PartialEq>⟧.eq })
         records) }
-    ensures cause { IfErr result (λ e. e ≢ failures.Memory → (name : List ℕ) × (e ≡ conflict name) × RecordsConflict records name) }
+    ensures cause { IfErr result (λ e. e ≢ failures.Memory
+        → (name : List ℕ) × (e ≡ conflict name) × RecordsConflict records name) }
     ensures refused { IsOk result → (name : List ℕ) → ¬ RecordsConflict records name }
 {
     let wit = merge_worlds(alloc, records.as_slice())?;

@@ -81,7 +81,8 @@ fn put<K: Key + TryClone, X: TryClone + PartialEq>(
     key: &K,
     value: &X,
 ) -> Result<(), Failure>
-    ensures { Gives (λ _. table.new) result (with_entry K.eq X.eq K.name table.old key.now value.now) }
+    ensures { Gives (λ _. table.new) result
+        (with_entry K.eq X.eq K.name table.old key.now value.now) }
 {
     match table.get(key) {
         Some(said) => {
@@ -104,7 +105,8 @@ pub(crate) fn add_all<K: Key + TryClone, X: TryClone + Eq>(
     table: &mut Keyed<K, X>,
     more: &Keyed<K, X>,
 ) -> Result<(), Failure>
-    ensures exact { Gives (λ _. table.new) result (merged_entries K.eq X.eq K.name table.old more.now) }
+    ensures exact { Gives (λ _. table.new) result
+        (merged_entries K.eq X.eq K.name table.old more.now) }
     ensures cause { IfErr result (Unless (Named (Differs K.eq K.name table.old more.now))) }
 {
     for (key, value) in more.iter() {
@@ -120,7 +122,8 @@ pub(crate) fn add_apart<K: Key + TryClone, X: TryClone>(
     table: &mut Keyed<K, X>,
     more: &Keyed<K, X>,
 ) -> Result<(), Failure>
-    ensures exact { Gives (λ _. table.new) result (apart K.eq (λ e. K.name e.0) table.old more.now) }
+    ensures exact { Gives (λ _. table.new) result
+        (apart K.eq (λ e. K.name e.0) table.old more.now) }
     ensures cause { IfErr result (Unless (Named (IsInBoth K.eq K.name table.old more.now))) }
 {
     for (key, value) in more.iter() {

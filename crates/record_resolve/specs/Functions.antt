@@ -52,8 +52,8 @@ kind_by_tag m side owner is_async (Some p) =
     else if bytes_eq p.0 (codes "[constructor") then constructor_of m side owner is_async p.1
     else Ok (plain is_async)
 
--- `[method]r.f`, `[static]r.f` and `[constructor]r` belong to the type r of those that are made, where it is one of them;
--- other functions are freestanding
+-- `[method]r.f`, `[static]r.f` and `[constructor]r` belong to the type r of those that are made,
+-- where it is one of them; other functions are freestanding
 unfoldable pub function_kind : Making → Side → Owner → Bool → List ℕ → Result FunctionKind Failure
 function_kind m side owner is_async name = kind_by_tag m side owner is_async (split_once 93 name)
 

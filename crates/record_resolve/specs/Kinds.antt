@@ -83,7 +83,8 @@ naming make name = do
   id ← name
   Ok (make id)
 
--- the kind that a node makes of its parts. A primitive type or a named one, as the whole of a type, is another name for it
+-- the kind that a node makes of its parts. A primitive type or a named one, as the whole of a type,
+-- is another name for it
 abbrev pub kind : Making → Side → Node → List Ty → Result TypeDefKind Failure
 kind m side (nodes.Primitive p) ts = Ok (kinds.Alias (types.Primitive p))
 kind m side nodes.«List» ts = holding kinds.«List» (next true ts).0

@@ -1,5 +1,5 @@
--- Interfaces that became others keep their old names too, so that roles which use an old name refer to what the interface
--- became.
+-- Interfaces that became others keep their old names too, so that roles which use an old name refer
+-- to what the interface became.
 use Rattle.std.specs.Prelude.{[], ◌∷◌}
 use Rattle.std.specs.Map.{lookup}
 use Rattle.std.specs.Option.{option_map_or}

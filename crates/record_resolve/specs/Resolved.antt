@@ -6,8 +6,8 @@
 --    of the imports, then of the others, in the order in which the record has its interfaces;
 -- 4. those of the exported functions, in the order of the exports.
 --
--- So the names of a sound record refer to types that are made earlier; any other name refers to nothing. The type to which
--- a function belongs by its own name may come later, or be none.
+-- So the names of a sound record refer to types that are made earlier; any other name refers to
+-- nothing. The type to which a function belongs by its own name may come later, or be none.
 use Rattle.std.specs.Prelude.{◌≡◌, ◌≢◌, ◌<◌, ℕ, length, List, [], ◌∷◌, Result, Ok, Err}
 use Rattle.std.specs.List.{AllByRecursion}
 use Rattle.json_paths.specs.declared.fault.Failure.{Failure}
@@ -94,8 +94,8 @@ IsListed e = e.1.name ≡ e.0
 pub record AreListed (i : Interface) : Type 0 where
   pub functions : AllByRecursion IsListed i.functions
 
--- there is a world; every number names something, and so do those of the interfaces by name; functions have the names of
--- their keys
+-- there is a world; every number names something, and so do those of the interfaces by name;
+-- functions have the names of their keys
 pub record IsWhole (r : Resolved) : Type 0 where
   pub present : 0 < length r.resolve.worlds
   pub sound : IsSound r.resolve

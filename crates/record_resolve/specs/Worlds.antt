@@ -1,5 +1,5 @@
--- The items of a world, in the order of the record's. A function may come before the type to which it belongs: so the kinds
--- of functions are found when all items are made.
+-- The items of a world, in the order of the record's. A function may come before the type to which
+-- it belongs: so the kinds of functions are found when all items are made.
 use Rattle.std.specs.Prelude.{ℕ, Bool, true, false, not, ◌&&◌, List, [], ◌∷◌, ◌++◌, is_some, ok_or, Result, Ok, Err, if◌then◌else◌}
 use Rattle.std.specs.Map.{lookup}
 use Rattle.comp_lists.specs.Tables.{with_first}

@@ -55,7 +55,8 @@ fn find_type(
     owner: &Owner,
     name: &str,
 ) -> Result<Option<TypeId>, AllocError>
-    ensures { IfOk result (λ found. found ≡ type_named making.now side (type_name owner.now name.now)) }
+    ensures { IfOk result
+        (λ found. found ≡ type_named making.now side (type_name owner.now name.now)) }
 {
     let named = type_name(alloc, owner, name)?;
     Ok(making.type_named(side, &named))
@@ -69,7 +70,9 @@ fn method_kind(
     is_async: bool,
     name: &str,
 ) -> Result<FunctionKind, AllocError>
-    ensures { IfOk result (λ k. k ≡ of_member making.now side owner.now is_async (method is_async) (split_once 46 name.now)) }
+    ensures { IfOk result (λ k. k
+        ≡ of_member making.now side owner.now is_async (method is_async)
+        (split_once 46 name.now)) }
 {
     let Some((ty, _)) = split_once(name, '.') else {
         return Ok(plain(is_async));
@@ -88,7 +91,9 @@ fn static_kind(
     is_async: bool,
     name: &str,
 ) -> Result<FunctionKind, AllocError>
-    ensures { IfOk result (λ k. k ≡ of_member making.now side owner.now is_async (static is_async) (split_once 46 name.now)) }
+    ensures { IfOk result (λ k. k
+        ≡ of_member making.now side owner.now is_async (static is_async)
+        (split_once 46 name.now)) }
 {
     let Some((ty, _)) = split_once(name, '.') else {
         return Ok(plain(is_async));
@@ -150,7 +155,8 @@ fn push_param(
     param: &Typed,
     params: &mut Seq<Param>,
 ) -> Result<(), Failure>
-    ensures { Becomes result (params.new, making.new) (with_param side param.now (params.old, making.old)) }
+    ensures { Becomes result (params.new, making.new)
+        (with_param side param.now (params.old, making.old)) }
 {
     let ty = make_type(alloc, making, side, param.nodes.as_slice())?;
     let name = param.name.clone(alloc)?;

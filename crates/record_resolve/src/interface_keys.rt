@@ -46,7 +46,11 @@ fn first_keys(alloc: Global, items: &Items) -> Result<InterfaceKeys, AllocError>
 
 /// The first key of each interface, on both sides. The only refusal is out of memory.
 pub(crate) fn keys_of_world(alloc: Global, world: &World) -> Result<WorldKeys, AllocError>
-    ensures { IfOk result (λ ks. ks ≡ record { imported = keys_after [] world.now.imports; exported = keys_after [] world.now.exports }) }
+    ensures { IfOk result (λ ks. ks
+        ≡ record {
+          imported = keys_after [] world.now.imports;
+          exported = keys_after [] world.now.exports;
+        }) }
 {
     let imported = first_keys(alloc, &world.imports)?;
     let exported = first_keys(alloc, &world.exports)?;

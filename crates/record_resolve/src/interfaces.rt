@@ -41,7 +41,8 @@ fn add_type(
     typed: &Typed,
     types: &mut Types,
 ) -> Result<(), Failure>
-    ensures { Becomes result (types.new, making.new) (with_type_of side owner.now type_owner typed.now (types.old, making.old)) }
+    ensures { Becomes result (types.new, making.new)
+        (with_type_of side owner.now type_owner typed.now (types.old, making.old)) }
 {
     let nodes = typed.nodes.as_slice();
     let id = make_named(alloc, making, side, owner, type_owner, &typed.name, nodes)?;
@@ -56,7 +57,8 @@ fn make_types(
     type_owner: TypeOwner,
     types: &[Typed],
 ) -> Result<Types, Failure>
-    ensures { Makes result making.new (types_from side owner.now type_owner types.now ([], making.old)) }
+    ensures { Makes result making.new
+        (types_from side owner.now type_owner types.now ([], making.old)) }
 {
     let mut made = Keyed::new(alloc);
     for typed in types {
@@ -74,7 +76,8 @@ fn add_function(
     function: &Func,
     functions: &mut Functions,
 ) -> Result<(), Failure>
-    ensures { Becomes result (functions.new, making.new) (with_function_of side owner.now function.now (functions.old, making.old)) }
+    ensures { Becomes result (functions.new, making.new)
+        (with_function_of side owner.now function.now (functions.old, making.old)) }
 {
     let name = function.name.clone(alloc)?;
     let kind = function_kind(alloc, making, side, owner, function.is_async, name.as_str())?;
@@ -89,7 +92,8 @@ fn make_functions(
     owner: &Owner,
     functions: &[Func],
 ) -> Result<Functions, Failure>
-    ensures { Makes result making.new (functions_from side owner.now functions.now ([], making.old)) }
+    ensures { Makes result making.new
+        (functions_from side owner.now functions.now ([], making.old)) }
 {
     let mut made = Keyed::new(alloc);
     for function in functions {
@@ -108,7 +112,8 @@ fn make_items(
     type_owner: TypeOwner,
     interface: &Interface,
 ) -> Result<(Types, Functions), Failure>
-    ensures { Makes result making.new (items_of side owner.now type_owner interface.now making.old) }
+    ensures { Makes result making.new
+        (items_of side owner.now type_owner interface.now making.old) }
 {
     let outside = making.change_scope(Keyed::new(alloc));
     let types = make_types(
@@ -133,7 +138,8 @@ fn make_numbered(
     number: InterfaceId,
     interface: &Interface,
 ) -> Result<(Types, Functions), Failure>
-    ensures { Makes result making.new (items_of side (owners.Interface name.now) (type_owners.Interface number) interface.now making.old) }
+    ensures { Makes result making.new (items_of side (owners.Interface name.now)
+        (type_owners.Interface number) interface.now making.old) }
 {
     let owner = Owner::Interface(name.try_clone(alloc)?);
     let type_owner = TypeOwner::Interface(number);
@@ -146,7 +152,8 @@ fn push_made(
     id: Option<IdName>,
     items: (Types, Functions),
 ) -> Result<(), AllocError>
-    ensures interfaces { OnOk result (made_interfaces.new.interfaces ≡ made_interfaces.old.interfaces ++ made id items ∷ []) }
+    ensures interfaces { OnOk result
+        (made_interfaces.new.interfaces ≡ made_interfaces.old.interfaces ++ made id items ∷ []) }
     ensures ids { made_interfaces.new.ids ≡ made_interfaces.old.ids }
 {
     let (types, functions) = items;
@@ -168,7 +175,8 @@ fn put_made(
     id: Option<IdName>,
     items: (Types, Functions),
 ) -> Result<(), Failure>
-    ensures { Becomes result made_interfaces.new (with_made name.now number id items made_interfaces.old) }
+    ensures { Becomes result made_interfaces.new
+        (with_made name.now number id items made_interfaces.old) }
 {
     push_made(made_interfaces, id, items)?;
     put_new(
@@ -189,7 +197,8 @@ fn add_interface(
     interface: &Interface,
     made_interfaces: &mut MadeInterfaces,
 ) -> Result<(), Failure>
-    ensures { Becomes result (made_interfaces.new, making.new) (with_interface side name.now interface.now (made_interfaces.old, making.old)) }
+    ensures { Becomes result (made_interfaces.new, making.new)
+        (with_interface side name.now interface.now (made_interfaces.old, making.old)) }
 {
     let number = InterfaceId {
         index: made_interfaces.interfaces.len(),
@@ -209,7 +218,8 @@ pub(crate) fn add_named(
     name: &InterfaceName,
     made_interfaces: &mut MadeInterfaces,
 ) -> Result<(), Failure>
-    ensures { Becomes result (made_interfaces.new, making.new) (with_named side all.now name.now (made_interfaces.old, making.old)) }
+    ensures { Becomes result (made_interfaces.new, making.new)
+        (with_named side all.now name.now (made_interfaces.old, making.old)) }
 {
     match all.get(name) {
         Some(interface) => add_interface(alloc, making, side, name, interface, made_interfaces),

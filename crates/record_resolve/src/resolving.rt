@@ -66,7 +66,8 @@ fn import_all(
     wit: &Wit,
     made_interfaces: &mut MadeInterfaces,
 ) -> Result<Items, Failure>
-    ensures { MakesBoth result made_interfaces.new making.new (imports_of imported.now wit.now (made_interfaces.old, making.old)) }
+    ensures { MakesBoth result made_interfaces.new making.new
+        (imports_of imported.now wit.now (made_interfaces.old, making.old)) }
 {
     add_all(
         alloc,
@@ -94,7 +95,8 @@ fn export_all(
     wit: &Wit,
     made_interfaces: &mut MadeInterfaces,
 ) -> Result<Items, Failure>
-    ensures { MakesBoth result made_interfaces.new making.new (exports_of imported.now wit.now (made_interfaces.old, making.old)) }
+    ensures { MakesBoth result made_interfaces.new making.new
+        (exports_of imported.now wit.now (made_interfaces.old, making.old)) }
 {
     add_exported(alloc, making, imported, &wit.interfaces, made_interfaces)?;
     make_items(
@@ -154,7 +156,10 @@ fn worlds_of(alloc: Global, world: World) -> Result<Seq<World>, Failure>
 
 /// The keys of the interfaces of both sides.
 fn keys_of(alloc: Global, world: &World) -> Result<WorldKeys, Failure>
-    ensures { Gives (λ ks. ks) result (Ok (record { imported = keys_after [] world.now.imports; exported = keys_after [] world.now.exports })) }
+    ensures { Gives (λ ks. ks) result (Ok (record {
+      imported = keys_after [] world.now.imports;
+      exported = keys_after [] world.now.exports;
+    })) }
 {
     let keys = keys_of_world(alloc, world)?;
     Ok(keys)
@@ -162,7 +167,13 @@ fn keys_of(alloc: Global, world: &World) -> Result<WorldKeys, Failure>
 
 /// The keys of the interfaces of both sides, and one world.
 fn keys_and_worlds(alloc: Global, world: World) -> Result<(WorldKeys, Seq<World>), Failure>
-    ensures { Gives (λ p. p) result (Ok (record { imported = keys_after [] world.imports; exported = keys_after [] world.exports }, world ∷ [])) }
+    ensures { Gives (λ p. p) result (Ok (
+      record {
+        imported = keys_after [] world.imports;
+        exported = keys_after [] world.exports;
+      },
+      world ∷ [],
+    )) }
 {
     let keys = keys_of(alloc, &world);
     let (world, keys) = paired(world, keys)?;
@@ -172,7 +183,18 @@ fn keys_and_worlds(alloc: Global, world: World) -> Result<(WorldKeys, Seq<World>
 
 /// The resolve and its tables, from what was made.
 fn whole(kept: Kept, keys: WorldKeys, worlds: Seq<World>) -> Resolved
-    ensures { result ≡ record { resolve = record { interfaces = kept.made_interfaces.interfaces; types = kept.making.types; worlds = worlds }; imported = kept.imported; exported = kept.made_interfaces.ids; imported_keys = keys.imported; exported_keys = keys.exported } }
+    ensures { result
+        ≡ record {
+          resolve = record {
+            interfaces = kept.made_interfaces.interfaces;
+            types = kept.making.types;
+            worlds = worlds;
+          };
+          imported = kept.imported;
+          exported = kept.made_interfaces.ids;
+          imported_keys = keys.imported;
+          exported_keys = keys.exported;
+        } }
 {
     let Kept {
         making,
@@ -199,7 +221,8 @@ fn put_together(
     imports: Items,
     exports: Items,
 ) -> Result<Resolved, Failure>
-    ensures { Gives (λ r. r) result (Ok (whole_of imports exports kept.made_interfaces kept.making kept.imported)) }
+    ensures { Gives (λ r. r) result
+        (Ok (whole_of imports exports kept.made_interfaces kept.making kept.imported)) }
 {
     let made = keys_and_worlds(alloc, World { imports, exports });
     let (kept, (keys, worlds)) = paired(kept, made)?;
@@ -216,7 +239,8 @@ fn resolve_after(
     made_interfaces: MadeInterfaces,
     making: Making,
 ) -> Result<Resolved, Failure>
-    ensures { Gives (λ r. r) result (resolved_after imported.now wit.now imports made_interfaces making) }
+    ensures { Gives (λ r. r) result
+        (resolved_after imported.now wit.now imports made_interfaces making) }
 {
     let mut making = making;
     let mut outward = MadeInterfaces {

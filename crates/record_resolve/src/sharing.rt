@@ -23,7 +23,8 @@ impl Making {
         owner: TypeOwner,
     ) -> Result<TypeId, AllocError>
         ensures number { IfOk result (λ id. id.index ≡ length self.old.types) }
-        ensures pushed { OnOk result (self.new ≡ with_type name kind owner self.old.unnamed self.old) }
+        ensures pushed { OnOk result
+            (self.new ≡ with_type name kind owner self.old.unnamed self.old) }
     {
         let id = TypeId {
             index: self.types.len(),

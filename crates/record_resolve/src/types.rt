@@ -50,7 +50,8 @@ fn push_compound(
     node: &Node,
     stack: &mut Vec<Type>,
 ) -> Result<(), Failure>
-    ensures { Becomes result (stack.new.items, making.new) (after_compound side node.now stack.old.items making.old) }
+    ensures { Becomes result (stack.new.items, making.new)
+        (after_compound side node.now stack.old.items making.old) }
 {
     let at = top_of(alloc, arity(node), stack.as_slice())?;
     let kind = kind_at(alloc, making, side, node, stack.as_slice(), at)?;
@@ -69,7 +70,8 @@ fn push_node(
     node: &Node,
     stack: &mut Vec<Type>,
 ) -> Result<(), Failure>
-    ensures { Becomes result (stack.new.items, making.new) (step side node.now (stack.old.items, making.old)) }
+    ensures { Becomes result (stack.new.items, making.new)
+        (step side node.now (stack.old.items, making.old)) }
 {
     match node {
         Node::Primitive(primitive) => {

@@ -35,7 +35,8 @@ pub(crate) fn add_all(
     names: &Interfaces,
     made_interfaces: &mut MadeInterfaces,
 ) -> Result<(), Failure>
-    ensures { Becomes result (made_interfaces.new, making.new) (all_named side all.now names.now (made_interfaces.old, making.old)) }
+    ensures { Becomes result (made_interfaces.new, making.new)
+        (all_named side all.now names.now (made_interfaces.old, making.old)) }
 {
     for (name, _) in names.iter() {
         add_named(alloc, making, side, all, name, made_interfaces)?;
@@ -51,7 +52,8 @@ fn add_copy(
     name: &InterfaceName,
     made_interfaces: &mut MadeInterfaces,
 ) -> Result<(), Failure>
-    ensures { Becomes result (made_interfaces.new, making.new) (with_copy all.now name.now (made_interfaces.old, making.old)) }
+    ensures { Becomes result (made_interfaces.new, making.new)
+        (with_copy all.now name.now (made_interfaces.old, making.old)) }
 {
     if making.exported.contains_key(name) {
         add_named(alloc, making, Side::Exported, all, name, made_interfaces)
@@ -67,7 +69,8 @@ fn add_copies(
     imported: &Interfaces,
     made_interfaces: &mut MadeInterfaces,
 ) -> Result<(), Failure>
-    ensures { Becomes result (made_interfaces.new, making.new) (copies_of all.now imported.now (made_interfaces.old, making.old)) }
+    ensures { Becomes result (made_interfaces.new, making.new)
+        (copies_of all.now imported.now (made_interfaces.old, making.old)) }
 {
     for (name, _) in imported.iter() {
         add_copy(alloc, making, all, name, made_interfaces)?;
@@ -84,7 +87,8 @@ fn add_other(
     name: &InterfaceName,
     made_interfaces: &mut MadeInterfaces,
 ) -> Result<(), Failure>
-    ensures { Becomes result (made_interfaces.new, making.new) (with_other imported.now all.now name.now (made_interfaces.old, making.old)) }
+    ensures { Becomes result (made_interfaces.new, making.new)
+        (with_other imported.now all.now name.now (made_interfaces.old, making.old)) }
 {
     if making.exported.contains_key(name) && !imported.contains_key(name) {
         add_named(alloc, making, Side::Exported, all, name, made_interfaces)
@@ -100,7 +104,8 @@ fn add_others(
     all: &All,
     made_interfaces: &mut MadeInterfaces,
 ) -> Result<(), Failure>
-    ensures { Becomes result (made_interfaces.new, making.new) (others_of imported.now all.now all.now (made_interfaces.old, making.old)) }
+    ensures { Becomes result (made_interfaces.new, making.new)
+        (others_of imported.now all.now all.now (made_interfaces.old, making.old)) }
 {
     for (name, _interface) in all.iter() {
         add_other(alloc, making, imported, all, name, made_interfaces)?;
@@ -117,7 +122,8 @@ pub(crate) fn add_exported(
     all: &All,
     made_interfaces: &mut MadeInterfaces,
 ) -> Result<(), Failure>
-    ensures { Becomes result (made_interfaces.new, making.new) (exported_of imported.now all.now (made_interfaces.old, making.old)) }
+    ensures { Becomes result (made_interfaces.new, making.new)
+        (exported_of imported.now all.now (made_interfaces.old, making.old)) }
 {
     add_copies(alloc, making, all, imported, made_interfaces)?;
     add_others(alloc, making, imported, all, made_interfaces)
@@ -239,7 +245,8 @@ fn push_item(
     item: &Item,
     items: &mut Seq<(WorldKey, WorldItem)>,
 ) -> Result<(), Failure>
-    ensures { Becomes result (items.new, making.new) (with_item side ids.now key.now item.now (items.old, making.old)) }
+    ensures { Becomes result (items.new, making.new)
+        (with_item side ids.now key.now item.now (items.old, making.old)) }
 {
     let made = make_item(alloc, making, side, ids, key, item)?;
     items.push(made)?;
@@ -284,7 +291,8 @@ fn set_kind(
     side: Side,
     function: &mut Function,
 ) -> Result<(), Failure>
-    ensures { Becomes result (made_items.Function function.new) (with_kind making.now side function.old) }
+    ensures { Becomes result (made_items.Function function.new)
+        (with_kind making.now side function.old) }
 {
     let is_async = is_async(function.kind);
     let name = function.name.as_str();

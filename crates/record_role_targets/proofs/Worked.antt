@@ -1,5 +1,5 @@
--- What roles and keys of a small world resolve to, worked: an interface that is imported as "i" and exported as "j", where
--- it is a copy of its own.
+-- What roles and keys of a small world resolve to, worked: an interface that is imported as "i" and
+-- exported as "j", where it is a copy of its own.
 use Rattle.std.proofs.Common.{◌≡◌, ℕ, ◌+◌, List, [], ◌∷◌, ◌++◌, Some, None, refl, true, false}
 use Rattle.std.specs.Prelude.{codes}
 use Rattle.standard_kinds.specs.declared.kinds.Primitive.TheVariants as prims

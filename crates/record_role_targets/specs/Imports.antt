@@ -90,8 +90,9 @@ built_in role = None
 
 -- ---- roles
 
--- The resolved role of an import of this field and this type. Functions and resources are looked up on the side that the
--- role gives: the world's imports or its exports; a memory and an adapter's export have the import's own type.
+-- The resolved role of an import of this field and this type. Functions and resources are looked up
+-- on the side that the role gives: the world's imports or its exports; a memory and an adapter's
+-- export have the import's own type.
 abbrev pub resolved_import : Resolved → List ℕ → ImportRole → Option ExternType → Option Import
 resolved_import r field (roles.Function owner name abi) ty = option_map (called name abi) (function_position sides.Imported r owner name)
 resolved_import r field (roles.ImportedDrop t) ty = option_map imported_drop (resource_of sides.Imported r t)

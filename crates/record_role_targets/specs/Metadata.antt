@@ -1,5 +1,6 @@
--- The string encodings of functions (Canonical ABI: `string-encoding`), where the interfaces that have them have numbers. A
--- name of a function that does not exist is left out; where two names resolve to one function, the first is kept.
+-- The string encodings of functions (Canonical ABI: `string-encoding`), where the interfaces that
+-- have them have numbers. A name of a function that does not exist is left out; where two names
+-- resolve to one function, the first is kept.
 use Rattle.std.specs.Prelude.{ℕ, List, [], ◌∷◌, Option, Some, None}
 use Rattle.comp_lists.specs.Tables.{with_first}
 use Rattle.comp_roles.specs.Functions.{is_same_function}

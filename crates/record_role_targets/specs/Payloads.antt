@@ -1,6 +1,6 @@
--- The streams and futures that occur in a function (component model, WIT: `stream`, `future`): those of its parameters in
--- order, then those of its result, each after the ones inside it. Types that have a name are entered, handles are not, and
--- one that occurs twice counts twice.
+-- The streams and futures that occur in a function (component model, WIT: `stream`, `future`):
+-- those of its parameters in order, then those of its result, each after the ones inside it. Types
+-- that have a name are entered, handles are not, and one that occurs twice counts twice.
 use Rattle.std.specs.Prelude.{ℕ, Bool, true, false, List, [], ◌∷◌, ◌++◌, Option, Some, None, option_map, if◌then◌else◌}
 use Rattle.std.specs.List.{flat_map, slice_get}
 use Rattle.std.specs.Option.{option_and_then}

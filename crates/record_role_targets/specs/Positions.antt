@@ -1,5 +1,5 @@
--- The positions of a record's functions and types in the resolve: on a side of the world, either at its root or in one of
--- its interfaces (component model, WIT: `world-items`, `interface-items`).
+-- The positions of a record's functions and types in the resolve: on a side of the world, either at
+-- its root or in one of its interfaces (component model, WIT: `world-items`, `interface-items`).
 use Rattle.std.specs.Prelude.{ℕ, List, Option, Some, None, option_map}
 use Rattle.std.specs.Option.{option_and_then}
 use Rattle.comp_lists.specs.Found.{found}

@@ -1,4 +1,5 @@
--- A walk over streams and futures in their order, which notes those whose numbers are wanted and ends at the last of these.
+-- A walk over streams and futures in their order, which notes those whose numbers are wanted and
+-- ends at the last of these.
 use Rattle.std.specs.Prelude.{◌≡◌, ℕ, ◌+◌, nat_eq, nat_lt, List, [], ◌∷◌, Option, Some, None, if◌then◌else◌}
 use Rattle.std.specs.List.{slice_get}
 use Rattle.std.specs.Map.{lookup}

@@ -53,7 +53,9 @@ fn resolve_function(
     name: &Text,
     abi: AbiVariant,
 ) -> Result<Option<Export>, AllocError>
-    ensures { IfOk result (λ e. e ≡ option_map (lifted name.now abi) (function_position sides.Exported resolved.now owner.now name.now)) }
+    ensures { IfOk result (λ e. e
+        ≡ option_map (lifted name.now abi)
+        (function_position sides.Exported resolved.now owner.now name.now)) }
 {
     let function = name.clone(alloc)?;
     match function_position(alloc, resolved, Side::Exported, owner, name)? {
@@ -68,7 +70,9 @@ fn resolve_post_return(
     owner: &Owner,
     name: &Text,
 ) -> Result<Option<Export>, AllocError>
-    ensures { IfOk result (λ e. e ≡ option_map (post_return name.now) (function_position sides.Exported resolved.now owner.now name.now)) }
+    ensures { IfOk result (λ e. e
+        ≡ option_map (post_return name.now)
+        (function_position sides.Exported resolved.now owner.now name.now)) }
 {
     let function = name.clone(alloc)?;
     match function_position(alloc, resolved, Side::Exported, owner, name)? {
@@ -83,7 +87,9 @@ fn resolve_callback(
     owner: &Owner,
     name: &Text,
 ) -> Result<Option<Export>, AllocError>
-    ensures { IfOk result (λ e. e ≡ option_map (callback name.now) (function_position sides.Exported resolved.now owner.now name.now)) }
+    ensures { IfOk result (λ e. e
+        ≡ option_map (callback name.now)
+        (function_position sides.Exported resolved.now owner.now name.now)) }
 {
     let function = name.clone(alloc)?;
     match function_position(alloc, resolved, Side::Exported, owner, name)? {
@@ -97,7 +103,9 @@ fn resolve_destructor(
     resolved: &Resolved,
     named: &TypeName,
 ) -> Result<Option<Export>, AllocError>
-    ensures { IfOk result (λ e. e ≡ option_map (λ d. variants.ResourceDtor d.id) (resource_of sides.Exported resolved.now named.now)) }
+    ensures { IfOk result (λ e. e
+        ≡ option_map (λ d. variants.ResourceDtor d.id)
+        (resource_of sides.Exported resolved.now named.now)) }
 {
     match resource_of(alloc, resolved, Side::Exported, named)? {
         Some(resource) => Ok(Some(Export::ResourceDtor(resource.id))),
@@ -139,7 +147,8 @@ pub fn resolved_export(
     role: &ExportRole,
     ty: Option<&ExternType>,
 ) -> Result<Option<Export>, AllocError>
-    ensures { IfOk result (λ e. e ≡ resolved_export resolved.now role.now (option_copied ty.entry)) }
+    ensures { IfOk result
+        (λ e. e ≡ resolved_export resolved.now role.now (option_copied ty.entry)) }
 {
     match role {
         ExportRole::Function { owner, name, abi } => resolve_function(

@@ -67,7 +67,9 @@ fn resolve_function(
     name: &Text,
     abi: AbiVariant,
 ) -> Result<Option<Import>, AllocError>
-    ensures { IfOk result (λ i. i ≡ option_map (called name.now abi) (function_position sides.Imported resolved.now owner.now name.now)) }
+    ensures { IfOk result (λ i. i
+        ≡ option_map (called name.now abi)
+        (function_position sides.Imported resolved.now owner.now name.now)) }
 {
     let function = name.clone(alloc)?;
     match function_position(alloc, resolved, Side::Imported, owner, name)? {
@@ -106,7 +108,8 @@ fn resolve_imported_drop(
     resolved: &Resolved,
     named: &TypeName,
 ) -> Result<Option<Import>, AllocError>
-    ensures { IfOk result (λ i. i ≡ option_map imported_drop (resource_of sides.Imported resolved.now named.now)) }
+    ensures { IfOk result
+        (λ i. i ≡ option_map imported_drop (resource_of sides.Imported resolved.now named.now)) }
 {
     match resource_of(alloc, resolved, Side::Imported, named)? {
         Some(resource) => Ok(Some(imported_drop(resource))),
@@ -119,7 +122,8 @@ fn resolve_exported_drop(
     resolved: &Resolved,
     named: &TypeName,
 ) -> Result<Option<Import>, AllocError>
-    ensures { IfOk result (λ i. i ≡ option_map exported_drop (resource_of sides.Exported resolved.now named.now)) }
+    ensures { IfOk result
+        (λ i. i ≡ option_map exported_drop (resource_of sides.Exported resolved.now named.now)) }
 {
     match resource_of(alloc, resolved, Side::Exported, named)? {
         Some(resource) => Ok(Some(exported_drop(resource))),
@@ -132,7 +136,8 @@ fn resolve_exported_rep(
     resolved: &Resolved,
     named: &TypeName,
 ) -> Result<Option<Import>, AllocError>
-    ensures { IfOk result (λ i. i ≡ option_map exported_rep (resource_of sides.Exported resolved.now named.now)) }
+    ensures { IfOk result
+        (λ i. i ≡ option_map exported_rep (resource_of sides.Exported resolved.now named.now)) }
 {
     match resource_of(alloc, resolved, Side::Exported, named)? {
         Some(resource) => Ok(Some(exported_rep(resource))),
@@ -145,7 +150,8 @@ fn resolve_exported_new(
     resolved: &Resolved,
     named: &TypeName,
 ) -> Result<Option<Import>, AllocError>
-    ensures { IfOk result (λ i. i ≡ option_map exported_new (resource_of sides.Exported resolved.now named.now)) }
+    ensures { IfOk result
+        (λ i. i ≡ option_map exported_new (resource_of sides.Exported resolved.now named.now)) }
 {
     match resource_of(alloc, resolved, Side::Exported, named)? {
         Some(resource) => Ok(Some(exported_new(resource))),
@@ -204,7 +210,9 @@ fn payload_role(
     is_async: bool,
 ) -> Result<Option<Import>, AllocError>
     requires known { IsPayloadKnown resolved.now tables.now payload.now }
-    ensures { IfOk result (λ i. i ≡ option_map (payload_import kind operation is_async) (payloads.resolved_payload resolved.now field.now kind payload.now)) }
+    ensures { IfOk result (λ i. i
+        ≡ option_map (payload_import kind operation is_async)
+        (payloads.resolved_payload resolved.now field.now kind payload.now)) }
 {
     match resolved_payload(alloc, resolved, tables, field, kind, payload)? {
         Some(info) => Ok(Some(payload_import(kind, operation, is_async, info))),
@@ -267,7 +275,9 @@ fn resolve_adapter_export(
     function: &Text,
     ty: Option<&ExternType>,
 ) -> Result<Option<Import>, AllocError>
-    ensures { IfOk result (λ i. i ≡ option_map (variants.AdapterExport adapter.now function.now) (function_type (option_copied ty.entry))) }
+    ensures { IfOk result (λ i. i
+        ≡ option_map (variants.AdapterExport adapter.now function.now)
+        (function_type (option_copied ty.entry))) }
 {
     match function_type(ty) {
         Some(ty) => Ok(Some(adapter_export(alloc, adapter, function, ty)?)),
@@ -285,7 +295,8 @@ fn resolve_role(
     ty: Option<&ExternType>,
 ) -> Result<Option<Import>, AllocError>
     requires known { IsKnown resolved.now tables.now role.now }
-    ensures { IfOk result (λ i. i ≡ resolved_import resolved.now field.now role.now (option_copied ty.entry)) }
+    ensures { IfOk result
+        (λ i. i ≡ resolved_import resolved.now field.now role.now (option_copied ty.entry)) }
 {
     match role {
         ImportRole::Function { owner, name, abi } => resolve_function(
@@ -334,7 +345,8 @@ pub(crate) fn resolved_import(
 ) -> Result<Option<Import>, AllocError>
     requires sound { IsSound resolved.now.resolve }
     requires known { IsKnown resolved.now tables.now role.now }
-    ensures exact { IfOk result (λ i. i ≡ resolved_import resolved.now field.now role.now (option_copied ty.entry)) }
+    ensures exact { IfOk result
+        (λ i. i ≡ resolved_import resolved.now field.now role.now (option_copied ty.entry)) }
     ensures present { IfOk result (λ i. IfSome i (HasNamed resolved.now.resolve)) }
 {
     let target = resolve_role(alloc, resolved, tables, field, role, ty)?;

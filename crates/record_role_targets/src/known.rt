@@ -1,6 +1,7 @@
 //! Tables of the streams and futures that roles name, by function and number.
 //!
-//! They are made once of all roles: each function that roles name is walked through once, whatever the number of its roles.
+//! They are made once of all roles: each function that roles name is walked through once, whatever
+//! the number of its roles.
 
 ghost use Rattle.std.specs.Prelude.{◌≡◌, IfOk};
 ghost use Rattle.std.specs.Option.{option_copied, IfSome};

@@ -25,7 +25,9 @@ fn add_encoding(
     named: &FunctionOf,
     encoding: StringEncoding,
 ) -> Result<(), AllocError>
-    ensures { OnOk result (all.new ≡ with_encoding all.old (meanings.resolved_key side resolved.now named.now.key) named.now.function encoding) }
+    ensures { OnOk result (all.new
+        ≡ with_encoding all.old (meanings.resolved_key side resolved.now named.now.key)
+        named.now.function encoding) }
 {
     match resolved_key(alloc, resolved, side, &named.key)? {
         Some(key) => {

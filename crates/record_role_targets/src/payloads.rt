@@ -78,8 +78,11 @@ fn payload_met(
     function: &Text,
     number: u32,
 ) -> Result<Option<PayloadInfo>, AllocError>
-    requires known { type_known tables.now (named_function imported owner.now function.now) number ≡ slice_get (types_met resolved.now (named_function imported owner.now function.now)) number }
-    ensures { IfOk result (λ p. p ≡ payload_met resolved.now field.now imported owner.now function.now number) }
+    requires known { type_known tables.now (named_function imported owner.now function.now) number
+        ≡ slice_get (types_met resolved.now (named_function imported owner.now function.now))
+        number }
+    ensures { IfOk result
+        (λ p. p ≡ payload_met resolved.now field.now imported owner.now function.now number) }
 {
     let side = side_of(imported);
     let Some(position) = position_of(alloc, resolved, side, owner, function)? else {

@@ -47,7 +47,10 @@ fn interface_position(
     side: Side,
     name: &InterfaceName,
 ) -> Result<Option<Position>, AllocError>
-    ensures { IfOk result (λ p. p ≡ option_and_then (λ id. option_map (in_interface id) (interface_key side resolved.now id)) (interface_of side resolved.now name.now)) }
+    ensures { IfOk result (λ p. p
+        ≡ option_and_then
+        (λ id. option_map (in_interface id) (interface_key side resolved.now id))
+        (interface_of side resolved.now name.now)) }
 {
     let Some(id) = interface_of(resolved, side, name) else {
         return Ok(None);

@@ -18,8 +18,8 @@ use std::marker::Model;
 
 /// The roles of the core imports of a module in a resolved world, which contracts see as these two.
 ///
-/// It is made once of them, with tables of the streams and futures that the roles name. Then no role takes a walk through
-/// the types of its function.
+/// It is made once of them, with tables of the streams and futures that the roles name. Then no
+/// role takes a walk through the types of its function.
 #[derive(Drop)]
 pub struct ImportTargets<'a> {
     resolved: &'a Resolved,
@@ -60,7 +60,9 @@ fn resolved_role(
 ) -> Result<Option<Import>, AllocError>
     requires sound { IsSound resolved.now.resolve }
     requires known { AreKnown resolved.now tables.now roles.now }
-    ensures exact { IfOk result (λ i. i ≡ resolved_role (record { resolved = resolved.now; table = roles.now }) name.now (option_copied ty.entry)) }
+    ensures exact { IfOk result (λ i. i
+        ≡ resolved_role (record { resolved = resolved.now; table = roles.now }) name.now
+        (option_copied ty.entry)) }
     ensures present { IfOk result (λ i. IfSome i (HasNamed resolved.now.resolve)) }
 {
     match role_of(roles, name) {
@@ -70,8 +72,8 @@ fn resolved_role(
 }
 
 impl<'a> ImportTargets<'a> {
-    /// These roles in a resolved world. Each function of which roles name a stream or a future is walked through once. The only
-    /// error is out of memory.
+    /// These roles in a resolved world. Each function of which roles name a stream or a future is
+    /// walked through once. The only error is out of memory.
     pub fn of(
         alloc: Global,
         resolved: &'a Resolved,
@@ -108,9 +110,10 @@ impl<'a> ImportTargets<'a> {
     /// Functions and resources of imports are looked up on the world's imported side, those of exports on
     /// its exported side. A memory has the import's type, an adapter's export the import's function type.
     ///
-    /// It is none where the import has no role, where the role names something that this side does not have (an interface, a
-    /// function, a type, or a stream or future by its number), or where the import is not a memory or function as the
-    /// role requires. The only refusal is out of memory.
+    /// It is none where the import has no role, where the role names something that this side does
+    /// not have (an interface, a function, a type, or a stream or future by its number), or where
+    /// the import is not a memory or function as the role requires. The only refusal is out of
+    /// memory.
     ///
     /// What the result names exists in the resolve.
     pub fn resolve(
@@ -120,7 +123,8 @@ impl<'a> ImportTargets<'a> {
         ty: Option<&ExternType>,
     ) -> Result<Option<Import>, AllocError>
         requires { IsSound self.now.resolved.resolve }
-        ensures exact { IfOk result (λ i. i ≡ resolved_role self.now name.now (option_copied ty.entry)) }
+        ensures exact { IfOk result
+            (λ i. i ≡ resolved_role self.now name.now (option_copied ty.entry)) }
         ensures present { IfOk result (λ i. IfSome i (HasNamed self.now.resolved.resolve)) }
     {
         resolved_role(alloc, self.resolved, self.roles, &self.tables, name, ty)

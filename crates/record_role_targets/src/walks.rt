@@ -1,8 +1,8 @@
 //! Streams and futures that occur in functions.
 //!
-//! One walk through a function notes all that roles name: it counts the streams and futures, an inner type before the outer
-//! one, and ends at the greatest number that is wanted. A type is entered each time that it occurs, which is cheap since types
-//! are small.
+//! One walk through a function notes all that roles name: it counts the streams and futures, an
+//! inner type before the outer one, and ends at the greatest number that is wanted. A type is
+//! entered each time that it occurs, which is cheap since types are small.
 
 ghost use Rattle.std.specs.Prelude.{◌≡◌, ◌<◌, [], ◌∷◌, Some, length, get_or, OnOk, IfOk};
 ghost use Rattle.std.specs.List.{AllByRecursion, flat_map};
@@ -19,7 +19,8 @@ use wit_data::{
     Function, Param, Resolve, Type, TypeDef, TypeDefKind, TypeId, kind_of, part_count_of, part_of,
 };
 
-/// The state of a walk: the number of the next stream or future, unless it is past all that are wanted, and what was noted.
+/// The state of a walk: the number of the next stream or future, unless it is past all that are
+/// wanted, and what was noted.
 #[derive(Drop)]
 pub(crate) struct Walk {
     pub next: Option<u32>,
@@ -121,7 +122,8 @@ fn walk_type(
 ) -> Result<(), AllocError>
     requires back { RefersBack types.now }
     requires present { id < length types.now }
-    ensures { OnOk result (walk.new ≡ walked wanted.now walk.old (get_or (values meeting types.now) id [])) }
+    ensures { OnOk result
+        (walk.new ≡ walked wanted.now walk.old (get_or (values meeting types.now) id [])) }
 {
     if walk.next.is_none() {
         return Ok(());
@@ -145,7 +147,8 @@ fn walk_parts(
 ) -> Result<(), AllocError>
     requires back { RefersBack types.now }
     requires present { id < length types.now }
-    ensures { OnOk result (walk.new ≡ walked wanted.now walk.old (flat_map (λ f. f) (part_values meeting types.now id))) }
+    ensures { OnOk result (walk.new
+        ≡ walked wanted.now walk.old (flat_map (λ f. f) (part_values meeting types.now id))) }
 {
     for part_index in 0..part_count_of(types, id) {
         walk_part(types, part_of(types, id, part_index), wanted, walk)?;
@@ -162,7 +165,9 @@ fn walk_params(
 ) -> Result<(), AllocError>
     requires back { RefersBack types.now }
     requires present { AllByRecursion (λ p. IsBelow (length types.now) (Some p.ty)) params.now }
-    ensures { OnOk result (walk.new ≡ walked wanted.now walk.old (flat_map (λ p. met_in types.now (Some p.ty)) params.now)) }
+    ensures { OnOk result (walk.new
+        ≡ walked wanted.now walk.old
+        (flat_map (λ p. met_in types.now (Some p.ty)) params.now)) }
 {
     for param in params {
         walk_part(types, Some(param.ty), wanted, walk)?;
@@ -170,7 +175,8 @@ fn walk_params(
     Ok(())
 }
 
-/// The streams and futures of a function that are wanted, by their numbers, from 0, in the parameters and then the result.
+/// The streams and futures of a function that are wanted, by their numbers, from 0, in the
+/// parameters and then the result.
 pub(crate) fn numbers_met(
     alloc: Global,
     resolve: &Resolve,
@@ -179,7 +185,8 @@ pub(crate) fn numbers_met(
 ) -> Result<Keyed<u32, TypeId>, AllocError>
     requires sound { IsSound resolve.now }
     requires present { HasFunction resolve.now function.now }
-    ensures { IfOk result (FindsNumbers (met_in_function resolve.now.types function.now) wanted.now) }
+    ensures { IfOk result
+        (FindsNumbers (met_in_function resolve.now.types function.now) wanted.now) }
 {
     let types = resolve.types.as_slice();
     let mut walk = Walk {

@@ -137,7 +137,9 @@ impl<'a> Functions<'a> {
     /// Takes out what is wanted of a function.
     fn take(&mut self, alloc: Global, name: &FunctionName<'a>) -> Wanted
         ensures wanted { result ≡ wanted_if (lookup (is_same_function name.now) self.old) }
-        ensures others { (f : NamedFunction) → is_same_function name.now f ≡ false → lookup (is_same_function f) self.new ≡ lookup (is_same_function f) self.old }
+        ensures others { (f : NamedFunction)
+            → is_same_function name.now f ≡ false
+            → lookup (is_same_function f) self.new ≡ lookup (is_same_function f) self.old }
     {
         match self.map.swap_remove(name) {
             Some(wanted) => wanted,
@@ -150,7 +152,10 @@ impl<'a> Functions<'a> {
 
     /// Puts in what is wanted of a function.
     fn put(&mut self, name: FunctionName<'a>, wanted: Wanted) -> Result<(), AllocError>
-        ensures { OnOk result ((f : NamedFunction) → lookup (is_same_function f) self.new ≡ cond (is_same_function name.entry f) (Some wanted) (lookup (is_same_function f) self.old)) }
+        ensures { OnOk result ((f : NamedFunction)
+            → lookup (is_same_function f) self.new
+            ≡ cond (is_same_function name.entry f) (Some wanted)
+            (lookup (is_same_function f) self.old)) }
     {
         self.map.insert(name, wanted)?;
         Ok(())

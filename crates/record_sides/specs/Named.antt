@@ -1,5 +1,5 @@
--- What a role names: an owner, which is an interface that a side of the world has or the world itself, and a function or a
--- resource of it.
+-- What a role names: an owner, which is an interface that a side of the world has or the world
+-- itself, and a function or a resource of it.
 use Rattle.std.specs.Prelude.{ℕ, ◌^◌, List, codes, Bool, Option, Some, None, Result, Ok, Err, is_some, if◌then◌else◌}
 use Rattle.serde_json.specs.Data.{Data}
 use Rattle.serde_json.specs.Find.{as_null}

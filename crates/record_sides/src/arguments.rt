@@ -16,7 +16,8 @@ use wit_data::AbiVariant;
 
 #[tactic(auto, using(crate::proofs::Lengths::few_for_none, crate::proofs::Lengths::many_for_none))]
 fn only_kind(value: &Value) -> Option<&Value>
-    ensures { option_map (λ v. view v.now) result ≡ option_and_then none_of (as_array (view value.now)) }
+    ensures { option_map (λ v. view v.now) result
+        ≡ option_and_then none_of (as_array (view value.now)) }
 {
     match value.as_array()?.as_slice() {
         [kind] => Some(kind),
@@ -26,7 +27,8 @@ fn only_kind(value: &Value) -> Option<&Value>
 
 #[tactic(auto, using(crate::proofs::Lengths::few_for_one, crate::proofs::Lengths::many_for_one))]
 fn one(value: &Value) -> Option<&Value>
-    ensures { option_map (λ v. view v.now) result ≡ option_and_then one_of (as_array (view value.now)) }
+    ensures { option_map (λ v. view v.now) result
+        ≡ option_and_then one_of (as_array (view value.now)) }
 {
     match value.as_array()?.as_slice() {
         [_, first] => Some(first),
@@ -36,7 +38,8 @@ fn one(value: &Value) -> Option<&Value>
 
 #[tactic(auto, using(crate::proofs::Lengths::few_for_two, crate::proofs::Lengths::many_for_two))]
 fn two(value: &Value) -> Option<(&Value, &Value)>
-    ensures { option_map (λ v. (view v.0.now, view v.1.now)) result ≡ option_and_then two_of (as_array (view value.now)) }
+    ensures { option_map (λ v. (view v.0.now, view v.1.now)) result
+        ≡ option_and_then two_of (as_array (view value.now)) }
 {
     match value.as_array()?.as_slice() {
         [_, first, second] => Some((first, second)),
@@ -46,7 +49,8 @@ fn two(value: &Value) -> Option<(&Value, &Value)>
 
 #[tactic(auto, using(crate::proofs::Lengths::few_for_three, crate::proofs::Lengths::many_for_three))]
 fn three(value: &Value) -> Option<(&Value, &Value, &Value)>
-    ensures { option_map (λ v. (view v.0.now, view v.1.now, view v.2.now)) result ≡ option_and_then three_of (as_array (view value.now)) }
+    ensures { option_map (λ v. (view v.0.now, view v.1.now, view v.2.now)) result
+        ≡ option_and_then three_of (as_array (view value.now)) }
 {
     match value.as_array()?.as_slice() {
         [_, first, second, third] => Some((first, second, third)),
@@ -55,7 +59,8 @@ fn three(value: &Value) -> Option<(&Value, &Value, &Value)>
 }
 
 fn first(value: &Value) -> Option<&Value>
-    ensures { option_map (λ v. view v.now) result ≡ option_and_then first_of (as_array (view value.now)) }
+    ensures { option_map (λ v. view v.now) result
+        ≡ option_and_then first_of (as_array (view value.now)) }
 {
     match value.as_array()?.as_slice() {
         [] => None,
@@ -103,7 +108,8 @@ pub(crate) fn three_arguments(
     alloc: Global,
     value: &Value,
 ) -> Result<(&Value, &Value, &Value), Failure>
-    ensures { Gives (λ v. (view v.0.now, view v.1.now, view v.2.now)) result (three_arguments (view value.now)) }
+    ensures { Gives (λ v. (view v.0.now, view v.1.now, view v.2.now)) result
+        (three_arguments (view value.now)) }
 {
     three(value).ok_or(fault_here(alloc))
 }

@@ -1,5 +1,5 @@
--- Ids of interfaces: three texts with a colon and a slash between them, and after an at sign a version, if any (component
--- model, explainer: `interfacename`).
+-- Ids of interfaces: three texts with a colon and a slash between them, and after an at sign a
+-- version, if any (component model, explainer: `interfacename`).
 use Rattle.std.specs.Prelude.{ℕ, ◌==◌, ◌&&◌, ◌||◌, not, length, List, Bool, false, Option, Some, None, is_some, is_ok, Result, Ok, Err, if◌then◌else◌}
 use Rattle.std.specs.List.{list_any}
 use Rattle.comp_lists.specs.Splits.{split_once}

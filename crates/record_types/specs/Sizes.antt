@@ -1,5 +1,6 @@
--- Sizes of types: how many types are nested in a type, and how many nodes its tree has. An absent part is a node too, but
--- no level. (The component model sets no limit; these are this project's own.)
+-- Sizes of types: how many types are nested in a type, and how many nodes its tree has. An absent
+-- part is a node too, but no level. (The component model sets no limit; these are this project's
+-- own.)
 use Rattle.std.specs.Prelude.{◌+◌, min, max, nat_le, codes, Result, Ok, Err, if◌then◌else◌}
 use Rattle.json_paths.specs.declared.fault.Failure.{Failure}
 use Rattle.json_paths.specs.Reading.{left_out}

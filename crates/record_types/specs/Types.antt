@@ -1,5 +1,5 @@
--- Which type a value of JSON is: the name of a primitive type, or an object with one member, which says what the type is
--- made of. Its nodes are appended to those so far, each node after its parts.
+-- Which type a value of JSON is: the name of a primitive type, or an object with one member, which
+-- says what the type is made of. Its nodes are appended to those so far, each node after its parts.
 use Rattle.std.specs.Prelude.{◌≡◌, ◌≢◌, ℕ, zero, suc, nat_lt, length, List, [], ◌∷◌, ◌++◌, codes, Bool, not, Option, Some, None, is_some, ok_or, option_and_then, Result, Ok, Err, if◌then◌else◌}
 use Rattle.std.specs.Fmt.{decimal}
 use Rattle.std.specs.Str.{bytes_eq}

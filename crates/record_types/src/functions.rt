@@ -49,7 +49,8 @@ fn read_params(alloc: Global, scope: &Scope<'_>, value: &Value) -> Result<Seq<Ty
 
 /// The parameters, none where they are left out.
 fn params_member(alloc: Global, scope: &Scope<'_>, value: &Value) -> Result<Seq<Typed>, Failure>
-    ensures { Gives (λ x. x) result (params_if (names_in scope.now) (get (codes "params") (view value.now))) }
+    ensures { Gives (λ x. x) result
+        (params_if (names_in scope.now) (get (codes "params") (view value.now))) }
 {
     match value.get("params") {
         None => Ok(Seq::new(alloc)),
@@ -78,7 +79,8 @@ fn result_member(
     scope: &Scope<'_>,
     value: &Value,
 ) -> Result<Option<Seq<Node>>, Failure>
-    ensures { Gives (λ x. x) result (result_if (names_in scope.now) (get (codes "result") (view value.now))) }
+    ensures { Gives (λ x. x) result
+        (result_if (names_in scope.now) (get (codes "result") (view value.now))) }
 {
     match value.get("result") {
         None => Ok(None),

@@ -70,7 +70,8 @@ fn push_type(
     types: &mut Seq<Typed>,
     known: &mut Keyed<Text, TypeFacts>,
 ) -> Result<(), Failure>
-    ensures { Becomes result (types.new, known.new) (next_type done.now index (view value.now) (types.old, known.old)) }
+    ensures { Becomes result (types.new, known.new)
+        (next_type done.now index (view value.now) (types.old, known.old)) }
 {
     let next = read_next_type(alloc, done, known, value);
     let (typed, facts) = under_index(alloc, index, next)?;
@@ -124,7 +125,8 @@ fn push_function(
     functions: &mut Seq<Func>,
     seen: &mut Keyed<Text, ()>,
 ) -> Result<(), Failure>
-    ensures { Becomes result (functions.new, seen.new) (next_function (names_in scope.now) index (view value.now) (functions.old, seen.old)) }
+    ensures { Becomes result (functions.new, seen.new)
+        (next_function (names_in scope.now) index (view value.now) (functions.old, seen.old)) }
 {
     let next = read_new_function(alloc, scope, seen, value);
     let function = under_index(alloc, index, next)?;
@@ -173,9 +175,12 @@ struct Members {
 
 /// Takes the members out of an interface.
 fn take_members(value: Value) -> Members
-    ensures id { ok_or (option_map view result.id) (at_member (codes "id")) ≡ required (codes "id") (view value) }
-    ensures types { ok_or (option_map view result.types) (at_member (codes "types")) ≡ required (codes "types") (view value) }
-    ensures functions { ok_or (option_map view result.functions) (at_member (codes "functions")) ≡ required (codes "functions") (view value) }
+    ensures id { ok_or (option_map view result.id) (at_member (codes "id"))
+        ≡ required (codes "id") (view value) }
+    ensures types { ok_or (option_map view result.types) (at_member (codes "types"))
+        ≡ required (codes "types") (view value) }
+    ensures functions { ok_or (option_map view result.functions) (at_member (codes "functions"))
+        ≡ required (codes "functions") (view value) }
 {
     let mut value = value;
     let id = take_member(&mut value, "id");
@@ -227,7 +232,8 @@ fn read_interface(
     })
 }
 
-/// Interfaces, each of which may name the types of those before it. The JSON of each is given back before the next is read.
+/// Interfaces, each of which may name the types of those before it. The JSON of each is given back
+/// before the next is read.
 #[tactic(auto, unfolding(crate::specs::Interfaces::interfaces_of))]
 pub fn read_interfaces(alloc: Global, value: Value) -> Result<Seq<ReadInterface>, Failure>
     ensures { Gives (λ x. x) result (interfaces_of (view value)) }

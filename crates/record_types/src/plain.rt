@@ -133,7 +133,8 @@ fn read_borrow(
     value: &Value,
     nodes: &mut Seq<Node>,
 ) -> Result<Size, Failure>
-    ensures { GivesWith result nodes.new (borrow_of (names_in scope.now) (view value.now) nodes.old) }
+    ensures { GivesWith result nodes.new
+        (borrow_of (names_in scope.now) (view value.now) nodes.old) }
 {
     let (named, size) = read_resource(alloc, scope, value)?;
     push_after(alloc, Node::Borrow(named), size, nodes)
@@ -161,7 +162,8 @@ pub(crate) fn read_plain(
     value: &Value,
     nodes: &mut Seq<Node>,
 ) -> Result<Size, Failure>
-    ensures { GivesWith result nodes.new (plain_of (names_in scope.now) key.now (view value.now) nodes.old) }
+    ensures { GivesWith result nodes.new
+        (plain_of (names_in scope.now) key.now (view value.now) nodes.old) }
 {
     match key {
         "enum" => read_enum(alloc, value, nodes),

@@ -30,7 +30,8 @@ pub(crate) fn read_type(
     value: &Value,
     nodes: &mut Seq<Node>,
 ) -> Result<Size, Failure>
-    ensures { GivesWith result nodes.new (type_of levels (names_in scope.now) (view value.now) nodes.old) }
+    ensures { GivesWith result nodes.new
+        (type_of levels (names_in scope.now) (view value.now) nodes.old) }
 {
     if levels == 0 {
         return Err(left_out(alloc, "type depth"));
@@ -50,7 +51,8 @@ fn read_compound(
     value: &Value,
     nodes: &mut Seq<Node>,
 ) -> Result<Size, Failure>
-    ensures { GivesWith result nodes.new (compound_of (names_in scope.now) (type_of levels (names_in scope.now)) (single (view value.now)) nodes.old) }
+    ensures { GivesWith result nodes.new (compound_of (names_in scope.now)
+        (type_of levels (names_in scope.now)) (single (view value.now)) nodes.old) }
 {
     let Some((key, member)) = only_member(value) else {
         return Err(fault_here(alloc));
@@ -69,7 +71,8 @@ fn read_member(
     value: &Value,
     nodes: &mut Seq<Node>,
 ) -> Result<Size, Failure>
-    ensures { GivesWith result nodes.new (member_of (names_in scope.now) (type_of levels (names_in scope.now)) key.now (view value.now) nodes.old) }
+    ensures { GivesWith result nodes.new (member_of (names_in scope.now)
+        (type_of levels (names_in scope.now)) key.now (view value.now) nodes.old) }
 {
     let size = under(
         alloc,
@@ -89,7 +92,8 @@ fn read_kind(
     value: &Value,
     nodes: &mut Seq<Node>,
 ) -> Result<Size, Failure>
-    ensures { GivesWith result nodes.new (kind_of (names_in scope.now) (type_of levels (names_in scope.now)) key.now (view value.now) nodes.old) }
+    ensures { GivesWith result nodes.new (kind_of (names_in scope.now)
+        (type_of levels (names_in scope.now)) key.now (view value.now) nodes.old) }
 {
     match key {
         "list" => read_holding(alloc, levels, scope, Node::List, nothing(), value, nodes),
@@ -133,7 +137,8 @@ fn read_holding(
     value: &Value,
     nodes: &mut Seq<Node>,
 ) -> Result<Size, Failure>
-    ensures { GivesWith result nodes.new (holding_of node others (type_of levels (names_in scope.now)) (view value.now) nodes.old) }
+    ensures { GivesWith result nodes.new
+        (holding_of node others (type_of levels (names_in scope.now)) (view value.now) nodes.old) }
 {
     let part = read_type(alloc, levels, scope, value, nodes)?;
     push_after(alloc, node, combined(others, part), nodes)
@@ -148,7 +153,8 @@ fn read_part(
     value: &Value,
     nodes: &mut Seq<Node>,
 ) -> Result<Size, Failure>
-    ensures { GivesWith result nodes.new (part_of (type_of levels (names_in scope.now)) (view value.now) nodes.old) }
+    ensures { GivesWith result nodes.new
+        (part_of (type_of levels (names_in scope.now)) (view value.now) nodes.old) }
 {
     if value.is_null() {
         return Ok(absent());
@@ -166,7 +172,8 @@ fn read_carrying(
     value: &Value,
     nodes: &mut Seq<Node>,
 ) -> Result<Size, Failure>
-    ensures { GivesWith result nodes.new (carrying_of node (type_of levels (names_in scope.now)) (view value.now) nodes.old) }
+    ensures { GivesWith result nodes.new
+        (carrying_of node (type_of levels (names_in scope.now)) (view value.now) nodes.old) }
 {
     let part = read_part(alloc, levels, scope, value, nodes)?;
     push_after(alloc, node, part, nodes)
@@ -181,7 +188,8 @@ fn read_result(
     value: &Value,
     nodes: &mut Seq<Node>,
 ) -> Result<Size, Failure>
-    ensures { GivesWith result nodes.new (result_of (type_of levels (names_in scope.now)) (view value.now) nodes.old) }
+    ensures { GivesWith result nodes.new
+        (result_of (type_of levels (names_in scope.now)) (view value.now) nodes.old) }
 {
     let Some((ok, err)) = pair_items(value) else {
         return Err(fault_here(alloc));
@@ -214,7 +222,8 @@ fn read_parts(
     values: &[Value],
     nodes: &mut Seq<Node>,
 ) -> Result<Size, Failure>
-    ensures { GivesWith result nodes.new (tuple_from (type_of levels (names_in scope.now)) 0 (items_view values.now) nothing nodes.old) }
+    ensures { GivesWith result nodes.new (tuple_from (type_of levels (names_in scope.now)) 0
+        (items_view values.now) nothing nodes.old) }
 {
     let mut size = nothing();
     for (index, value) in values.iter().enumerate() {
@@ -233,7 +242,8 @@ fn read_tuple(
     value: &Value,
     nodes: &mut Seq<Node>,
 ) -> Result<Size, Failure>
-    ensures { GivesWith result nodes.new (tuple_of (type_of levels (names_in scope.now)) (view value.now) nodes.old) }
+    ensures { GivesWith result nodes.new
+        (tuple_of (type_of levels (names_in scope.now)) (view value.now) nodes.old) }
 {
     let values = some_items(alloc, value)?;
     let parts = read_parts(alloc, levels, scope, values, nodes)?;
@@ -250,7 +260,8 @@ fn read_field(
     value: &Value,
     nodes: &mut Seq<Node>,
 ) -> Result<(Text, Size), Failure>
-    ensures { GivesWith result nodes.new (field_of (type_of levels (names_in scope.now)) (view value.now) nodes.old) }
+    ensures { GivesWith result nodes.new
+        (field_of (type_of levels (names_in scope.now)) (view value.now) nodes.old) }
 {
     let Some((name, ty)) = pair_items(value) else {
         return Err(fault_here(alloc));
@@ -268,7 +279,8 @@ fn read_fields(
     values: &[Value],
     nodes: &mut Seq<Node>,
 ) -> Result<Size, Failure>
-    ensures { GivesWith result nodes.new (fields_from (type_of levels (names_in scope.now)) 0 (items_view values.now) [] nothing nodes.old) }
+    ensures { GivesWith result nodes.new (fields_from (type_of levels (names_in scope.now)) 0
+        (items_view values.now) [] nothing nodes.old) }
 {
     let mut names = Seq::new(alloc);
     let mut parts = nothing();
@@ -290,7 +302,8 @@ fn read_record(
     value: &Value,
     nodes: &mut Seq<Node>,
 ) -> Result<Size, Failure>
-    ensures { GivesWith result nodes.new (record_of (type_of levels (names_in scope.now)) (view value.now) nodes.old) }
+    ensures { GivesWith result nodes.new
+        (record_of (type_of levels (names_in scope.now)) (view value.now) nodes.old) }
 {
     let values = some_items(alloc, value)?;
     read_fields(alloc, levels, scope, values, nodes)
@@ -306,7 +319,8 @@ fn read_case(
     value: &Value,
     nodes: &mut Seq<Node>,
 ) -> Result<(Case, Size), Failure>
-    ensures { GivesWith result nodes.new (case_of (type_of levels (names_in scope.now)) (view value.now) nodes.old) }
+    ensures { GivesWith result nodes.new
+        (case_of (type_of levels (names_in scope.now)) (view value.now) nodes.old) }
 {
     let Some((name, ty)) = pair_items(value) else {
         return Err(fault_here(alloc));
@@ -325,7 +339,8 @@ fn read_cases(
     values: &[Value],
     nodes: &mut Seq<Node>,
 ) -> Result<Size, Failure>
-    ensures { GivesWith result nodes.new (cases_from (type_of levels (names_in scope.now)) 0 (items_view values.now) [] nothing nodes.old) }
+    ensures { GivesWith result nodes.new (cases_from (type_of levels (names_in scope.now)) 0
+        (items_view values.now) [] nothing nodes.old) }
 {
     let mut cases = Seq::new(alloc);
     let mut parts = nothing();
@@ -347,7 +362,8 @@ fn read_variant(
     value: &Value,
     nodes: &mut Seq<Node>,
 ) -> Result<Size, Failure>
-    ensures { GivesWith result nodes.new (variant_of (type_of levels (names_in scope.now)) (view value.now) nodes.old) }
+    ensures { GivesWith result nodes.new
+        (variant_of (type_of levels (names_in scope.now)) (view value.now) nodes.old) }
 {
     let values = some_items(alloc, value)?;
     read_cases(alloc, levels, scope, values, nodes)

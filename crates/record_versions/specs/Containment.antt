@@ -1,5 +1,5 @@
--- An interface that becomes another must be contained in that one: each of its types and functions by name, equal once all
--- references name the interfaces that theirs became.
+-- An interface that becomes another must be contained in that one: each of its types and functions
+-- by name, equal once all references name the interfaces that theirs became.
 use Rattle.std.specs.Prelude.{⊤, ℕ, Bool, true, false, ◌&&◌, List, [], ◌∷◌, Option, Some, None, Result, Ok, Err, if◌then◌else◌}
 use Rattle.std.specs.Map.{lookup}
 use Rattle.std.specs.Option.{option_map_or}

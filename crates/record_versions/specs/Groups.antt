@@ -1,5 +1,5 @@
--- Which imported interface becomes which: of those of one canonical id each becomes the one of greatest version. One that
--- is also exported is kept.
+-- Which imported interface becomes which: of those of one canonical id each becomes the one of
+-- greatest version. One that is also exported is kept.
 use Rattle.std.specs.Prelude.{ℕ, Bool, true, ◌||◌, List, [], ◌∷◌, ◌++◌, Option, Some, None, if◌then◌else◌}
 use Rattle.std.specs.Map.{lookup}
 use Rattle.std.specs.Str.{bytes_eq}

@@ -14,8 +14,9 @@ use Rattle.record_versions.specs.Reach.{no_reach}
 abbrev pub renames_where : Bool → Wit → Renames
 renames_where merging w = if merging then renames w else []
 
--- each interface that becomes another is contained in it, the imports are in an order in which each uses only those before
--- it, and no exported interface reaches an exported one through one that is only imported
+-- each interface that becomes another is contained in it, the imports are in an order in which each
+-- uses only those before it, and no exported interface reaches an exported one through one that is
+-- only imported
 unfoldable pub merged_by : Renames → Wit → Result Wit Failure
 merged_by rs w = do
   _ ← renames_are_valid rs w.interfaces rs

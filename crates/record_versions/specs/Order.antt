@@ -1,5 +1,5 @@
--- The imported interfaces in a new order: each time the first, in the old order, whose used interfaces are itself or taken.
--- The other imports follow in their order.
+-- The imported interfaces in a new order: each time the first, in the old order, whose used
+-- interfaces are itself or taken. The other imports follow in their order.
 use Rattle.std.specs.Prelude.{Bool, true, not, ◌&&◌, ◌||◌, List, [], ◌∷◌, ◌++◌, Option, Some, None, is_some, Result, Ok, Err, if◌then◌else◌}
 use Rattle.std.specs.Option.{option_map_or}
 use Rattle.std.specs.Map.{lookup}

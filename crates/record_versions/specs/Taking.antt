@@ -1,5 +1,5 @@
--- The new order in time linear in the uses: which interfaces are to be tried, and which wait until another one is taken.
--- (No standard covers this.)
+-- The new order in time linear in the uses: which interfaces are to be tried, and which wait until
+-- another one is taken. (No standard covers this.)
 use Rattle.std.specs.Prelude.{◌≡◌, Bool, true, false, ℕ, ◌<◌, ◌⊎◌, List, length, take, slice_index, nat_eq, Option, Some, None}
 use Rattle.std.specs.BTreeSet.{contains}
 use Rattle.std.specs.HashMap.{HashMap, get}
@@ -29,8 +29,8 @@ unfoldable pub IsAway : Taken → (InterfaceName → ℕ → Bool) → ℕ → W
 IsAway taken wait position w =
     (is_taken taken w.name ≡ true) ⊎ ((name : InterfaceName) × (wait name position ≡ true) × (is_taken taken name ≡ false) × Lacks name w)
 
--- each interface is to be tried, or taken, or waits for one that is not taken; and the uses of each that were checked are
--- itself or taken
+-- each interface is to be tried, or taken, or waits for one that is not taken; and the uses of each
+-- that were checked are itself or taken
 pub record IsKept (all : List Waiting) (taken : Taken) (to_try : ℕ → Bool) (wait : InterfaceName → ℕ → Bool) (checked : List ℕ) : Type 0 where
   pub counted : length checked ≡ length all
   pub to_try_below : (position : ℕ) → to_try position ≡ true → position < length all

@@ -118,7 +118,9 @@ fn is_contained(
     lesser: Option<&Interface>,
     greatest: Option<&Interface>,
 ) -> Result<bool, AllocError>
-    ensures { IfOk result (λ b. b ≡ is_contained renames.now (option_copied lesser.entry) (option_copied greatest.entry)) }
+    ensures { IfOk result (λ b. b
+        ≡ is_contained renames.now (option_copied lesser.entry)
+        (option_copied greatest.entry)) }
 {
     let Some(lesser) = lesser else {
         return Ok(true);
@@ -138,7 +140,8 @@ fn rename_is_valid(
     lesser: &InterfaceName,
     greatest: &InterfaceName,
 ) -> Result<bool, AllocError>
-    ensures { IfOk result (λ b. b ≡ rename_is_valid renames.now interfaces.now lesser.now greatest.now) }
+    ensures { IfOk result
+        (λ b. b ≡ rename_is_valid renames.now interfaces.now lesser.now greatest.now) }
 {
     is_contained(
         alloc,

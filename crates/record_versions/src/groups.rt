@@ -129,7 +129,9 @@ impl Greatest {
     }
 
     fn is_newest(&self, candidate: &Candidate) -> bool
-        ensures { result ≡ is_newest (lookup (bytes_eq candidate.now.compatible.canonical) self.now) candidate.now }
+        ensures { result
+            ≡ is_newest (lookup (bytes_eq candidate.now.compatible.canonical) self.now)
+            candidate.now }
     {
         match self.get(&candidate.compatible.canonical) {
             Some(other) => candidate.compatible.is_newer(&other.compatible),
@@ -178,7 +180,8 @@ fn add_rename(
     name: &InterfaceName,
     greatest: Option<&Candidate>,
 ) -> Result<(), AllocError>
-    ensures { OnOk result (renames.new ≡ with_rename exported.now renames.old name.now (option_copied greatest.entry)) }
+    ensures { OnOk result (renames.new
+        ≡ with_rename exported.now renames.old name.now (option_copied greatest.entry)) }
 {
     match greatest {
         Some(greatest) => {

@@ -48,7 +48,8 @@ fn waiting_interface(
     key: &ItemKey,
     name: &InterfaceName,
 ) -> Result<Seq<Waiting>, AllocError>
-    ensures { IfOk result (λ ws. ws ≡ waiting_item interfaces.now key.now (items.Interface name.now)) }
+    ensures { IfOk result
+        (λ ws. ws ≡ waiting_item interfaces.now key.now (items.Interface name.now)) }
 {
     let mut list = Seq::new(alloc);
     let uses = uses(alloc, interfaces, name)?;
@@ -79,7 +80,8 @@ fn put_taken(
     name: &InterfaceName,
     key: &ItemKey,
 ) -> Result<(), AllocError>
-    ensures { OnOk result (table.new ≡ with_first is_same_item table.old key.now (items.Interface name.now)) }
+    ensures { OnOk result
+        (table.new ≡ with_first is_same_item table.old key.now (items.Interface name.now)) }
 {
     let key = key.try_clone(alloc)?;
     table.insert_if_absent(key, Item::Interface(name.try_clone(alloc)?))
@@ -157,7 +159,8 @@ fn order(
 
 /// A world whose imports are in the new order; the refusal names this interface where there is none.
 fn put_in_order(alloc: Global, lesser: &InterfaceName, wit: Wit) -> Result<Wit, Failure>
-    ensures { Gives (λ w. w) result (in_order_by lesser.now wit (ordered wit.interfaces wit.imports)) }
+    ensures { Gives (λ w. w) result
+        (in_order_by lesser.now wit (ordered wit.interfaces wit.imports)) }
 {
     match order(alloc, &wit.interfaces, &wit.imports)? {
         Some(imports) => Ok(Wit {

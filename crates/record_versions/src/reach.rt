@@ -29,7 +29,8 @@ fn add_named(
     leading: &mut Interfaces,
     name: &InterfaceName,
 ) -> Result<(), AllocError>
-    ensures { OnOk result (leading.new ≡ with_named interfaces.now exported.now leading.old name.now) }
+    ensures { OnOk result
+        (leading.new ≡ with_named interfaces.now exported.now leading.old name.now) }
 {
     let names = uses(alloc, interfaces, name)?;
     if leads_any(exported, leading, names.as_slice()) {
@@ -46,7 +47,8 @@ fn add_leading(
     leading: &mut Interfaces,
     item: &Item,
 ) -> Result<(), AllocError>
-    ensures { OnOk result (leading.new ≡ with_leading interfaces.now exported.now leading.old item.now) }
+    ensures { OnOk result
+        (leading.new ≡ with_leading interfaces.now exported.now leading.old item.now) }
 {
     match item {
         Item::Interface(name) => add_named(alloc, interfaces, exported, leading, name),
@@ -94,7 +96,8 @@ fn check_item(
     leading: &Interfaces,
     item: &Item,
 ) -> Result<(), Failure>
-    ensures { Gives (λ _. tt) result (item_leads_not interfaces.now exported.now leading.now item.now) }
+    ensures { Gives (λ _. tt) result
+        (item_leads_not interfaces.now exported.now leading.now item.now) }
 {
     match item {
         Item::Interface(name) => {
@@ -113,7 +116,8 @@ fn check_items(
     leading: &Interfaces,
     exports: &Keyed<ItemKey, Item>,
 ) -> Result<(), Failure>
-    ensures { Gives (λ _. tt) result (items_lead_not interfaces.now exported.now leading.now exports.now) }
+    ensures { Gives (λ _. tt) result
+        (items_lead_not interfaces.now exported.now leading.now exports.now) }
 {
     for (_key, item) in exports.iter() {
         check_item(alloc, interfaces, exported, leading, item)?;

@@ -28,7 +28,11 @@ fn add_interface(
     name: &InterfaceName,
     interface: &Interface,
 ) -> Result<(), AllocError>
-    ensures { OnOk result (table.new ≡ (if is_removed renames.now name.now then table.old else with_first is_same_interface table.old name.now (renamed_interface renames.now interface.now))) }
+    ensures { OnOk result (table.new
+        ≡ (if is_removed renames.now name.now
+        then table.old
+        else with_first is_same_interface table.old name.now
+        (renamed_interface renames.now interface.now))) }
 {
     if renames.contains_key(name) {
         return Ok(());
@@ -58,7 +62,11 @@ fn add_item(
     key: &ItemKey,
     item: &Item,
 ) -> Result<(), AllocError>
-    ensures { OnOk result (table.new ≡ (if item_is_removed renames.now item.now then table.old else with_first is_same_item table.old key.now (renamed_item renames.now item.now))) }
+    ensures { OnOk result (table.new
+        ≡ (if item_is_removed renames.now item.now
+        then table.old
+        else with_first is_same_item table.old key.now
+        (renamed_item renames.now item.now))) }
 {
     if item_is_removed(renames, item) {
         return Ok(());

@@ -44,7 +44,9 @@ fn is_at_hand(taken: &Taken, own: &InterfaceName, name: &InterfaceName) -> bool
 fn first_lacking(taken: &Taken, waiting: &Waiting, from: usize) -> usize
     requires { all_taken taken.now waiting.now.name (take from waiting.now.uses) ≡ true }
     ensures known { all_taken taken.now waiting.now.name (take result waiting.now.uses) ≡ true }
-    ensures lacking { (name : InterfaceName) → slice_get waiting.now.uses result ≡ Some name → (is_taken taken.now name ≡ false) × Lacks name waiting.now }
+    ensures lacking { (name : InterfaceName)
+        → slice_get waiting.now.uses result ≡ Some name
+        → (is_taken taken.now name ≡ false) × Lacks name waiting.now }
 {
     let uses = waiting.uses.as_slice();
     for position in from..uses.len() {
@@ -58,7 +60,9 @@ fn first_lacking(taken: &Taken, waiting: &Waiting, from: usize) -> usize
 /// Removes the positions of those that wait for this one.
 fn unpark(alloc: Global, parked: &mut Parked, name: &InterfaceName) -> Seq<usize>
     ensures positions { (q : ℕ) → list_any (nat_eq q) result ≡ waits parked.old name.now q }
-    ensures waits { (m : InterfaceName) (q : ℕ) → waits parked.new m q ≡ (if is_same_interface name.now m then false else waits parked.old m q) }
+    ensures waits { (m : InterfaceName) (q : ℕ)
+        → waits parked.new m q
+        ≡ (if is_same_interface name.now m then false else waits parked.old m q) }
 {
     match parked.remove(name) {
         Some(positions) => positions,
@@ -73,7 +77,9 @@ fn park(
     name: &InterfaceName,
     position: usize,
 ) -> Result<(), AllocError>
-    ensures { OnOk result ((m : InterfaceName) (q : ℕ) → waits parked.new m q ≡ ((is_same_interface name.now m && nat_eq q position) || waits parked.old m q)) }
+    ensures { OnOk result ((m : InterfaceName) (q : ℕ)
+        → waits parked.new m q
+        ≡ ((is_same_interface name.now m && nat_eq q position) || waits parked.old m q)) }
 {
     let name_copy = name.try_clone(alloc)?;
     let mut positions = unpark(alloc, parked, name);
@@ -84,7 +90,9 @@ fn park(
 
 /// Adds these to the ones to be tried.
 fn try_all(to_try: &mut BTreeSet<usize>, positions: &[usize]) -> Result<(), AllocError>
-    ensures { OnOk result ((q : ℕ) → contains nat_cmp to_try.new q ≡ (contains nat_cmp to_try.old q || list_any (nat_eq q) positions.now)) }
+    ensures { OnOk result ((q : ℕ)
+        → contains nat_cmp to_try.new q
+        ≡ (contains nat_cmp to_try.old q || list_any (nat_eq q) positions.now)) }
 {
     for position in positions {
         to_try.insert(*position)?;
@@ -99,8 +107,12 @@ fn wake(
     parked: &mut Parked,
     name: &InterfaceName,
 ) -> Result<(), AllocError>
-    ensures to_try { OnOk result ((q : ℕ) → contains nat_cmp to_try.new q ≡ (contains nat_cmp to_try.old q || waits parked.old name.now q)) }
-    ensures waits { OnOk result ((m : InterfaceName) (q : ℕ) → waits parked.new m q ≡ (if is_same_interface name.now m then false else waits parked.old m q)) }
+    ensures to_try { OnOk result ((q : ℕ)
+        → contains nat_cmp to_try.new q
+        ≡ (contains nat_cmp to_try.old q || waits parked.old name.now q)) }
+    ensures waits { OnOk result ((m : InterfaceName) (q : ℕ)
+        → waits parked.new m q
+        ≡ (if is_same_interface name.now m then false else waits parked.old m q)) }
 {
     let positions = unpark(alloc, parked, name);
     try_all(to_try, positions.as_slice())
@@ -111,7 +123,8 @@ impl Trials {
     fn new(alloc: Global, count: usize) -> Result<Trials, AllocError>
         ensures checked { IfOk result (λ t. t.checked.items ≡ replicate count 0) }
         ensures to_try { IfOk result (λ t. (q : ℕ) → contains nat_cmp t.to_try q ≡ nat_lt q count) }
-        ensures waits { IfOk result (λ t. (m : InterfaceName) (q : ℕ) → waits t.parked m q ≡ false) }
+        ensures waits { IfOk result
+            (λ t. (m : InterfaceName) (q : ℕ) → waits t.parked m q ≡ false) }
     {
         let mut to_try = BTreeSet::new(alloc);
         for position in 0..count {
@@ -136,7 +149,10 @@ impl Trials {
         requires below { position < length all.now }
         ensures kept { OnOk result (Keeps all.now taken.now self.new) }
         ensures same { OnOk result (self.new.to_try ≡ self.old.to_try) }
-        ensures ready { IfOk result (λ ready. (w : Waiting) → slice_get all.now position ≡ Some w → MatchBool ready (is_ready taken.now w ≡ true) (IsAway taken.now (waits self.new.parked) position w)) }
+        ensures ready { IfOk result (λ ready. (w : Waiting)
+            → slice_get all.now position ≡ Some w
+            → MatchBool ready (is_ready taken.now w ≡ true)
+            (IsAway taken.now (waits self.new.parked) position w)) }
     {
         let waiting = &all[position];
         if taken.contains_key(&waiting.name) {
@@ -182,7 +198,8 @@ impl Trials {
         waiting: &Waiting,
     ) -> Result<(), AllocError>
         ensures taken { OnOk result (taken.new ≡ with_taken taken.old waiting.now) }
-        ensures kept { OnOk result ((all : List Waiting) → Keeps all taken.old self.old → Keeps all taken.new self.new) }
+        ensures kept { OnOk result
+            ((all : List Waiting) → Keeps all taken.old self.old → Keeps all taken.new self.new) }
     {
         wake(alloc, &mut self.to_try, &mut self.parked, &waiting.name)?;
         let name = waiting.name.try_clone(alloc)?;
@@ -200,7 +217,8 @@ fn take_each(
     taken: &mut Taken,
 ) -> Result<bool, AllocError>
     requires { Keeps all.now taken.old trials.old }
-    ensures { IfOk result (λ whole. (if whole then Some taken.new else None) ≡ taken_anew all.now taken.old all.now) }
+    ensures { IfOk result
+        (λ whole. (if whole then Some taken.new else None) ≡ taken_anew all.now taken.old all.now) }
 {
     for _waiting in all {
         match trials.first_ready(alloc, taken, all)? {

@@ -1,6 +1,6 @@
--- The items of a world in a record: `imports` and `exports`, lists of {"func": F}, of {"type": {"name", "type"}} (imports
--- only), of {"interface": i} for an interface with an id, and of {"name", "interface": i} for one without, where i is an
--- index in the record's `interfaces`.
+-- The items of a world in a record: `imports` and `exports`, lists of {"func": F}, of {"type":
+-- {"name", "type"}} (imports only), of {"interface": i} for an interface with an id, and of
+-- {"name", "interface": i} for one without, where i is an index in the record's `interfaces`.
 use Rattle.std.specs.Prelude.{ℕ, suc, nat_eq, Bool, true, List, [], ◌∷◌, ◌++◌, codes, Option, Some, None, is_some, ok_or, option_and_then, Result, Ok, Err, if◌then◌else◌}
 use Rattle.std.specs.List.{list_any, slice_get}
 use Rattle.std.specs.Fmt.{decimal}

@@ -1,5 +1,6 @@
--- Which interfaces the items of a world may name: an imported interface itself and those imported before it; an exported
--- interface those that are in the world; the other items those that are imported.
+-- Which interfaces the items of a world may name: an imported interface itself and those imported
+-- before it; an exported interface those that are in the world; the other items those that are
+-- imported.
 use Rattle.std.specs.Prelude.{⊤, ℕ, suc, Bool, true, ◌&&◌, ◌||◌, List, [], ◌∷◌, codes, Option, Some, None, is_some, Result, Ok, Err, if◌then◌else◌}
 use Rattle.std.specs.List.{list_all}
 use Rattle.std.specs.Map.{lookup}

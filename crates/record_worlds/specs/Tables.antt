@@ -1,5 +1,5 @@
--- Interfaces and items of a world by name: interfaces of one id are equal, and no key and no interface occurs twice on a
--- side.
+-- Interfaces and items of a world by name: interfaces of one id are equal, and no key and no
+-- interface occurs twice on a side.
 use Rattle.std.specs.Prelude.{⊤, ℕ, suc, Bool, false, List, [], ◌∷◌, ◌++◌, codes, Option, Some, None, is_some, Result, Ok, Err, if◌then◌else◌}
 use Rattle.std.specs.Map.{lookup}
 use Rattle.std.specs.Fmt.{decimal}

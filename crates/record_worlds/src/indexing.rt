@@ -66,7 +66,8 @@ pub(crate) fn index_interfaces(
     exported: &InterfaceSet,
     interfaces: &[ReadInterface],
 ) -> Result<Seq<IndexedInterface>, AllocError>
-    ensures { IfOk result (λ p. p ≡ indexed_from names.now imported.now exported.now 0 interfaces.now) }
+    ensures { IfOk result
+        (λ p. p ≡ indexed_from names.now imported.now exported.now 0 interfaces.now) }
 {
     let mut all = Seq::new(alloc);
     for (index, read) in interfaces.iter().enumerate() {

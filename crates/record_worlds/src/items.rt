@@ -291,7 +291,8 @@ fn add_value(
     index: usize,
     value: &Value,
 ) -> Result<(), Failure>
-    ensures { Gives (λ _. read.new) result (with_read side interfaces.now index read.old (view value.now)) }
+    ensures { Gives (λ _. read.new) result
+        (with_read side interfaces.now index read.old (view value.now)) }
 {
     let item = read_item(alloc, side, interfaces, &read.types, value);
     let item = under_index(alloc, index, item)?;
@@ -299,7 +300,8 @@ fn add_value(
     Ok(read.items.push(item)?)
 }
 
-/// The items of a list; these types of the world are known before it. The JSON of each is given back before the next is read.
+/// The items of a list; these types of the world are known before it. The JSON of each is given
+/// back before the next is read.
 fn read_values(
     alloc: Global,
     side: Side,
@@ -307,7 +309,8 @@ fn read_values(
     types: Keyed<Text, TypeFacts>,
     values: Vec<Value>,
 ) -> Result<ReadItems, Failure>
-    ensures { Gives (λ r. r) result (items_from side interfaces.now 0 (record { items = []; types = types }) (items_view values.items)) }
+    ensures { Gives (λ r. r) result (items_from side interfaces.now 0
+        (record { items = []; types = types }) (items_view values.items)) }
 {
     let mut read = ReadItems {
         items: Seq::new(alloc),
@@ -347,7 +350,8 @@ fn items_member(
     key: &str,
     member: Option<Value>,
 ) -> Result<ReadItems, Failure>
-    ensures { Gives (λ r. r) result (items_if side interfaces.now types key.now (option_map view member)) }
+    ensures { Gives (λ r. r) result
+        (items_if side interfaces.now types key.now (option_map view member)) }
 {
     match member {
         Some(member) => {
@@ -403,7 +407,8 @@ fn read_sides(
     imports: Option<Value>,
     exports: Option<Value>,
 ) -> Result<WorldItems, Failure>
-    ensures { Gives (λ w. w) result (sides_read interfaces (option_map view imports) (option_map view exports)) }
+    ensures { Gives (λ w. w) result
+        (sides_read interfaces (option_map view imports) (option_map view exports)) }
 {
     let read = interfaces.as_slice();
     let imports = items_member(

@@ -125,7 +125,8 @@ fn check_imports(
     imported: &InterfaceSet,
     entries: &[Entry],
 ) -> Result<(), Failure>
-    ensures { Gives (λ x. x) result (imports_in_scope interfaces.now imported.now 0 [] entries.now) }
+    ensures { Gives (λ x. x) result
+        (imports_in_scope interfaces.now imported.now 0 [] entries.now) }
 {
     let mut before = Keyed::new(alloc);
     for (index, entry) in entries.iter().enumerate() {
@@ -160,7 +161,8 @@ fn check_exports(
     exported: &InterfaceSet,
     entries: &[Entry],
 ) -> Result<(), Failure>
-    ensures { Gives (λ x. x) result (exports_in_scope interfaces.now imported.now exported.now 0 entries.now) }
+    ensures { Gives (λ x. x) result
+        (exports_in_scope interfaces.now imported.now exported.now 0 entries.now) }
 {
     for (index, entry) in entries.iter().enumerate() {
         if !export_in_scope(interfaces, imported, exported, &entry.item) {
@@ -180,7 +182,8 @@ pub(crate) fn check_rules(
     imports: &[Entry],
     exports: &[Entry],
 ) -> Result<(), Failure>
-    ensures { Gives (λ x. x) result (rules_hold interfaces.now imported.now exported.now imports.now exports.now) }
+    ensures { Gives (λ x. x) result
+        (rules_hold interfaces.now imported.now exported.now imports.now exports.now) }
 {
     let checked = check_imports(alloc, interfaces, imported, imports);
     under(alloc, "imports", checked)?;

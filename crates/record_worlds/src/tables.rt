@@ -51,7 +51,8 @@ fn add_same(
     id: &SharedText,
     interface: Interface,
 ) -> Result<(), Failure>
-    ensures { Gives (λ _. table.new) result (with_same ⟦<Interface as PartialEq>⟧.eq table.old id.now interface) }
+    ensures { Gives (λ _. table.new) result
+        (with_same ⟦<Interface as PartialEq>⟧.eq table.old id.now interface) }
 {
     let name = InterfaceName::Id(id.try_clone(alloc)?);
     match table.get(&name) {
@@ -78,7 +79,8 @@ fn add_interface(
     name: InterfaceName,
     interface: Interface,
 ) -> Result<(), Failure>
-    ensures { Gives (λ _. table.new) result (with_interface ⟦<Interface as PartialEq>⟧.eq table.old name interface) }
+    ensures { Gives (λ _. table.new) result
+        (with_interface ⟦<Interface as PartialEq>⟧.eq table.old name interface) }
 {
     match &name {
         InterfaceName::Id(id) => add_same(alloc, table, id, interface),
@@ -95,7 +97,8 @@ fn add_read(
     index: usize,
     read: &ReadInterface,
 ) -> Result<(), Failure>
-    ensures { Gives (λ _. table.new) result (with_interface ⟦<Interface as PartialEq>⟧.eq table.old (renamed names.now (index_name index)) (renamed_content names.now read.now)) }
+    ensures { Gives (λ _. table.new) result (with_interface ⟦<Interface as PartialEq>⟧.eq table.old
+        (renamed names.now (index_name index)) (renamed_content names.now read.now)) }
 {
     let name = rename_name(alloc, names, &index_name(index))?;
     let interface = rename_content(alloc, names, read)?;
@@ -108,7 +111,8 @@ pub(crate) fn table_interfaces(
     names: &Names,
     interfaces: &[ReadInterface],
 ) -> Result<Interfaces, Failure>
-    ensures { Gives (λ t. t) result (interfaces_from ⟦<Interface as PartialEq>⟧.eq names.now 0 [] interfaces.now) }
+    ensures { Gives (λ t. t) result
+        (interfaces_from ⟦<Interface as PartialEq>⟧.eq names.now 0 [] interfaces.now) }
 {
     let mut table = Keyed::new(alloc);
     for (index, read) in interfaces.iter().enumerate() {
@@ -176,7 +180,8 @@ fn add_entry(
 
 /// The items of a side by key; faults are reported below its list.
 fn table_entries(alloc: Global, entries: &[Entry]) -> Result<SideTable, Failure>
-    ensures { Gives (λ t. t) result (side_from 0 (record { items = []; interfaces = [] }) entries.now) }
+    ensures { Gives (λ t. t) result
+        (side_from 0 (record { items = []; interfaces = [] }) entries.now) }
 {
     let mut table = SideTable {
         items: Keyed::new(alloc),

@@ -69,7 +69,9 @@ fn index_sides(
     all: &[ReadInterface],
     sides: &Sides,
 ) -> Result<Seq<IndexedInterface>, AllocError>
-    ensures { IfOk result (λ p. p ≡ indexed_from names.now sides.now.imports.interfaces sides.now.exports.interfaces 0 all.now) }
+    ensures { IfOk result (λ p. p
+        ≡ indexed_from names.now sides.now.imports.interfaces sides.now.exports.interfaces 0
+        all.now) }
 {
     let imported = &sides.imports.interfaces;
     let exported = &sides.exports.interfaces;
@@ -116,7 +118,8 @@ fn build_world(
 /// The world of these items, in which interfaces have these names.
 #[tactic(auto, unfolding(crate::specs::Worlds::named_world_of))]
 fn named_world(alloc: Global, names: &Names, read: &WorldItems) -> Result<RecordWorld, Failure>
-    ensures { Gives (λ w. w) result (named_world_of ⟦<Interface as PartialEq>⟧.eq names.now read.now) }
+    ensures { Gives (λ w. w) result
+        (named_world_of ⟦<Interface as PartialEq>⟧.eq names.now read.now) }
 {
     let all = read.interfaces.as_slice();
     let table = table_interfaces(alloc, names, all)?;

@@ -1,9 +1,10 @@
 -- The record, version 1: what a text says of a core module and its component.
 --
--- An object with the members `version` (1), `encoding` (the string encoding of all functions: "utf8", "utf16" or "compact",
--- and "utf8" where it is left out), `context-slot-1` (whether the task's second slot of storage is free), `interfaces`,
--- `imports` and `exports` (the world), `core-imports` (a list of {"module", "field", "role"}) and `core-exports` (a list of
--- {"field", "role"}). All but `version` may be left out.
+-- An object with the members `version` (1), `encoding` (the string encoding of all functions:
+-- "utf8", "utf16" or "compact", and "utf8" where it is left out), `context-slot-1` (whether the
+-- task's second slot of storage is free), `interfaces`, `imports` and `exports` (the world),
+-- `core-imports` (a list of {"module", "field", "role"}) and `core-exports` (a list of {"field",
+-- "role"}). All but `version` may be left out.
 use Rattle.std.specs.Prelude.{⊤, ℕ, ◌==◌, List, [], ◌∷◌, codes, Bool, Option, Some, None, option_and_then, Result, Ok, Err, if◌then◌else◌}
 use Rattle.serde_json.specs.Data.{Data}
 use Rattle.serde_json.specs.Find.{get, as_number, as_u64}

@@ -66,7 +66,14 @@ fn with_roles(
     import_roles: Seq<Assigned<ImportName, ImportRole>>,
     export_roles: Seq<Assigned<Text, ExportRole>>,
 ) -> Record
-    ensures { result ≡ record { wit = world.wit; encoding = encoding; context_slot_1 = context_slot_1; import_roles = import_roles; export_roles = export_roles } }
+    ensures { result
+        ≡ record {
+          wit = world.wit;
+          encoding = encoding;
+          context_slot_1 = context_slot_1;
+          import_roles = import_roles;
+          export_roles = export_roles;
+        } }
 {
     Record {
         wit: world.into_wit(),
@@ -87,7 +94,8 @@ fn add_world(
     core_exports: Option<Value>,
     world: RecordWorld,
 ) -> Result<Record, Failure>
-    ensures { Gives (λ r. r) result (with_world encoding context_slot_1 (option_map view core_imports) (option_map view core_exports) world) }
+    ensures { Gives (λ r. r) result (with_world encoding context_slot_1
+        (option_map view core_imports) (option_map view core_exports) world) }
 {
     let import_roles = read_core_imports(alloc, &world, core_imports)?;
     let export_roles = read_core_exports(alloc, &world, core_exports)?;
@@ -104,9 +112,12 @@ struct Parts {
 
 /// Takes the roles out of a record, so that its world can be given back before they are read.
 fn parts_of(value: Value) -> Parts
-    ensures imports { option_map view result.core_imports ≡ get (codes "core-imports") (view value) }
-    ensures exports { option_map view result.core_exports ≡ get (codes "core-exports") (view value) }
-    ensures world { world_of same_interface (view result.world) ≡ world_of same_interface (view value) }
+    ensures imports { option_map view result.core_imports
+        ≡ get (codes "core-imports") (view value) }
+    ensures exports { option_map view result.core_exports
+        ≡ get (codes "core-exports") (view value) }
+    ensures world { world_of same_interface (view result.world)
+        ≡ world_of same_interface (view value) }
 {
     let mut value = value;
     let core_imports = take_member(&mut value, "core-imports");
@@ -125,7 +136,9 @@ fn read_parts(
     context_slot_1: bool,
     parts: Parts,
 ) -> Result<Record, Failure>
-    ensures { Gives (λ r. r) result (with_parts encoding context_slot_1 (option_map view parts.core_imports) (option_map view parts.core_exports) (world_of same_interface (view parts.world))) }
+    ensures { Gives (λ r. r) result (with_parts encoding context_slot_1
+        (option_map view parts.core_imports) (option_map view parts.core_exports)
+        (world_of same_interface (view parts.world))) }
 {
     let Parts {
         core_imports,

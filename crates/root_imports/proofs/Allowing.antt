@@ -1,5 +1,6 @@
--- Which types and functions of a world may be defined at the root of its component: all that they are made of is in the tables, or
--- is exported by an instance of an interface, or belongs to the exported interface whose types are defined.
+-- Which types and functions of a world may be defined at the root of its component: all that they
+-- are made of is in the tables, or is exported by an instance of an interface, or belongs to the
+-- exported interface whose types are defined.
 use Rattle.std.proofs.Common.{◌≡◌, ◌<◌, ◌||◌, arith, ℕ, suc, true, false, List, [], ◌∷◌, length, map, refl, Option, Some, None, Contains, inl, inr, subst}
 use Rattle.std.specs.List.{AllByRecursion}
 use Rattle.std.specs.Prelude.{nat_lt}

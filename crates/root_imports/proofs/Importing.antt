@@ -1,5 +1,5 @@
--- The types of the world, and the root functions that imports of main use: all of them are imported, in the order of the
--- world.
+-- The types of the world, and the root functions that imports of main use: all of them are
+-- imported, in the order of the world.
 use Rattle.std.proofs.Common.{if◌then◌else◌, ◌≡◌, ◌∙◌, ◌+◌, ◌<◌, ◌≤◌, ◌==◌, inl, inr, suc, length, length-append, add-zero, arith, zero-add, Some, ℕ, Bool, true, false, ◌||◌, List, [], ◌∷◌, ◌++◌, refl, sym, ap, ap₂, subst, append_assoc, append-nil, map, filter, IsTrue, IsSome, Contains}
 use Rattle.std.proofs.lemmas.Slice.Eq.{bytes_eq-Decides}
 use Rattle.std.proofs.lemmas.Option.{slice_get-map}
@@ -69,7 +69,7 @@ role_is_imported w text (imports.MainModuleMemory type) same h = cc
 role_is_imported w text (imports.MainModuleExport name kind) same h = cc
 role_is_imported w text (imports.AdapterExport adapter name type) same h = cc
 role_is_imported w text (imports.Item item) same h = cc
-role_is_imported w text role same h = absurd h
+role_is_imported w text role same h = cc
 
 field_is_imported : (w : ComponentWorld) (text : List ℕ) (fs : List (List ℕ × Import)) → AllByRecursion (λ f. IsImportRole w f.1) fs → is_any_import text fs ≡ true → IsWorldImport w text
 field_is_imported w text [] h e = cc
@@ -289,8 +289,8 @@ imports_found w old new functions valid h = record {
 abbrev indexes : List (List ℕ × TypeId) → List ℕ
 indexes ts = map (λ t. t.1.index) ts
 
--- the items of the world that were passed so far, and the imports of their types: those are below `next`, and those that
--- are left aren't
+-- the items of the world that were passed so far, and the imports of their types: those are below
+-- `next`, and those that are left aren't
 pub record TypesSoFar (w : ComponentWorld) (old new : Built) (next : ℕ) (rest : List (WorldKey × WorldItem)) : Type 0 where
   pub done : List (WorldKey × WorldItem)
   pub split : done ++ rest ≡ (items_of w).imports

@@ -1,5 +1,5 @@
--- The types that an exported interface lists: where they are, and that the root may forget them; and that no type of which one may be
--- made is a primitive type.
+-- The types that an exported interface lists: where they are, and that the root may forget them;
+-- and that no type of which one may be made is a primitive type.
 use Rattle.std.proofs.Common.{◌≡◌, ◌∙◌, ℕ, Bool, true, false, true≢false, cond, List, [], ◌∷◌, map, Option, Some, None, IsSome, Contains, refl, sym, subst}
 use Rattle.std.specs.List.{AllByRecursion}
 use Rattle.std.specs.Map.{lookup}

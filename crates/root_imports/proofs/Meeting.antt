@@ -233,7 +233,8 @@ none_of_left w id old new j h own other = by (is_met w new j) refl
 
 -- ---- what may be imported
 
--- where an instance of the exported interface is found, a type that may be imported of the interface has a name and belongs to it
+-- where an instance of the exported interface is found, a type that may be imported of the
+-- interface has a name and belongs to it
 pub may_parts : (w : ComponentWorld) (met : MetTypes) (id : InterfaceId) (t : TypeId) → (is_one_of (needed_types w id) t.index ≡ true → is_named_of w.resolve.types id t.index ≡ true) → (is_one_of (needed_types w id) t.index || is_exported_type w met id t) ≡ true → is_named_of w.resolve.types id t.index ≡ true
 may_parts w met id t needed e = elim (either_of (is_one_of (needed_types w id) t.index) (is_exported_type w met id t) e) [
   | inl one ↦ needed one

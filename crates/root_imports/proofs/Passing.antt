@@ -62,8 +62,8 @@ met_next w met id j order e apart = elim (met_cases w (record met { last = Some 
         let other : (j.index ≡ id.index) → ⊥ = λ same. true≢false (sym ((Decides-eqb j.index id.index).1 same) ∙ apart) in
         and_both (nat_lt j.index (next_of met.last)) (is_imported_type w j) (lt-ltb j.index (next_of met.last) (order.earlier j.index (smaller j.index id.index (ltb-true j.index (suc id.index) both.0) other) c)) both.1
 
--- Tables that are right, where other types are at hand: each that is to be in the tables was to be before, or is there now, and
--- the instances of exported interfaces are known.
+-- Tables that are right, where other types are at hand: each that is to be in the tables was to be
+-- before, or is there now, and the instances of exported interfaces are known.
 pub tables_for : (w : ComponentWorld) (old new : MetTypes) (instances : List (InterfaceId × ℕ)) (ds : List Def) (maps : TypeEncodingMaps) → ((j : TypeId) → is_met w new j ≡ true → HasIndex maps j) → FindsExports w ds new.exported →
     AreTablesRight w old instances ds maps → AreTablesRight w new instances ds maps
 unfolding tree_in

@@ -33,7 +33,8 @@ pub record IsRootImport (w : ComponentWorld) (ds : List Def) (index : ℕ) (text
   pub typed : IsTypeOf w (OfRoot text) type
   pub is : IsImportedFunction ds index origin type
 
--- a function of an exported interface; or, where no interface is given, one at the root that core imports use, or that is exported
+-- a function of an exported interface; or, where no interface is given, one at the root that core
+-- imports use, or that is exported
 abbrev pub IsNeededFunction : ComponentWorld → Option InterfaceId → Function → Type 0
 IsNeededFunction w (Some id) f = IsExportedFunction w (Some id) f
 IsNeededFunction w None f = ((name : List ℕ) × IsUsedFunction w name f) ⊎ IsExportedFunction w None f

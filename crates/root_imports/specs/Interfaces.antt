@@ -1,4 +1,5 @@
--- What is known of the interfaces that were imported, and of those that were exported. (The rules are this project's own.)
+-- What is known of the interfaces that were imported, and of those that were exported. (The rules
+-- are this project's own.)
 use Rattle.std.specs.Prelude.{◌≡◌, ◌≢◌, ℕ, true, List, [], Some, slice_get, is_some}
 use Rattle.std.specs.List.{AllByRecursion, list_any}
 use Rattle.std.specs.Map.{lookup}

@@ -78,7 +78,8 @@ is_exported_type w met other id = has_instance met other && is_named_of w.resolv
 abbrev pub is_at_hand : MetTypes → InterfaceId → Bool
 is_at_hand met other = has_types met other || has_instance met other
 
--- The types of the exported interfaces that this one uses are at hand, and its own resources below this number are in the tables.
+-- The types of the exported interfaces that this one uses are at hand, and its own resources below
+-- this number are in the tables.
 pub record IsSupplied (w : ComponentWorld) (met : MetTypes) (id : InterfaceId) (bound : ℕ) : Type 0 where
   pub uses : AllByRecursion (λ other. is_at_hand met other ≡ true) (used_exports w id)
   pub resources : (n : ℕ) → n < bound → interface_at w.resolve.types n ≡ Some id → is_resource (kind_at w.resolve.types n) ≡ true → is_met w met (record { index = n }) ≡ true
@@ -104,7 +105,8 @@ pub record IsNextOwn (w : ComponentWorld) (met : MetTypes) (t : TypeId) : Type 0
 pub record AreAllMet (w : ComponentWorld) (met : MetTypes) (id : InterfaceId) : Type 0 where
   pub each : (n : ℕ) → is_named_of w.resolve.types id n ≡ true → is_met w met (record { index = n }) ≡ true
 
--- the types of an interface are not known to be in the tables any more, nor those of one whose types were entered one after the other
+-- the types of an interface are not known to be in the tables any more, nor those of one whose
+-- types were entered one after the other
 pub record Leaves (id : InterfaceId) (old new : MetTypes) : Type 0 where
   pub last : new.last ≡ old.last
   pub own : new.own ≡ None

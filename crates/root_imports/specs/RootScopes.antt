@@ -29,9 +29,10 @@ use Rattle.wit_types.specs.Settings.{Setting}
 use Rattle.wit_types.specs.Maps.{Faithful}
 use Rattle.wit_types.specs.declared.maps.TypeEncodingMaps.{TypeEncodingMaps}
 
--- What definitions of types at the root take as given, where these types are at hand. The types of the world get their names where
--- they are imported, and not while others are defined: so nothing is exported there. What is imported is a type that an instance of an
--- interface exports. The types of one exported interface may be defined, where one is given.
+-- What definitions of types at the root take as given, where these types are at hand. The types of
+-- the world get their names where they are imported, and not while others are defined: so nothing
+-- is exported there. What is imported is a type that an instance of an interface exports. The types
+-- of one exported interface may be defined, where one is given.
 abbrev pub root_setting : ComponentWorld → Option InterfaceId → MetTypes → Setting
 root_setting w interface met =
     record {

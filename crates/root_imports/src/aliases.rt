@@ -31,14 +31,18 @@ fn type_name(world: &ComponentWorld, id: TypeId) -> &Text
 }
 
 impl<'a, W: HasWorld> RootScope<'a, W> {
-    /// Adds an alias of a type that the instance of an imported interface exports, and returns its index. Each call adds one.
+    /// Adds an alias of a type that the instance of an imported interface exports, and returns its
+    /// index. Each call adds one.
     pub fn alias_type(&mut self, interface: InterfaceId, id: TypeId) -> Result<u32, BuildFault>
-        requires finds { FindsInterfaces (W.world self.old.world.now) self.old.items.defs self.old.instances }
+        requires finds { FindsInterfaces (W.world self.old.world.now) self.old.items.defs
+            self.old.instances }
         requires found { IsSome (lookup (same_id.eq-value.it interface) self.old.instances) }
-        requires needed { is_one_of (needed_types (W.world self.old.world.now) interface) id.index ≡ true }
+        requires needed { is_one_of (needed_types (W.world self.old.world.now) interface) id.index
+            ≡ true }
         ensures same { self.new ≡ record self.old { items = self.new.items } }
         ensures grows { RootGrows (W.world self.old.world.now) self.old.items self.new.items }
-        ensures makes { Makes (scope_of self.old.items.defs) (scope_of self.new.items.defs) result (type_of_world (W.world self.old.world.now) id) }
+        ensures makes { Makes (scope_of self.old.items.defs) (scope_of self.new.items.defs) result
+            (type_of_world (W.world self.old.world.now) id) }
         ensures cause { IfErr result (IsCause is_full self.new.items.defs) }
     {
         let world = self.world;
@@ -48,18 +52,22 @@ impl<'a, W: HasWorld> RootScope<'a, W> {
         Ok(index)
     }
 
-    /// Adds an alias of a type that the instance of an exported interface exports, and returns its index. Each call adds one.
+    /// Adds an alias of a type that the instance of an exported interface exports, and returns its
+    /// index. Each call adds one.
     pub(crate) fn alias_exported_type(
         &mut self,
         interface: InterfaceId,
         id: TypeId,
     ) -> Result<u32, BuildFault>
-        requires finds { FindsExports (W.world self.old.world.now) self.old.items.defs self.old.met.exported }
+        requires finds { FindsExports (W.world self.old.world.now) self.old.items.defs
+            self.old.met.exported }
         requires found { has_instance self.old.met interface ≡ true }
-        requires named { is_named_of (W.world self.old.world.now).resolve.types interface id.index ≡ true }
+        requires named { is_named_of (W.world self.old.world.now).resolve.types interface id.index
+            ≡ true }
         ensures same { self.new ≡ record self.old { items = self.new.items } }
         ensures grows { RootGrows (W.world self.old.world.now) self.old.items self.new.items }
-        ensures makes { Makes (scope_of self.old.items.defs) (scope_of self.new.items.defs) result (type_of_world (W.world self.old.world.now) id) }
+        ensures makes { Makes (scope_of self.old.items.defs) (scope_of self.new.items.defs) result
+            (type_of_world (W.world self.old.world.now) id) }
         ensures cause { IfErr result (IsCause is_full self.new.items.defs) }
     {
         let world = self.world;

@@ -1,5 +1,5 @@
-//! The types of exported interfaces, which are defined at the root before their interface is exported, and forgotten then: from then on
-//! they are found in the instance that exports them.
+//! The types of exported interfaces, which are defined at the root before their interface is
+//! exported, and forgotten then: from then on they are found in the instance that exports them.
 
 ghost use Rattle.std.specs.Prelude.{◌≡◌, ◌<◌, suc, length, map, IfOk, IfErr, OnOk, OnErr, Some};
 ghost use Rattle.std.specs.List.{AllByRecursion, IsDistinct};
@@ -78,22 +78,27 @@ fn forget_in(maps: &mut TypeEncodingMaps, resolve: &Resolve, id: TypeId)
 }
 
 impl RootScope<'_, ComponentWorld> {
-    /// The index of a type with a name of which an exported interface may be made. It is defined, where it is not yet, with all
-    /// that it is made of; a type of another interface is an alias of what the instance of that interface exports.
+    /// The index of a type with a name of which an exported interface may be made. It is defined,
+    /// where it is not yet, with all that it is made of; a type of another interface is an alias of
+    /// what the instance of that interface exports.
     ///
-    /// Refused when out of memory, and where a space would have more than 2^32 - 1 items. What was defined until then stays.
+    /// Refused when out of memory, and where a space would have more than 2^32 - 1 items. What was
+    /// defined until then stays.
     pub fn exported_type(&mut self, interface: InterfaceId, id: TypeId) -> Result<u32, BuildFault>
         requires valid { IsEncodable self.old.world.now }
         requires usable { IsUsableType self.old.world.now interface id }
         requires supplied { IsSupplied self.old.world.now self.old.met interface (suc id.index) }
-        requires tables { AreTablesRight self.old.world.now self.old.met self.old.instances self.old.items.defs self.old.maps }
-        ensures denotes { IfOk result (λ index. Denotes (scope_of self.new.items.defs) index (type_of_world self.old.world.now id)) }
+        requires tables { AreTablesRight self.old.world.now self.old.met self.old.instances
+            self.old.items.defs self.old.maps }
+        ensures denotes { IfOk result (λ index. Denotes (scope_of self.new.items.defs) index
+            (type_of_world self.old.world.now id)) }
         ensures recorded { IfOk result (λ index. HasIndex self.new.maps id) }
         ensures world { self.new.world ≡ self.old.world }
         ensures met { self.new.met ≡ self.old.met }
         ensures instances { self.new.instances ≡ self.old.instances }
         ensures grows { RootGrows self.old.world.now self.old.items self.new.items }
-        ensures tables { AreTablesRight self.old.world.now self.old.met self.new.instances self.new.items.defs self.new.maps }
+        ensures tables { AreTablesRight self.old.world.now self.old.met self.new.instances
+            self.new.items.defs self.new.maps }
         ensures cause { IfErr result (IsCause is_full self.new.items.defs) }
     {
         let world = self.world;
@@ -109,10 +114,12 @@ impl RootScope<'_, ComponentWorld> {
     /// Forgets a type of which it isn't known that it is in the tables: no later type is known by it.
     fn forget_type(&mut self, id: TypeId)
         requires forgettable { IsForgettable self.old.world.now self.old.met id }
-        requires tables { AreTablesRight self.old.world.now self.old.met self.old.instances self.old.items.defs self.old.maps }
+        requires tables { AreTablesRight self.old.world.now self.old.met self.old.instances
+            self.old.items.defs self.old.maps }
         ensures same { self.new ≡ record self.old { maps = self.new.maps } }
         ensures forgets { Forgets self.old.world.now.resolve.types id self.old.maps self.new.maps }
-        ensures tables { AreTablesRight self.old.world.now self.old.met self.old.instances self.old.items.defs self.new.maps }
+        ensures tables { AreTablesRight self.old.world.now self.old.met self.old.instances
+            self.old.items.defs self.new.maps }
     {
         let world = self.world;
         forget_in(&mut self.maps, &world.resolve, id);
@@ -120,11 +127,15 @@ impl RootScope<'_, ComponentWorld> {
 
     /// Forgets these types, one after the other.
     fn forget_listed(&mut self, types: &Keyed<Text, TypeId>)
-        requires forgettable { AllByRecursion (λ e. IsForgettable self.old.world.now self.old.met e.1) types.now }
-        requires tables { AreTablesRight self.old.world.now self.old.met self.old.instances self.old.items.defs self.old.maps }
+        requires forgettable { AllByRecursion
+            (λ e. IsForgettable self.old.world.now self.old.met e.1) types.now }
+        requires tables { AreTablesRight self.old.world.now self.old.met self.old.instances
+            self.old.items.defs self.old.maps }
         ensures same { self.new ≡ record self.old { maps = self.new.maps } }
-        ensures forgotten { AreForgotten self.old.world.now.resolve.types (map (λ e. e.1) types.now) self.new.maps }
-        ensures tables { AreTablesRight self.old.world.now self.old.met self.old.instances self.old.items.defs self.new.maps }
+        ensures forgotten { AreForgotten self.old.world.now.resolve.types (map (λ e. e.1) types.now)
+            self.new.maps }
+        ensures tables { AreTablesRight self.old.world.now self.old.met self.old.instances
+            self.old.items.defs self.new.maps }
     {
         for entry in types.iter() {
             self.forget_type(*entry.1);
@@ -133,9 +144,12 @@ impl RootScope<'_, ComponentWorld> {
 
     /// Begins with no exported interface whose types are at hand.
     pub fn begin_exports(&mut self)
-        requires tables { AreTablesRight self.old.world.now self.old.met self.old.instances self.old.items.defs self.old.maps }
-        ensures same { self.new ≡ record self.old { met = record nothing_met { last = self.old.met.last } } }
-        ensures tables { AreTablesRight self.old.world.now self.new.met self.old.instances self.old.items.defs self.old.maps }
+        requires tables { AreTablesRight self.old.world.now self.old.met self.old.instances
+            self.old.items.defs self.old.maps }
+        ensures same { self.new
+            ≡ record self.old { met = record nothing_met { last = self.old.met.last } } }
+        ensures tables { AreTablesRight self.old.world.now self.new.met self.old.instances
+            self.old.items.defs self.old.maps }
     {
         let last = self.met.last;
         self.met = MetTypes::new(self.items.allocator());
@@ -144,28 +158,33 @@ impl RootScope<'_, ComponentWorld> {
 
     /// Records the index of a resource that the component defines.
     pub fn record_resource(&mut self, id: TypeId, index: u32) -> Result<(), AllocError>
-        requires tables { AreTablesRight self.old.world.now self.old.met self.old.instances self.old.items.defs self.old.maps }
-        requires denotes { Denotes (scope_of self.old.items.defs) index (type_of_world self.old.world.now id) }
+        requires tables { AreTablesRight self.old.world.now self.old.met self.old.instances
+            self.old.items.defs self.old.maps }
+        requires denotes { Denotes (scope_of self.old.items.defs) index
+            (type_of_world self.old.world.now id) }
         ensures world { self.new.world ≡ self.old.world }
         ensures met { self.new.met ≡ self.old.met }
         ensures instances { self.new.instances ≡ self.old.instances }
         ensures grows { RootGrows self.old.world.now self.old.items self.new.items }
         ensures recorded { OnOk result (HasIndex self.new.maps id) }
-        ensures tables { AreTablesRight self.old.world.now self.old.met self.new.instances self.new.items.defs self.new.maps }
+        ensures tables { AreTablesRight self.old.world.now self.old.met self.new.instances
+            self.new.items.defs self.new.maps }
     {
         self.interface = None;
         record_type_index(self, id, index)?;
         Ok(())
     }
 
-    /// Enters the next type of an exported interface: one that was defined, behind all types of the interface that come before it in
-    /// the resolve.
+    /// Enters the next type of an exported interface: one that was defined, behind all types of the
+    /// interface that come before it in the resolve.
     pub fn enter_own_type(&mut self, id: TypeId)
         requires next { IsNextOwn self.old.world.now self.old.met id }
         requires recorded { HasIndex self.old.maps id }
-        requires tables { AreTablesRight self.old.world.now self.old.met self.old.instances self.old.items.defs self.old.maps }
+        requires tables { AreTablesRight self.old.world.now self.old.met self.old.instances
+            self.old.items.defs self.old.maps }
         ensures same { self.new ≡ record self.old { met = record self.old.met { own = Some id } } }
-        ensures tables { AreTablesRight self.old.world.now self.new.met self.old.instances self.old.items.defs self.old.maps }
+        ensures tables { AreTablesRight self.old.world.now self.new.met self.old.instances
+            self.old.items.defs self.old.maps }
     {
         self.met.own = Some(id);
     }
@@ -173,10 +192,15 @@ impl RootScope<'_, ComponentWorld> {
     /// Enters an exported interface whose types are all in the tables.
     pub fn enter_interface(&mut self, interface: InterfaceId) -> Result<(), AllocError>
         requires all { AreAllMet self.old.world.now self.old.met interface }
-        requires tables { AreTablesRight self.old.world.now self.old.met self.old.instances self.old.items.defs self.old.maps }
-        ensures same { self.new ≡ record self.old { met = record self.old.met { interfaces = self.new.met.interfaces } } }
-        ensures entered { OnOk result (self.new.met.interfaces ≡ with_first same_interface.eq-value.it self.old.met.interfaces interface tt) }
-        ensures tables { AreTablesRight self.old.world.now self.new.met self.old.instances self.old.items.defs self.old.maps }
+        requires tables { AreTablesRight self.old.world.now self.old.met self.old.instances
+            self.old.items.defs self.old.maps }
+        ensures same { self.new
+            ≡ record self.old
+            { met = record self.old.met { interfaces = self.new.met.interfaces } } }
+        ensures entered { OnOk result (self.new.met.interfaces
+            ≡ with_first same_interface.eq-value.it self.old.met.interfaces interface tt) }
+        ensures tables { AreTablesRight self.old.world.now self.new.met self.old.instances
+            self.old.items.defs self.old.maps }
     {
         self.met.interfaces.insert_if_absent(interface, ())
     }
@@ -185,25 +209,32 @@ impl RootScope<'_, ComponentWorld> {
     pub fn enter_export(&mut self, interface: InterfaceId, instance: u32) -> Result<(), AllocError>
         requires valid { IsEncodable self.old.world.now }
         requires exports { ExportsListed self.old.world.now self.old.items.defs interface instance }
-        requires tables { AreTablesRight self.old.world.now self.old.met self.old.instances self.old.items.defs self.old.maps }
-        ensures same { self.new ≡ record self.old { met = record self.old.met { exported = self.new.met.exported } } }
+        requires tables { AreTablesRight self.old.world.now self.old.met self.old.instances
+            self.old.items.defs self.old.maps }
+        ensures same { self.new
+            ≡ record self.old { met = record self.old.met { exported = self.new.met.exported } } }
         ensures err { OnErr result (self.new.met ≡ self.old.met) }
-        ensures entered { OnOk result (self.new.met.exported ≡ with_first same_interface.eq-value.it self.old.met.exported interface instance) }
-        ensures tables { AreTablesRight self.old.world.now self.new.met self.old.instances self.old.items.defs self.old.maps }
+        ensures entered { OnOk result (self.new.met.exported
+            ≡ with_first same_interface.eq-value.it self.old.met.exported interface instance) }
+        ensures tables { AreTablesRight self.old.world.now self.new.met self.old.instances
+            self.old.items.defs self.old.maps }
     {
         self.met.exported.insert_if_absent(interface, instance)
     }
 
-    /// Forgets the types of an interface that was exported, so that later ones are defined anew: by their numbers, and types
-    /// without names by their kinds. It allocates nothing.
+    /// Forgets the types of an interface that was exported, so that later ones are defined anew: by
+    /// their numbers, and types without names by their kinds. It allocates nothing.
     pub fn forget_exported_types(&mut self, interface: InterfaceId)
         requires valid { IsEncodable self.old.world.now }
         requires exported { IsExportedInterface self.old.world.now interface }
-        requires tables { AreTablesRight self.old.world.now self.old.met self.old.instances self.old.items.defs self.old.maps }
+        requires tables { AreTablesRight self.old.world.now self.old.met self.old.instances
+            self.old.items.defs self.old.maps }
         ensures same { self.new ≡ record self.old { maps = self.new.maps; met = self.new.met } }
         ensures leaves { Leaves interface self.old.met self.new.met }
-        ensures forgotten { AreForgotten self.old.world.now.resolve.types (map (λ e. e.1) (named_types self.old.world.now.resolve interface)) self.new.maps }
-        ensures tables { AreTablesRight self.old.world.now self.new.met self.old.instances self.old.items.defs self.new.maps }
+        ensures forgotten { AreForgotten self.old.world.now.resolve.types
+            (map (λ e. e.1) (named_types self.old.world.now.resolve interface)) self.new.maps }
+        ensures tables { AreTablesRight self.old.world.now self.new.met self.old.instances
+            self.old.items.defs self.new.maps }
     {
         let world = self.world;
         let types = exported_types_of(world, interface);

@@ -31,14 +31,19 @@ impl RootScope<'_, ComponentWorld> {
         requires present { HasFunction self.old.world.now.resolve function.now }
         requires needed { IsNeededFunction self.old.world.now None function.now }
         requires passed { ArePassed self.old.world.now self.old.met }
-        requires tables { AreTablesRight self.old.world.now self.old.met self.old.instances self.old.items.defs self.old.maps }
+        requires tables { AreTablesRight self.old.world.now self.old.met self.old.instances
+            self.old.items.defs self.old.maps }
         ensures world { self.new.world ≡ self.old.world }
         ensures met { self.new.met ≡ self.old.met }
         ensures instances { self.new.instances ≡ self.old.instances }
         ensures extends { Extends self.old.items self.new.items }
-        ensures grows { OnOk result (Grows self.old.world.now self.old.items.defs self.new.items.defs (named_import name.now ∷ [])) }
-        ensures tables { AreTablesRight self.old.world.now self.old.met self.new.instances self.new.items.defs self.new.maps }
-        ensures imported { IfOk result (λ index. IsImportedFunction self.new.items.defs index (record { number = imports_in self.old.items.defs; inner = None }) (type_of_function self.old.world.now function.now)) }
+        ensures grows { OnOk result (Grows self.old.world.now self.old.items.defs
+            self.new.items.defs (named_import name.now ∷ [])) }
+        ensures tables { AreTablesRight self.old.world.now self.old.met self.new.instances
+            self.new.items.defs self.new.maps }
+        ensures imported { IfOk result (λ index. IsImportedFunction self.new.items.defs index
+            (record { number = imports_in self.old.items.defs; inner = None })
+            (type_of_function self.old.world.now function.now)) }
         ensures cause { IfErr result IsRefusal }
     {
         let name = ExternName {
@@ -61,19 +66,25 @@ impl RootScope<'_, ComponentWorld> {
         requires valid { IsEncodable self.old.world.now }
         requires present { HasFunction self.old.world.now.resolve function.now }
         requires passed { ArePassed self.old.world.now self.old.met }
-        requires tables { AreTablesRight self.old.world.now self.old.met self.old.instances self.old.items.defs self.old.maps }
-        requires used { (text : List ℕ) → is_some (found text used.now) ≡ is_used self.old.world.now text }
+        requires tables { AreTablesRight self.old.world.now self.old.met self.old.instances
+            self.old.items.defs self.old.maps }
+        requires used { (text : List ℕ)
+            → is_some (found text used.now) ≡ is_used self.old.world.now text }
         requires next { IsNext self.old.world.now self.old.items.defs name.now function.now }
         requires imports { FindsImports self.old.world.now self.old.items.defs functions.old }
         ensures world { self.new.world ≡ self.old.world }
         ensures met { self.new.met ≡ self.old.met }
         ensures instances { self.new.instances ≡ self.old.instances }
         ensures extends { Extends self.old.items self.new.items }
-        ensures grows { OnOk result (Grows self.old.world.now self.old.items.defs self.new.items.defs (names_marked self.old.world.now (name.now ∷ []))) }
-        ensures tables { AreTablesRight self.old.world.now self.old.met self.new.instances self.new.items.defs self.new.maps }
-        ensures imports { OnOk result (FindsImports self.old.world.now self.new.items.defs functions.new) }
+        ensures grows { OnOk result (Grows self.old.world.now self.old.items.defs
+            self.new.items.defs (names_marked self.old.world.now (name.now ∷ []))) }
+        ensures tables { AreTablesRight self.old.world.now self.old.met self.new.instances
+            self.new.items.defs self.new.maps }
+        ensures imports { OnOk result
+            (FindsImports self.old.world.now self.new.items.defs functions.new) }
         ensures finds { FindsMore functions.old functions.new }
-        ensures found { OnOk result (IsTrue (is_used self.old.world.now name.now) → IsSome (found name.now functions.new)) }
+        ensures found { OnOk result
+            (IsTrue (is_used self.old.world.now name.now) → IsSome (found name.now functions.new)) }
         ensures cause { IfErr result IsRefusal }
     {
         if !used.contains_key(name) {
@@ -95,19 +106,27 @@ impl RootScope<'_, ComponentWorld> {
     ) -> Result<(), BuildFault>
         requires valid { IsEncodable self.old.world.now }
         requires passed { ArePassed self.old.world.now self.old.met }
-        requires tables { AreTablesRight self.old.world.now self.old.met self.old.instances self.old.items.defs self.old.maps }
-        requires used { (text : List ℕ) → is_some (found text used.now) ≡ is_used self.old.world.now text }
+        requires tables { AreTablesRight self.old.world.now self.old.met self.old.instances
+            self.old.items.defs self.old.maps }
+        requires used { (text : List ℕ)
+            → is_some (found text used.now) ≡ is_used self.old.world.now text }
         requires next { IsNextItem self.old.world.now self.old.items.defs (key.now, item.now) }
         requires imports { FindsImports self.old.world.now self.old.items.defs functions.old }
         ensures world { self.new.world ≡ self.old.world }
         ensures met { self.new.met ≡ self.old.met }
         ensures instances { self.new.instances ≡ self.old.instances }
         ensures extends { Extends self.old.items self.new.items }
-        ensures grows { OnOk result (Grows self.old.world.now self.old.items.defs self.new.items.defs (names_marked self.old.world.now (root_function (key.now, item.now)))) }
-        ensures tables { AreTablesRight self.old.world.now self.old.met self.new.instances self.new.items.defs self.new.maps }
-        ensures imports { OnOk result (FindsImports self.old.world.now self.new.items.defs functions.new) }
+        ensures grows { OnOk result (Grows self.old.world.now self.old.items.defs
+            self.new.items.defs
+            (names_marked self.old.world.now (root_function (key.now, item.now)))) }
+        ensures tables { AreTablesRight self.old.world.now self.old.met self.new.instances
+            self.new.items.defs self.new.maps }
+        ensures imports { OnOk result
+            (FindsImports self.old.world.now self.new.items.defs functions.new) }
         ensures finds { FindsMore functions.old functions.new }
-        ensures found { OnOk result (AllByRecursion (λ name. IsTrue (is_used self.old.world.now name) → IsSome (found name functions.new)) (root_function (key.now, item.now))) }
+        ensures found { OnOk result (AllByRecursion (λ name. IsTrue
+            (is_used self.old.world.now name)
+            → IsSome (found name functions.new)) (root_function (key.now, item.now))) }
         ensures cause { IfErr result IsRefusal }
     {
         match (key, item) {
@@ -126,16 +145,20 @@ impl RootScope<'_, ComponentWorld> {
     ) -> Result<Keyed<Text, u32>, BuildFault>
         requires valid { IsEncodable self.old.world.now }
         requires items { items.now ≡ (items_of self.old.world.now).imports }
-        requires used { (text : List ℕ) → is_some (found text used.now) ≡ is_used self.old.world.now text }
+        requires used { (text : List ℕ)
+            → is_some (found text used.now) ≡ is_used self.old.world.now text }
         requires types { imports_in self.old.items.defs ≡ first_imports self.old.world.now }
         requires passed { ArePassed self.old.world.now self.old.met }
-        requires tables { AreTablesRight self.old.world.now self.old.met self.old.instances self.old.items.defs self.old.maps }
+        requires tables { AreTablesRight self.old.world.now self.old.met self.old.instances
+            self.old.items.defs self.old.maps }
         ensures world { self.new.world ≡ self.old.world }
         ensures met { self.new.met ≡ self.old.met }
         ensures instances { self.new.instances ≡ self.old.instances }
         ensures extends { Extends self.old.items self.new.items }
-        ensures grows { OnOk result (Grows self.old.world.now self.old.items.defs self.new.items.defs (map named_import (used_functions self.old.world.now))) }
-        ensures tables { AreTablesRight self.old.world.now self.old.met self.new.instances self.new.items.defs self.new.maps }
+        ensures grows { OnOk result (Grows self.old.world.now self.old.items.defs
+            self.new.items.defs (map named_import (used_functions self.old.world.now))) }
+        ensures tables { AreTablesRight self.old.world.now self.old.met self.new.instances
+            self.new.items.defs self.new.maps }
         ensures imports { IfOk result (FindsImports self.old.world.now self.new.items.defs) }
         ensures found { IfOk result (FindsUsed self.old.world.now) }
         ensures cause { IfErr result IsRefusal }
@@ -150,18 +173,22 @@ impl RootScope<'_, ComponentWorld> {
     /// Imports the root functions that imports of user modules use, in the order of the world, and returns their
     /// indices by their names. The interfaces and the types of the world are imported before.
     ///
-    /// Refused when out of memory, and where a space would have more than 2^32 - 1 items. What was imported until then stays.
+    /// Refused when out of memory, and where a space would have more than 2^32 - 1 items. What was
+    /// imported until then stays.
     pub fn import_functions(&mut self) -> Result<Keyed<Text, u32>, BuildFault>
         requires valid { IsEncodable self.old.world.now }
         requires types { imports_in self.old.items.defs ≡ first_imports self.old.world.now }
         requires passed { ArePassed self.old.world.now self.old.met }
-        requires tables { AreTablesRight self.old.world.now self.old.met self.old.instances self.old.items.defs self.old.maps }
+        requires tables { AreTablesRight self.old.world.now self.old.met self.old.instances
+            self.old.items.defs self.old.maps }
         ensures world { self.new.world ≡ self.old.world }
         ensures met { self.new.met ≡ self.old.met }
         ensures instances { self.new.instances ≡ self.old.instances }
         ensures extends { Extends self.old.items self.new.items }
-        ensures grows { OnOk result (Grows self.old.world.now self.old.items.defs self.new.items.defs (map named_import (used_functions self.old.world.now))) }
-        ensures tables { AreTablesRight self.old.world.now self.old.met self.new.instances self.new.items.defs self.new.maps }
+        ensures grows { OnOk result (Grows self.old.world.now self.old.items.defs
+            self.new.items.defs (map named_import (used_functions self.old.world.now))) }
+        ensures tables { AreTablesRight self.old.world.now self.old.met self.new.instances
+            self.new.items.defs self.new.maps }
         ensures imports { IfOk result (FindsImports self.old.world.now self.new.items.defs) }
         ensures found { IfOk result (FindsUsed self.old.world.now) }
         ensures cause { IfErr result IsRefusal }

@@ -1,4 +1,5 @@
-//! Which types of the world the root has at hand: those in its tables, and those that instances of exported interfaces export.
+//! Which types of the world the root has at hand: those in its tables, and those that instances of
+//! exported interfaces export.
 #![tactic(auto)]
 
 ghost use Rattle.std.specs.Prelude.{◌≡◌, None};
@@ -10,15 +11,16 @@ use comp_lists::Keyed;
 use std::alloc::{AllocError, Global};
 use wit_data::{InterfaceId, TypeId};
 
-/// The types of the world that are in the tables of the root, and the instances of exported interfaces, which export others.
+/// The types of the world that are in the tables of the root, and the instances of exported
+/// interfaces, which export others.
 #[derive(Drop)]
 pub struct MetTypes {
     /// The last type of the world that was imported: it and those before it in the resolve are in the tables.
     pub last: Option<TypeId>,
     /// The exported interfaces whose types are all in the tables.
     pub interfaces: Keyed<InterfaceId, ()>,
-    /// The last type of an exported interface whose types are entered one after the other: it and those of its interface that
-    /// come before it in the resolve are in the tables.
+    /// The last type of an exported interface whose types are entered one after the other: it and
+    /// those of its interface that come before it in the resolve are in the tables.
     pub own: Option<TypeId>,
     /// The instances of the interfaces that were exported.
     pub exported: Keyed<InterfaceId, u32>,

@@ -21,7 +21,12 @@ use wit_types::TypeEncodingMaps;
 
 /// The index of a resource in these tables, where it is in them.
 fn met_index(maps: &TypeEncodingMaps, id: TypeId) -> Option<u32>
-    ensures { (w : World) (met : MetTypes) (instances : List (InterfaceId × ℕ)) (ds : List Def) → IsEncodable w → worlds.IsResource w.resolve.types id.index → is_met w met id ≡ true → AreTablesRight w met instances ds maps.now → IsSomeAnd result (λ index. terms.IsResource ds index (resource_of w id)) }
+    ensures { (w : World) (met : MetTypes) (instances : List (InterfaceId × ℕ)) (ds : List Def)
+        → IsEncodable w
+        → worlds.IsResource w.resolve.types id.index
+        → is_met w met id ≡ true
+        → AreTablesRight w met instances ds maps.now
+        → IsSomeAnd result (λ index. terms.IsResource ds index (resource_of w id)) }
 {
     maps.type_index(id)
 }
@@ -32,7 +37,8 @@ impl RootScope<'_, ComponentWorld> {
         requires valid { IsEncodable self.now.world.now }
         requires resource { worlds.IsResource self.now.world.now.resolve.types id.index }
         requires met { is_met self.now.world.now self.now.met id ≡ true }
-        requires tables { AreTablesRight self.now.world.now self.now.met self.now.instances self.now.items.defs self.now.maps }
+        requires tables { AreTablesRight self.now.world.now self.now.met self.now.instances
+            self.now.items.defs self.now.maps }
         ensures { terms.IsResource self.now.items.defs result (resource_of self.now.world.now id) }
     {
         met_index(&self.maps, id).unwrap()

@@ -54,7 +54,8 @@ impl HasWorld for ComponentWorld {
     }
 }
 
-/// The root of a component under construction, as a scope of types: its items, and the tables of the types that were met.
+/// The root of a component under construction, as a scope of types: its items, and the tables of
+/// the types that were met.
 pub struct RootScope<'a, W: HasWorld> {
     pub world: &'a W,
     pub items: ComponentItems,
@@ -115,8 +116,9 @@ impl<'a> RootScope<'a, ComponentWorld> {
         items
     }
 
-    /// The index of the type of a function: of one of an exported interface; or, where no interface is given, of one at the root
-    /// of the world that core imports use, or that is exported. It is defined, where it is not yet.
+    /// The index of the type of a function: of one of an exported interface; or, where no interface
+    /// is given, of one at the root of the world that core imports use, or that is exported. It is
+    /// defined, where it is not yet.
     pub fn function_type(
         &mut self,
         interface: Option<InterfaceId>,
@@ -127,13 +129,16 @@ impl<'a> RootScope<'a, ComponentWorld> {
         requires needed { IsNeededFunction self.old.world.now interface function.now }
         requires passed { ArePassed self.old.world.now self.old.met }
         requires supplied { IsSuppliedFor self.old.world.now self.old.met interface }
-        requires tables { AreTablesRight self.old.world.now self.old.met self.old.instances self.old.items.defs self.old.maps }
-        ensures typed { IfOk result (λ index. IsFunctionType self.new.items.defs index (type_of_function self.old.world.now function.now)) }
+        requires tables { AreTablesRight self.old.world.now self.old.met self.old.instances
+            self.old.items.defs self.old.maps }
+        ensures typed { IfOk result (λ index. IsFunctionType self.new.items.defs index
+            (type_of_function self.old.world.now function.now)) }
         ensures world { self.new.world ≡ self.old.world }
         ensures met { self.new.met ≡ self.old.met }
         ensures instances { self.new.instances ≡ self.old.instances }
         ensures grows { RootGrows self.old.world.now self.old.items self.new.items }
-        ensures tables { AreTablesRight self.old.world.now self.old.met self.new.instances self.new.items.defs self.new.maps }
+        ensures tables { AreTablesRight self.old.world.now self.old.met self.new.instances
+            self.new.items.defs self.new.maps }
         ensures cause { IfErr result (IsCause is_full self.new.items.defs) }
     {
         let world = self.world;
@@ -177,24 +182,39 @@ impl<'a, W: HasWorld> ValtypeEncoder for RootScope<'a, W> {
     ghost setting_kept = { λ e m. refl };
 
     fn defined_type(&mut self, ty: DefinedType) -> Result<u32, BuildFault>
-        requires present { AreTypes (length (scope_of self.old.items.defs)) (defined_references ty) }
+        requires present { AreTypes (length (scope_of self.old.items.defs))
+            (defined_references ty) }
         requires known { is_known (defined_tree (scope_of self.old.items.defs) ty) ≡ true }
-        ensures makes { Makes (scope_of self.old.items.defs) (scope_of self.new.items.defs) result (OfValues (defined_tree (scope_of self.old.items.defs) ty)) }
-        ensures setting { root_setting (W.world self.new.world.now) self.new.interface self.new.met ≡ root_setting (W.world self.old.world.now) self.old.interface self.old.met }
+        ensures makes { Makes (scope_of self.old.items.defs) (scope_of self.new.items.defs) result
+            (OfValues (defined_tree (scope_of self.old.items.defs) ty)) }
+        ensures setting { root_setting (W.world self.new.world.now) self.new.interface self.new.met
+            ≡ root_setting (W.world self.old.world.now) self.old.interface self.old.met }
         ensures maps { self.new.maps ≡ self.old.maps }
-        ensures follows { (self.new.world ≡ self.old.world) × (self.new.met ≡ self.old.met) × (self.new.instances ≡ self.old.instances) × RootGrows (W.world self.old.world.now) self.old.items self.new.items × (self.new.interface ≡ self.old.interface) }
+        ensures follows { (self.new.world ≡ self.old.world)
+            × (self.new.met ≡ self.old.met)
+            × (self.new.instances ≡ self.old.instances)
+            × RootGrows (W.world self.old.world.now) self.old.items self.new.items
+            × (self.new.interface ≡ self.old.interface) }
         ensures cause { IfErr result (IsCause is_full self.new.items.defs) }
     {
         self.items.defined_type(ty)
     }
 
     fn define_function_type(&mut self, ty: FuncTypeDef) -> Result<u32, BuildFault>
-        requires present { AreTypes (length (scope_of self.old.items.defs)) (type_references (definitions.Func ty)) }
-        requires known { is_known_function (function_tree (scope_of self.old.items.defs) ty) ≡ true }
-        ensures makes { Makes (scope_of self.old.items.defs) (scope_of self.new.items.defs) result (OfFunctions (function_tree (scope_of self.old.items.defs) ty)) }
-        ensures setting { root_setting (W.world self.new.world.now) self.new.interface self.new.met ≡ root_setting (W.world self.old.world.now) self.old.interface self.old.met }
+        requires present { AreTypes (length (scope_of self.old.items.defs))
+            (type_references (definitions.Func ty)) }
+        requires known { is_known_function (function_tree (scope_of self.old.items.defs) ty)
+            ≡ true }
+        ensures makes { Makes (scope_of self.old.items.defs) (scope_of self.new.items.defs) result
+            (OfFunctions (function_tree (scope_of self.old.items.defs) ty)) }
+        ensures setting { root_setting (W.world self.new.world.now) self.new.interface self.new.met
+            ≡ root_setting (W.world self.old.world.now) self.old.interface self.old.met }
         ensures maps { self.new.maps ≡ self.old.maps }
-        ensures follows { (self.new.world ≡ self.old.world) × (self.new.met ≡ self.old.met) × (self.new.instances ≡ self.old.instances) × RootGrows (W.world self.old.world.now) self.old.items self.new.items × (self.new.interface ≡ self.old.interface) }
+        ensures follows { (self.new.world ≡ self.old.world)
+            × (self.new.met ≡ self.old.met)
+            × (self.new.instances ≡ self.old.instances)
+            × RootGrows (W.world self.old.world.now) self.old.items self.new.items
+            × (self.new.interface ≡ self.old.interface) }
         ensures cause { IfErr result (IsCause is_full self.new.items.defs) }
     {
         self.items.function_type(ty)
@@ -205,10 +225,16 @@ impl<'a, W: HasWorld> ValtypeEncoder for RootScope<'a, W> {
         ensures same { self.new ≡ self.old }
         ensures none { IfOk result (λ exported. exported ≡ None) }
         ensures names { IfOk result (λ exported. any_index name.name (exported_or exported index)) }
-        ensures makes { MayMake (scope_of self.old.items.defs) (scope_of self.new.items.defs) result (get_or (scope_of self.old.items.defs) index OfOthers) }
-        ensures setting { root_setting (W.world self.new.world.now) self.new.interface self.new.met ≡ root_setting (W.world self.old.world.now) self.old.interface self.old.met }
+        ensures makes { MayMake (scope_of self.old.items.defs) (scope_of self.new.items.defs) result
+            (get_or (scope_of self.old.items.defs) index OfOthers) }
+        ensures setting { root_setting (W.world self.new.world.now) self.new.interface self.new.met
+            ≡ root_setting (W.world self.old.world.now) self.old.interface self.old.met }
         ensures maps { self.new.maps ≡ self.old.maps }
-        ensures follows { (self.new.world ≡ self.old.world) × (self.new.met ≡ self.old.met) × (self.new.instances ≡ self.old.instances) × RootGrows (W.world self.old.world.now) self.old.items self.new.items × (self.new.interface ≡ self.old.interface) }
+        ensures follows { (self.new.world ≡ self.old.world)
+            × (self.new.met ≡ self.old.met)
+            × (self.new.instances ≡ self.old.instances)
+            × RootGrows (W.world self.old.world.now) self.old.items self.new.items
+            × (self.new.interface ≡ self.old.interface) }
         ensures cause { IfErr result (IsCause is_full self.new.items.defs) }
     {
         let _ = (index, name);
@@ -219,24 +245,43 @@ impl<'a, W: HasWorld> ValtypeEncoder for RootScope<'a, W> {
     fn export_resource(&mut self, name: ExternName) -> Result<u32, BuildFault>
         ensures same { self.new ≡ self.old }
         ensures names { IfOk result (λ index. any_index name.name index) }
-        ensures makes { Makes (scope_of self.old.items.defs) (scope_of self.new.items.defs) result (OfValues (ResourceAt ((root_setting (W.world self.old.world.now) self.old.interface self.old.met).resource name.name))) }
-        ensures setting { root_setting (W.world self.new.world.now) self.new.interface self.new.met ≡ root_setting (W.world self.old.world.now) self.old.interface self.old.met }
+        ensures makes { Makes (scope_of self.old.items.defs) (scope_of self.new.items.defs) result
+            (OfValues (ResourceAt ((root_setting (W.world self.old.world.now) self.old.interface
+            self.old.met).resource name.name))) }
+        ensures setting { root_setting (W.world self.new.world.now) self.new.interface self.new.met
+            ≡ root_setting (W.world self.old.world.now) self.old.interface self.old.met }
         ensures maps { self.new.maps ≡ self.old.maps }
-        ensures follows { (self.new.world ≡ self.old.world) × (self.new.met ≡ self.old.met) × (self.new.instances ≡ self.old.instances) × RootGrows (W.world self.old.world.now) self.old.items self.new.items × (self.new.interface ≡ self.old.interface) }
+        ensures follows { (self.new.world ≡ self.old.world)
+            × (self.new.met ≡ self.old.met)
+            × (self.new.instances ≡ self.old.instances)
+            × RootGrows (W.world self.old.world.now) self.old.items self.new.items
+            × (self.new.interface ≡ self.old.interface) }
         ensures cause { IfErr result (IsCause is_full self.new.items.defs) }
     {
         let _ = name;
         Err(BuildFault::Memory)
     }
 
-    /// The alias of a type that the instance of an interface exports: of an exported interface, or else of an imported one.
+    /// The alias of a type that the instance of an interface exports: of an exported interface, or
+    /// else of an imported one.
     fn import_type(&mut self, interface: InterfaceId, id: TypeId) -> Result<u32, BuildFault>
-        requires may { (is_one_of (needed_types (W.world self.old.world.now) interface) id.index || is_exported_type (W.world self.old.world.now) self.old.met interface id) ≡ true }
-        requires offers { AreInterfacesKnown (W.world self.old.world.now) self.old.items.defs self.old.met.exported self.old.instances }
-        ensures makes { Makes (scope_of self.old.items.defs) (scope_of self.new.items.defs) result (OfValues (tree_in (root_setting (W.world self.old.world.now) self.old.interface self.old.met) (Some (Id id)))) }
-        ensures setting { root_setting (W.world self.new.world.now) self.new.interface self.new.met ≡ root_setting (W.world self.old.world.now) self.old.interface self.old.met }
+        requires may { (is_one_of (needed_types (W.world self.old.world.now) interface) id.index
+            || is_exported_type (W.world self.old.world.now) self.old.met interface id)
+            ≡ true }
+        requires offers { AreInterfacesKnown (W.world self.old.world.now) self.old.items.defs
+            self.old.met.exported self.old.instances }
+        ensures makes { Makes (scope_of self.old.items.defs) (scope_of self.new.items.defs) result
+            (OfValues (tree_in
+            (root_setting (W.world self.old.world.now) self.old.interface self.old.met)
+            (Some (Id id)))) }
+        ensures setting { root_setting (W.world self.new.world.now) self.new.interface self.new.met
+            ≡ root_setting (W.world self.old.world.now) self.old.interface self.old.met }
         ensures maps { self.new.maps ≡ self.old.maps }
-        ensures follows { (self.new.world ≡ self.old.world) × (self.new.met ≡ self.old.met) × (self.new.instances ≡ self.old.instances) × RootGrows (W.world self.old.world.now) self.old.items self.new.items × (self.new.interface ≡ self.old.interface) }
+        ensures follows { (self.new.world ≡ self.old.world)
+            × (self.new.met ≡ self.old.met)
+            × (self.new.instances ≡ self.old.instances)
+            × RootGrows (W.world self.old.world.now) self.old.items self.new.items
+            × (self.new.interface ≡ self.old.interface) }
         ensures cause { IfErr result (IsCause is_full self.new.items.defs) }
     {
         if self.met.has_instance(interface) {

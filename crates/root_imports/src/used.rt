@@ -17,7 +17,9 @@ fn add_used(
     used: &mut Keyed<Text, ()>,
     fields: &Keyed<Text, Import>,
 ) -> Result<(), AllocError>
-    ensures { OnOk result ((text : List ℕ) → is_some (found text used.new) ≡ (is_some (found text used.old) || is_any_import text fields.now)) }
+    ensures { OnOk result ((text : List ℕ)
+        → is_some (found text used.new)
+        ≡ (is_some (found text used.old) || is_any_import text fields.now)) }
 {
     for (_, import) in fields.iter() {
         match import {
@@ -37,7 +39,9 @@ fn add_used_by(
     used: &mut Keyed<Text, ()>,
     modules: &Keyed<Text, ImportInstance>,
 ) -> Result<(), AllocError>
-    ensures { OnOk result ((text : List ℕ) → is_some (found text used.new) ≡ (is_some (found text used.old) || list_any (uses_from text) modules.now)) }
+    ensures { OnOk result ((text : List ℕ)
+        → is_some (found text used.new)
+        ≡ (is_some (found text used.old) || list_any (uses_from text) modules.now)) }
 {
     for (_, instance) in modules.iter() {
         if let ImportInstance::Names(fields) = instance {
@@ -53,7 +57,8 @@ pub(crate) fn used_functions(
     alloc: Global,
     world: &ComponentWorld,
 ) -> Result<Keyed<Text, ()>, AllocError>
-    ensures { IfOk result (λ used. (text : List ℕ) → is_some (found text used) ≡ is_used world.now text) }
+    ensures { IfOk result
+        (λ used. (text : List ℕ) → is_some (found text used) ≡ is_used world.now text) }
 {
     let mut used = Keyed::new(alloc);
     add_used_by(alloc, &mut used, &world.main.imports.modules)?;

@@ -36,7 +36,14 @@ use wit_types::{TypeEncodingMaps, encode_definition, record_type_index};
 
 /// The index in these tables of a resource at the root of the world, once the types of the world are imported.
 fn resource_index(maps: &TypeEncodingMaps, id: TypeId) -> Option<u32>
-    ensures { (w : ComponentWorld) (met : MetTypes) (instances : List (InterfaceId × ℕ)) (ds : List Def) → IsEncodable w → worlds.IsResource w.resolve.types id.index → interface_at w.resolve.types id.index ≡ None → ArePassed w met → AreTablesRight w met instances ds maps.now → IsSomeAnd result (λ index. terms.IsResource ds index (resource_of w id)) }
+    ensures { (w : ComponentWorld) (met : MetTypes) (instances : List (InterfaceId × ℕ))
+        (ds : List Def)
+        → IsEncodable w
+        → worlds.IsResource w.resolve.types id.index
+        → interface_at w.resolve.types id.index ≡ None
+        → ArePassed w met
+        → AreTablesRight w met instances ds maps.now
+        → IsSomeAnd result (λ index. terms.IsResource ds index (resource_of w id)) }
 {
     maps.type_index(id)
 }
@@ -63,13 +70,15 @@ fn is_resource(kind: &TypeDefKind) -> bool
 impl RootScope<'_, ComponentWorld> {
     /// Forgets the types that were met: begins with tables that have none, for the interfaces that are imported now.
     pub fn forget_types(&mut self)
-        requires known { AreInstancesKnown self.old.world.now self.old.items.defs self.old.instances }
+        requires known { AreInstancesKnown self.old.world.now self.old.items.defs
+            self.old.instances }
         ensures world { self.new.world ≡ self.old.world }
         ensures items { self.new.items ≡ self.old.items }
         ensures instances { self.new.instances ≡ self.old.instances }
         ensures met { self.new.met ≡ nothing_met }
         ensures maps { self.new.maps ≡ no_maps }
-        ensures tables { AreTablesRight self.old.world.now self.new.met self.old.instances self.old.items.defs self.new.maps }
+        ensures tables { AreTablesRight self.old.world.now self.new.met self.old.instances
+            self.old.items.defs self.new.maps }
     {
         let alloc = self.items.allocator();
         self.maps = TypeEncodingMaps::new(alloc);
@@ -81,14 +90,17 @@ impl RootScope<'_, ComponentWorld> {
         requires valid { IsEncodable self.old.world.now }
         requires present { id.index < length self.old.world.now.resolve.types }
         requires order { IsNextId self.old.world.now (next_of self.old.met.last) id }
-        requires tables { AreTablesRight self.old.world.now self.old.met self.old.instances self.old.items.defs self.old.maps }
-        requires denotes { Denotes (scope_of self.old.items.defs) index (type_of_world self.old.world.now id) }
+        requires tables { AreTablesRight self.old.world.now self.old.met self.old.instances
+            self.old.items.defs self.old.maps }
+        requires denotes { Denotes (scope_of self.old.items.defs) index
+            (type_of_world self.old.world.now id) }
         ensures world { self.new.world ≡ self.old.world }
         ensures instances { self.new.instances ≡ self.old.instances }
         ensures next { OnOk result (self.new.met.last ≡ Some id) }
         ensures extends { Extends self.old.items self.new.items }
         ensures grows { Grows self.old.world.now self.old.items.defs self.new.items.defs [] }
-        ensures tables { AreTablesRight self.old.world.now self.new.met self.new.instances self.new.items.defs self.new.maps }
+        ensures tables { AreTablesRight self.old.world.now self.new.met self.new.instances
+            self.new.items.defs self.new.maps }
     {
         self.interface = None;
         record_type_index(self, id, index)?;
@@ -102,14 +114,18 @@ impl RootScope<'_, ComponentWorld> {
         requires present { id.index < length self.old.world.now.resolve.types }
         requires values { is_resource (kind_at self.old.world.now.resolve.types id.index) ≡ false }
         requires plain { name.version_suffix ≡ None }
-        requires next { IsNextTypeImport self.old.world.now (next_of self.old.met.last) self.old.items.defs name.name id }
-        requires tables { AreTablesRight self.old.world.now self.old.met self.old.instances self.old.items.defs self.old.maps }
+        requires next { IsNextTypeImport self.old.world.now (next_of self.old.met.last)
+            self.old.items.defs name.name id }
+        requires tables { AreTablesRight self.old.world.now self.old.met self.old.instances
+            self.old.items.defs self.old.maps }
         ensures world { self.new.world ≡ self.old.world }
         ensures instances { self.new.instances ≡ self.old.instances }
         ensures next { OnOk result (self.new.met.last ≡ Some id) }
         ensures extends { Extends self.old.items self.new.items }
-        ensures grows { OnOk result (Grows self.old.world.now self.old.items.defs self.new.items.defs (Imported (root_type name.name) ∷ [])) }
-        ensures tables { AreTablesRight self.old.world.now self.new.met self.new.instances self.new.items.defs self.new.maps }
+        ensures grows { OnOk result (Grows self.old.world.now self.old.items.defs
+            self.new.items.defs (Imported (root_type name.name) ∷ [])) }
+        ensures tables { AreTablesRight self.old.world.now self.new.met self.new.instances
+            self.new.items.defs self.new.maps }
         ensures cause { IfErr result IsRefusal }
     {
         let world = self.world;
@@ -127,14 +143,18 @@ impl RootScope<'_, ComponentWorld> {
         requires present { id.index < length self.old.world.now.resolve.types }
         requires resource { is_resource (kind_at self.old.world.now.resolve.types id.index) ≡ true }
         requires plain { name.version_suffix ≡ None }
-        requires next { IsNextTypeImport self.old.world.now (next_of self.old.met.last) self.old.items.defs name.name id }
-        requires tables { AreTablesRight self.old.world.now self.old.met self.old.instances self.old.items.defs self.old.maps }
+        requires next { IsNextTypeImport self.old.world.now (next_of self.old.met.last)
+            self.old.items.defs name.name id }
+        requires tables { AreTablesRight self.old.world.now self.old.met self.old.instances
+            self.old.items.defs self.old.maps }
         ensures world { self.new.world ≡ self.old.world }
         ensures instances { self.new.instances ≡ self.old.instances }
         ensures next { OnOk result (self.new.met.last ≡ Some id) }
         ensures extends { Extends self.old.items self.new.items }
-        ensures grows { OnOk result (Grows self.old.world.now self.old.items.defs self.new.items.defs (Imported (root_type name.name) ∷ [])) }
-        ensures tables { AreTablesRight self.old.world.now self.new.met self.new.instances self.new.items.defs self.new.maps }
+        ensures grows { OnOk result (Grows self.old.world.now self.old.items.defs
+            self.new.items.defs (Imported (root_type name.name) ∷ [])) }
+        ensures tables { AreTablesRight self.old.world.now self.new.met self.new.instances
+            self.new.items.defs self.new.maps }
         ensures cause { IfErr result IsRefusal }
     {
         let index = self.items.import_resource(name)?;
@@ -146,14 +166,18 @@ impl RootScope<'_, ComponentWorld> {
     fn import_world_type(&mut self, name: &Text, id: TypeId) -> Result<(), BuildFault>
         requires valid { IsEncodable self.old.world.now }
         requires present { id.index < length self.old.world.now.resolve.types }
-        requires next { IsNextTypeImport self.old.world.now (next_of self.old.met.last) self.old.items.defs name.now id }
-        requires tables { AreTablesRight self.old.world.now self.old.met self.old.instances self.old.items.defs self.old.maps }
+        requires next { IsNextTypeImport self.old.world.now (next_of self.old.met.last)
+            self.old.items.defs name.now id }
+        requires tables { AreTablesRight self.old.world.now self.old.met self.old.instances
+            self.old.items.defs self.old.maps }
         ensures world { self.new.world ≡ self.old.world }
         ensures instances { self.new.instances ≡ self.old.instances }
         ensures next { OnOk result (self.new.met.last ≡ Some id) }
         ensures extends { Extends self.old.items self.new.items }
-        ensures grows { OnOk result (Grows self.old.world.now self.old.items.defs self.new.items.defs (Imported (root_type name.now) ∷ [])) }
-        ensures tables { AreTablesRight self.old.world.now self.new.met self.new.instances self.new.items.defs self.new.maps }
+        ensures grows { OnOk result (Grows self.old.world.now self.old.items.defs
+            self.new.items.defs (Imported (root_type name.now) ∷ [])) }
+        ensures tables { AreTablesRight self.old.world.now self.new.met self.new.instances
+            self.new.items.defs self.new.maps }
         ensures cause { IfErr result IsRefusal }
     {
         let world = self.world;
@@ -172,14 +196,20 @@ impl RootScope<'_, ComponentWorld> {
     fn import_type_item(&mut self, key: &WorldKey, item: &WorldItem) -> Result<(), BuildFault>
         requires valid { IsEncodable self.old.world.now }
         requires present { HasEntry self.old.world.now.resolve (key.now, item.now) }
-        requires next { IsNextType self.old.world.now (next_of self.old.met.last) self.old.items.defs (key.now, item.now) }
-        requires tables { AreTablesRight self.old.world.now self.old.met self.old.instances self.old.items.defs self.old.maps }
-        ensures next { OnOk result (next_of self.new.met.last ≡ next_after (next_of self.old.met.last) (key.now, item.now)) }
+        requires next { IsNextType self.old.world.now (next_of self.old.met.last)
+            self.old.items.defs (key.now, item.now) }
+        requires tables { AreTablesRight self.old.world.now self.old.met self.old.instances
+            self.old.items.defs self.old.maps }
+        ensures next { OnOk result (next_of self.new.met.last
+            ≡ next_after (next_of self.old.met.last) (key.now, item.now)) }
         ensures world { self.new.world ≡ self.old.world }
         ensures instances { self.new.instances ≡ self.old.instances }
         ensures extends { Extends self.old.items self.new.items }
-        ensures grows { OnOk result (Grows self.old.world.now self.old.items.defs self.new.items.defs (map (λ t. Imported (root_type t.0)) (world_type (key.now, item.now)))) }
-        ensures tables { AreTablesRight self.old.world.now self.new.met self.new.instances self.new.items.defs self.new.maps }
+        ensures grows { OnOk result (Grows self.old.world.now self.old.items.defs
+            self.new.items.defs
+            (map (λ t. Imported (root_type t.0)) (world_type (key.now, item.now)))) }
+        ensures tables { AreTablesRight self.old.world.now self.new.met self.new.instances
+            self.new.items.defs self.new.maps }
         ensures cause { IfErr result IsRefusal }
     {
         match (key, item) {
@@ -188,16 +218,18 @@ impl RootScope<'_, ComponentWorld> {
         }
     }
 
-    /// The index of a resource whose handles a core import drops: of one that belongs to an interface a new alias, else that
-    /// of its import.
+    /// The index of a resource whose handles a core import drops: of one that belongs to an
+    /// interface a new alias, else that of its import.
     pub fn dropped_resource(&mut self, id: TypeId) -> Result<u32, BuildFault>
         requires valid { IsEncodable self.old.world.now }
         requires known { IsDropKnown self.old.world.now id }
         requires passed { ArePassed self.old.world.now self.old.met }
-        requires tables { AreTablesRight self.old.world.now self.old.met self.old.instances self.old.items.defs self.old.maps }
+        requires tables { AreTablesRight self.old.world.now self.old.met self.old.instances
+            self.old.items.defs self.old.maps }
         ensures same { self.new ≡ record self.old { items = self.new.items } }
         ensures grows { RootGrows self.old.world.now self.old.items self.new.items }
-        ensures resource { IfOk result (λ index. terms.IsResource self.new.items.defs index (resource_of self.old.world.now id)) }
+        ensures resource { IfOk result (λ index. terms.IsResource self.new.items.defs index
+            (resource_of self.old.world.now id)) }
         ensures cause { IfErr result IsRefusal }
     {
         match interface_of(self.world, id) {
@@ -211,16 +243,22 @@ impl RootScope<'_, ComponentWorld> {
 
     /// Imports the types of the world under their names, in its order. They come after the interfaces.
     ///
-    /// Refused when out of memory, and where a space would have more than 2^32 - 1 items. What was imported until then stays.
+    /// Refused when out of memory, and where a space would have more than 2^32 - 1 items. What was
+    /// imported until then stays.
     pub fn import_types(&mut self) -> Result<(), BuildFault>
         requires valid { IsEncodable self.old.world.now }
-        requires first { imports_in self.old.items.defs ≡ length (interface_entries self.old.world.now) }
-        requires tables { AreTablesRight self.old.world.now self.old.met self.old.instances self.old.items.defs self.old.maps }
+        requires first { imports_in self.old.items.defs
+            ≡ length (interface_entries self.old.world.now) }
+        requires tables { AreTablesRight self.old.world.now self.old.met self.old.instances
+            self.old.items.defs self.old.maps }
         ensures world { self.new.world ≡ self.old.world }
         ensures instances { self.new.instances ≡ self.old.instances }
         ensures extends { Extends self.old.items self.new.items }
-        ensures grows { OnOk result (Grows self.old.world.now self.old.items.defs self.new.items.defs (map (λ t. Imported (root_type t.0)) (imported_types self.old.world.now))) }
-        ensures tables { AreTablesRight self.old.world.now self.new.met self.new.instances self.new.items.defs self.new.maps }
+        ensures grows { OnOk result (Grows self.old.world.now self.old.items.defs
+            self.new.items.defs
+            (map (λ t. Imported (root_type t.0)) (imported_types self.old.world.now))) }
+        ensures tables { AreTablesRight self.old.world.now self.new.met self.new.instances
+            self.new.items.defs self.new.maps }
         ensures passed { OnOk result (ArePassed self.old.world.now self.new.met) }
         ensures cause { IfErr result IsRefusal }
     {

@@ -17,8 +17,8 @@ abbrev pub module_parts : Option MemoryType → List FuncType → List Slot → 
 module_parts memory types [] = record (shim_parts types []) { tables = []; memories = memories_of memory }
 module_parts memory types (s ∷ ss) = record (shim_parts types (s ∷ ss)) { memories = memories_of memory }
 
--- The parts of the module, where the shims have these types. With shims and without a memory, the laws of `core_runs` on modules
--- of shims hold of it.
+-- The parts of the module, where the shims have these types. With shims and without a memory, the
+-- laws of `core_runs` on modules of shims hold of it.
 abbrev pub ShimModulesAreShims : Type 0
 ShimModulesAreShims =
     (memory : Option MemoryType) (types : List FuncType) (shims : List ShimFunction) (slots : List Slot) (debug_names : Bool) → map (λ s. s.code) shims ≡ map shim_of slots → parts_of (shim_sections memory types shims debug_names) ≡ module_parts memory types slots

@@ -1,5 +1,6 @@
--- The module of shims in the table form, as a list of sections. A user module that imports its memory gets it from there too.
--- Core standard, structure: modules; appendix, custom sections: name section.
+-- The module of shims in the table form, as a list of sections. A user module that imports its
+-- memory gets it from there too. Core standard, structure: modules; appendix, custom sections: name
+-- section.
 use Rattle.std.specs.Prelude.{ℕ, suc, Bool, true, false, List, [], ◌∷◌, ◌++◌, map, length, Option, Some, None}
 use Rattle.std.specs.Fmt.{decimal}
 use Rattle.std.specs.Prelude.{codes}
@@ -54,7 +55,8 @@ abbrev pub memory_section : Option MemoryType → List Section
 memory_section None = []
 memory_section (Some type) = sections.Memories (type ∷ []) ∷ []
 
--- the sections of functions, of their table and of their code: a shim calls through the slot of its number in the one table
+-- the sections of functions, of their table and of their code: a shim calls through the slot of its
+-- number in the one table
 abbrev pub function_section : List ShimFunction → List Section
 function_section shims = where_any shims (sections.Functions (map (λ s. s.code.type_index) shims))
 

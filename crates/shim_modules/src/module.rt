@@ -14,10 +14,11 @@ use core_types::MemoryType;
 use interned_types::CoreTypes;
 use std::alloc::{AllocError, Global};
 
-/// The module of shims in the table form, or `None` where there are no shims and no memory: a function for each shim, exported
-/// under the decimal digits of its number; a table with a slot for each, exported as `$imports`, where there are any; the memory,
-/// exported as `$memory`, where there is one; and, where it is asked for, the names of the module and of its functions. The types
-/// are those that the shims name by index. It fails only out of memory.
+/// The module of shims in the table form, or `None` where there are no shims and no memory: a
+/// function for each shim, exported under the decimal digits of its number; a table with a slot for
+/// each, exported as `$imports`, where there are any; the memory, exported as `$memory`, where
+/// there is one; and, where it is asked for, the names of the module and of its functions. The
+/// types are those that the shims name by index. It fails only out of memory.
 ///
 /// Core standard, structure: modules.
 pub fn shim_module(
@@ -81,7 +82,9 @@ fn put_exports_and_code(
     shims: &[ShimFunction],
 ) -> Result<(), AllocError>
     requires count { length shims.now < 2 ^ 32 }
-    ensures { OnOk result («module».new ≡ «module».old ++ sections.Exports (exports_of memory shims.now) ∷ parts.code_section shims.now) }
+    ensures { OnOk result («module».new
+        ≡ «module».old ++ sections.Exports (exports_of memory shims.now)
+        ∷ parts.code_section shims.now) }
 {
     module.section(export_section(alloc, memory, shims)?)?;
     if !shims.is_empty() {

@@ -22,7 +22,8 @@ use std::alloc::{AllocError, Global};
 
 /// The shims, by their types.
 pub(crate) fn function_section(alloc: Global, shims: &[ShimFunction]) -> Result<Section, AllocError>
-    ensures { IfOk result (λ made. made ≡ sections.Functions (map (λ s. s.code.type_index) shims.now)) }
+    ensures { IfOk result
+        (λ made. made ≡ sections.Functions (map (λ s. s.code.type_index) shims.now)) }
 {
     let mut section = FunctionSection::new(alloc);
     for shim in shims {
@@ -82,7 +83,9 @@ fn exported_shims(alloc: Global, shims: &[ShimFunction]) -> Result<ExportSection
 
 /// Exports the shim with a number under the number's decimal digits.
 fn export_shim(section: &mut ExportSection, alloc: Global, number: u32) -> Result<(), AllocError>
-    ensures { OnOk result (section.new ≡ section.old ++ record { name = decimal number; kind = kinds.Func; index = number } ∷ []) }
+    ensures { OnOk result (section.new
+        ≡ section.old ++ record { name = decimal number; kind = kinds.Func; index = number }
+        ∷ []) }
 {
     let name = format!(in alloc; "{number}")?;
     section.export(name.as_str(), ExportKind::Func, number)
@@ -91,7 +94,8 @@ fn export_shim(section: &mut ExportSection, alloc: Global, number: u32) -> Resul
 /// The bodies of the shims.
 pub(crate) fn code_section(alloc: Global, shims: &[ShimFunction]) -> Result<Section, AllocError>
     requires count { length shims.now ≤ 2 ^ 32 }
-    ensures { IfOk result (λ made. made ≡ sections.Code (bodies.table_shims 0 (map (λ s. s.code) shims.now))) }
+    ensures { IfOk result
+        (λ made. made ≡ sections.Code (bodies.table_shims 0 (map (λ s. s.code) shims.now))) }
 {
     let codes = codes_of(alloc, shims)?;
     Ok(Section::Code(table_shim_bodies(alloc, codes.as_slice())?))

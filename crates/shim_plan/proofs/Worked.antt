@@ -1,5 +1,5 @@
--- Worked examples: worlds whose main module imports functions of an interface, and exports a destructor and a realloc; and one whose
--- main module imports what an adapter exports.
+-- Worked examples: worlds whose main module imports functions of an interface, and exports a
+-- destructor and a realloc; and one whose main module imports what an adapter exports.
 use Rattle.std.proofs.Common.{◌≡◌, false, List, [], ◌∷◌, map, Some, None, ℕ, refl}
 use Rattle.std.specs.Prelude.{codes}
 use Rattle.std.specs.Fmt.{digits}

@@ -1,5 +1,5 @@
--- The shims of functions that adapters export and other modules import (this project's own; core standard, structure: function
--- types).
+-- The shims of functions that adapters export and other modules import (this project's own; core
+-- standard, structure: function types).
 use Rattle.std.specs.Prelude.{ℕ, List, [], ◌∷◌, ◌++◌, map, Option, Some, None, if◌then◌else◌, false, codes}
 use Rattle.core_types.specs.declared.types.FuncType.{FuncType}
 use Rattle.core_types.specs.declared.types.ValType.{ValType}

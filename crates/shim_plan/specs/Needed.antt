@@ -1,7 +1,8 @@
--- The shims that a module of a world needs, in order: one for each import that is called through a table, followed by one for
--- the realloc of that call, or that an adapter exports; and one for each destructor that the module exports (Canonical ABI:
--- `canon lower`, `realloc`; component model, explainer: the destructor of a resource type). Streams and futures, asynchronous
--- functions and error contexts have no rows here.
+-- The shims that a module of a world needs, in order: one for each import that is called through a
+-- table, followed by one for the realloc of that call, or that an adapter exports; and one for each
+-- destructor that the module exports (Canonical ABI: `canon lower`, `realloc`; component model,
+-- explainer: the destructor of a resource type). Streams and futures, asynchronous functions and
+-- error contexts have no rows here.
 use Rattle.std.specs.Prelude.{ℕ, Bool, true, false, ◌&&◌, List, [], ◌∷◌, ◌++◌, Option, Some, None, unwrap_or, is_some, if◌then◌else◌, codes}
 use Rattle.std.specs.List.{flat_map}
 use Rattle.std.specs.Map.{lookup}
@@ -20,7 +21,7 @@ use Rattle.comp_roles.specs.declared.imports.Import.{Import}
 use Rattle.comp_roles.specs.declared.imports.Import.TheVariants as imports
 use Rattle.comp_roles.specs.declared.libraries.MainOrAdapter.{MainOrAdapter}
 use Rattle.comp_roles.specs.declared.libraries.MainOrAdapter.TheVariants as users
-use Rattle.comp_options.specs.Options.{needs}
+use Rattle.comp_options.specs.Options.{needs, realloc_bit}
 use Rattle.comp_options.specs.declared.required.RequiredOptions.{RequiredOptions}
 use Rattle.comp_worlds.specs.Imported.{is_same_import_key}
 use Rattle.comp_worlds.specs.Lookups.{found_module, resolved_realloc}
@@ -57,8 +58,8 @@ module_text (users.Adapter name) = name
 
 -- ---- reallocs
 
--- an option of a function that is made after its module is instantiated is the realloc itself, except that task hooks are
--- called round it where main has one
+-- an option of a function that is made after its module is instantiated is the realloc itself,
+-- except that task hooks are called round it where main has one
 abbrev pub realloc_needs_shim : ComponentWorld → ReallocSite → Bool
 realloc_needs_shim w sites.BeforeInstantiation = true
 realloc_needs_shim w sites.AfterInstantiation = is_some (first_export is_task_hook w.main.exports.exports)
@@ -91,12 +92,12 @@ import_realloc w which m = resolved_realloc w (name_of_module which) (realloc_fo
 
 -- where the options of a call have a realloc, and it needs a shim there
 abbrev pub realloc_needs : ComponentWorld → MainOrAdapter → ValidatedModule → ReallocSite → RequiredOptions → List NeededShim
-realloc_needs w which m site options = if needs options.0 2 && realloc_needs_shim w site then realloc_shims (import_realloc w which m) else []
+realloc_needs w which m site options = if needs options.0 realloc_bit && realloc_needs_shim w site then realloc_shims (import_realloc w which m) else []
 
 -- ---- imports
 
--- the function that the role of an import calls: the key of its interface, or none at the root, the key of the world's import that has it, and its
--- name there with the form of the call
+-- the function that the role of an import calls: the key of its interface, or none at the root, the
+-- key of the world's import that has it, and its name there with the form of the call
 abbrev pub call_of : Import → Option FunctionCall
 call_of (imports.WorldFunc key name abi) = Some (record { interface = None; key = key; function = record { name = name; abi = abi } })
 call_of (imports.InterfaceFunc key id name abi) = Some (record { interface = Some key; key = key; function = record { name = name; abi = abi } })

@@ -23,7 +23,8 @@ pub(crate) struct AdaptedFunction<'a> {
     pub ty: &'a FuncType,
 }
 
-/// The function that the role of an import names, if it is one that an adapter exports. Such a role calls no function of the world.
+/// The function that the role of an import names, if it is one that an adapter exports. Such a role
+/// calls no function of the world.
 pub(crate) fn adapted_of(role: &Import) -> Option<AdaptedFunction<'_>>
     ensures same { option_map specs.adapted_function result ≡ specs.adapted_of role.now }
     ensures no_call { IfSome result (λ _. call_of role.now ≡ None) }
@@ -91,7 +92,9 @@ fn add_with_sig(
     function: &AdaptedFunction<'_>,
     sig: WasmSignature,
 ) -> Result<(), AllocError>
-    ensures { OnOk result (needs.new.items ≡ needs.old.items ++ specs.adapted_shim (core_import import.now) (specs.adapted_function function.now) sig ∷ []) }
+    ensures { OnOk result (needs.new.items
+        ≡ needs.old.items ++ specs.adapted_shim (core_import import.now)
+        (specs.adapted_function function.now) sig ∷ []) }
 {
     let debug_name = adapted_name(alloc, import)?;
     let adapter = function.adapter.clone(alloc)?;
@@ -114,7 +117,9 @@ pub(crate) fn add_adapted(
     import: &NamedImport<'_>,
     function: &AdaptedFunction<'_>,
 ) -> Result<(), AllocError>
-    ensures { OnOk result (needs.new.items ≡ needs.old.items ++ specs.adapted_needs (core_import import.now) (specs.adapted_function function.now)) }
+    ensures { OnOk result (needs.new.items
+        ≡ needs.old.items ++ specs.adapted_needs (core_import import.now)
+        (specs.adapted_function function.now)) }
 {
     match adapted_sig(alloc, function.ty)? {
         Some(sig) => add_with_sig(needs, alloc, import, function, sig),

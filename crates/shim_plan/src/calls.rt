@@ -39,7 +39,12 @@ fn call_at(
     name: &Text,
     abi: AbiVariant,
 ) -> Result<FunctionCall, AllocError>
-    ensures { IfOk result (λ c. c ≡ record { interface = interface; key = key.now; function = record { name = name.now; abi = abi } }) }
+    ensures { IfOk result (λ c. c
+        ≡ record {
+          interface = interface;
+          key = key.now;
+          function = record { name = name.now; abi = abi };
+        }) }
 {
     let key = key.try_clone(alloc)?;
     let name = name.clone(alloc)?;

@@ -56,7 +56,8 @@ pub(crate) fn copy_lowering(
     realloc: &MainOrAdapter,
     encoding: StringEncoding,
 ) -> Result<ShimKind, AllocError>
-    ensures { IfOk result (λ copy. copy ≡ kinds.IndirectLowering interface.now function.now realloc.now encoding) }
+    ensures { IfOk result
+        (λ copy. copy ≡ kinds.IndirectLowering interface.now function.now realloc.now encoding) }
 {
     let interface = interface.try_clone(alloc)?;
     let function = copy_function(alloc, function)?;
@@ -124,7 +125,8 @@ fn copy_task_return(
     for_module: &MainOrAdapter,
     encoding: StringEncoding,
 ) -> Result<ShimKind, AllocError>
-    ensures { IfOk result (λ copy. copy ≡ kinds.TaskReturn interface func.now returned for_module.now encoding) }
+    ensures { IfOk result
+        (λ copy. copy ≡ kinds.TaskReturn interface func.now returned for_module.now encoding) }
 {
     let func = func.clone(alloc)?;
     let for_module = for_module.clone(alloc)?;

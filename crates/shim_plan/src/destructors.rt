@@ -58,7 +58,8 @@ fn add_dtor(
     export: &Text,
     id: TypeId,
 ) -> Result<(), AllocError>
-    ensures { OnOk result (needs.new.items ≡ needs.old.items ++ specs.dtor_shim world.now which.now export.now id ∷ []) }
+    ensures { OnOk result (needs.new.items
+        ≡ needs.old.items ++ specs.dtor_shim world.now which.now export.now id ∷ []) }
 {
     let debug_name = dtor_name(alloc, world, id)?;
     let module = which.clone(alloc)?;
@@ -84,7 +85,10 @@ impl UserModule<'_> {
         name: &Text,
         export: &Export,
     ) -> Result<(), AllocError>
-        ensures { OnOk result (needs.new.items ≡ needs.old.items ++ specs.export_needs self.now.world.now self.now.which.now (name.now, export.now)) }
+        ensures { OnOk result (needs.new.items
+            ≡ needs.old.items
+            ++ specs.export_needs self.now.world.now self.now.which.now
+            (name.now, export.now)) }
     {
         match export {
             Export::ResourceDtor(id) => add_dtor(needs, alloc, self.world, self.which, name, *id),
@@ -98,7 +102,10 @@ impl UserModule<'_> {
         needs: &mut Vec<NeededShim>,
         alloc: Global,
     ) -> Result<(), AllocError>
-        ensures { OnOk result (needs.new.items ≡ needs.old.items ++ flat_map (specs.export_needs self.now.world.now self.now.which.now) self.now.found.now.exports.exports) }
+        ensures { OnOk result (needs.new.items
+            ≡ needs.old.items ++ flat_map
+            (specs.export_needs self.now.world.now self.now.which.now)
+            self.now.found.now.exports.exports) }
     {
         for (name, export) in self.found.exports.iter() {
             self.add_export(needs, alloc, name, export)?;

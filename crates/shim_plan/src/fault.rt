@@ -13,8 +13,8 @@ pub enum ShimFault {
     /// An allocation failed.
     #[error("S1 Memory")]
     Memory,
-    /// The world has no string encoding for a function that is called through a shim. `place` is `module::field` of the core
-    /// import.
+    /// The world has no string encoding for a function that is called through a shim. `place` is
+    /// `module::field` of the core import.
     #[error("S5 NoEncoding place={place}")]
     NoEncoding { place: Text },
 }

@@ -65,7 +65,9 @@ fn add_own(
     call: &FunctionCall,
     lowered: &IndirectCall<'_>,
 ) -> Result<(), AllocError>
-    ensures { OnOk result (needs.new.items ≡ needs.old.items ++ specs.indirect_shim which.now (core_import import.now) call.now lowered.now.sig.now lowered.now.options lowered.now.encoding ∷ []) }
+    ensures { OnOk result (needs.new.items
+        ≡ needs.old.items ++ specs.indirect_shim which.now (core_import import.now) call.now
+        lowered.now.sig.now lowered.now.options lowered.now.encoding ∷ []) }
 {
     let debug_name = indirect_name(alloc, import)?;
     let sig = copy_sig(alloc, lowered.sig)?;
@@ -98,7 +100,11 @@ impl UserModule<'_> {
         call: &FunctionCall,
         lowered: &IndirectCall<'_>,
     ) -> Result<(), AllocError>
-        ensures { OnOk result (needs.new.items ≡ needs.old.items ++ specs.indirect_needs self.now.world.now self.now.which.now self.now.found.now (core_import import.now) call.now lowered.now.sig.now lowered.now.options (Some lowered.now.encoding)) }
+        ensures { OnOk result (needs.new.items
+            ≡ needs.old.items
+            ++ specs.indirect_needs self.now.world.now self.now.which.now self.now.found.now
+            (core_import import.now) call.now lowered.now.sig.now lowered.now.options
+            (Some lowered.now.encoding)) }
     {
         let site = ReallocSite::AfterInstantiation;
         add_own(needs, alloc, self.which, import, call, lowered)?;
@@ -116,9 +122,16 @@ impl UserModule<'_> {
         sig: &WasmSignature,
         options: RequiredOptions,
     ) -> Result<(), ShimFault>
-        ensures ok { OnOk result (needs.new.items ≡ needs.old.items ++ specs.indirect_needs self.now.world.now self.now.which.now self.now.found.now (core_import import.now) call.now sig.now options (specs.encoding_of_call self.now.found.now call.now)) }
-        ensures encoded { OnOk result (unencoded_if (core_import import.now) (specs.encoding_of_call self.now.found.now call.now) ≡ []) }
-        ensures cause { IfErr result (Explains (unencoded_if (core_import import.now) (specs.encoding_of_call self.now.found.now call.now))) }
+        ensures ok { OnOk result (needs.new.items
+            ≡ needs.old.items
+            ++ specs.indirect_needs self.now.world.now self.now.which.now self.now.found.now
+            (core_import import.now) call.now sig.now options
+            (specs.encoding_of_call self.now.found.now call.now)) }
+        ensures encoded { OnOk result (unencoded_if (core_import import.now)
+            (specs.encoding_of_call self.now.found.now call.now)
+            ≡ []) }
+        ensures cause { IfErr result (Explains (unencoded_if (core_import import.now)
+            (specs.encoding_of_call self.now.found.now call.now))) }
     {
         match encoding_of(alloc, self.found, call)? {
             Some(encoding) => {
@@ -142,9 +155,15 @@ impl UserModule<'_> {
         import: &NamedImport<'_>,
         call: &FunctionCall,
     ) -> Result<(), ShimFault>
-        ensures ok { OnOk result (needs.new.items ≡ needs.old.items ++ specs.call_needs self.now.world.now self.now.which.now self.now.found.now (core_import import.now) (Some call.now)) }
-        ensures encoded { OnOk result (unencoded_call self.now.world.now self.now.found.now (core_import import.now) (Some call.now) ≡ []) }
-        ensures cause { IfErr result (Explains (unencoded_call self.now.world.now self.now.found.now (core_import import.now) (Some call.now))) }
+        ensures ok { OnOk result (needs.new.items
+            ≡ needs.old.items
+            ++ specs.call_needs self.now.world.now self.now.which.now self.now.found.now
+            (core_import import.now) (Some call.now)) }
+        ensures encoded { OnOk result (unencoded_call self.now.world.now self.now.found.now
+            (core_import import.now) (Some call.now)
+            ≡ []) }
+        ensures cause { IfErr result (Explains (unencoded_call self.now.world.now self.now.found.now
+            (core_import import.now) (Some call.now))) }
     {
         match lowering_of(self.world, call) {
             Some(Lowering::Direct { options }) => {
@@ -165,9 +184,14 @@ impl UserModule<'_> {
         alloc: Global,
         import: &NamedImport<'_>,
     ) -> Result<(), ShimFault>
-        ensures ok { OnOk result (needs.new.items ≡ needs.old.items ++ specs.role_needs self.now.world.now self.now.which.now self.now.found.now (core_import import.now) None) }
-        ensures encoded { OnOk result (unencoded_import self.now.world.now self.now.found.now (core_import import.now) ≡ []) }
-        ensures cause { IfErr result (Explains (unencoded_import self.now.world.now self.now.found.now (core_import import.now))) }
+        ensures ok { OnOk result (needs.new.items
+            ≡ needs.old.items
+            ++ specs.role_needs self.now.world.now self.now.which.now self.now.found.now
+            (core_import import.now) None) }
+        ensures encoded { OnOk result
+            (unencoded_import self.now.world.now self.now.found.now (core_import import.now) ≡ []) }
+        ensures cause { IfErr result (Explains
+            (unencoded_import self.now.world.now self.now.found.now (core_import import.now))) }
     {
         match call_of(alloc, import.role)? {
             Some(call) => self.add_call(needs, alloc, import, &call),
@@ -183,9 +207,14 @@ impl UserModule<'_> {
         alloc: Global,
         import: &NamedImport<'_>,
     ) -> Result<(), ShimFault>
-        ensures ok { OnOk result (needs.new.items ≡ needs.old.items ++ specs.import_needs self.now.world.now self.now.which.now self.now.found.now (core_import import.now)) }
-        ensures encoded { OnOk result (unencoded_import self.now.world.now self.now.found.now (core_import import.now) ≡ []) }
-        ensures cause { IfErr result (Explains (unencoded_import self.now.world.now self.now.found.now (core_import import.now))) }
+        ensures ok { OnOk result (needs.new.items
+            ≡ needs.old.items
+            ++ specs.import_needs self.now.world.now self.now.which.now self.now.found.now
+            (core_import import.now)) }
+        ensures encoded { OnOk result
+            (unencoded_import self.now.world.now self.now.found.now (core_import import.now) ≡ []) }
+        ensures cause { IfErr result (Explains
+            (unencoded_import self.now.world.now self.now.found.now (core_import import.now))) }
     {
         match adapted_of(import.role) {
             Some(function) => {
@@ -203,9 +232,16 @@ impl UserModule<'_> {
         alloc: Global,
         imports: &[NamedImport<'_>],
     ) -> Result<(), ShimFault>
-        ensures ok { OnOk result (needs.new.items ≡ needs.old.items ++ flat_map (specs.import_needs self.now.world.now self.now.which.now self.now.found.now) (map core_import imports.now)) }
-        ensures encoded { OnOk result (flat_map (unencoded_import self.now.world.now self.now.found.now) (map core_import imports.now) ≡ []) }
-        ensures cause { IfErr result (Explains (flat_map (unencoded_import self.now.world.now self.now.found.now) (map core_import imports.now))) }
+        ensures ok { OnOk result (needs.new.items
+            ≡ needs.old.items ++ flat_map (specs.import_needs self.now.world.now
+            self.now.which.now self.now.found.now) (map core_import imports.now)) }
+        ensures encoded { OnOk result (flat_map
+            (unencoded_import self.now.world.now self.now.found.now)
+            (map core_import imports.now)
+            ≡ []) }
+        ensures cause { IfErr result (Explains (flat_map
+            (unencoded_import self.now.world.now self.now.found.now)
+            (map core_import imports.now))) }
     {
         for import in imports {
             self.add_import(needs, alloc, import)?;
@@ -219,9 +255,17 @@ impl UserModule<'_> {
         needs: &mut Vec<NeededShim>,
         alloc: Global,
     ) -> Result<(), ShimFault>
-        ensures ok { OnOk result (needs.new.items ≡ needs.old.items ++ flat_map (specs.import_needs self.now.world.now self.now.which.now self.now.found.now) (imports_of self.now.found.now)) }
-        ensures encoded { OnOk result (flat_map (unencoded_import self.now.world.now self.now.found.now) (imports_of self.now.found.now) ≡ []) }
-        ensures cause { IfErr result (Explains (flat_map (unencoded_import self.now.world.now self.now.found.now) (imports_of self.now.found.now))) }
+        ensures ok { OnOk result (needs.new.items
+            ≡ needs.old.items ++ flat_map (specs.import_needs self.now.world.now
+            self.now.which.now self.now.found.now)
+            (imports_of self.now.found.now)) }
+        ensures encoded { OnOk result (flat_map
+            (unencoded_import self.now.world.now self.now.found.now)
+            (imports_of self.now.found.now)
+            ≡ []) }
+        ensures cause { IfErr result (Explains (flat_map
+            (unencoded_import self.now.world.now self.now.found.now)
+            (imports_of self.now.found.now))) }
     {
         let imports = self.found.imports.imports(alloc)?;
         self.add_listed(needs, alloc, imports.as_slice())

@@ -16,8 +16,9 @@ use wit_data::{InterfaceId, Type, WorldKey};
 /// `for_module`, and the `realloc` of a lowering, are the module that imports the function.
 #[derive(PartialEq, Eq)]
 pub enum ShimKind {
-    /// A lowering of a function that the world imports, whose options name items of the module that imports it (Canonical
-    /// ABI: `canon lower`): the key of its interface, or none at the root, and its name there with the form of the call.
+    /// A lowering of a function that the world imports, whose options name items of the module that
+    /// imports it (Canonical ABI: `canon lower`): the key of its interface, or none at the root,
+    /// and its name there with the form of the call.
     IndirectLowering {
         interface: Option<WorldKey>,
         function: LoweringKey,

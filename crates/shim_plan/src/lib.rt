@@ -1,19 +1,21 @@
 //! Which shims a world needs, in order.
 //!
-//! A shim is a generated core function that a user module imports in the place of a function that can't exist yet, because it
-//! needs a memory or an export of an instance that is made later. [`Shims`] lists them: [`Shims::append_indirect`] appends those
-//! that a module of the world needs, each kind once, and a shim is named by its place. What is needed is the value of
-//! `specs/Needed.antt`, in the words of the world alone; `specs/Plans.antt` says what appending gives, and
-//! `specs/Encodings.antt` when it is refused.
+//! A shim is a generated core function that a user module imports in the place of a function that
+//! can't exist yet, because it needs a memory or an export of an instance that is made later.
+//! [`Shims`] lists them: [`Shims::append_indirect`] appends those that a module of the world needs,
+//! each kind once, and a shim is named by its place. What is needed is the value of
+//! `specs/Needed.antt`, in the words of the world alone; `specs/Plans.antt` says what appending
+//! gives, and `specs/Encodings.antt` when it is refused.
 //!
-//! Planned are functions that the world imports, their reallocs, functions of numbers that adapters export, and destructors. The
-//! kinds of streams and futures, asynchronous functions and error contexts are here, and nothing plans them: worlds that have
-//! these are not encoded yet.
+//! Planned are functions that the world imports, their reallocs, functions of numbers that adapters
+//! export, and destructors. The kinds of streams and futures, asynchronous functions and error
+//! contexts are here, and nothing plans them: worlds that have these are not encoded yet.
 //!
-//! In reading order: `kinds` (what a shim stands for), `copies` (copies of kinds), `laws` (what equality of kinds means),
-//! `shims` (the list), `fault` (why a plan is refused), `needs` (a shim before it has a place), `modules` (user modules of a
-//! world), `calls` (functions of the world as core imports call them), `reallocs`, `adapted` (functions that adapters export),
-//! `imports` and `destructors` (what a module needs of each), `plan` (all that it needs).
+//! In reading order: `kinds` (what a shim stands for), `copies` (copies of kinds), `laws` (what
+//! equality of kinds means), `shims` (the list), `fault` (why a plan is refused), `needs` (a shim
+//! before it has a place), `modules` (user modules of a world), `calls` (functions of the world as
+//! core imports call them), `reallocs`, `adapted` (functions that adapters export), `imports` and
+//! `destructors` (what a module needs of each), `plan` (all that it needs).
 #![tactic(auto)]
 
 mod adapted;

@@ -72,7 +72,8 @@ pub(crate) fn module_text(which: &MainOrAdapter) -> &str
 impl<'a> UserModule<'a> {
     /// The realloc of the calls of the module's imports: the module that exports it, and the export's name.
     pub(crate) fn import_realloc(&self) -> Option<(CustomModule<'a>, &'a str)>
-        ensures { lent_export result ≡ specs.import_realloc self.now.world.now self.now.which.now self.now.found.now }
+        ensures { lent_export result
+            ≡ specs.import_realloc self.now.world.now self.now.which.now self.now.found.now }
     {
         let own = self.found.exports.import_realloc_for(None, "");
         self.world.resolve_realloc(lent_module(self.which), own)

@@ -31,7 +31,14 @@ impl Drop for NeededShim {
 impl NeededShim {
     /// The shim under its name.
     pub(crate) fn named(self, name: Text) -> Shim
-        ensures { result ≡ record { options = self.options; name = name; debug_name = self.debug_name; kind = self.kind; sig = self.sig } }
+        ensures { result
+            ≡ record {
+              options = self.options;
+              name = name;
+              debug_name = self.debug_name;
+              kind = self.kind;
+              sig = self.sig;
+            } }
     {
         let NeededShim {
             options,

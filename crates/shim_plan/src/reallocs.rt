@@ -24,8 +24,9 @@ pub enum ReallocSite {
     AfterInstantiation,
 }
 
-/// Whether a function that is made there takes a shim as its realloc, and not the export itself: before the instantiation
-/// there is no export yet; after it, exactly where main exports a task hook, which is called round reallocs.
+/// Whether a function that is made there takes a shim as its realloc, and not the export itself:
+/// before the instantiation there is no export yet; after it, exactly where main exports a task
+/// hook, which is called round reallocs.
 pub fn realloc_needs_shim(world: &ComponentWorld, site: ReallocSite) -> bool
     ensures { result ≡ specs.realloc_needs_shim world.now site }
 {
@@ -67,7 +68,8 @@ fn add_realloc_of(
     owner: CustomModule<'_>,
     export: &str,
 ) -> Result<(), AllocError>
-    ensures { OnOk result (needs.new.items ≡ needs.old.items ++ specs.realloc_shim (module_name owner.entry, export.now) ∷ []) }
+    ensures { OnOk result (needs.new.items
+        ≡ needs.old.items ++ specs.realloc_shim (module_name owner.entry, export.now) ∷ []) }
 {
     let module = owned_module(alloc, owner)?;
     let debug_name = realloc_name(alloc, &module, export)?;
@@ -90,7 +92,8 @@ fn add_shim_of(
     alloc: Global,
     realloc: Option<(CustomModule<'_>, &str)>,
 ) -> Result<(), AllocError>
-    ensures { OnOk result (needs.new.items ≡ needs.old.items ++ specs.realloc_shims (lent_export realloc.entry)) }
+    ensures { OnOk result
+        (needs.new.items ≡ needs.old.items ++ specs.realloc_shims (lent_export realloc.entry)) }
 {
     match realloc {
         Some((owner, export)) => add_realloc_of(needs, alloc, owner, export),
@@ -107,7 +110,10 @@ impl UserModule<'_> {
         site: ReallocSite,
         options: RequiredOptions,
     ) -> Result<(), AllocError>
-        ensures { OnOk result (needs.new.items ≡ needs.old.items ++ specs.realloc_needs self.now.world.now self.now.which.now self.now.found.now site options) }
+        ensures { OnOk result (needs.new.items
+            ≡ needs.old.items
+            ++ specs.realloc_needs self.now.world.now self.now.which.now self.now.found.now
+            site options) }
     {
         if !options.contains(RequiredOptions::REALLOC) || !realloc_needs_shim(self.world, site) {
             return Ok(());

@@ -50,8 +50,8 @@ impl Drop for Shim {
     }
 }
 
-/// Shims in order, which contracts see as their list. No two are of one kind, and each is named by the decimal digits of its
-/// place.
+/// Shims in order, which contracts see as their list. No two are of one kind, and each is named by
+/// the decimal digits of its place.
 pub struct Shims {
     alloc: Global,
     shims: IndexMap<ShimKind, Shim>,
@@ -82,7 +82,8 @@ fn insert_if_absent(
     kind: ShimKind,
     shim: Shim,
 ) -> Result<(), AllocError>
-    ensures ok { OnOk result (shims.new.entries ≡ with_first same_kind shims.old.entries kind shim) }
+    ensures ok { OnOk result
+        (shims.new.entries ≡ with_first same_kind shims.old.entries kind shim) }
     ensures err { OnErr result (shims.new.entries ≡ shims.old.entries) }
 {
     if shims.contains_key(&kind) {
@@ -134,8 +135,8 @@ impl Shims {
         self.shims.values()
     }
 
-    /// Appends a shim, unless there is one of its kind, which is kept then. Where memory is refused, the shims are as they
-    /// were.
+    /// Appends a shim, unless there is one of its kind, which is kept then. Where memory is
+    /// refused, the shims are as they were.
     pub fn push(&mut self, shim: Shim) -> Result<(), AllocError>
         requires { shim.name ≡ decimal (length self.old) }
         ensures ok { OnOk result (self.new ≡ with_shim self.old shim) }
@@ -146,10 +147,12 @@ impl Shims {
         Ok(())
     }
 
-    /// Appends the shims that a module of the world needs and that are not there, each once, in order: for each import that is
-    /// called through a table its own, and where [`realloc_needs_shim`](crate::realloc_needs_shim) one for the realloc of the
-    /// call; and one for each destructor that the module exports. A name that is no adapter's needs none. Adapters, streams
-    /// and futures, asynchronous functions and error contexts are not planned yet.
+    /// Appends the shims that a module of the world needs and that are not there, each once, in
+    /// order: for each import that is called through a table its own, and where
+    /// [`realloc_needs_shim`](crate::realloc_needs_shim) one for the realloc of the call; and one
+    /// for each destructor that the module exports. A name that is no adapter's needs none.
+    /// Adapters, streams and futures, asynchronous functions and error contexts are not planned
+    /// yet.
     ///
     /// `NoEncoding` for the first import that is called through a table and has no string encoding. After a refusal the
     /// shims are as they were.
@@ -158,10 +161,14 @@ impl Shims {
         world: &ComponentWorld,
         which: CustomModule<'_>,
     ) -> Result<(), ShimFault>
-        ensures ok { OnOk result (self.new ≡ with_needed self.old (needed world.now (module_of_name (module_name which.entry)))) }
+        ensures ok { OnOk result (self.new
+            ≡ with_needed self.old
+            (needed world.now (module_of_name (module_name which.entry)))) }
         ensures err { OnErr result (self.new ≡ self.old) }
-        ensures encoded { OnOk result (unencoded world.now (module_of_name (module_name which.entry)) ≡ []) }
-        ensures cause { IfErr result (Explains (unencoded world.now (module_of_name (module_name which.entry)))) }
+        ensures encoded { OnOk result
+            (unencoded world.now (module_of_name (module_name which.entry)) ≡ []) }
+        ensures cause { IfErr result
+            (Explains (unencoded world.now (module_of_name (module_name which.entry)))) }
     {
         let which = owned_module(self.alloc, which)?;
         let needs = needed_shims(self.alloc, world, &which)?;

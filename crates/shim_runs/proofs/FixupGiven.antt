@@ -1,5 +1,5 @@
--- What the imports of a fixup are given: the functions of `actual`, in order, the function with which main is initialized, and the table
--- of the shims.
+-- What the imports of a fixup are given: the functions of `actual`, in order, the function with
+-- which main is initialized, and the table of the shims.
 use Rattle.std.proofs.Common.{◌≡◌, ◌∙◌, ◌+◌, ◌<◌, ◌≤◌, ◌^◌, ℕ, suc, List, [], ◌∷◌, ◌++◌, length, map, cond, if◌then◌else◌, Option, Some, None, option_map, codes, append_assoc, refl, sym, ap, arith}
 use Rattle.std.specs.Fmt.{decimal}
 use Rattle.std.specs.List.{AllByRecursion, AllZip}

@@ -1,5 +1,5 @@
--- Worked examples: two shims of two types, made after two opaque functions, and the fixup that fills their slots with these; the same
--- with a memory; and a memory alone.
+-- Worked examples: two shims of two types, made after two opaque functions, and the fixup that
+-- fills their slots with these; the same with a memory; and a memory alone.
 use Rattle.std.proofs.Common.{◌≡◌, ℕ, pos, Bool, true, false, List, [], ◌∷◌, ◌++◌, Option, Some, None, option_map, codes, refl}
 use Rattle.std.specs.Fmt.{digits}
 use Rattle.comp_bytes.specs.declared.space.Space.TheVariants as spaces

@@ -54,7 +54,8 @@ FilledShimsForward =
 
 -- ---- the instance of the shims
 
--- what it exports: each shim under the digits of its place; the table, where there are shims; and the memory, where there is one
+-- what it exports: each shim under the digits of its place; the table, where there are shims; and
+-- the memory, where there is one
 abbrev pub shims_exported : ℕ → ℕ → List Shim → List Export
 shims_exported place address [] = []
 shims_exported place address (s ∷ ss) = record { space = spaces.CoreFunc; name = decimal place; address = address } ∷ shims_exported (suc place) (suc address) ss
@@ -101,8 +102,8 @@ memory_address (Some type) code = Some (length code.memories)
 abbrev pub with_shims : Option MemoryType → List Shim → List Func → Store → Store
 with_shims memory shims functions code = record { functions = code.functions ++ functions; tables = with_shim_table shims code.tables; memories = with_memory memory code.memories }
 
--- The instance is made, whatever there was: shims with nothing in their slots, and no event. Where there are no shims, the address
--- of the table is that of the next one, and nothing has it.
+-- The instance is made, whatever there was: shims with nothing in their slots, and no event. Where
+-- there are no shims, the address of the table is that of the next one, and nothing has it.
 pub record ShimsRun (memory : Option MemoryType) (shims : List Shim) (debug_names : Bool) (number : ℕ) (c : Scope) (s : RunStore) : Type 0 where
   pub functions : List Func
   pub are : AreShimsFrom (with_shims memory shims functions s.code) (length s.code.tables) 0 (length s.code.functions) shims
@@ -130,8 +131,8 @@ abbrev pub with_slots : List Shim → ℕ → List Export → Store → Store
 with_slots [] table actual code = code
 with_slots (s ∷ ss) table actual code = record code { tables = slice_set code.tables table (map (λ (e : Export). Some e.address) actual) }
 
--- the function with which main is initialized, where it has one, is a function of a user module without parameters and results, at this
--- address
+-- the function with which main is initialized, where it has one, is a function of a user module
+-- without parameters and results, at this address
 abbrev pub IsCall : Store → List Export → List ℕ → ℕ → Type 0
 IsCall code main name address = (export_named name main ≡ Some (record { space = spaces.CoreFunc; name = name; address = address })) × (what : ℕ) × IsOpaqueAt code (thunk_at address) what
 
@@ -152,7 +153,8 @@ abbrev pub fixup_arguments : List Shim → Option (List ℕ) → List Export →
 fixup_arguments shims initialize actual main address table memory =
     map (λ i. (i.0, exports_given actual main (instance_exports shims address table memory) i.1)) (fixup_instances shims initialize)
 
--- what is there when it is made: shims, a table with a slot for each of them, what each is to forward to, and what is called
+-- what is there when it is made: shims, a table with a slot for each of them, what each is to
+-- forward to, and what is called
 pub record CanFix (shims : List Shim) (initialize : Option (List ℕ)) (actual main : List Export) (table : ℕ) (called : List ℕ) (code : Store) : Type 0 where
   pub numbered : AreNumbered 0 shims
   pub room : length shims < 2 ^ 32
@@ -160,8 +162,8 @@ pub record CanFix (shims : List Shim) (initialize : Option (List ℕ)) (actual m
   pub slotted : (shims ≡ [] → ⊥) → HasSlots code table shims
   pub calls : AreCalls code main initialize called
 
--- The instance is made: each slot holds what is given for the shim of its place, and there is no new function. Then main is initialized,
--- where it has to be, and nothing else is seen.
+-- The instance is made: each slot holds what is given for the shim of its place, and there is no
+-- new function. Then main is initialized, where it has to be, and nothing else is seen.
 pub record FixupRun (shims : List Shim) (initialize : Option (List ℕ)) (debug_names : Bool) (actual main : List Export) (address table : ℕ) (memory : Option ℕ) (called : List ℕ) (number : ℕ) (c : Scope) (s : RunStore) : Type 0 where
   pub given : List Thing
   pub runs : (now : Now) (next : Next) → instantiate_generated (sections_of_fixup shims initialize debug_names) number (fixup_arguments shims initialize actual main address table memory) (machine c s now) next

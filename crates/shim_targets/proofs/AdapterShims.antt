@@ -1,5 +1,5 @@
--- A function that an adapter exports, and that another module imports, has its shim, and the shim that is found by its kind stands for
--- it.
+-- A function that an adapter exports, and that another module imports, has its shim, and the shim
+-- that is found by its kind stands for it.
 use Rattle.std.proofs.Common.{◌≡◌, ℕ, List, [], Contains, Some, sym, ap, subst}
 use Rattle.std.specs.Prelude.{IsSome}
 use Rattle.std.specs.List.{flat_map}

@@ -1,4 +1,5 @@
--- Which of the two a shim stands for, by its kind: a lowering for an import, and the kind of a destructor for the export that it names.
+-- Which of the two a shim stands for, by its kind: a lowering for an import, and the kind of a
+-- destructor for the export that it names.
 use Rattle.std.proofs.Common.{◌≡◌, ◌∙◌, Bool, true, false, true≢false, ℕ, List, inl, inr, Option, Some, None, refl, sym, ap, subst}
 use Rattle.std.proofs.lemmas.Option.{none-some, same_Some}
 use Rattle.standard_kinds.specs.declared.kinds.StringEncoding.{StringEncoding}

@@ -1,5 +1,6 @@
--- What a user module needs of a call: where its options need a memory, which main doesn't import, and it has an encoding, a shim that
--- stands for its import; where main imports its memory, a shim for the realloc of the call; and nothing else.
+-- What a user module needs of a call: where its options need a memory, which main doesn't import,
+-- and it has an encoding, a shim that stands for its import; where main imports its memory, a shim
+-- for the realloc of the call; and nothing else.
 use Rattle.std.proofs.Common.{◌≡◌, ◌∙◌, ℕ, Bool, true, false, ◌&&◌, List, [], Contains, if◌then◌else◌, Option, Some, None, is_some, inl, inr, refl, sym, ap, subst}
 use Rattle.std.proofs.Math.Bool.{and-false}
 use Rattle.std.proofs.lemmas.Option.{same_Some}
@@ -14,6 +15,7 @@ use Rattle.wit_data.specs.declared.worlds.WorldKey.{WorldKey}
 use Rattle.comp_roles.specs.CoreImports.{CoreImport}
 use Rattle.comp_roles.specs.Functions.{of_function}
 use Rattle.comp_roles.specs.declared.libraries.MainOrAdapter.{MainOrAdapter}
+use Rattle.comp_options.proofs.ImportSets.{no_realloc_needed}
 use Rattle.comp_options.specs.Options.{needs, import_set}
 use Rattle.comp_options.specs.declared.required.RequiredOptions.{RequiredOptions}
 use Rattle.comp_worlds.specs.Encodable.{IsEncodable}
@@ -33,7 +35,6 @@ use Rattle.comp_links.specs.Targets.{UserModule}
 use Rattle.shim_targets.specs.ShimTargets.{which_of, kind_of_import, StandsForOne}
 use Rattle.shim_targets.proofs.Calls.{IsLowered, role_back}
 use Rattle.shim_targets.proofs.Lists.{contains_first}
-use Rattle.shim_targets.proofs.OptionSets.{none_needed}
 use Rattle.shim_targets.proofs.ReallocShims.{Pair, realloc_exported, realloc_stands}
 use Rattle.shim_targets.proofs.Roles.{import_role, no_hook}
 use Rattle.comp_worlds.specs.Offered.{shared_memory}
@@ -50,9 +51,9 @@ no_realloc_after w ok which m options =
     ap (λ b. if needs options.0 2 && b then realloc_shims (import_realloc w which m) else []) (no_hook w ok)
     ∙ ap (λ b. if b then realloc_shims (import_realloc w which m) else []) (and-false (needs options.0 2))
 
--- and none before, where there is no option
-no_realloc_before : (w : ComponentWorld) (which : MainOrAdapter) (m : ValidatedModule) (options : RequiredOptions) → options.0 ≡ 0 → realloc_needs w which m sites.BeforeInstantiation options ≡ []
-no_realloc_before w which m options e = ap (λ (set : ℕ). if needs set 2 && true then realloc_shims (import_realloc w which m) else []) e
+-- and none before, where the options name none
+no_realloc_before : (w : ComponentWorld) (which : MainOrAdapter) (m : ValidatedModule) (options : RequiredOptions) → needs options.0 2 ≡ false → realloc_needs w which m sites.BeforeInstantiation options ≡ []
+no_realloc_before w which m options e = ap (λ (b : Bool). if b && true then realloc_shims (import_realloc w which m) else []) e
 
 -- ---- a call
 
@@ -130,11 +131,6 @@ module _ (w : ComponentWorld) (of : UserModule) (m : ValidatedModule) (i : CoreI
     with_memory unshared memory None encoded = tt
     with_memory unshared memory (Some encoding) encoded = (shim_stands unshared memory encoding encoded, subst (AllByRecursion (Stands w)) (sym (no_realloc_after w ok (which_of of) m options)) tt)
 
-    without_memory : needs options.0 1 ≡ false → options.0 ≡ 0
-    without_memory e =
-        let set : AbiVariant → ℕ = λ a. import_set a w.resolve.types h.function in
-        ap set h.synchronous ∙ none_needed w.resolve.types h.function (ap (λ a. needs (set a) 1) (sym h.synchronous) ∙ e)
-
     -- the shim of a realloc stands for that
     reallocs_stand : AllByRecursion (Stands w) (realloc_needs w (which_of of) m sites.BeforeInstantiation options)
     reallocs_stand = by (needs options.0 2) (import_realloc w (which_of of) m) refl
@@ -150,7 +146,7 @@ module _ (w : ComponentWorld) (of : UserModule) (m : ValidatedModule) (i : CoreI
       where
         by : shared_memory w ≡ None → (b : Bool) → needs options.0 1 ≡ b → AllByRecursion (Stands w) (needs_as (Some (lowered_by false b)))
         by unshared true e = with_memory unshared e (of_function key name m.metadata.import_encodings) refl
-        by unshared false e = subst (AllByRecursion (Stands w)) (sym (no_realloc_before w (which_of of) m options (without_memory e))) tt
+        by unshared false e = subst (AllByRecursion (Stands w)) (sym (no_realloc_before w (which_of of) m options (no_realloc_needed abi w.resolve.types h.function e))) tt
 
         shared_by : (o : Option MemoryType) → shared_memory w ≡ o → AllByRecursion (Stands w) (needs_as (Some (lowered_by (is_some o) (needs options.0 1))))
         shared_by None e = by e (needs options.0 1) refl

@@ -1,5 +1,5 @@
 -- The options of a call are those that the link table says.
-use Rattle.std.proofs.Common.{◌≡◌, ◌∙◌, ℕ, Bool, true, false, List, Contains, Option, Some, None, if◌then◌else◌, refl, sym, ap}
+use Rattle.std.proofs.Common.{◌≡◌, ◌∙◌, ℕ, Bool, true, false, List, Contains, Option, Some, None, if◌then◌else◌, refl, sym, ap, true≢false}
 use Rattle.wit_data.specs.Signatures.{signature}
 use Rattle.wit_data.specs.declared.functions.AbiVariant.{AbiVariant}
 use Rattle.wit_data.specs.declared.functions.Function.{Function}
@@ -47,4 +47,5 @@ options_needed w ok i there = by i.core.role refl (import_role w ok i there)
     by (imports.MainModuleExport name kind) is h = refl
     by (imports.AdapterExport adapter name type) is h = refl
     by (imports.Item item) is h = refl
-    by role is h = absurd h
+    by (imports.WorldFunc (keys.Interface other) function abi) is h = absurd (true≢false (sym h))
+    by role is h = refl

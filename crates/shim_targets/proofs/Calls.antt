@@ -1,5 +1,5 @@
 -- The functions that core imports call: how they are lowered, and the kinds of shims for them.
-use Rattle.std.proofs.Common.{◌≡◌, ◌∙◌, ℕ, true, false, List, [], ◌∷◌, map, Contains, inl, inr, is_some, Option, Some, None, refl, sym, ap, subst, rules}
+use Rattle.std.proofs.Common.{◌≡◌, ◌∙◌, ℕ, true, false, List, [], ◌∷◌, map, Contains, inl, inr, is_some, Option, Some, None, refl, sym, ap, subst, rules, true≢false}
 use Rattle.std.specs.Cmp.{IsEquivalence}
 use Rattle.std.specs.Cmp.Rules.{comparing}
 use Rattle.std.specs.List.{AllByRecursion, flat_map}
@@ -14,7 +14,6 @@ use Rattle.comp_lists.proofs.Lists.{AllByRecursion-contains, Contains-map}
 use Rattle.comp_lists.proofs.Lookups.{some_of}
 use Rattle.wit_data.specs.Keys.{is_same_key}
 use Rattle.wit_data.specs.declared.functions.AbiVariant.{AbiVariant}
-use Rattle.wit_data.specs.declared.functions.AbiVariant.TheVariants.{GuestImport}
 use Rattle.wit_data.specs.declared.functions.Function.{Function}
 use Rattle.wit_data.specs.declared.ids.InterfaceId.{InterfaceId}
 use Rattle.wit_data.specs.declared.resolve.Resolve.{Resolve}
@@ -31,7 +30,7 @@ use Rattle.comp_options.specs.Options.{import_set}
 use Rattle.world_values.specs.Items.{function_in, functions_of, root_function_at}
 use Rattle.comp_worlds.specs.Encodable.{IsEncodable}
 use Rattle.comp_worlds.specs.Imported.{Lowerings, lowering_of, root_lowerings, interface_lowerings, is_same_import_key, root_entry, interface_entry}
-use Rattle.comp_worlds.specs.Lowerings.{is_same_lowering}
+use Rattle.comp_worlds.specs.Lowerings.{IsImportForm, is_same_lowering}
 use Rattle.comp_worlds.specs.Typed.{type_of_import}
 use Rattle.comp_worlds.specs.Uses.{Used, used_by, all_imports, call_at, calls_in, is_called}
 use Rattle.comp_worlds.specs.WorldContents.{items_of, imported_functions, root_function}
@@ -56,11 +55,10 @@ use Rattle.shim_targets.proofs.Lowered.{is_call_of, root_found, interface_found,
 use Rattle.shim_targets.proofs.Tables.{made_finds}
 use Rattle.shim_targets.proofs.Users.{back, among_all}
 
--- A role that calls a function of the world: the function, how it is lowered, and the kind of a shim for it. The interface is
--- the key of the function's, or none at the root.
+-- A role that calls a function of the world: the function, how it is lowered, and the kind of a
+-- shim for it. The interface is the key of the function's, or none at the root.
 pub record IsLowered (w : ComponentWorld) (role : Import) (interface : Option WorldKey) (key : WorldKey) (name : List ℕ) (abi : AbiVariant) : Type 0 where
   pub function : Function
-  pub synchronous : abi ≡ GuestImport
   pub lowered : lowering_of_call w (record { interface = interface; key = key; function = record { name = name; abi = abi } }) ≡ Some (lowering_of (is_some (shared_memory w)) abi w.resolve.types function)
   pub needs : lower_needs w role ≡ import_set abi w.resolve.types function
   pub typed : type_of_import w.resolve (items_of w) role ≡ Some (called_type w.resolve abi function)
@@ -103,27 +101,26 @@ root_there w ok text c =
       there = lookup-from_Contains key_laws (keys.Name text) (items.Function is.0) es ok.valid.import_keys_apart (subst (λ e. Contains es e) (sym is.1) entry.one);
     }
 
-root_lowered : (w : ComponentWorld) → IsEncodable w → (i : UserImport) (text : List ℕ) → Contains (user_imports w) i → i.core.role ≡ imports.WorldFunc (keys.Name text) text GuestImport → Contains (imported_functions w) text →
-    IsLowered w (imports.WorldFunc (keys.Name text) text GuestImport) None (keys.Name text) text GuestImport
-root_lowered w ok i text there is c =
+root_lowered : (abi : AbiVariant) → IsImportForm abi → (w : ComponentWorld) → IsEncodable w → (i : UserImport) (text : List ℕ) → Contains (user_imports w) i → i.core.role ≡ imports.WorldFunc (keys.Name text) text abi → Contains (imported_functions w) text →
+    IsLowered w (imports.WorldFunc (keys.Name text) text abi) None (keys.Name text) text abi
+root_lowered abi form w ok i text there is c =
     let es : List (WorldKey × WorldItem) = (items_of w).imports in
     let used : Used = used_of w in
     let root : IsRootFunction w text = root_there w ok text c in
     let f : Function = root.function in
     let at : root_function_at es (keys.Name text) ≡ Some f = ap (option_and_then function_in) root.there in
-    let called : used.called (call_at (keys.Name text) text GuestImport) ≡ true = is_used w i (call_at (keys.Name text) text GuestImport) there (ap calls_in is) in
+    let called : used.called (call_at (keys.Name text) text abi) ≡ true = is_used w i (call_at (keys.Name text) text abi) there (ap calls_in is) in
     let entries : Lowerings = flat_map (root_lowerings used w.resolve.types) es in
-    let found_there : lookup (is_call_of text) entries ≡ Some (lowering_of used.shares GuestImport w.resolve.types f) = root_found used w.resolve text f es ok.valid.imports root.there called in
+    let found_there : lookup (is_call_of text abi) entries ≡ Some (lowering_of used.shares abi w.resolve.types f) = root_found abi form used w.resolve text f es ok.valid.imports root.there called in
     record {
       function = f;
-      synchronous = refl;
       lowered =
-          ap (λ table. option_and_then (λ (x : ImportedInterface). lookup (is_call_of text) x.lowerings) (lookup (is_same_import_key None) table)) ok.tables.import_map
-          ∙ ap (option_and_then (λ (x : ImportedInterface). lookup (is_call_of text) x.lowerings)) (made_finds is_same_import_key one_import_key None (root_entry used w.resolve es ∷ flat_map (interface_entry used w.resolve) es))
-          ∙ made_finds is_same_lowering one_lowering (record { name = text; abi = GuestImport }) entries
+          ap (λ table. option_and_then (λ (x : ImportedInterface). lookup (is_call_of text abi) x.lowerings) (lookup (is_same_import_key None) table)) ok.tables.import_map
+          ∙ ap (option_and_then (λ (x : ImportedInterface). lookup (is_call_of text abi) x.lowerings)) (made_finds is_same_import_key one_import_key None (root_entry used w.resolve es ∷ flat_map (interface_entry used w.resolve) es))
+          ∙ made_finds is_same_lowering one_lowering (record { name = text; abi = abi }) entries
           ∙ found_there;
-      needs = ap (λ o. option_map_or (import_set GuestImport w.resolve.types) o 0) at;
-      typed = ap (option_map (called_type w.resolve GuestImport)) at;
+      needs = ap (λ o. option_map_or (import_set abi w.resolve.types) o 0) at;
+      typed = ap (option_map (called_type w.resolve abi)) at;
       encoding = λ m. refl;
       kind = λ of encoding. refl;
     }
@@ -141,28 +138,27 @@ functions_named r (keys.Interface other) id h = h
 interface_there : (w : ComponentWorld) → IsEncodable w → (key : WorldKey) (id : InterfaceId) → Contains (items_of w).imports (key, items.Interface id) → lookup (is_same_key key) (items_of w).imports ≡ Some (items.Interface id)
 interface_there w ok key id c = lookup-from_Contains key_laws key (items.Interface id) (items_of w).imports ok.valid.import_keys_apart c
 
-interface_lowered : (w : ComponentWorld) → IsEncodable w → (i : UserImport) (key : WorldKey) (id : InterfaceId) (text : List ℕ) → Contains (user_imports w) i → i.core.role ≡ imports.InterfaceFunc key id text GuestImport →
+interface_lowered : (abi : AbiVariant) → IsImportForm abi → (w : ComponentWorld) → IsEncodable w → (i : UserImport) (key : WorldKey) (id : InterfaceId) (text : List ℕ) → Contains (user_imports w) i → i.core.role ≡ imports.InterfaceFunc key id text abi →
     Contains (items_of w).imports (key, items.Interface id) → Contains (map (λ e. e.0) (functions_of w.resolve id)) text →
-    IsLowered w (imports.InterfaceFunc key id text GuestImport) (Some key) key text GuestImport
-interface_lowered w ok i key id text there is c d =
+    IsLowered w (imports.InterfaceFunc key id text abi) (Some key) key text abi
+interface_lowered abi form w ok i key id text there is c d =
     let es : List (WorldKey × WorldItem) = (items_of w).imports in
     let used : Used = used_of w in
     let function = some_of (found text (functions_of w.resolve id)) (IsSome-lookup_from_Contains bytes_laws text (functions_of w.resolve id) d) in
     let f : Function = function.0 in
     let named = functions_named w.resolve key id (AllByRecursion-contains (IsImportItem w.resolve) es (key, items.Interface id) ok.valid.imports c) in
-    let called : used.called (call_at key text GuestImport) ≡ true = is_used w i (call_at key text GuestImport) there (ap calls_in is) in
-    let found_there : lookup (is_call_of text) (interface_lowerings used w.resolve key id) ≡ Some (lowering_of used.shares GuestImport w.resolve.types f) = interface_found used w.resolve key id text f named function.1 called in
+    let called : used.called (call_at key text abi) ≡ true = is_used w i (call_at key text abi) there (ap calls_in is) in
+    let found_there : lookup (is_call_of text abi) (interface_lowerings used w.resolve key id) ≡ Some (lowering_of used.shares abi w.resolve.types f) = interface_found abi form used w.resolve key id text f named function.1 called in
     let entry = entry_found used w.resolve key id es (interface_there w ok key id c) in
     record {
       function = f;
-      synchronous = refl;
       lowered =
-          ap (λ table. option_and_then (λ (x : ImportedInterface). lookup (is_call_of text) x.lowerings) (lookup (is_same_import_key (Some key)) table)) ok.tables.import_map
-          ∙ ap (option_and_then (λ (x : ImportedInterface). lookup (is_call_of text) x.lowerings)) (made_finds is_same_import_key one_import_key (Some key) (root_entry used w.resolve es ∷ flat_map (interface_entry used w.resolve) es) ∙ entry)
-          ∙ made_finds is_same_lowering one_lowering (record { name = text; abi = GuestImport }) (interface_lowerings used w.resolve key id)
+          ap (λ table. option_and_then (λ (x : ImportedInterface). lookup (is_call_of text abi) x.lowerings) (lookup (is_same_import_key (Some key)) table)) ok.tables.import_map
+          ∙ ap (option_and_then (λ (x : ImportedInterface). lookup (is_call_of text abi) x.lowerings)) (made_finds is_same_import_key one_import_key (Some key) (root_entry used w.resolve es ∷ flat_map (interface_entry used w.resolve) es) ∙ entry)
+          ∙ made_finds is_same_lowering one_lowering (record { name = text; abi = abi }) (interface_lowerings used w.resolve key id)
           ∙ found_there;
-      needs = ap (λ o. option_map_or (import_set GuestImport w.resolve.types) o 0) function.1;
-      typed = ap (option_map (called_type w.resolve GuestImport)) function.1;
+      needs = ap (λ o. option_map_or (import_set abi w.resolve.types) o 0) function.1;
+      typed = ap (option_map (called_type w.resolve abi)) function.1;
       encoding = λ m. refl;
       kind = λ of encoding. refl;
     }
@@ -173,17 +169,12 @@ interface_lowered w ok i key id text there is c d =
 pub world_call : (w : ComponentWorld) → IsEncodable w → (i : UserImport) → Contains (user_imports w) i → (text function : List ℕ) (abi : AbiVariant) → i.core.role ≡ imports.WorldFunc (keys.Name text) function abi →
     IsImportRole w (imports.WorldFunc (keys.Name text) function abi) → IsLowered w (imports.WorldFunc (keys.Name text) function abi) None (keys.Name text) function abi
 world_call w ok i there text function abi is h =
-    let same : imports.WorldFunc (keys.Name text) function abi ≡ imports.WorldFunc (keys.Name text) text GuestImport =
-    ap (λ f. imports.WorldFunc (keys.Name text) f abi) h.1 ∙ ap (λ a. imports.WorldFunc (keys.Name text) text a) h.2 in
-    let plain = root_lowered w ok i text there (is ∙ same) h.0 in
     subst (λ f. IsLowered w (imports.WorldFunc (keys.Name text) f abi) None (keys.Name text) f abi) (sym h.1)
-    (subst (λ a. IsLowered w (imports.WorldFunc (keys.Name text) text a) None (keys.Name text) text a) (sym h.2) plain)
+    (root_lowered abi h.2 w ok i text there (is ∙ ap (λ f. imports.WorldFunc (keys.Name text) f abi) h.1) h.0)
 
 pub interface_call : (w : ComponentWorld) → IsEncodable w → (i : UserImport) → Contains (user_imports w) i → (key : WorldKey) (id : InterfaceId) (function : List ℕ) (abi : AbiVariant) → i.core.role ≡ imports.InterfaceFunc key id function abi →
     IsImportRole w (imports.InterfaceFunc key id function abi) → IsLowered w (imports.InterfaceFunc key id function abi) (Some key) key function abi
-interface_call w ok i there key id function abi is h =
-    subst (λ a. IsLowered w (imports.InterfaceFunc key id function a) (Some key) key function a) (sym h.2)
-    (interface_lowered w ok i key id function there (is ∙ ap (λ a. imports.InterfaceFunc key id function a) h.2) h.0 h.1)
+interface_call w ok i there key id function abi is h = interface_lowered abi h.2 w ok i key id function there is h.0 h.1
 
 -- the module and the role are found back from the kind
 pub role_back : (w : ComponentWorld) → IsEncodable w → (of : UserModule) (role : Import) → IsImportRole w role → (encoding : StringEncoding) (kind : ShimKind) → kind_of_import of role encoding ≡ Some kind → role_of_kind w kind ≡ Some (of, role)
@@ -202,4 +193,5 @@ role_back w ok of (imports.MainModuleMemory type) h encoding kind e = absurd (no
 role_back w ok of (imports.MainModuleExport name export) h encoding kind e = absurd (none-some kind e)
 role_back w ok of (imports.AdapterExport adapter name type) h encoding kind e = absurd (none-some kind e)
 role_back w ok of (imports.Item item) h encoding kind e = absurd (none-some kind e)
-role_back w ok of role h encoding kind e = absurd h
+role_back w ok of (imports.WorldFunc (keys.Interface other) function abi) h encoding kind e = absurd (true≢false (sym h))
+role_back w ok of role h encoding kind e = absurd (none-some kind e)

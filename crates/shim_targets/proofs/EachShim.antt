@@ -1,6 +1,6 @@
--- Every shim of a world stands for a core import of a user module, for a function that an adapter exports and another module imports, or
--- for a realloc or a destructor that a user module exports.
-use Rattle.std.proofs.Common.{◌∙◌, ℕ, suc, Bool, true, false, List, [], ◌∷◌, ◌++◌, Contains, if◌then◌else◌, inr, Option, Some, None, ◌≡◌, refl, sym, ap, subst}
+-- Every shim of a world stands for a core import of a user module, for a function that an adapter
+-- exports and another module imports, or for a realloc or a destructor that a user module exports.
+use Rattle.std.proofs.Common.{◌∙◌, ℕ, suc, Bool, true, false, List, [], ◌∷◌, ◌++◌, Contains, if◌then◌else◌, inr, Option, Some, None, ◌≡◌, refl, sym, ap, subst, true≢false}
 use Rattle.std.specs.List.{AllByRecursion, flat_map, list_any}
 use Rattle.std.specs.Option.{option_map}
 use Rattle.comp_lists.proofs.Lists.{AllByRecursion-contains}
@@ -90,7 +90,8 @@ module _ (w : ComponentWorld) (ok : IsEncodable w) (of : UserModule) (m : Valida
   import_stands name field (imports.AdapterExport adapter function type) there h =
       subst (AllByRecursion (Stands w)) (sym (adapter_needed (record { module_name = name; field = field; role = imports.AdapterExport adapter function type }) adapter function type h.numbers))
       (λ place. inr (record { of = Adapter adapter; name = function }, adapter_stands w adapter function type h (record { module_name = name; field = field; role = imports.AdapterExport adapter function type }) place), tt)
-  import_stands name field role there h = absurd h
+  import_stands name field (imports.WorldFunc (keys.Interface other) function abi) there h = absurd (true≢false (sym h))
+  import_stands name field role there h = tt
 
   -- ---- the destructors
 

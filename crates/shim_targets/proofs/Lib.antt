@@ -1,7 +1,6 @@
 mod Lists
 mod Tables
 mod Keys
-mod OptionSets
 pub mod Users
 pub mod Roles
 mod Lowered
@@ -10,7 +9,6 @@ mod ReallocShims
 mod CallNeeds
 pub mod NoOptions
 pub mod Unencoded
-pub mod Synchronous
 pub mod FoundShims
 mod AdapterNeeds
 pub mod EachShim

@@ -1,4 +1,4 @@
--- An import that needs a memory has its shim, and one that has none has no option.
+-- An import that needs a memory has its shim, and the options of one that has none name nothing that a module exports.
 use Rattle.std.proofs.Common.{◌≡◌, ◌∙◌, ◌⊎◌, inl, inr, ℕ, suc, Bool, true, false, true≢false, List, [], ◌∷◌, ◌++◌, map, Contains, if◌then◌else◌, is_some, Some, None, refl, sym, ap, subst}
 use Rattle.std.specs.Prelude.{IsTrue, IsSome}
 use Rattle.std.specs.List.{flat_map, list_any}
@@ -29,6 +29,7 @@ use Rattle.comp_links.specs.Links.{lower_needs}
 use Rattle.comp_links.specs.Modules.{UserImport, module_found, user_imports}
 use Rattle.comp_links.specs.Roles.{encoding_in, import_encoding}
 use Rattle.comp_links.specs.Targets.{UserModule}
+use Rattle.shim_targets.specs.CallOptions.{NamesNoExport}
 use Rattle.shim_targets.specs.ShimTargets.{which_of, kind_of_import}
 use Rattle.shim_targets.proofs.CallNeeds.{realloc_needed, shim_with, call_needed, kind_of_shim}
 use Rattle.shim_targets.proofs.Calls.{world_call, interface_call}
@@ -112,7 +113,8 @@ import_needed w ok unshared of m name field (imports.MainModuleMemory type) ther
 import_needed w ok unshared of m name field (imports.MainModuleExport export sort) there h encoding encoded memory kind is = absurd (none-some kind is)
 import_needed w ok unshared of m name field (imports.AdapterExport adapter function type) there h encoding encoded memory kind is = absurd (none-some kind is)
 import_needed w ok unshared of m name field (imports.Item item) there h encoding encoded memory kind is = absurd (none-some kind is)
-import_needed w ok unshared of m name field role there h encoding encoded memory kind is = absurd h
+import_needed w ok unshared of m name field (imports.WorldFunc (keys.Interface other) function abi) there h encoding encoded memory kind is = absurd (true≢false (sym h))
+import_needed w ok unshared of m name field role there h encoding encoded memory kind is = absurd (none-some kind is)
 
 -- so has one that needs a realloc, where main imports its memory
 realloc_needed_by : (w : ComponentWorld) → IsEncodable w → is_some (shared_memory w) ≡ true → (of : UserModule) (m : ValidatedModule) (name field : List ℕ) (role : Import) → Contains (user_imports w) (record { of = of; core = record { module_name = name; field = field; role = role } }) →
@@ -133,7 +135,8 @@ realloc_needed_by w ok shared of m name field (imports.MainModuleMemory type) th
 realloc_needed_by w ok shared of m name field (imports.MainModuleExport export sort) there h realloc r found = absurd (true≢false (sym realloc))
 realloc_needed_by w ok shared of m name field (imports.AdapterExport adapter function type) there h realloc r found = absurd (true≢false (sym realloc))
 realloc_needed_by w ok shared of m name field (imports.Item item) there h realloc r found = absurd (true≢false (sym realloc))
-realloc_needed_by w ok shared of m name field role there h realloc r found = absurd h
+realloc_needed_by w ok shared of m name field (imports.WorldFunc (keys.Interface other) function abi) there h realloc r found = absurd (true≢false (sym h))
+realloc_needed_by w ok shared of m name field role there h realloc r found = absurd (true≢false (sym realloc))
 
 -- a kind that is needed of an import of a module has a shim
 needed_there : (w : ComponentWorld) (of : UserModule) (m : ValidatedModule) → module_found w of ≡ Some m → (i : CoreImport) → Contains (imports_of m) i → (kind : ShimKind) → IsKindNeeded w of m i kind → IsSome (shim_of kind (shims_of w))
@@ -168,9 +171,9 @@ realloc_there w ok shared of m found i c realloc r is =
 -- ---- imports that have no shim
 
 pub direct : (w : ComponentWorld) → IsEncodable w → shared_memory w ≡ None → (i : UserImport) → Contains (user_imports w) i → (encoding : StringEncoding) → import_encoding w i.of i.core.role ≡ Some encoding → (kind : ShimKind) → kind_of_import i.of i.core.role encoding ≡ Some kind →
-    shim_of kind (shims_of w) ≡ None → lower_needs w i.core.role ≡ 0
+    shim_of kind (shims_of w) ≡ None → NamesNoExport (lower_needs w i.core.role)
 direct w ok unshared i there encoding encoded kind is none = by (needs (lower_needs w i.core.role) 1) refl
   where
-    by : (b : Bool) → needs (lower_needs w i.core.role) 1 ≡ b → lower_needs w i.core.role ≡ 0
+    by : (b : Bool) → needs (lower_needs w i.core.role) 1 ≡ b → NamesNoExport (lower_needs w i.core.role)
     by true e = absurd (true≢false (sym (shim_there w ok unshared i there encoding encoded e kind is) ∙ ap is_some none))
-    by false e = role_without w i.core.role (import_role w ok i there) e
+    by false e = role_without w i.core.role e

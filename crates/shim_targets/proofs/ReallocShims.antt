@@ -1,5 +1,5 @@
--- The shims of reallocs: functions that are lowered directly, since main imports its memory, have them as an option before the module that
--- exports the realloc is instantiated.
+-- The shims of reallocs: functions that are lowered directly, since main imports its memory, have
+-- them as an option before the module that exports the realloc is instantiated.
 use Rattle.std.proofs.Common.{◌≡◌, ◌∙◌, ℕ, Bool, true, false, List, [], ◌∷◌, Contains, Option, Some, None, cond, if◌then◌else◌, refl, sym, ap, subst, inl, inr}
 use Rattle.std.proofs.lemmas.Option.{none-some, same_Some}
 use Rattle.std.specs.List.{AllByRecursion}

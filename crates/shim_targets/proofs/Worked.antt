@@ -1,5 +1,6 @@
--- Worked examples: a world that imports a function of a text and one of a number at its root, and one of texts in an interface;
--- one whose main module exports the destructor of a resource, and one with an adapter.
+-- Worked examples: a world that imports a function of a text and one of a number at its root, and
+-- one of texts in an interface; one whose main module exports the destructor of a resource, and one
+-- with an adapter.
 use Rattle.std.proofs.Common.{◌≡◌, ◌<◌, ℕ, arith, false, true, List, [], ◌∷◌, refl, Some, None}
 use Rattle.std.specs.Fmt.{digits}
 use Rattle.std.specs.List.{IsDistinct, flat_map}
@@ -95,7 +96,8 @@ encoded =
     ∷ (record { key = interface; function = g }, encodings.UTF16)
     ∷ []
 
--- a world whose main module imports these from one module `m`, with these encodings, and exports a memory and the realloc `r`
+-- a world whose main module imports these from one module `m`, with these encodings, and exports a
+-- memory and the realloc `r`
 abbrev world_of : List (List ℕ × Import) → List (FunctionKey × StringEncoding) → ComponentWorld
 world_of fields encoded_as = whole_of (record {
   resolve = record {
@@ -230,7 +232,7 @@ is_world : IsWorld mixed_world
 unfolding IsDistinct
 is_world = record {
   present = omega arith;
-  imports = (((refl, tt), tt), ((refl, tt), ((refl, tt), tt)));
+  imports = ((refl, tt), (refl, (refl, tt)));
   exports = tt;
   import_keys_apart = ((refl, (refl, tt)), ((refl, tt), (tt, tt)));
   import_names_apart = ((refl, tt), (tt, tt));
@@ -244,7 +246,7 @@ is_world = record {
     import_roles = (
       (
         ((refl, (refl, (refl, tt))), ((refl, (refl, tt)), ((refl, tt), (tt, tt)))),
-        (((1, omega arith, refl), refl, refl), (((0, omega arith, refl), (0, omega arith, refl), refl), (((0, omega arith, refl), refl, refl), (((0, omega arith, refl), (0, omega arith, refl), refl), tt)))),
+        (((1, omega arith, refl), refl, tt), (((0, omega arith, refl), (0, omega arith, refl), tt), (((0, omega arith, refl), refl, tt), (((0, omega arith, refl), (0, omega arith, refl), tt), tt)))),
       ),
       tt,
     );

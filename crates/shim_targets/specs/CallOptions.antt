@@ -1,8 +1,9 @@
--- The options that a core import's call of a function of the world needs, as the world's table of lowerings has them (Canonical ABI:
--- `canon lower`).
-use Rattle.std.specs.Prelude.{Option, Some, None}
+-- The options that a core import's call of a function of the world needs, as the world's table of
+-- lowerings has them (Canonical ABI: `canon lower`).
+use Rattle.std.specs.Prelude.{◌≡◌, ℕ, false, Option, Some, None}
 use Rattle.std.specs.Map.{lookup}
 use Rattle.std.specs.Option.{option_and_then}
+use Rattle.comp_options.specs.Options.{needs}
 use Rattle.comp_options.specs.declared.required.RequiredOptions.{RequiredOptions}
 use Rattle.comp_roles.specs.declared.imports.Import.{Import}
 use Rattle.comp_roles.specs.declared.imports.Import.TheVariants as imports
@@ -30,3 +31,8 @@ abbrev pub lowering_of_import : ComponentWorld → Import → Option Lowering
 lowering_of_import w (imports.WorldFunc key name abi) = lowering_at w None (record { name = name; abi = abi })
 lowering_of_import w (imports.InterfaceFunc key id name abi) = lowering_at w (Some key) (record { name = name; abi = abi })
 lowering_of_import w role = None
+
+-- the options of a set name nothing that a module exports: no memory and no realloc
+pub record NamesNoExport (set : ℕ) : Type 0 where
+  pub memory : needs set 1 ≡ false
+  pub realloc : needs set 2 ≡ false

@@ -1,12 +1,12 @@
--- What the shims of a world stand for, by its link table (Canonical ABI: `canon lower`; component model, explainer: core
--- instances).
+-- What the shims of a world stand for, by its link table (Canonical ABI: `canon lower`; component
+-- model, explainer: core instances).
 use Rattle.std.specs.Prelude.{◌≡◌, ◌++◌, ◌⊎◌, ℕ, Option, Some, None, IsTrue, Contains, codes}
 use Rattle.standard_kinds.specs.declared.kinds.StringEncoding.{StringEncoding}
 use Rattle.comp_roles.specs.declared.imports.Import.{Import}
 use Rattle.comp_roles.specs.declared.imports.Import.TheVariants as imports
 use Rattle.comp_roles.specs.declared.libraries.MainOrAdapter.{MainOrAdapter}
 use Rattle.comp_roles.specs.declared.libraries.MainOrAdapter.TheVariants as users
-use Rattle.comp_options.specs.Options.{needs}
+use Rattle.comp_options.specs.Options.{needs, memory_bit}
 use Rattle.comp_worlds.specs.declared.world.ComponentWorld.{ComponentWorld}
 use Rattle.shim_plan.specs.declared.kinds.ShimKind.{ShimKind}
 use Rattle.shim_plan.specs.declared.kinds.ShimKind.TheVariants as kinds
@@ -23,20 +23,20 @@ abbrev pub which_of : UserModule → MainOrAdapter
 which_of Main = users.Main
 which_of (Adapter name) = users.Adapter name
 
--- the kind of the shim for an import of a module that is called with this string encoding: that of a lowering, where its role is
--- a function of the world
+-- the kind of the shim for an import of a module that is called with this string encoding: that of
+-- a lowering, where its role is a function of the world
 abbrev pub kind_of_import : UserModule → Import → StringEncoding → Option ShimKind
 kind_of_import of (imports.WorldFunc key name abi) encoding = Some (kinds.IndirectLowering None (record { name = name; abi = abi }) (which_of of) encoding)
 kind_of_import of (imports.InterfaceFunc key id name abi) encoding = Some (kinds.IndirectLowering (Some key) (record { name = name; abi = abi }) (which_of of) encoding)
 kind_of_import of role encoding = None
 
--- The shim is the lowering of this core import of a user module: it has the options, the kind and the name that follow from the role,
--- and its call needs a memory, which main doesn't import.
+-- The shim is the lowering of this core import of a user module: it has the options, the kind and
+-- the name that follow from the role, and its call needs a memory, which main doesn't import.
 pub record StandsFor (w : ComponentWorld) (s : Shim) (i : UserImport) : Type 0 where
   pub present : Contains (user_imports w) i
   pub is : IsShimOf w s i.of i.core.role
   pub options : s.options.0 ≡ lower_needs w i.core.role
-  pub memory : IsTrue (needs (lower_needs w i.core.role) 1)
+  pub memory : IsTrue (needs (lower_needs w i.core.role) memory_bit)
   pub unshared : shared_memory w ≡ None
   pub encoding : StringEncoding
   pub encoded : import_encoding w i.of i.core.role ≡ Some encoding

@@ -5,7 +5,8 @@ ghost use Rattle.standard_kinds.specs.Bytes.{kind_byte};
 
 use crate::kinds::ExportKind;
 
-/// The byte of a kind of core item. Core standard, binary format: `exportdesc`; component model, binary format: `core:sort`.
+/// The byte of a kind of core item. Core standard, binary format: `exportdesc`; component model,
+/// binary format: `core:sort`.
 pub fn byte_of_kind(kind: ExportKind) -> u8
     ensures { result ≡ kind_byte kind }
 {

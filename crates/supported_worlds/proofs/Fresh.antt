@@ -1,4 +1,5 @@
--- A list that is walked with a table of what was met: nothing occurs twice in it exactly where each element is new to the table.
+-- A list that is walked with a table of what was met: nothing occurs twice in it exactly where each
+-- element is new to the table.
 use Rattle.std.proofs.Common.{◌≡◌, ◌∙◌, ap, ap₂, sym, refl, Bool, true, false, not, cond, ◌&&◌, ◌||◌, List, [], ◌∷◌, ◌++◌, Option, Some, None, true≢false}
 use Rattle.std.specs.Prelude.{is_some, is_none, if◌then◌else◌}
 use Rattle.std.specs.List.{AllByRecursion, IsDistinct, list_any}

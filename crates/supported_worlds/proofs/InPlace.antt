@@ -1,5 +1,5 @@
--- The types among the imports are in place where each follows the one before it, and this says that each resource of the
--- root is imported.
+-- The types among the imports are in place where each follows the one before it, and this says that
+-- each resource of the root is imported.
 use Rattle.std.proofs.Common.{arith, ◌≡◌, ◌<◌, ◌≤◌, ◌+◌, ◌-◌, ◌==◌, ℕ, zero, suc, Bool, true, false, not, ◌&&◌, ◌||◌, nat_le, List, [], ◌∷◌, ◌++◌, length, drop, Option, Some, None, slice_range, refl, sym, ap, ap₂, subst, ◌∙◌, true≢false, length-take, length-drop, take_all}
 use Rattle.std.specs.Prelude.{Contains, is_none}
 use Rattle.std.specs.List.{list_any}

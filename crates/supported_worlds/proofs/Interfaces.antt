@@ -1,4 +1,4 @@
--- An interface of which nothing is left out has synchronous functions alone.
+-- The functions of an interface have the names under which it lists them.
 use Rattle.std.proofs.Common.{rules, ◌≡◌, ◌<◌, ◌∙◌, ℕ, zero, suc, Bool, true, false, cond, ◌&&◌, List, [], ◌∷◌, map, length, Option, Some, None, refl, sym, ap, ap₂, subst, true≢false, arith}
 use Rattle.std.specs.Prelude.{nat_eq, slice_get, slice_index_or, option_map, Contains, IsSome}
 use Rattle.std.specs.List.{AllByRecursion}
@@ -10,8 +10,6 @@ use Rattle.std.proofs.lemmas.Slice.Eq.{bytes_eq-Decides}
 use Rattle.comp_lists.specs.Found.{found}
 use Rattle.wit_data.specs.Keys.{is_same_key}
 use Rattle.wit_data.specs.declared.functions.Function.{Function}
-use Rattle.wit_data.specs.declared.functions.FunctionKind.{FunctionKind}
-use Rattle.wit_data.specs.declared.functions.FunctionKind.TheVariants as functions
 use Rattle.wit_data.specs.declared.ids.InterfaceId.{InterfaceId}
 use Rattle.wit_data.specs.declared.resolve.Interface.{Interface}
 use Rattle.wit_data.specs.declared.resolve.Resolve.{Resolve}
@@ -21,28 +19,19 @@ use Rattle.wit_data.specs.declared.worlds.WorldKey.{WorldKey}
 use Rattle.wit_data.specs.declared.worlds.WorldKey.TheVariants as keys
 use Rattle.world_values.specs.Items.{functions_of, functions_in}
 use Rattle.world_values.specs.Mentions.{interface_in}
-use Rattle.comp_worlds.specs.Worlds.{IsSynchronous, IsNamedFunction}
+use Rattle.comp_worlds.specs.Worlds.{IsNamedFunction}
 use Rattle.record_core_types.specs.Guarantees.{own_names}
 use Rattle.record_resolve.specs.Resolved.{IsListed, AreListed}
-use Rattle.supported_worlds.specs.LeftOut.{kind_left_out, interface_left_out}
-use Rattle.supported_worlds.proofs.Lists.{nothing, at_front, after, none_picked}
+use Rattle.supported_worlds.proofs.Lists.{at_front, after}
 
 abbrev Entries : Type 0
 Entries = List (WorldKey × WorldItem)
 
--- ---- functions
-
-pub synchronous : (kind : FunctionKind) → kind_left_out kind ≡ None → IsSynchronous kind
-synchronous functions.AsyncFreestanding h = nothing _ h
-synchronous (functions.AsyncMethod id) h = nothing _ h
-synchronous (functions.AsyncStatic id) h = nothing _ h
-synchronous kind h = tt
-
 -- ---- functions of interfaces
 
-named_functions : (fs : List (List ℕ × Function)) → AllByRecursion (λ e. kind_left_out e.1.kind ≡ None) fs → AllByRecursion IsListed fs → AllByRecursion IsNamedFunction fs
-named_functions [] h listed = tt
-named_functions (f ∷ fs) h listed = ((sym listed.0, synchronous f.1.kind h.0), named_functions fs h.1 listed.1)
+named_functions : (fs : List (List ℕ × Function)) → AllByRecursion IsListed fs → AllByRecursion IsNamedFunction fs
+named_functions [] listed = tt
+named_functions (f ∷ fs) listed = (sym listed.0, named_functions fs listed.1)
 
 listed_at : (is : List Interface) (n : ℕ) → AllByRecursion AreListed is → AllByRecursion IsListed (unwrap_or (option_map (λ i. i.functions) (slice_get is n)) [])
 listed_at [] n h = tt
@@ -60,8 +49,8 @@ own_are r (Some (items.Function f)) listed = refl
 own_are r (Some (items.Interface id)) listed = same_names (functions_of r id) (listed_at r.interfaces id.index listed)
 own_are r (Some (items.NamedType id)) listed = refl
 
-pub synchronous_interface : (r : Resolve) (id : InterfaceId) → interface_left_out r id ≡ None → AllByRecursion AreListed r.interfaces → AllByRecursion IsNamedFunction (functions_of r id)
-synchronous_interface r id h listed = named_functions (functions_of r id) (none_picked (λ e. kind_left_out e.1.kind) (functions_of r id) h) (listed_at r.interfaces id.index listed)
+pub named_interface : (r : Resolve) (id : InterfaceId) → AllByRecursion AreListed r.interfaces → AllByRecursion IsNamedFunction (functions_of r id)
+named_interface r id listed = named_functions (functions_of r id) (listed_at r.interfaces id.index listed)
 
 -- ---- look-ups
 

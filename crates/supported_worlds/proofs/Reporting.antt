@@ -48,12 +48,12 @@ pub own_found : (types : List TypeDef) (es : Entries) (keys : List WorldKey) (m 
 own_found types es keys m set found h is = is ∙ ap (λ ids. first_some (own_group_left_out types es ids) m.imports.modules) h.keys
 
 -- where no item is left out, the other parts decide
-pub rest_decides : (p : WorldParts) (w : World) (found : Option (List ℕ)) → w ≡ items_of p → None ≡ world_left_out p.resolve w → found ≡ option_or (twice_left_out (all_required p) w) (named_left_out p w) → found ≡ left_out p
+pub rest_decides : (p : WorldParts) (w : World) (found : Option (List ℕ)) → w ≡ items_of p → None ≡ world_left_out w → found ≡ option_or (twice_left_out (all_required p) w) (named_left_out p w) → found ≡ left_out p
 unfolding left_out
 rest_decides p w found same none rest =
     rest
     ∙ ap (λ o. option_or o (option_or (twice_left_out (all_required p) w) (named_left_out p w))) none
-    ∙ ap (λ (w : World). option_or (world_left_out p.resolve w) (option_or (twice_left_out (all_required p) w) (named_left_out p w))) same
+    ∙ ap (λ (w : World). option_or (world_left_out w) (option_or (twice_left_out (all_required p) w) (named_left_out p w))) same
 
 -- ---- where nothing is reported
 
@@ -67,7 +67,7 @@ both P (x ∷ xs) ys h k = (h.0, both P xs ys h.1 k)
 
 -- the imports from one module, by the places of the types of the world
 abbrev pub group_out : WorldParts → List ℕ × ImportInstance → Option (List ℕ)
-group_out p group = group_left_out p.resolve.types (places_of p.resolve.types (items_of p).imports) (length (items_of p).imports) group
+group_out p group = group_left_out p.can_use_context_slot_1 p.resolve.types (places_of p.resolve.types (items_of p).imports) (length (items_of p).imports) group
 
 -- by its exported resources, and the keys that the module has to export
 abbrev pub own_group_out : WorldParts → List WorldKey → List ℕ × ImportInstance → Option (List ℕ)
@@ -104,8 +104,8 @@ pub record IsAdapterEncoded (p : WorldParts) (a : List ℕ × WorldAdapter) : Ty
 
 -- nothing of a world is left out
 pub record IsEncoded (p : WorldParts) : Type 0 where
-  pub imports : AllByRecursion (λ e. import_item_left_out p.resolve e ≡ None) (items_of p).imports
-  pub exports : AllByRecursion (λ e. export_item_left_out p.resolve e ≡ None) (items_of p).exports
+  pub imports : AllByRecursion (λ e. import_item_left_out e ≡ None) (items_of p).imports
+  pub exports : AllByRecursion (λ e. export_item_left_out e ≡ None) (items_of p).exports
   pub once : twice_left_out (all_required p) (items_of p) ≡ None
   pub named : AreExportsNamed p.resolve (items_of p).exports
   pub order : is_world_placed p.resolve (items_of p) ≡ true
@@ -115,13 +115,13 @@ pub record IsEncoded (p : WorldParts) : Type 0 where
 
 -- what is left out of a module of a world, and of an adapter
 abbrev module_out : WorldParts → UserModule → Option (List ℕ)
-module_out p m = module_left_out p.resolve.types (items_of p).exports (places_of p.resolve.types (items_of p).imports) (length (items_of p).imports) m.keys m.info
+module_out p m = module_left_out p.can_use_context_slot_1 p.resolve.types (items_of p).exports (places_of p.resolve.types (items_of p).imports) (length (items_of p).imports) m.keys m.info
 
 abbrev roles_out : WorldParts → ValidatedModule → Option (List ℕ)
-roles_out p m = roles_left_out p.resolve.types (places_of p.resolve.types (items_of p).imports) (length (items_of p).imports) m
+roles_out p m = roles_left_out p.can_use_context_slot_1 p.resolve.types (places_of p.resolve.types (items_of p).imports) (length (items_of p).imports) m
 
 abbrev adapter_out : WorldParts → List ℕ × WorldAdapter → Option (List ℕ)
-adapter_out p a = adapter_left_out p.resolve.types (items_of p).exports (places_of p.resolve.types (items_of p).imports) (length (items_of p).imports) a
+adapter_out p a = adapter_left_out p.can_use_context_slot_1 p.resolve.types (items_of p).exports (places_of p.resolve.types (items_of p).imports) (length (items_of p).imports) a
 
 module_encoded : (p : WorldParts) (m : UserModule) → module_out p m ≡ None → IsModuleEncoded p m
 module_encoded p m h =
@@ -142,16 +142,16 @@ all_encoded p h =
     let world = items_of p in
     let places = places_of p.resolve.types world.imports in
     let root = length world.imports in
-    let a = neither (world_left_out p.resolve world) _ h in
-    let w = neither (first_some (import_item_left_out p.resolve) world.imports) _ a.0 in
+    let a = neither (world_left_out world) _ h in
+    let w = neither (first_some import_item_left_out world.imports) _ a.0 in
     let t = neither (twice_left_out (all_required p) world) (named_left_out p world) a.1 in
     let n = neither (names_left_out p.resolve world) (rest_left_out p world) t.1 in
     let o = neither (order_left_out p.resolve world) _ n.1 in
     let r = neither (resources_left_out p.resolve.types world.imports) (modules_left_out p world places root) o.1 in
     let b = neither (module_out p (main_of p)) (first_some (adapter_out p) p.adapters) r.1 in
     record {
-      imports = none_picked (import_item_left_out p.resolve) world.imports w.0;
-      exports = none_picked (export_item_left_out p.resolve) world.exports w.1;
+      imports = none_picked import_item_left_out world.imports w.0;
+      exports = none_picked export_item_left_out world.exports w.1;
       once = t.0;
       named = exports_named p.resolve world.exports (passes (are_exports_named p.resolve world.exports) (codes "interface") n.0);
       order = passes (is_world_placed p.resolve world) (codes "interface") o.0;
@@ -175,8 +175,8 @@ none_of : {X : Type 0} (reported : X → Option (List ℕ)) (xs : List X) (x : X
 none_of reported xs x what h m e = nothing what (sym e ∙ AllByRecursion-contains (λ y. reported y ≡ None) xs x h m)
 
 by_cases : (p : WorldParts) → IsEncoded p → (f : Refusal) → IsLeftOut p f → ⊥
-by_cases p h f (imported entry what m e) = none_of (import_item_left_out p.resolve) (items_of p).imports entry what h.imports m e
-by_cases p h f (exported entry what m e) = none_of (export_item_left_out p.resolve) (items_of p).exports entry what h.exports m e
+by_cases p h f (imported entry what m e) = none_of import_item_left_out (items_of p).imports entry what h.imports m e
+by_cases p h f (exported entry what m e) = none_of export_item_left_out (items_of p).exports entry what h.exports m e
 by_cases p h f (twice what e) = nothing what (sym e ∙ h.once)
 by_cases p h f (names lack) = lack h.named
 by_cases p h f (order what e) = nothing what (sym e ∙ ap (λ b. unless b (codes "interface")) h.order)
@@ -194,10 +194,10 @@ by_cases p h f (export_role m entry what there c e) =
 -- ---- where something is reported
 
 module _ (p : WorldParts) (what : List ℕ) where
-  of_world : world_left_out p.resolve (items_of p) ≡ Some what → IsLeftOut p (refusals.LeftOut what)
-  of_world e = elim (one_of (first_some (import_item_left_out p.resolve) (items_of p).imports) (first_some (export_item_left_out p.resolve) (items_of p).exports) what e) [
-    | inl a ↦ let t = one_picked (import_item_left_out p.resolve) (items_of p).imports what a in imported t.element what t.there t.picks
-    | inr b ↦ let t = one_picked (export_item_left_out p.resolve) (items_of p).exports what b in exported t.element what t.there t.picks
+  of_world : world_left_out (items_of p) ≡ Some what → IsLeftOut p (refusals.LeftOut what)
+  of_world e = elim (one_of (first_some import_item_left_out (items_of p).imports) (first_some export_item_left_out (items_of p).exports) what e) [
+    | inl a ↦ let t = one_picked import_item_left_out (items_of p).imports what a in imported t.element what t.there t.picks
+    | inr b ↦ let t = one_picked export_item_left_out (items_of p).exports what b in exported t.element what t.there t.picks
   ]
 
   of_names : (b : Bool) → are_exports_named p.resolve (items_of p).exports ≡ b → unless b (codes "interface") ≡ Some what → IsLeftOut p (refusals.LeftOut what)
@@ -267,7 +267,7 @@ module _ (p : WorldParts) (what : List ℕ) where
 
   reported : left_out p ≡ Some what → IsLeftOut p (refusals.LeftOut what)
   unfolding left_out
-  reported e = elim (one_of (world_left_out p.resolve (items_of p)) _ what e) [
+  reported e = elim (one_of (world_left_out (items_of p)) _ what e) [
     | inl a ↦ of_world a
     | inr b ↦ after_items (one_of (twice_left_out (all_required p) (items_of p)) (named_left_out p (items_of p)) what b)
   ]

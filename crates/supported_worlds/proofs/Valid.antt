@@ -22,6 +22,8 @@ use Rattle.wit_data.specs.declared.worlds.WorldItem.{WorldItem}
 use Rattle.wit_data.specs.declared.worlds.WorldItem.TheVariants as items
 use Rattle.wit_data.specs.declared.worlds.WorldKey.{WorldKey}
 use Rattle.wit_data.specs.declared.worlds.WorldKey.TheVariants as keys
+use Rattle.built_ins.proofs.Typed.{plain_typed}
+use Rattle.built_ins.specs.BuiltIns.{plain_intrinsic, plain_import_type}
 use Rattle.comp_roles.specs.CoreImports.{imports_from}
 use Rattle.comp_roles.specs.CoreTypes.{called_type}
 use Rattle.comp_roles.specs.declared.exports.Export.{Export}
@@ -32,6 +34,7 @@ use Rattle.comp_roles.specs.declared.imports.ImportInstance.{ImportInstance}
 use Rattle.comp_roles.specs.declared.imports.ImportInstance.TheVariants as instances
 use Rattle.comp_roles.specs.declared.libraries.MainOrAdapter.{MainOrAdapter}
 use Rattle.comp_roles.specs.declared.offered.ExternType.{ExternType}
+use Rattle.comp_roles.specs.declared.offered.ExternType.TheVariants as externs
 use Rattle.comp_roles.specs.declared.offered.ImportType.{ImportType}
 use Rattle.world_values.specs.Items.{no_items, functions_of, functions_in, function_in, function_of_item, root_function_at}
 use Rattle.world_values.specs.Mentions.{interface_in, interfaces_of, same_interface}
@@ -49,6 +52,7 @@ use Rattle.record_core_types.specs.Asked.{imported_function, imported_interface,
 use Rattle.record_core_types.specs.Guarantees.{IsCalled, IsLifted, IsKept}
 use Rattle.record_resolve.specs.Resolved.{IsNamed, AreListed}
 use Rattle.supported_worlds.specs.Distinct.{are_apart}
+use Rattle.supported_worlds.specs.Kinds.{import_kind}
 use Rattle.std.proofs.lemmas.List.Elements.{Contains-append_left, Contains-append_right}
 use Rattle.supported_worlds.specs.Apart.{FieldsApart, GroupsApart, AreApart}
 use Rattle.supported_worlds.specs.LeftOut.{items_of, import_item_left_out, export_item_left_out, export_left_out, all_required, required_of, unless}
@@ -57,7 +61,7 @@ use Rattle.supported_worlds.specs.Modules.{UserModule, main_of, module_of}
 use Rattle.supported_worlds.specs.Causes.{role_left_out, own_role_out}
 use Rattle.supported_worlds.specs.Placed.{places_of, is_resource, is_droppable, is_resource_at, is_own_resource}
 use Rattle.supported_worlds.specs.Guarantees.{HasFoundImport, IsUsed, OffersExport, IsSoundModule, HasSoundParts}
-use Rattle.supported_worlds.proofs.Interfaces.{synchronous, synchronous_interface, own_are, other_key, one_found, entry_there, name_there as function_there, found_there}
+use Rattle.supported_worlds.proofs.Interfaces.{named_interface, own_are, other_key, one_found, entry_there, name_there as function_there, found_there}
 use Rattle.supported_worlds.proofs.Lists.{nothing, at_front, after, none_picked}
 use Rattle.supported_worlds.proofs.InPlace.{both, resource_kind}
 use Rattle.supported_worlds.proofs.Order.{passes}
@@ -71,26 +75,26 @@ Entries = List (WorldKey × WorldItem)
 
 -- ---- items
 
-import_item : (r : Resolve) (e : WorldKey × WorldItem) → import_item_left_out r e ≡ None → IsNamed e → AllByRecursion AreListed r.interfaces → IsImportItem r e
-import_item r (keys.Name text, items.Function f) h named listed = (sym named, synchronous f.kind h)
+import_item : (r : Resolve) (e : WorldKey × WorldItem) → import_item_left_out e ≡ None → IsNamed e → AllByRecursion AreListed r.interfaces → IsImportItem r e
+import_item r (keys.Name text, items.Function f) h named listed = sym named
 import_item r (keys.Name text, items.NamedType id) h named listed = tt
-import_item r (keys.Name text, items.Interface id) h named listed = synchronous_interface r id h listed
+import_item r (keys.Name text, items.Interface id) h named listed = named_interface r id listed
 import_item r (keys.Interface other, items.Function f) h named listed = nothing _ h
 import_item r (keys.Interface other, items.NamedType id) h named listed = nothing _ h
-import_item r (keys.Interface other, items.Interface id) h named listed = synchronous_interface r id h listed
+import_item r (keys.Interface other, items.Interface id) h named listed = named_interface r id listed
 
-import_items : (r : Resolve) (es : Entries) → AllByRecursion (λ e. import_item_left_out r e ≡ None) es → AllByRecursion IsNamed es → AllByRecursion AreListed r.interfaces → AllByRecursion (IsImportItem r) es
+import_items : (r : Resolve) (es : Entries) → AllByRecursion (λ e. import_item_left_out e ≡ None) es → AllByRecursion IsNamed es → AllByRecursion AreListed r.interfaces → AllByRecursion (IsImportItem r) es
 import_items r [] h named listed = tt
 import_items r (e ∷ es) h named listed = (import_item r e h.0 named.0 listed, import_items r es h.1 named.1 listed)
 
-export_item : (r : Resolve) (e : WorldKey × WorldItem) → export_item_left_out r e ≡ None → IsNamed e → AllByRecursion AreListed r.interfaces → IsExportItem r e
-export_item r (keys.Name text, items.Function f) h named listed = (sym named, synchronous f.kind h)
+export_item : (r : Resolve) (e : WorldKey × WorldItem) → export_item_left_out e ≡ None → IsNamed e → AllByRecursion AreListed r.interfaces → IsExportItem r e
+export_item r (keys.Name text, items.Function f) h named listed = sym named
 export_item r (keys.Interface other, items.Function f) h named listed = nothing _ h
 export_item r (key, items.NamedType id) h named listed = nothing _ h
-export_item r (keys.Name text, items.Interface id) h named listed = synchronous_interface r id h listed
-export_item r (keys.Interface other, items.Interface id) h named listed = synchronous_interface r id h listed
+export_item r (keys.Name text, items.Interface id) h named listed = named_interface r id listed
+export_item r (keys.Interface other, items.Interface id) h named listed = named_interface r id listed
 
-export_items : (r : Resolve) (es : Entries) → AllByRecursion (λ e. export_item_left_out r e ≡ None) es → AllByRecursion IsNamed es → AllByRecursion AreListed r.interfaces → AllByRecursion (IsExportItem r) es
+export_items : (r : Resolve) (es : Entries) → AllByRecursion (λ e. export_item_left_out e ≡ None) es → AllByRecursion IsNamed es → AllByRecursion AreListed r.interfaces → AllByRecursion (IsExportItem r) es
 export_items r [] h named listed = tt
 export_items r (e ∷ es) h named listed = (export_item r e h.0 named.0 listed, export_items r es h.1 named.1 listed)
 
@@ -261,10 +265,13 @@ module _ (p : WorldParts) (present : HasSoundParts p) (linked : AreLinked p) (en
 
   import_role : (owed : List WorldKey) → AreKnown p owed → (role : Import) → role_left_out p role ≡ None → own_role_out p owed role ≡ None → IsCalled p.resolve p.world role → IsRoleLinked (whole_of p) role → IsImportRole (whole_of p) role
   import_role owed known (imports.WorldFunc (keys.Name text) name GuestImport) h own called there =
-      (name_there text (items_of p).imports (subst (λ (o : Option Function). IsSome o) (imported_is (keys.Name text)) called.1), called.0, refl)
-  import_role owed known (imports.WorldFunc (keys.Interface id) name GuestImportAsync) h own called there = nothing _ h
+      (name_there text (items_of p).imports (subst (λ (o : Option Function). IsSome o) (imported_is (keys.Name text)) called.1), called.0, tt)
+  import_role owed known (imports.WorldFunc (keys.Name text) name GuestImportAsync) h own called there =
+      (name_there text (items_of p).imports (subst (λ (o : Option Function). IsSome o) (imported_is (keys.Name text)) called.1), called.0, tt)
   import_role owed known (imports.InterfaceFunc key id name GuestImport) h own called there =
-      (entry_there key id (items_of p).imports (sym (interface_is key) ∙ called.0), function_there name (functions_of p.resolve id) called.1, refl)
+      (entry_there key id (items_of p).imports (sym (interface_is key) ∙ called.0), function_there name (functions_of p.resolve id) called.1, tt)
+  import_role owed known (imports.InterfaceFunc key id name GuestImportAsync) h own called there =
+      (entry_there key id (items_of p).imports (sym (interface_is key) ∙ called.0), function_there name (functions_of p.resolve id) called.1, tt)
   import_role owed known (imports.ImportedResourceDrop key interface id) h own called there =
       let places = places_of p.resolve.types (items_of p).imports in
       let root = length (items_of p).imports in
@@ -277,7 +284,9 @@ module _ (p : WorldParts) (present : HasSoundParts p) (linked : AreLinked p) (en
   import_role owed known (imports.MainModuleExport name kind) h own called there = there
   import_role owed known (imports.AdapterExport adapter name type) h own called there = there
   import_role owed known (imports.Item item) h own called there = there
-  import_role owed known role h own called there = nothing _ h
+  import_role owed known (imports.WorldFunc (keys.Name text) name abi) h own called there = nothing _ h
+  import_role owed known (imports.InterfaceFunc key id name abi) h own called there = nothing _ h
+  import_role owed known role h own called there = passes (is_some (plain_intrinsic p.can_use_context_slot_1 role)) (import_kind role) h
 
   for_own_key : (owed : List WorldKey) (role : Import) → own_role_out p owed role ≡ None → IsForOwnKey owed role
   for_own_key owed (imports.ExportedResourceDrop key id) h = own_key owed key id (codes "exported-drop") h
@@ -380,7 +389,8 @@ module _ (p : WorldParts) (present : HasSoundParts p) (linked : AreLinked p) (en
   fits_role (imports.MainModuleExport name kind) type h fits there = there
   fits_role (imports.AdapterExport adapter name function) type h fits there = of_type (type_of_import p.resolve (items_of p) (imports.AdapterExport adapter name function)) type refl fits
   fits_role (imports.Item item) type h fits there = there
-  fits_role role type h fits there = absurd h
+  fits_role (imports.WorldFunc (keys.Interface other) function abi) type h fits there = absurd (true≢false (sym h))
+  fits_role role type h fits there = of_type (type_of_import p.resolve (items_of p) role) type (mapped_there externs.Func (plain_import_type role) (plain_typed p.can_use_context_slot_1 role h)) fits
 
   found_import : (m : ValidatedModule) → AllByRecursion (IsImportGroup (whole_of p)) m.imports.modules → (i : ImportType) → HasFoundImport p.resolve (items_of p) m i → IsImportLinked (whole_of p) m i → FitsImport (whole_of p) m i
   found_import m groups i (inl h) there =

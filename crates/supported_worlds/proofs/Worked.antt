@@ -1,5 +1,5 @@
 -- What is left out of some worlds, worked out.
-use Rattle.std.proofs.Common.{◌≡◌, ℕ, List, [], ◌∷◌, ◌++◌, map, Option, Some, None, refl}
+use Rattle.std.proofs.Common.{false, ◌≡◌, ℕ, List, [], ◌∷◌, ◌++◌, map, Option, Some, None, refl}
 use Rattle.std.specs.Prelude.{codes, replicate}
 use Rattle.standard_kinds.specs.declared.kinds.Primitive.TheVariants as prims
 use Rattle.standard_kinds.specs.declared.kinds.ExportKind.TheVariants as given
@@ -30,7 +30,7 @@ use Rattle.comp_roles.specs.declared.imports.ImportInstance.TheVariants as insta
 use Rattle.comp_roles.specs.declared.libraries.Item.{Item}
 use Rattle.comp_roles.specs.declared.libraries.MainOrAdapter.TheVariants as modules
 use Rattle.supported_worlds.specs.Kinds.{import_kind}
-use Rattle.supported_worlds.specs.LeftOut.{import_item_left_out, interface_left_out, world_left_out, twice_left_out, names_left_out, order_left_out, resources_left_out, import_left_out, export_left_out, group_left_out, own_role_left_out}
+use Rattle.supported_worlds.specs.LeftOut.{import_item_left_out, world_left_out, twice_left_out, names_left_out, order_left_out, resources_left_out, import_left_out, export_left_out, group_left_out, own_role_left_out}
 use Rattle.supported_worlds.specs.Placed.{places_of}
 
 abbrev a_type : TypeId
@@ -77,7 +77,7 @@ importing ids = record { imports = map (λ id. (keys.Name (codes "t"), items.Nam
 
 -- what is left out of an imported function at the root
 abbrev of_root : List TypeDef → Function → Option (List ℕ)
-of_root types g = import_item_left_out (resolve_of types []) (f, items.Function g)
+of_root types g = import_item_left_out (f, items.Function g)
 
 -- ---- functions
 
@@ -100,11 +100,10 @@ many_params_are_encoded = refl
 any_types_are_encoded : (types : List TypeDef) (params : List Ty) (result : Option Ty) → of_root types (function Freestanding params result) ≡ None
 any_types_are_encoded types params result = refl
 
--- an asynchronous one is
-async_is_reported : of_root [] (function AsyncFreestanding (Primitive prims.«String» ∷ []) None) ≡ Some (codes "async")
-async_is_reported = refl
+-- nor is a kind of function: it may be asynchronous, and belong to a resource
+async_is_encoded : of_root [] (function AsyncFreestanding (Primitive prims.«String» ∷ []) None) ≡ None
+async_is_encoded = refl
 
--- a synchronous function may belong to a resource
 method_is_encoded : of_root [] (function (Method a_type) [] None) ≡ None
 method_is_encoded = refl
 
@@ -114,23 +113,23 @@ static_is_encoded = refl
 constructor_is_encoded : of_root (unnamed kinds.Resource ∷ unnamed (kinds.Own a_type) ∷ []) (function (Constructor a_type) [] (Some (Id another_type))) ≡ None
 constructor_is_encoded = refl
 
-async_method_is_reported : of_root [] (function (AsyncMethod a_type) [] None) ≡ Some (codes "async")
-async_method_is_reported = refl
+async_method_is_encoded : of_root [] (function (AsyncMethod a_type) [] None) ≡ None
+async_method_is_encoded = refl
 
-async_static_is_reported : of_root [] (function (AsyncStatic a_type) [] None) ≡ Some (codes "async")
-async_static_is_reported = refl
+async_static_is_encoded : of_root [] (function (AsyncStatic a_type) [] None) ≡ None
+async_static_is_encoded = refl
 
 -- ---- items
 
 -- an imported type is encoded, an exported one is not
-types_are_imported : world_left_out (resolve_of [] []) (record { imports = (keys.Name (codes "t"), items.NamedType a_type) ∷ (f, items.Function plain) ∷ []; exports = [] }) ≡ None
+types_are_imported : world_left_out (record { imports = (keys.Name (codes "t"), items.NamedType a_type) ∷ (f, items.Function plain) ∷ []; exports = [] }) ≡ None
 types_are_imported = refl
 
-types_are_not_exported : world_left_out (resolve_of [] []) (record { imports = []; exports = (keys.Name (codes "t"), items.NamedType a_type) ∷ [] }) ≡ Some (codes "type")
+types_are_not_exported : world_left_out (record { imports = []; exports = (keys.Name (codes "t"), items.NamedType a_type) ∷ [] }) ≡ Some (codes "type")
 types_are_not_exported = refl
 
 -- exports are checked only once all imports pass, and the first that is left out is reported
-first_is_reported : world_left_out (resolve_of [] []) (record {
+first_is_reported : world_left_out (record {
   imports = (f, items.Function plain) ∷ [];
   exports = (f, items.Function plain) ∷ (keys.Name (codes "t"), items.NamedType a_type) ∷ (keys.Interface an_interface, items.Interface an_interface) ∷ [];
 }) ≡ Some (codes "type")
@@ -142,47 +141,14 @@ first_is_reported = refl
 abbrev interface_of : List (List ℕ × TypeId) → Function → Interface
 interface_of named g = record { id = None; types = named; functions = (codes "f", g) ∷ [] }
 
-abbrev of_interface : List TypeDef → List (List ℕ × TypeId) → Function → Option (List ℕ)
-of_interface types named g = interface_left_out (resolve_of types (interface_of named g ∷ [])) an_interface
-
-interface_is_encoded : of_interface [] [] plain ≡ None
-interface_is_encoded = refl
-
-interface_is_imported : world_left_out (resolve_of [] (interface_of [] plain ∷ [])) (record { imports = (keys.Interface an_interface, items.Interface an_interface) ∷ (keys.Name (codes "i"), items.Interface an_interface) ∷ []; exports = [] }) ≡ None
+interface_is_imported : world_left_out (record { imports = (keys.Interface an_interface, items.Interface an_interface) ∷ (keys.Name (codes "i"), items.Interface an_interface) ∷ []; exports = [] }) ≡ None
 interface_is_imported = refl
 
-empty_interface_is_encoded : interface_left_out (resolve_of [] (record { id = None; types = []; functions = [] } ∷ [])) an_interface ≡ None
-empty_interface_is_encoded = refl
-
--- types of its own, and functions of these
-type_of_interface_is_encoded : of_interface (an_interface_type ∷ []) ((codes "t", a_type) ∷ []) (function Freestanding (Id a_type ∷ []) None) ≡ None
-type_of_interface_is_encoded = refl
-
-async_member_is_reported : of_interface [] [] (function AsyncFreestanding [] None) ≡ Some (codes "async")
-async_member_is_reported = refl
-
-async_method_of_interface_is_reported : of_interface [] [] (function (AsyncMethod a_type) [] None) ≡ Some (codes "async")
-async_method_of_interface_is_reported = refl
-
-async_static_of_interface_is_reported : of_interface [] [] (function (AsyncStatic a_type) [] None) ≡ Some (codes "async")
-async_static_of_interface_is_reported = refl
-
--- again no type is left out
-text_of_interface_is_encoded : of_interface [] [] (function Freestanding (Primitive prims.«String» ∷ []) (Some (Primitive prims.«String»))) ≡ None
-text_of_interface_is_encoded = refl
-
-any_types_of_interface_are_encoded : (types : List TypeDef) (params : List Ty) (result : Option Ty) → of_interface types [] (function Freestanding params result) ≡ None
-any_types_of_interface_are_encoded types params result = refl
-
--- an exported interface is one of synchronous functions, too
 abbrev exporting : WorldKey → InterfaceId → World
 exporting key id = record { imports = []; exports = (key, items.Interface id) ∷ [] }
 
-interface_is_exported : world_left_out (resolve_of [] (interface_of [] plain ∷ [])) (exporting (keys.Name (codes "i")) an_interface) ≡ None
+interface_is_exported : world_left_out (exporting (keys.Name (codes "i")) an_interface) ≡ None
 interface_is_exported = refl
-
-exported_async_member_is_reported : world_left_out (resolve_of [] (interface_of [] (function AsyncFreestanding [] None) ∷ [])) (exporting (keys.Interface an_interface) an_interface) ≡ Some (codes "async")
-exported_async_member_is_reported = refl
 
 -- ---- names of exported interfaces
 
@@ -422,49 +388,49 @@ function_is_no_type = refl
 
 -- ---- roles
 
-call_is_encoded : import_left_out [] [] 0 (imports.WorldFunc f (codes "f") GuestImport) ≡ None
+call_is_encoded : import_left_out false [] [] 0 (imports.WorldFunc f (codes "f") GuestImport) ≡ None
 call_is_encoded = refl
 
-async_call_is_reported : import_left_out [] [] 0 (imports.WorldFunc f (codes "f") GuestImportAsync) ≡ Some (codes "async")
-async_call_is_reported = refl
+async_call_is_encoded : import_left_out false [] [] 0 (imports.WorldFunc f (codes "f") GuestImportAsync) ≡ None
+async_call_is_encoded = refl
 
-exported_form_is_none : import_left_out [] [] 0 (imports.WorldFunc f (codes "f") GuestExport) ≡ Some (codes "world-func")
+exported_form_is_none : import_left_out false [] [] 0 (imports.WorldFunc f (codes "f") GuestExport) ≡ Some (codes "world-func")
 exported_form_is_none = refl
 
 -- a function of an interface is called in the same forms
-interface_call_is_encoded : import_left_out [] [] 0 (imports.InterfaceFunc f an_interface (codes "f") GuestImport) ≡ None
+interface_call_is_encoded : import_left_out false [] [] 0 (imports.InterfaceFunc f an_interface (codes "f") GuestImport) ≡ None
 interface_call_is_encoded = refl
 
-async_interface_call_is_reported : import_left_out [] [] 0 (imports.InterfaceFunc f an_interface (codes "f") GuestImportAsync) ≡ Some (codes "async")
-async_interface_call_is_reported = refl
+async_interface_call_is_encoded : import_left_out false [] [] 0 (imports.InterfaceFunc f an_interface (codes "f") GuestImportAsync) ≡ None
+async_interface_call_is_encoded = refl
 
-exported_form_of_interface_is_none : import_left_out [] [] 0 (imports.InterfaceFunc f an_interface (codes "f") GuestExport) ≡ Some (codes "interface-func")
+exported_form_of_interface_is_none : import_left_out false [] [] 0 (imports.InterfaceFunc f an_interface (codes "f") GuestExport) ≡ Some (codes "interface-func")
 exported_form_of_interface_is_none = refl
 
 -- what main exports is given to others
-function_of_main_is_encoded : import_left_out [] [] 0 (imports.MainModuleExport (codes "x") given.Func) ≡ None
+function_of_main_is_encoded : import_left_out false [] [] 0 (imports.MainModuleExport (codes "x") given.Func) ≡ None
 function_of_main_is_encoded = refl
 
-memory_of_main_is_encoded : import_left_out [] [] 0 (imports.MainModuleExport (codes "x") given.Memory) ≡ None
+memory_of_main_is_encoded : import_left_out false [] [] 0 (imports.MainModuleExport (codes "x") given.Memory) ≡ None
 memory_of_main_is_encoded = refl
 
-global_of_main_is_encoded : import_left_out [] [] 0 (imports.MainModuleExport (codes "x") given.Global) ≡ None
+global_of_main_is_encoded : import_left_out false [] [] 0 (imports.MainModuleExport (codes "x") given.Global) ≡ None
 global_of_main_is_encoded = refl
 
-table_of_main_is_encoded : import_left_out [] [] 0 (imports.MainModuleExport (codes "x") given.Table) ≡ None
+table_of_main_is_encoded : import_left_out false [] [] 0 (imports.MainModuleExport (codes "x") given.Table) ≡ None
 table_of_main_is_encoded = refl
 
 -- the drop of a resource, and of what is none
-drop_is_encoded : import_left_out (of_world kinds.Resource ∷ []) (0 ∷ []) 0 (imports.ImportedResourceDrop f None a_type) ≡ None
+drop_is_encoded : import_left_out false (of_world kinds.Resource ∷ []) (0 ∷ []) 0 (imports.ImportedResourceDrop f None a_type) ≡ None
 drop_is_encoded = refl
 
-drop_of_values_is_reported : import_left_out (of_world (kinds.Stream None) ∷ []) (0 ∷ []) 0 (imports.ImportedResourceDrop f None a_type) ≡ Some (codes "imported-drop")
+drop_of_values_is_reported : import_left_out false (of_world (kinds.Stream None) ∷ []) (0 ∷ []) 0 (imports.ImportedResourceDrop f None a_type) ≡ Some (codes "imported-drop")
 drop_of_values_is_reported = refl
 
-drop_behind_the_root_is_reported : import_left_out (of_world kinds.Resource ∷ []) (1 ∷ []) 0 (imports.ImportedResourceDrop f None a_type) ≡ Some (codes "imported-drop")
+drop_behind_the_root_is_reported : import_left_out false (of_world kinds.Resource ∷ []) (1 ∷ []) 0 (imports.ImportedResourceDrop f None a_type) ≡ Some (codes "imported-drop")
 drop_behind_the_root_is_reported = refl
 
-drop_of_nothing_is_reported : import_left_out (of_world kinds.Resource ∷ []) (0 ∷ []) 0 (imports.ImportedResourceDrop f None another_type) ≡ Some (codes "imported-drop")
+drop_of_nothing_is_reported : import_left_out false (of_world kinds.Resource ∷ []) (0 ∷ []) 0 (imports.ImportedResourceDrop f None another_type) ≡ Some (codes "imported-drop")
 drop_of_nothing_is_reported = refl
 
 async_lift_is_reported : export_left_out [] (exports.WorldFunc f (codes "f") GuestExportAsync) ≡ Some (codes "async")
@@ -490,7 +456,8 @@ destructor_is_encoded = refl
 destructor_of_values_is_reported : export_left_out (an_interface_type ∷ []) (exports.ResourceDtor a_type) ≡ Some (codes "dtor")
 destructor_of_values_is_reported = refl
 
--- the roles of a resource of an exported interface, of one that main doesn't have to export, at another key, and of what is no resource
+-- the roles of a resource of an exported interface, of one that main doesn't have to export, at
+-- another key, and of what is no resource
 abbrev exported_first : List (WorldKey × WorldItem)
 exported_first = (importing_interfaces (an_interface ∷ another_interface ∷ [])).imports
 
@@ -510,13 +477,13 @@ representation_of_values_is_reported : own_role_left_out (an_interface_type ∷ 
 representation_of_values_is_reported = refl
 
 -- of the imports from one module the first that is left out is reported
-first_field_is_reported : group_left_out [] [] 0 (codes "$root", instances.Names ((codes "f", imports.WorldFunc f (codes "f") GuestImport) ∷ (codes "s", imports.WaitableSetNew) ∷ (codes "i", imports.BackpressureInc) ∷ [])) ≡ Some (codes "waitable-set-new")
+first_field_is_reported : group_left_out false [] [] 0 (codes "$root", instances.Names ((codes "f", imports.WorldFunc f (codes "f") GuestImport) ∷ (codes "i", imports.BackpressureInc) ∷ (codes "s", imports.WaitableSetWait) ∷ (codes "p", imports.WaitableSetPoll) ∷ [])) ≡ Some (codes "waitable-set-wait")
 first_field_is_reported = refl
 
-whole_is_encoded : group_left_out [] [] 0 (codes "m", instances.Whole modules.Main) ≡ None
+whole_is_encoded : group_left_out false [] [] 0 (codes "m", instances.Whole modules.Main) ≡ None
 whole_is_encoded = refl
 
-item_is_encoded : (item : Item) → import_left_out [] [] 0 (imports.Item item) ≡ None
+item_is_encoded : (item : Item) → import_left_out false [] [] 0 (imports.Item item) ≡ None
 item_is_encoded item = refl
 
 -- it has its own kind and no other

@@ -18,7 +18,7 @@ use Rattle.supported_worlds.specs.Placed.{places_of}
 
 -- the role of an import, unless it is encoded
 abbrev pub role_left_out : WorldParts → Import → Option (List ℕ)
-role_left_out p role = import_left_out p.resolve.types (places_of p.resolve.types (items_of p).imports) (length (items_of p).imports) role
+role_left_out p role = import_left_out p.can_use_context_slot_1 p.resolve.types (places_of p.resolve.types (items_of p).imports) (length (items_of p).imports) role
 
 -- one of an exported resource, unless its module, which has to export these keys, has to export the interface of that
 abbrev pub own_role_out : WorldParts → List WorldKey → Import → Option (List ℕ)
@@ -26,11 +26,13 @@ own_role_out p keys role = own_role_left_out p.resolve.types (items_of p).export
 
 pub data IsLeftOut (p : WorldParts) : Refusal → Type 0 where
   -- an import or an export of the world
-  imported : (entry : WorldKey × WorldItem) (what : List ℕ) → Contains (items_of p).imports entry → import_item_left_out p.resolve entry ≡ Some what → IsLeftOut p (refusals.LeftOut what)
-  exported : (entry : WorldKey × WorldItem) (what : List ℕ) → Contains (items_of p).exports entry → export_item_left_out p.resolve entry ≡ Some what → IsLeftOut p (refusals.LeftOut what)
-  -- the world, where an interface is imported or exported twice, or both, or something has to be exported twice; the exported interfaces, where one has no name or that of another; the
-  -- items, where something is made of types of a later place, or an exported interface of types that are not at home there; and the
-  -- imports, where their types are out of order or lack a resource of the root
+  imported : (entry : WorldKey × WorldItem) (what : List ℕ) → Contains (items_of p).imports entry → import_item_left_out entry ≡ Some what → IsLeftOut p (refusals.LeftOut what)
+  exported : (entry : WorldKey × WorldItem) (what : List ℕ) → Contains (items_of p).exports entry → export_item_left_out entry ≡ Some what → IsLeftOut p (refusals.LeftOut what)
+  -- the world, where an interface is imported or exported twice, or both, or something has to be
+  -- exported twice; the exported interfaces, where one has no name or that of another; the items,
+  -- where something is made of types of a later place, or an exported interface of types that are
+  -- not at home there; and the imports, where their types are out of order or lack a resource of
+  -- the root
   twice : (what : List ℕ) → twice_left_out (all_required p) (items_of p) ≡ Some what → IsLeftOut p (refusals.LeftOut what)
   names : (AreExportsNamed p.resolve (items_of p).exports → ⊥) → IsLeftOut p (refusals.LeftOut (codes "interface"))
   order : (what : List ℕ) → order_left_out p.resolve (items_of p) ≡ Some what → IsLeftOut p (refusals.LeftOut what)

@@ -1,4 +1,5 @@
--- Whether nothing occurs twice in a list, as a test; and whether a key is new to a table. (The test of std's `IsDistinct`.)
+-- Whether nothing occurs twice in a list, as a test; and whether a key is new to a table. (The test
+-- of std's `IsDistinct`.)
 use Rattle.std.specs.Prelude.{Bool, true, not, ◌&&◌, List, [], ◌∷◌, is_none}
 use Rattle.std.specs.List.{list_all, list_any}
 use Rattle.std.specs.Map.{lookup}

@@ -1,5 +1,5 @@
--- What is known of the parts when a world is prepared (component model: the imports and exports of a world; Canonical ABI:
--- `canon lower`, `canon lift`).
+-- What is known of the parts when a world is prepared (component model: the imports and exports of
+-- a world; Canonical ABI: `canon lower`, `canon lift`).
 use Rattle.std.specs.Prelude.{◌≡◌, ◌⊎◌, ◌<◌, ℕ, List, length, Some, Contains}
 use Rattle.std.specs.List.{AllByRecursion}
 use Rattle.comp_lists.specs.Found.{found}
@@ -50,8 +50,9 @@ pub record IsUsed (m : ValidatedModule) (group : List ℕ × ImportInstance) : T
 pub record OffersExport (r : Resolve) (items : World) (m : ValidatedModule) (e : List ℕ × Export) : Type 0 where
   pub offered : (ty : ExternType) → type_of_export r items e.1 ≡ Some ty → found e.0 m.offered ≡ Some ty
 
--- A user module is a core module; the world, whose imports and exports are these, has what its roles name and what it must export;
--- its core imports and exports have the types that their roles require; and it imports from each module that it names.
+-- A user module is a core module; the world, whose imports and exports are these, has what its
+-- roles name and what it must export; its core imports and exports have the types that their roles
+-- require; and it imports from each module that it names.
 pub record IsSoundModule (r : Resolve) (w : WorldId) (items : World) (m : UserModule) : Type 0 where
   pub core : IsCoreModule m.info.bytes
   pub roles : AllByRecursion (λ i. HasRole r i.role) (imports_of m.info)
@@ -62,8 +63,8 @@ pub record IsSoundModule (r : Resolve) (w : WorldId) (items : World) (m : UserMo
   pub exported : AllByRecursion (OffersExport r items m.info) m.info.exports.exports
   pub kept : AllByRecursion (IsKept r w m.info.exports.exports) m.keys
 
--- The resolve is sound and has the world, whose functions have the names of their keys, as have those of interfaces; and main and
--- the adapters are such modules.
+-- The resolve is sound and has the world, whose functions have the names of their keys, as have
+-- those of interfaces; and main and the adapters are such modules.
 pub record HasSoundParts (p : WorldParts) : Type 0 where
   pub sound : IsSound p.resolve
   pub present : p.world.index < length p.resolve.worlds

@@ -32,8 +32,8 @@ is_at_home all here p = fits here (home_at all p)
 pub record AreJoined (one other home : Home) : Type 0 where
   pub each : (here : InterfaceId) → fits here home ≡ (fits here one && fits here other)
 
--- the home of a type, whatever its parts are: of one that belongs to an interface, where exported interfaces may use its types if it
--- is lent; of one that belongs to none; and of any type
+-- the home of a type, whatever its parts are: of one that belongs to an interface, where exported
+-- interfaces may use its types if it is lent; of one that belongs to none; and of any type
 abbrev pub is_owned : Bool → InterfaceId → InterfaceId → TypeDef → Bool
 is_owned lent here id t = here.index == id.index || (lent && is_some t.name)
 

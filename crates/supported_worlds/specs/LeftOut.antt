@@ -1,18 +1,19 @@
--- Which parts of a world are encoded yet: synchronous functions that it imports or exports at its root, imported interfaces of
--- types and of synchronous functions, exported interfaces of types of their own and of synchronous functions made of these and of
--- named types of interfaces that are imported or exported, types that it imports, in their order and with all resources of the root
--- among them, core imports and exports with the role of such a function, core imports that drop a resource, or make or read a handle of
--- one that their module has to export, or are main's memory, an export of main, a function that an adapter exports or an item of an
--- argument of a library, and core exports that are a post-return, a destructor, a memory or a realloc; of main, of adapters and of
--- libraries. All else is left out, and reported by the name of its kind. (The names are those of this project's record.)
-use Rattle.std.specs.Prelude.{ℕ, Bool, ◌++◌, List, length, codes, Option, Some, None, Result, Ok, Err, get_or, if◌then◌else◌}
+-- Which parts of a world are encoded yet: functions that it imports or exports at its root,
+-- imported interfaces of types and of functions, exported interfaces of types of their own and of
+-- functions made of these and of named types of interfaces that are imported or exported, types
+-- that it imports, in their order and with all resources of the root among them, core imports and
+-- exports with the role of such a function, core imports that drop a resource, or make or read a
+-- handle of one that their module has to export, or are main's memory, an export of main, a
+-- function that an adapter exports, an item of an argument of a library or a built-in function
+-- without operands, and core exports that are a post-return, a destructor, a memory or a realloc;
+-- of main, of adapters and of libraries. All else is left out, and reported by the name of its
+-- kind. (The names are those of this project's record.)
+use Rattle.std.specs.Prelude.{ℕ, Bool, ◌++◌, List, length, codes, Option, Some, None, Result, Ok, Err, get_or, is_some, if◌then◌else◌}
 use Rattle.std.specs.List.{flat_map}
 use Rattle.std.specs.Map.{lookup}
 use Rattle.std.specs.Option.{option_or}
 use Rattle.wit_data.specs.Keys.{is_same_key}
 use Rattle.wit_data.specs.declared.functions.AbiVariant.TheVariants.{GuestImport, GuestExport, GuestImportAsync}
-use Rattle.wit_data.specs.declared.functions.FunctionKind.{FunctionKind}
-use Rattle.wit_data.specs.declared.functions.FunctionKind.TheVariants as functions
 use Rattle.wit_data.specs.declared.ids.InterfaceId.{InterfaceId}
 use Rattle.wit_data.specs.declared.resolve.Resolve.{Resolve}
 use Rattle.wit_data.specs.declared.types.TypeDef.{TypeDef}
@@ -21,6 +22,7 @@ use Rattle.wit_data.specs.declared.worlds.WorldItem.{WorldItem}
 use Rattle.wit_data.specs.declared.worlds.WorldItem.TheVariants as items
 use Rattle.wit_data.specs.declared.worlds.WorldKey.{WorldKey}
 use Rattle.wit_data.specs.declared.worlds.WorldKey.TheVariants as keys
+use Rattle.built_ins.specs.BuiltIns.{plain_intrinsic}
 use Rattle.comp_roles.specs.Lookups.{first_some}
 use Rattle.comp_roles.specs.declared.exports.Export.{Export}
 use Rattle.comp_roles.specs.declared.exports.Export.TheVariants as exports
@@ -47,28 +49,17 @@ use Rattle.supported_worlds.specs.Placed.{places_of, is_world_placed, imported_n
 
 -- ---- items of a world
 
--- a kind of function that is asynchronous
-abbrev pub kind_left_out : FunctionKind → Option (List ℕ)
-kind_left_out functions.AsyncFreestanding = Some (codes "async")
-kind_left_out (functions.AsyncMethod id) = Some (codes "async")
-kind_left_out (functions.AsyncStatic id) = Some (codes "async")
-kind_left_out kind = None
-
--- the first function of an interface that is asynchronous
-abbrev pub interface_left_out : Resolve → InterfaceId → Option (List ℕ)
-interface_left_out r id = first_some (λ e. kind_left_out e.1.kind) (functions_of r id)
-
--- an export of the world, unless it is a function at the root that is synchronous, or an interface of such functions
-abbrev pub export_item_left_out : Resolve → WorldKey × WorldItem → Option (List ℕ)
-export_item_left_out r (keys.Name text, items.Function f) = kind_left_out f.kind
-export_item_left_out r (keys.Interface id, items.Function f) = Some (codes "interface")
-export_item_left_out r (key, items.Interface id) = interface_left_out r id
-export_item_left_out r (key, items.NamedType id) = Some (codes "type")
+-- an export of the world, unless it is a function at the root, or an interface
+abbrev pub export_item_left_out : WorldKey × WorldItem → Option (List ℕ)
+export_item_left_out (keys.Name text, items.Function f) = None
+export_item_left_out (keys.Interface id, items.Function f) = Some (codes "interface")
+export_item_left_out (key, items.Interface id) = None
+export_item_left_out (key, items.NamedType id) = Some (codes "type")
 
 -- an import of the world, unless it is a type under its name, or a function or an interface as above
-abbrev pub import_item_left_out : Resolve → WorldKey × WorldItem → Option (List ℕ)
-import_item_left_out r (keys.Name text, items.NamedType id) = None
-import_item_left_out r entry = export_item_left_out r entry
+abbrev pub import_item_left_out : WorldKey × WorldItem → Option (List ℕ)
+import_item_left_out (keys.Name text, items.NamedType id) = None
+import_item_left_out entry = export_item_left_out entry
 
 -- ---- names and order
 
@@ -88,7 +79,8 @@ required_of es required = flat_map (λ key. interface_among (lookup (is_same_key
 abbrev pub all_required : WorldParts → List WorldKey
 all_required p = p.main_exports ++ flat_map (λ a. a.1.required_exports) p.adapters
 
--- the keys that have to be exported, where an interface or, among the others, a function at the root has to be exported twice
+-- the keys that have to be exported, where an interface or, among the others, a function at the
+-- root has to be exported twice
 abbrev pub required_left_out : Entries → List WorldKey → Option (List ℕ)
 required_left_out es required = option_or (unless (are_apart same_interface (required_of es required)) (codes "interface")) (unless (are_apart is_same_key required) (codes "world-func"))
 
@@ -100,8 +92,9 @@ twice_left_out required w = option_or (unless (are_interfaces_apart w) (codes "i
 abbrev pub names_left_out : Resolve → World → Option (List ℕ)
 names_left_out r w = unless (are_exports_named r w.exports) (codes "interface")
 
--- the world, where a type or a function is made of types of a later place, or an exported interface of named types of the world, or
--- of types of another interface that is neither imported nor exported
+-- the world, where a type or a function is made of types of a later place, or an exported interface
+-- of named types of the world, or of types of another interface that is neither imported nor
+-- exported
 abbrev pub order_left_out : Resolve → World → Option (List ℕ)
 order_left_out r w = unless (is_world_placed r w) (codes "interface")
 
@@ -111,23 +104,25 @@ resources_left_out types entries = unless (are_in_place types 0 (imported_number
 
 -- ---- roles
 
--- an import of a module, unless it is a function at the root or of an interface that is called synchronously, or drops a resource, by the
--- places of the types, and that of the root; or has a role that an exported resource may have; or is main's memory, an export of main, a
--- function that an adapter exports, or an item of an argument
-abbrev pub import_left_out : List TypeDef → List ℕ → ℕ → Import → Option (List ℕ)
-import_left_out types places root (imports.WorldFunc (keys.Name text) name GuestImport) = None
-import_left_out types places root (imports.WorldFunc key name GuestImportAsync) = Some (codes "async")
-import_left_out types places root (imports.InterfaceFunc key id name GuestImport) = None
-import_left_out types places root (imports.InterfaceFunc key id name GuestImportAsync) = Some (codes "async")
-import_left_out types places root (imports.ImportedResourceDrop key interface id) = unless (is_droppable types places root id) (codes "imported-drop")
-import_left_out types places root (imports.ExportedResourceDrop key id) = None
-import_left_out types places root (imports.ExportedResourceRep key id) = None
-import_left_out types places root (imports.ExportedResourceNew key id) = None
-import_left_out types places root (imports.MainModuleMemory type) = None
-import_left_out types places root (imports.MainModuleExport name kind) = None
-import_left_out types places root (imports.AdapterExport adapter name type) = None
-import_left_out types places root (imports.Item item) = None
-import_left_out types places root role = Some (import_kind role)
+-- an import of a module, unless it is a function at the root or of an interface, or drops a
+-- resource, by the places of the types, and that of the root; or has a role that an exported
+-- resource may have; or is main's memory, an export of main, a function that an adapter exports, an
+-- item of an argument, or a built-in function without operands, by whether context slot 1 can be
+-- used
+abbrev pub import_left_out : Bool → List TypeDef → List ℕ → ℕ → Import → Option (List ℕ)
+import_left_out slot_1 types places root (imports.WorldFunc (keys.Name text) name GuestImport) = None
+import_left_out slot_1 types places root (imports.WorldFunc (keys.Name text) name GuestImportAsync) = None
+import_left_out slot_1 types places root (imports.InterfaceFunc key id name GuestImport) = None
+import_left_out slot_1 types places root (imports.InterfaceFunc key id name GuestImportAsync) = None
+import_left_out slot_1 types places root (imports.ImportedResourceDrop key interface id) = unless (is_droppable types places root id) (codes "imported-drop")
+import_left_out slot_1 types places root (imports.ExportedResourceDrop key id) = None
+import_left_out slot_1 types places root (imports.ExportedResourceRep key id) = None
+import_left_out slot_1 types places root (imports.ExportedResourceNew key id) = None
+import_left_out slot_1 types places root (imports.MainModuleMemory type) = None
+import_left_out slot_1 types places root (imports.MainModuleExport name kind) = None
+import_left_out slot_1 types places root (imports.AdapterExport adapter name type) = None
+import_left_out slot_1 types places root (imports.Item item) = None
+import_left_out slot_1 types places root role = unless (is_some (plain_intrinsic slot_1 role)) (import_kind role)
 
 -- such a role, unless it is of a resource of an interface that the module has to export at the key
 abbrev pub own_role_left_out : List TypeDef → Entries → List InterfaceId → Import → Option (List ℕ)
@@ -136,8 +131,8 @@ own_role_left_out types es required (imports.ExportedResourceRep key id) = unles
 own_role_left_out types es required (imports.ExportedResourceNew key id) = unless (is_own_resource types es required key id) (codes "exported-new")
 own_role_left_out types es required role = None
 
--- an export of a module, unless it is a function at the root or of an interface that is called synchronously, the post-return of one,
--- the destructor of a resource, a memory, or a realloc
+-- an export of a module, unless it is a function at the root or of an interface that is called
+-- synchronously, the post-return of one, the destructor of a resource, a memory, or a realloc
 abbrev pub export_left_out : List TypeDef → Export → Option (List ℕ)
 export_left_out types (exports.WorldFunc (keys.Name text) name GuestExport) = None
 export_left_out types (exports.WorldFunc (keys.Interface id) name GuestExport) = Some (codes "world-func")
@@ -156,12 +151,12 @@ export_left_out types exports.Initialize = None
 export_left_out types role = Some (export_kind role)
 
 -- the imports from one module: the first that is left out; none is where a whole instance satisfies them
-abbrev pub instance_left_out : List TypeDef → List ℕ → ℕ → ImportInstance → Option (List ℕ)
-instance_left_out types places root (instances.Names fields) = first_some (λ f. import_left_out types places root f.1) fields
-instance_left_out types places root (instances.Whole which) = None
+abbrev pub instance_left_out : Bool → List TypeDef → List ℕ → ℕ → ImportInstance → Option (List ℕ)
+instance_left_out slot_1 types places root (instances.Names fields) = first_some (λ f. import_left_out slot_1 types places root f.1) fields
+instance_left_out slot_1 types places root (instances.Whole which) = None
 
-abbrev pub group_left_out : List TypeDef → List ℕ → ℕ → List ℕ × ImportInstance → Option (List ℕ)
-group_left_out types places root group = instance_left_out types places root group.1
+abbrev pub group_left_out : Bool → List TypeDef → List ℕ → ℕ → List ℕ × ImportInstance → Option (List ℕ)
+group_left_out slot_1 types places root group = instance_left_out slot_1 types places root group.1
 
 -- the first such role of an exported resource that is left out
 abbrev pub own_instance_left_out : List TypeDef → Entries → List InterfaceId → ImportInstance → Option (List ℕ)
@@ -178,17 +173,17 @@ own_left_out types es keys m = first_some (own_group_left_out types es (required
 -- ---- modules
 
 -- the first import or export of a module that is left out, apart from the roles of exported resources
-abbrev pub roles_left_out : List TypeDef → List ℕ → ℕ → ValidatedModule → Option (List ℕ)
-roles_left_out types places root m =
-    option_or (first_some (group_left_out types places root) m.imports.modules) (first_some (λ e. export_left_out types e.1) m.exports.exports)
+abbrev pub roles_left_out : Bool → List TypeDef → List ℕ → ℕ → ValidatedModule → Option (List ℕ)
+roles_left_out slot_1 types places root m =
+    option_or (first_some (group_left_out slot_1 types places root) m.imports.modules) (first_some (λ e. export_left_out types e.1) m.exports.exports)
 
 -- what of a module is left out that has to export these keys: the roles of exported resources first
-abbrev pub module_left_out : List TypeDef → Entries → List ℕ → ℕ → List WorldKey → ValidatedModule → Option (List ℕ)
-module_left_out types es places root keys m = option_or (own_left_out types es keys m) (roles_left_out types places root m)
+abbrev pub module_left_out : Bool → List TypeDef → Entries → List ℕ → ℕ → List WorldKey → ValidatedModule → Option (List ℕ)
+module_left_out slot_1 types es places root keys m = option_or (own_left_out types es keys m) (roles_left_out slot_1 types places root m)
 
 -- what of an adapter is left out
-abbrev pub adapter_left_out : List TypeDef → Entries → List ℕ → ℕ → List ℕ × WorldAdapter → Option (List ℕ)
-adapter_left_out types es places root a = module_left_out types es places root a.1.required_exports a.1.info
+abbrev pub adapter_left_out : Bool → List TypeDef → Entries → List ℕ → ℕ → List ℕ × WorldAdapter → Option (List ℕ)
+adapter_left_out slot_1 types es places root a = module_left_out slot_1 types es places root a.1.required_exports a.1.info
 
 -- ---- the whole
 
@@ -197,15 +192,16 @@ abbrev pub items_of : WorldParts → World
 items_of p = get_or p.resolve.worlds p.world.index no_items
 
 -- the first of the imports that is left out, or else of the exports
-abbrev pub world_left_out : Resolve → World → Option (List ℕ)
-world_left_out r w = option_or (first_some (import_item_left_out r) w.imports) (first_some (export_item_left_out r) w.exports)
+abbrev pub world_left_out : World → Option (List ℕ)
+world_left_out w = option_or (first_some import_item_left_out w.imports) (first_some export_item_left_out w.exports)
 
 -- what of the modules is left out: of main first, then of the adapters in order
 abbrev pub modules_left_out : WorldParts → World → List ℕ → ℕ → Option (List ℕ)
 modules_left_out p w places root =
-    option_or (module_left_out p.resolve.types w.exports places root p.main_exports p.main) (first_some (adapter_left_out p.resolve.types w.exports places root) p.adapters)
+    option_or (module_left_out p.can_use_context_slot_1 p.resolve.types w.exports places root p.main_exports p.main) (first_some (adapter_left_out p.can_use_context_slot_1 p.resolve.types w.exports places root) p.adapters)
 
--- what is left out of a world whose interfaces are apart: the order of its items first, then its resources, then its modules
+-- what is left out of a world whose interfaces are apart: the order of its items first, then its
+-- resources, then its modules
 abbrev pub after_order : WorldParts → World → Option (List ℕ)
 after_order p w = option_or (resources_left_out p.resolve.types w.imports) (modules_left_out p w (places_of p.resolve.types w.imports) (length w.imports))
 
@@ -218,7 +214,7 @@ named_left_out p w = option_or (names_left_out p.resolve w) (rest_left_out p w)
 
 -- what of a world is not encoded yet: of its items first
 unfoldable pub left_out : WorldParts → Option (List ℕ)
-left_out p = option_or (world_left_out p.resolve (items_of p)) (option_or (twice_left_out (all_required p) (items_of p)) (named_left_out p (items_of p)))
+left_out p = option_or (world_left_out (items_of p)) (option_or (twice_left_out (all_required p) (items_of p)) (named_left_out p (items_of p)))
 
 -- the refusal of what is left out
 abbrev pub refused : List ℕ → Failure

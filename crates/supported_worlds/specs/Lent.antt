@@ -1,4 +1,5 @@
--- The interfaces whose types exported interfaces may use: those that a world imports or exports (component model, WIT: worlds, `use`).
+-- The interfaces whose types exported interfaces may use: those that a world imports or exports
+-- (component model, WIT: worlds, `use`).
 use Rattle.std.specs.Prelude.{◌≡◌, ◌||◌, Bool, List, is_some}
 use Rattle.std.specs.List.{list_any}
 use Rattle.std.specs.Map.{lookup}
@@ -18,7 +19,8 @@ has set id = is_some (lookup (same_interface id) set)
 pub record HasInterfaces (es : Entries) (set : InterfaceSet) : Type 0 where
   pub each : (id : InterfaceId) → has set id ≡ list_any (same_interface id) (interfaces_of es)
 
--- whether the types of an interface may be used, by the sets of the interfaces that are imported and of those that are exported
+-- whether the types of an interface may be used, by the sets of the interfaces that are imported
+-- and of those that are exported
 abbrev pub lends : Lent → InterfaceId → Bool
 lends l id = has l.imported id || has l.exported id
 

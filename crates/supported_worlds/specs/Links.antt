@@ -1,7 +1,8 @@
--- What the modules of a world give to each other: what the role of a core import names is offered by main, by an adapter or by the module
--- that an argument of a library names, of the kind and the type that the import asks for; so is what is imported from a module for which
--- a whole instance is given; and main imports no export of its own, and is no library (core standard: imports and exports; validation:
--- import matching).
+-- What the modules of a world give to each other: what the role of a core import names is offered
+-- by main, by an adapter or by the module that an argument of a library names, of the kind and the
+-- type that the import asks for; so is what is imported from a module for which a whole instance is
+-- given; and main imports no export of its own, and is no library (core standard: imports and
+-- exports; validation: import matching).
 use Rattle.std.specs.Prelude.{◌≡◌, Some}
 use Rattle.std.specs.List.{AllByRecursion}
 use Rattle.comp_lists.specs.Found.{found}

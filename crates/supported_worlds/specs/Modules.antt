@@ -1,5 +1,5 @@
--- The user modules of a world, main and adapters alike, each with the keys that it has to export (component model, explainer: the
--- core modules of a component).
+-- The user modules of a world, main and adapters alike, each with the keys that it has to export
+-- (component model, explainer: the core modules of a component).
 use Rattle.std.specs.Prelude.{ℕ, List, ◌∷◌, map}
 use Rattle.wit_data.specs.declared.worlds.WorldKey.{WorldKey}
 use Rattle.comp_worlds.specs.declared.world.ValidatedModule.{ValidatedModule}

@@ -1,5 +1,5 @@
--- Whether the interfaces that a world exports have names that tell them apart (component model, explainer: names of imports and
--- exports).
+-- Whether the interfaces that a world exports have names that tell them apart (component model,
+-- explainer: names of imports and exports).
 use Rattle.std.specs.Prelude.{◌≡◌, ℕ, Bool, true, not, ◌&&◌, ◌==◌, List, map, is_some}
 use Rattle.std.specs.List.{AllByRecursion, IsDistinct, list_all, list_any, flat_map}
 use Rattle.std.specs.Str.{bytes_eq}

@@ -1,5 +1,5 @@
--- The places of interfaces and of types as tables, which are made from the first import and the first type on. (This project's
--- own.)
+-- The places of interfaces and of types as tables, which are made from the first import and the
+-- first type on. (This project's own.)
 use Rattle.std.specs.Prelude.{◌≡◌, ◌==◌, ◌+◌, ℕ, suc, Bool, true, false, List, [], ◌∷◌, length, map, Option, Some, None, unwrap_or, if◌then◌else◌}
 use Rattle.std.specs.List.{filter_map}
 use Rattle.std.specs.Map.{lookup}

@@ -1,6 +1,7 @@
--- Whether a world imports interfaces and types in an order in which each type comes after those of which it is made, and
--- exports interfaces of their own types, of named ones of interfaces that it imports or exports, and of types without names alone
--- (component model, WIT: types, resources, interfaces, `use`).
+-- Whether a world imports interfaces and types in an order in which each type comes after those of
+-- which it is made, and exports interfaces of their own types, of named ones of interfaces that it
+-- imports or exports, and of types without names alone (component model, WIT: types, resources,
+-- interfaces, `use`).
 use Rattle.std.specs.Prelude.{ℕ, zero, suc, Bool, true, false, ◌==◌, nat_le, not, ◌&&◌, ◌||◌, List, [], ◌∷◌, length, map, drop, get_or, slice_get, Option, Some, None, is_some, is_none}
 use Rattle.std.specs.List.{list_all, list_any, flat_map}
 use Rattle.std.specs.Map.{lookup}
@@ -161,7 +162,8 @@ is_droppable types places root id = option_map_or is_resource (slice_get types i
 abbrev pub is_resource_at : List TypeDef → TypeId → Bool
 is_resource_at types id = option_map_or is_resource (slice_get types id.index) false
 
--- whether an interface is exported at a key, and is one of those that main has to export; by the world's exports, and by these
+-- whether an interface is exported at a key, and is one of those that main has to export; by the
+-- world's exports, and by these
 abbrev pub is_required_at : Entries → List InterfaceId → WorldKey → InterfaceId → Bool
 is_required_at es required key id = option_map_or (same_interface id) (option_and_then interface_in (lookup (is_same_key key) es)) false && list_any (same_interface id) required
 

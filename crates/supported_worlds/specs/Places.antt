@@ -6,8 +6,8 @@ use Rattle.wit_data.specs.declared.worlds.WorldItem.{WorldItem}
 use Rattle.wit_data.specs.declared.worlds.WorldKey.{WorldKey}
 use Rattle.supported_worlds.specs.Placed.{imported_numbers, are_in_place}
 
--- With the type of this number next, types are in place from one number on exactly where the others are from the answer on;
--- without an answer, they are not.
+-- With the type of this number next, types are in place from one number on exactly where the others
+-- are from the answer on; without an answer, they are not.
 pub record Follows (types : List TypeDef) (next n : ℕ) (answer : Option ℕ) : Type 0 where
   pub then : (ns : List ℕ) → are_in_place types next (n ∷ ns) ≡ option_map_or (λ m. are_in_place types m ns) answer false
 

@@ -54,7 +54,8 @@ fn items_of(parts: &WorldParts) -> &World
     &parts.resolve.worlds.as_slice()[parts.world.index]
 }
 
-/// What of the modules is not encoded yet, by the places of types; where nothing is left out, no import of a module occurs twice.
+/// What of the modules is not encoded yet, by the places of types; where nothing is left out, no
+/// import of a module occurs twice.
 #[tactic(auto, using(crate::proofs::Walking::modules_apart))]
 fn placed_left_out(
     alloc: Global,
@@ -63,14 +64,31 @@ fn placed_left_out(
     places: &Places,
 ) -> Result<Option<&'static str>, AllocError>
     requires once { IsRequiredOnce parts.now world.now }
-    ensures reported { IfOk result (λ o. option_copied o ≡ modules_left_out parts.now world.now places.now.types places.now.interfaces.root) }
+    ensures reported { IfOk result (λ o. option_copied o
+        ≡ modules_left_out parts.now world.now places.now.types places.now.interfaces.root) }
     ensures apart { IfOk result (λ o. option_copied o ≡ None → ModulesApart parts.now) }
 {
     let types = parts.resolve.types.as_slice();
+    let slot_1 = parts.can_use_context_slot_1;
     let keys = parts.main_exports.as_slice();
-    match module_left_out(alloc, types, &world.exports, places, keys, &parts.main)? {
+    match module_left_out(
+        alloc,
+        slot_1,
+        types,
+        &world.exports,
+        places,
+        keys,
+        &parts.main,
+    )? {
         Some(what) => Ok(Some(what)),
-        None => adapters_left_out(alloc, types, &world.exports, places, &parts.adapters),
+        None => adapters_left_out(
+            alloc,
+            slot_1,
+            types,
+            &world.exports,
+            places,
+            &parts.adapters,
+        ),
     }
 }
 
@@ -84,7 +102,9 @@ fn modules_left_out(
 ) -> Result<Option<&'static str>, AllocError>
     requires places { ArePlaces parts.now.resolve.types world.now.imports places.now }
     requires once { IsRequiredOnce parts.now world.now }
-    ensures reported { IfOk result (λ o. option_copied o ≡ modules_left_out parts.now world.now (places_of parts.now.resolve.types world.now.imports) (length world.now.imports)) }
+    ensures reported { IfOk result (λ o. option_copied o
+        ≡ modules_left_out parts.now world.now
+        (places_of parts.now.resolve.types world.now.imports) (length world.now.imports)) }
     ensures apart { IfOk result (λ o. option_copied o ≡ None → ModulesApart parts.now) }
 {
     let found = placed_left_out(alloc, parts, world, places)?;
@@ -183,7 +203,9 @@ fn parts_left_out(
 ) -> Result<Option<&'static str>, AllocError>
     requires sound { IsSound parts.now.resolve }
     requires present { HasWorld parts.now.resolve world.now }
-    ensures reported { IfOk result (λ o. option_copied o ≡ option_or (twice_left_out (all_required parts.now) world.now) (named_left_out parts.now world.now)) }
+    ensures reported { IfOk result (λ o. option_copied o
+        ≡ option_or (twice_left_out (all_required parts.now) world.now)
+        (named_left_out parts.now world.now)) }
     ensures apart { IfOk result (λ o. option_copied o ≡ None → ModulesApart parts.now) }
 {
     match twice_left_out(alloc, parts, world)? {
@@ -201,7 +223,7 @@ fn left_out(alloc: Global, parts: &WorldParts) -> Result<Option<&'static str>, A
     ensures apart { IfOk result (λ o. option_copied o ≡ None → AreApart parts.now) }
 {
     let world = items_of(parts);
-    if let Some(what) = world_left_out(&parts.resolve, world) {
+    if let Some(what) = world_left_out(world) {
         return Ok(Some(what));
     }
     let found = parts_left_out(alloc, parts, world)?;
@@ -236,7 +258,7 @@ fn unless_left_out(alloc: Global, parts: WorldParts) -> Result<ComponentWorld, F
 /// The world of these parts, where all of it is encoded yet.
 ///
 /// It refuses with `LeftOut` and the kind of something of the world that is not encoded yet: `async`
-/// for an asynchronous function, imported, exported, or of an interface; `type` for an exported type;
+/// for a core export that implements a function asynchronously; `type` for an exported type;
 /// `interface` where an interface is imported or exported twice, or both, where one has to be exported
 /// twice, where an exported one has no name or that of another, or uses a named type of the world or a type
 /// of another interface that the world neither imports nor exports, where a type or a function is made of
@@ -244,7 +266,7 @@ fn unless_left_out(alloc: Global, parts: WorldParts) -> Result<ComponentWorld, F
 /// other or are out of order; `type` where the imported types are out of order or lack a resource; the kind
 /// of a role of a module's imports or exports; or `world-func` where a function at the root has to be exported
 /// twice.
-/// A synchronous function at the root or of an imported interface is encoded whatever its types are. The
+/// A function at the root or of an imported interface is encoded whatever its types are. The
 /// only other refusal is out of memory. On top of `world_of_parts` it takes time linear in the number of
 /// items, of interfaces' types and functions, of the parameters of functions, of types and their parts,
 /// of core imports and of core exports, and in the names of exported interfaces; and memory for a place
@@ -258,7 +280,8 @@ pub fn encoded_world(alloc: Global, parts: WorldParts) -> Result<ComponentWorld,
     ensures valid { IfOk result IsEncodable }
     ensures tables { IfOk result HasTables }
     ensures refused { IsOk result → (f : RefusalValue) → IsLeftOut parts f → ⊥ }
-    ensures cause { IfErr result (λ e. (f : RefusalValue) → e ≡ failures.Refused f → IsLeftOut parts f) }
+    ensures cause { IfErr result
+        (λ e. (f : RefusalValue) → e ≡ failures.Refused f → IsLeftOut parts f) }
 {
     let world = unless_left_out(alloc, parts)?;
     Ok(world)

@@ -1,7 +1,8 @@
 //! Where the types of a resolve are at home: in one exported interface, in any, or in none.
 //!
-//! The table is made once for a world, from the first type on, since types name earlier types alone. Whether an exported interface
-//! is made of types that are at home in it is then one look-up a type that it names.
+//! The table is made once for a world, from the first type on, since types name earlier types
+//! alone. Whether an exported interface is made of types that are at home in it is then one look-up
+//! a type that it names.
 
 ghost use Rattle.std.specs.Prelude.{◌≡◌, ◌<◌, ◌&&◌, Some, is_some, length, IfOk};
 ghost use Rattle.std.specs.List.{list_all};
@@ -19,8 +20,8 @@ use wit_data::{InterfaceId, Type, TypeDef, TypeOwner, World, part_count_of, part
 /// Which exported interfaces may be made of a type.
 #[derive(Clone, Copy)]
 pub(crate) enum Home {
-    /// Any: the type is one of values that has no name and belongs to no interface, or it has a name and belongs to an interface that
-    /// is imported or exported.
+    /// Any: the type is one of values that has no name and belongs to no interface, or it has a
+    /// name and belongs to an interface that is imported or exported.
     Anywhere,
     /// This one, to which the type belongs, or a part of it.
     Interface(InterfaceId),
@@ -178,8 +179,8 @@ fn homes_by(alloc: Global, types: &[TypeDef], lent: &Lent) -> Result<Vec<Home>, 
     Ok(homes)
 }
 
-/// The homes of all types, for the exported interfaces of a world. The time is linear in the number of the types and of their
-/// parts, and of the world's imports and exports.
+/// The homes of all types, for the exported interfaces of a world. The time is linear in the number
+/// of the types and of their parts, and of the world's imports and exports.
 #[tactic(auto, using(crate::proofs::AtHome::in_world))]
 pub(crate) fn type_homes(
     alloc: Global,

@@ -94,7 +94,8 @@ fn linked_kind(role: &Import) -> Option<&'static str>
 
 /// The built-in functions on tasks, streams and futures.
 fn waiting_kind(role: &Import) -> Option<&'static str>
-    ensures { option_copied result ≡ option_or (task_kind role.now) (option_or (stream_kind role.now) (future_kind role.now)) }
+    ensures { option_copied result
+        ≡ option_or (task_kind role.now) (option_or (stream_kind role.now) (future_kind role.now)) }
 {
     task_kind(role).or(stream_kind(role).or(future_kind(role)))
 }

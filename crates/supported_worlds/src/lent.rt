@@ -41,8 +41,8 @@ fn interfaces_among(
     Ok(set)
 }
 
-/// The interfaces whose types exported interfaces of a world may use. The time is linear in the number of the world's imports and
-/// exports.
+/// The interfaces whose types exported interfaces of a world may use. The time is linear in the
+/// number of the world's imports and exports.
 #[tactic(auto, using(crate::proofs::Lending::are_lent))]
 pub(crate) fn lent_interfaces(alloc: Global, world: &World) -> Result<Lent, AllocError>
     ensures { IfOk result (AreLent world.now) }

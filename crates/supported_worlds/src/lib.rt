@@ -1,25 +1,26 @@
 //! Which worlds the encoder can build yet.
 //!
 //! [`encoded_world`] makes a world of its parts, with what follows from them, where all of it is
-//! encoded yet: synchronous functions at the world's root, imported interfaces of types and of
-//! synchronous functions, exported interfaces of types of their own and of synchronous functions, imported
-//! types and resources, main, adapters and libraries, core imports of these
-//! modules with the role of such a function, of the drop of a resource, of a handle of an exported one
-//! whose interface the module itself has to export, of main's memory, of what main gives to others, of a
-//! function that an adapter does, or of an item of an argument of a library, whole instances in such arguments,
-//! and core exports with the role of such a function, of its
-//! post-return, of a destructor, of a memory or of a realloc. An exported interface may use, beside its own
-//! types, the named types and the resources of interfaces that the world imports or exports. What is required
-//! of one module is required of no other. All else is
-//! left out. It is refused by the name of its kind (`specs/LeftOut.antt` and `specs/Kinds.antt` are the
-//! tables, `specs/Placed.antt` says in which order a world imports what, and of what types an exported
-//! interface is made, `specs/Naming.antt` which names exported interfaces have, `specs/Causes.antt` when a
-//! refusal is right). A key that is required twice is refused as `interface` where it is that of an interface,
+//! encoded yet: functions at the world's root, imported interfaces of types and of functions,
+//! exported interfaces of types of their own and of functions, imported types and resources, main,
+//! adapters and libraries, core imports of these modules with the role of such a function, of a
+//! built-in function without operands, of the drop of a resource, of a handle of an exported one
+//! whose interface the module itself has to export, of main's memory, of what main gives to others,
+//! of a function that an adapter does, or of an item of an argument of a library, whole instances
+//! in such arguments, and core exports with the role of such a function, of its post-return, of a
+//! destructor, of a memory or of a realloc. An exported interface may use, beside its own types,
+//! the named types and the resources of interfaces that the world imports or exports. What is
+//! required of one module is required of no other. All else is left out. It is refused by the name
+//! of its kind (`specs/LeftOut.antt` and `specs/Kinds.antt` are the tables, `specs/Placed.antt`
+//! says in which order a world imports what, and of what types an exported interface is made,
+//! `specs/Naming.antt` which names exported interfaces have, `specs/Causes.antt` when a refusal is
+//! right). A key that is required twice is refused as `interface` where it is that of an interface,
 //! and else as `world-func`.
 //!
-//! Every world that is returned satisfies `comp_worlds`' `IsEncodable` and `HasTables`. What must be known of the parts for
-//! that is `specs/Guarantees.antt`, and `specs/Links.antt` of what the modules give to each other; that no key occurs twice in a table
-//! follows from the tables themselves.
+//! Every world that is returned satisfies `comp_worlds`' `IsEncodable` and `HasTables`. What must
+//! be known of the parts for that is `specs/Guarantees.antt`, and `specs/Links.antt` of what the
+//! modules give to each other; that no key occurs twice in a table follows from the tables
+//! themselves.
 //!
 //! In reading order: `kinds` (the names of roles' kinds), `sets` (whether no interface is imported or
 //! exported twice, which have to be exported, and whether nothing has to be twice), `places` (the places of

@@ -80,7 +80,8 @@ fn add_text(
 ) -> Result<bool, AllocError>
     requires sound { IsSound resolve.now }
     requires present { HasEntry resolve.now (key.now, item.now) }
-    ensures { IfOk result (λ fresh. AddsText resolve.now (key.now, item.now) texts.old texts.new fresh) }
+    ensures { IfOk result
+        (λ fresh. AddsText resolve.now (key.now, item.now) texts.old texts.new fresh) }
 {
     match item {
         WorldItem::Interface(_) => {
@@ -100,7 +101,8 @@ fn are_texts_apart(
 ) -> Result<bool, AllocError>
     requires sound { IsSound resolve.now }
     requires all_present { AllByRecursion (HasEntry resolve.now) exports.now }
-    ensures { IfOk result (λ apart. apart ≡ are_apart bytes_eq (flat_map (interface_text resolve.now) exports.now)) }
+    ensures { IfOk result
+        (λ apart. apart ≡ are_apart bytes_eq (flat_map (interface_text resolve.now) exports.now)) }
 {
     let mut texts = Keyed::new(alloc);
     for (key, item) in exports.iter() {

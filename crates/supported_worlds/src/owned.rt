@@ -51,7 +51,9 @@ fn is_required_owner(
     key: &WorldKey,
     owner: TypeOwner,
 ) -> bool
-    ensures { result ≡ option_map_or (is_required_at exports.now (keys_of required.now) key.now) (interface_of_owner owner) false }
+    ensures { result
+        ≡ option_map_or (is_required_at exports.now (keys_of required.now) key.now)
+        (interface_of_owner owner) false }
 {
     match interface_of_owner(owner) {
         Some(id) => is_required_at(exports, required, key, id),
@@ -95,7 +97,9 @@ fn unless_own(
     id: TypeId,
     what: &'static str,
 ) -> Option<&'static str>
-    ensures { option_copied result ≡ unless (is_own_resource types.now exports.now (keys_of required.now) key.now id) what.now }
+    ensures { option_copied result
+        ≡ unless (is_own_resource types.now exports.now (keys_of required.now) key.now id)
+        what.now }
 {
     if is_own_resource(types, exports, required, key, id) {
         None
@@ -110,7 +114,8 @@ fn own_role_left_out(
     required: &Keyed<InterfaceId, ()>,
     role: &Import,
 ) -> Option<&'static str>
-    ensures { option_copied result ≡ own_role_left_out types.now exports.now (keys_of required.now) role.now }
+    ensures { option_copied result
+        ≡ own_role_left_out types.now exports.now (keys_of required.now) role.now }
 {
     match role {
         Import::ExportedResourceDrop(key, id) => {
@@ -133,7 +138,9 @@ fn own_fields_left_out(
     required: &Keyed<InterfaceId, ()>,
     fields: &Keyed<Text, Import>,
 ) -> Option<&'static str>
-    ensures { option_copied result ≡ first_some (λ f. own_role_left_out types.now exports.now (keys_of required.now) f.1) fields.now }
+    ensures { option_copied result
+        ≡ first_some (λ f. own_role_left_out types.now exports.now (keys_of required.now) f.1)
+        fields.now }
 {
     for (_, role) in fields.iter() {
         if let Some(what) = own_role_left_out(types, exports, required, role) {
@@ -149,7 +156,8 @@ fn own_instance_left_out(
     required: &Keyed<InterfaceId, ()>,
     instance: &ImportInstance,
 ) -> Option<&'static str>
-    ensures { option_copied result ≡ own_instance_left_out types.now exports.now (keys_of required.now) instance.now }
+    ensures { option_copied result
+        ≡ own_instance_left_out types.now exports.now (keys_of required.now) instance.now }
 {
     match instance {
         ImportInstance::Names(fields) => own_fields_left_out(types, exports, required, fields),
@@ -157,15 +165,16 @@ fn own_instance_left_out(
     }
 }
 
-/// The first role of these imports that is of a resource of an exported interface, unless that is one of an interface that the module
-/// has to export at the role's key.
+/// The first role of these imports that is of a resource of an exported interface, unless that is
+/// one of an interface that the module has to export at the role's key.
 fn groups_left_out(
     types: &[TypeDef],
     exports: &Keyed<WorldKey, WorldItem>,
     required: &Keyed<InterfaceId, ()>,
     groups: &Keyed<Text, ImportInstance>,
 ) -> Option<&'static str>
-    ensures { option_copied result ≡ first_some (own_group_left_out types.now exports.now (keys_of required.now)) groups.now }
+    ensures { option_copied result
+        ≡ first_some (own_group_left_out types.now exports.now (keys_of required.now)) groups.now }
 {
     for (_, instance) in groups.iter() {
         if let Some(what) = own_instance_left_out(types, exports, required, instance) {
@@ -175,8 +184,8 @@ fn groups_left_out(
     None
 }
 
-/// The first role of a module's imports that is of a resource of an exported interface, unless that is one of an interface at one of the
-/// keys that the module has to export.
+/// The first role of a module's imports that is of a resource of an exported interface, unless that
+/// is one of an interface at one of the keys that the module has to export.
 #[tactic(auto, using(crate::proofs::Reporting::own_found))]
 pub(crate) fn own_left_out(
     alloc: Global,
@@ -186,7 +195,8 @@ pub(crate) fn own_left_out(
     info: &ValidatedModule,
 ) -> Result<Option<&'static str>, AllocError>
     requires once { are_apart same_interface (required_of exports.now keys.now) ≡ true }
-    ensures { IfOk result (λ o. option_copied o ≡ own_left_out types.now exports.now keys.now info.now) }
+    ensures { IfOk result
+        (λ o. option_copied o ≡ own_left_out types.now exports.now keys.now info.now) }
 {
     match required_set(alloc, exports, keys)? {
         Some(required) => {

@@ -1,6 +1,6 @@
-//! Whether what a world imports is made of types that come before it, and lists types of its own; and whether the
-//! interfaces that it exports are made of their own types, of named types of interfaces that it only imports, and of types
-//! without names alone.
+//! Whether what a world imports is made of types that come before it, and lists types of its own;
+//! and whether the interfaces that it exports are made of their own types, of named types of
+//! interfaces that it only imports, and of types without names alone.
 
 ghost use Rattle.std.specs.Prelude.{◌≡◌, ◌<◌, ◌==◌, false, length, map, Some, IfSome, IfOk};
 ghost use Rattle.std.specs.List.{AllByRecursion, list_all};
@@ -182,7 +182,8 @@ fn are_functions_placed(places: &[usize], last: usize, functions: &Keyed<Text, F
 
 /// Whether a type belongs to an interface.
 fn belongs_to(owner: TypeOwner, id: InterfaceId) -> bool
-    ensures { result ≡ option_map_or (λ other. other.index == id.index) (interface_of_owner owner) false }
+    ensures { result
+        ≡ option_map_or (λ other. other.index == id.index) (interface_of_owner owner) false }
 {
     match interface_of_owner(owner) {
         Some(other) => other.index == id.index,
@@ -271,7 +272,9 @@ fn is_root_type(resolve: &Resolve, id: TypeId) -> bool
 fn is_item_placed(resolve: &Resolve, places: &Places, item: &WorldItem) -> bool
     requires sound { IsSound resolve.now }
     requires present { HasItem resolve.now item.now }
-    ensures { result ≡ is_item_placed resolve.now places.now.types (place_by places.now.interfaces) places.now.interfaces.root item.now }
+    ensures { result
+        ≡ is_item_placed resolve.now places.now.types (place_by places.now.interfaces)
+        places.now.interfaces.root item.now }
 {
     let types = places.types.as_slice();
     match item {
@@ -289,7 +292,9 @@ fn is_item_placed(resolve: &Resolve, places: &Places, item: &WorldItem) -> bool
 fn are_items_placed(resolve: &Resolve, places: &Places, items: &Keyed<WorldKey, WorldItem>) -> bool
     requires sound { IsSound resolve.now }
     requires all_present { AllByRecursion (HasEntry resolve.now) items.now }
-    ensures { result ≡ list_all (λ e. is_item_placed resolve.now places.now.types (place_by places.now.interfaces) places.now.interfaces.root e.1) items.now }
+    ensures { result
+        ≡ list_all (λ e. is_item_placed resolve.now places.now.types
+        (place_by places.now.interfaces) places.now.interfaces.root e.1) items.now }
 {
     for (_, item) in items.iter() {
         if !is_item_placed(resolve, places, item) {
@@ -303,7 +308,9 @@ fn are_items_placed(resolve: &Resolve, places: &Places, items: &Keyed<WorldKey, 
 fn are_imports_placed(resolve: &Resolve, places: &Places, world: &World) -> bool
     requires sound { IsSound resolve.now }
     requires present { HasWorld resolve.now world.now }
-    ensures { result ≡ are_imports_placed resolve.now places.now.types (place_by places.now.interfaces) places.now.interfaces.root world.now }
+    ensures { result
+        ≡ are_imports_placed resolve.now places.now.types (place_by places.now.interfaces)
+        places.now.interfaces.root world.now }
 {
     are_types_placed(resolve, places.types.as_slice())
         && are_items_placed(resolve, places, &world.imports)
@@ -320,14 +327,16 @@ fn is_closed(
 ) -> Result<bool, AllocError>
     requires sound { IsSound resolve.now }
     requires present { HasInterface resolve.now id }
-    ensures { IfOk result (λ closed. closed ≡ list_all (λ t. is_at_home homes.now id (Some t)) (interface_types resolve.now id)) }
+    ensures { IfOk result (λ closed. closed
+        ≡ list_all (λ t. is_at_home homes.now id (Some t)) (interface_types resolve.now id)) }
 {
     let named = interface_types(alloc, resolve, id)?;
     let closed = are_at_home(homes, id, named.as_slice());
     Ok(closed)
 }
 
-/// Whether an exported interface lists types of its own, in the order of the resolve, and what it names is at home in it.
+/// Whether an exported interface lists types of its own, in the order of the resolve, and what it
+/// names is at home in it.
 fn is_exported_placed(
     alloc: Global,
     resolve: &Resolve,
@@ -336,7 +345,8 @@ fn is_exported_placed(
 ) -> Result<bool, AllocError>
     requires sound { IsSound resolve.now }
     requires present { HasInterface resolve.now id }
-    ensures { IfOk result (λ passes. passes ≡ is_exported_placed resolve.now (is_at_home homes.now) id) }
+    ensures { IfOk result
+        (λ passes. passes ≡ is_exported_placed resolve.now (is_at_home homes.now) id) }
 {
     if !lists_own_types(resolve, id) {
         return Ok(false);
@@ -354,7 +364,9 @@ fn is_export_placed(
 ) -> Result<bool, AllocError>
     requires sound { IsSound resolve.now }
     requires present { HasItem resolve.now item.now }
-    ensures { IfOk result (λ passes. passes ≡ is_export_placed resolve.now places.now.types (place_by places.now.interfaces) places.now.interfaces.root (is_at_home homes.now) item.now) }
+    ensures { IfOk result (λ passes. passes
+        ≡ is_export_placed resolve.now places.now.types (place_by places.now.interfaces)
+        places.now.interfaces.root (is_at_home homes.now) item.now) }
 {
     match item {
         WorldItem::Interface(id) => is_exported_placed(alloc, resolve, homes, *id),
@@ -373,7 +385,10 @@ fn all_exports_placed(
 ) -> Result<bool, AllocError>
     requires sound { IsSound resolve.now }
     requires all_present { AllByRecursion (HasEntry resolve.now) items.now }
-    ensures { IfOk result (λ passes. passes ≡ list_all (λ e. is_export_placed resolve.now places.now.types (place_by places.now.interfaces) places.now.interfaces.root (is_at_home homes.now) e.1) items.now) }
+    ensures { IfOk result (λ passes. passes
+        ≡ list_all (λ e. is_export_placed resolve.now places.now.types
+        (place_by places.now.interfaces) places.now.interfaces.root
+        (is_at_home homes.now) e.1) items.now) }
 {
     for (_, item) in items.iter() {
         if !is_export_placed(alloc, resolve, places, homes, item)? {
@@ -392,7 +407,10 @@ fn are_exports_placed(
 ) -> Result<bool, AllocError>
     requires sound { IsSound resolve.now }
     requires present { HasWorld resolve.now world.now }
-    ensures { IfOk result (λ passes. passes ≡ are_exports_placed resolve.now places.now.types (place_by places.now.interfaces) places.now.interfaces.root (stays_in resolve.now.types (is_lent world.now)) world.now) }
+    ensures { IfOk result (λ passes. passes
+        ≡ are_exports_placed resolve.now places.now.types (place_by places.now.interfaces)
+        places.now.interfaces.root (stays_in resolve.now.types (is_lent world.now))
+        world.now) }
 {
     let homes = type_homes(alloc, resolve.types.as_slice(), world)?;
     let placed = all_exports_placed(alloc, resolve, places, homes.as_slice(), &world.exports)?;
@@ -401,8 +419,8 @@ fn are_exports_placed(
 
 // ---- the world
 
-/// Whether what a world imports and exports is made of types of no later place, and each interface that it exports of types
-/// that stay in it.
+/// Whether what a world imports and exports is made of types of no later place, and each interface
+/// that it exports of types that stay in it.
 #[tactic(auto, using(crate::proofs::Testing::imports_fail, crate::proofs::Testing::exports_decide))]
 fn is_world_placed(
     alloc: Global,
@@ -422,8 +440,8 @@ fn is_world_placed(
     Ok(placed)
 }
 
-/// What of the order of a world's imports is left out, and of the types of its exports, by the places of its interfaces and
-/// types.
+/// What of the order of a world's imports is left out, and of the types of its exports, by the
+/// places of its interfaces and types.
 pub(crate) fn order_left_out(
     alloc: Global,
     resolve: &Resolve,

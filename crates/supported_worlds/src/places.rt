@@ -1,7 +1,7 @@
 //! The places of imported interfaces and of types: how many imports come before that of an interface.
 //!
-//! Both tables are made once for a world: that of the interfaces from the first import on, and that of the types from the
-//! first type on, since types name earlier types alone.
+//! Both tables are made once for a world: that of the interfaces from the first import on, and that
+//! of the types from the first type on, since types name earlier types alone.
 
 ghost use Rattle.std.specs.Prelude.{◌≡◌, ◌<◌, length, map, IfOk};
 ghost use Rattle.wit_data.specs.Parts.{parts, RefersBack};

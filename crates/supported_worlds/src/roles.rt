@@ -1,11 +1,13 @@
 //! What of a user module's imports and exports is not encoded yet, by their roles.
 
-ghost use Rattle.std.specs.Prelude.{◌≡◌, None, codes};
+ghost use Rattle.std.specs.Prelude.{◌≡◌, None, codes, is_some};
 ghost use Rattle.std.specs.List.{IsDistinct};
 ghost use Rattle.std.specs.Map.{keys_of};
 ghost use Rattle.std.specs.Option.{option_copied};
 ghost use Rattle.std.specs.Str.{bytes_eq};
+ghost use Rattle.built_ins.specs.BuiltIns.{plain_intrinsic};
 ghost use Rattle.comp_roles.specs.Lookups.{first_some};
+ghost use Rattle.supported_worlds.specs.Kinds.{import_kind};
 ghost use Rattle.supported_worlds.specs.Apart.{FieldsApart, GroupsApart};
 ghost use Rattle.supported_worlds.specs.LeftOut.{unless, import_left_out, export_left_out, instance_left_out, group_left_out, roles_left_out};
 ghost use Rattle.supported_worlds.specs.Placed.{is_droppable, is_resource_at};
@@ -13,6 +15,7 @@ ghost use Rattle.supported_worlds.specs.Placed.{is_droppable, is_resource_at};
 use crate::kinds::{export_kind, import_kind};
 use crate::places::Places;
 use crate::resources::{is_droppable, is_resource_at};
+use built_ins::plain_intrinsic;
 use comp_lists::{Keyed, Text};
 use comp_roles::{Export, Import, ImportInstance};
 use comp_worlds::ValidatedModule;
@@ -20,7 +23,9 @@ use wit_data::{AbiVariant, TypeDef, TypeId, WorldKey};
 
 /// The drop of a type, unless it is a resource that is imported.
 fn drop_left_out(types: &[TypeDef], places: &Places, id: TypeId) -> Option<&'static str>
-    ensures { option_copied result ≡ unless (is_droppable types.now places.now.types places.now.interfaces.root id) (codes "imported-drop") }
+    ensures { option_copied result
+        ≡ unless (is_droppable types.now places.now.types places.now.interfaces.root id)
+        (codes "imported-drop") }
 {
     if is_droppable(types, places.types.as_slice(), places.interfaces.root, id) {
         None
@@ -29,14 +34,31 @@ fn drop_left_out(types: &[TypeDef], places: &Places, id: TypeId) -> Option<&'sta
     }
 }
 
-fn import_left_out(types: &[TypeDef], places: &Places, role: &Import) -> Option<&'static str>
-    ensures { option_copied result ≡ import_left_out types.now places.now.types places.now.interfaces.root role.now }
+/// A role of another kind, unless it is a built-in function without operands, by whether context slot 1 can be used.
+fn built_in_left_out(slot_1: bool, role: &Import) -> Option<&'static str>
+    ensures { option_copied result ≡
+        unless (is_some (plain_intrinsic slot_1 role.now)) (import_kind role.now) }
+{
+    match plain_intrinsic(slot_1, role) {
+        Some(_) => None,
+        None => Some(import_kind(role)),
+    }
+}
+
+fn import_left_out(
+    slot_1: bool,
+    types: &[TypeDef],
+    places: &Places,
+    role: &Import,
+) -> Option<&'static str>
+    ensures { option_copied result
+        ≡ import_left_out slot_1 types.now places.now.types places.now.interfaces.root role.now }
 {
     match role {
         Import::WorldFunc(WorldKey::Name(_), _, AbiVariant::GuestImport) => None,
-        Import::WorldFunc(_, _, AbiVariant::GuestImportAsync) => Some("async"),
+        Import::WorldFunc(WorldKey::Name(_), _, AbiVariant::GuestImportAsync) => None,
         Import::InterfaceFunc(_, _, _, AbiVariant::GuestImport) => None,
-        Import::InterfaceFunc(_, _, _, AbiVariant::GuestImportAsync) => Some("async"),
+        Import::InterfaceFunc(_, _, _, AbiVariant::GuestImportAsync) => None,
         Import::ImportedResourceDrop(_, _, id) => drop_left_out(types, places, *id),
         Import::ExportedResourceDrop(..)
         | Import::ExportedResourceRep(..)
@@ -45,7 +67,7 @@ fn import_left_out(types: &[TypeDef], places: &Places, role: &Import) -> Option<
         | Import::MainModuleExport { .. }
         | Import::Item(_)
         | Import::AdapterExport { .. } => None,
-        _ => Some(import_kind(role)),
+        _ => built_in_left_out(slot_1, role),
     }
 }
 
@@ -84,15 +106,19 @@ fn export_left_out(types: &[TypeDef], role: &Export) -> Option<&'static str>
 
 /// What of the fields that are imported from one module is left out.
 fn fields_left_out(
+    slot_1: bool,
     types: &[TypeDef],
     places: &Places,
     fields: &Keyed<Text, Import>,
 ) -> Option<&'static str>
-    ensures reported { option_copied result ≡ first_some (λ f. import_left_out types.now places.now.types places.now.interfaces.root f.1) fields.now }
+    ensures reported { option_copied result
+        ≡ first_some
+        (λ f. import_left_out slot_1 types.now places.now.types places.now.interfaces.root f.1)
+        fields.now }
     ensures apart { IsDistinct bytes_eq (keys_of fields.now) }
 {
     for (_, role) in fields.iter() {
-        if let Some(what) = import_left_out(types, places, role) {
+        if let Some(what) = import_left_out(slot_1, types, places, role) {
             return Some(what);
         }
     }
@@ -101,15 +127,18 @@ fn fields_left_out(
 
 /// What of the imports from one module is left out; its fields are apart.
 fn instance_left_out(
+    slot_1: bool,
     types: &[TypeDef],
     places: &Places,
     instance: &ImportInstance,
 ) -> Option<&'static str>
-    ensures reported { option_copied result ≡ instance_left_out types.now places.now.types places.now.interfaces.root instance.now }
+    ensures reported { option_copied result
+        ≡ instance_left_out slot_1 types.now places.now.types places.now.interfaces.root
+        instance.now }
     ensures apart { FieldsApart instance.now }
 {
     match instance {
-        ImportInstance::Names(fields) => fields_left_out(types, places, fields),
+        ImportInstance::Names(fields) => fields_left_out(slot_1, types, places, fields),
         ImportInstance::Whole(_) => None,
     }
 }
@@ -117,15 +146,18 @@ fn instance_left_out(
 /// What of all imports is left out; where nothing is, no module and no field of one occurs twice.
 #[tactic(auto, using(crate::proofs::Walking::start, crate::proofs::Walking::step, crate::proofs::Walking::end))]
 fn groups_left_out(
+    slot_1: bool,
     types: &[TypeDef],
     places: &Places,
     groups: &Keyed<Text, ImportInstance>,
 ) -> Option<&'static str>
-    ensures reported { option_copied result ≡ first_some (group_left_out types.now places.now.types places.now.interfaces.root) groups.now }
+    ensures reported { option_copied result
+        ≡ first_some (group_left_out slot_1 types.now places.now.types places.now.interfaces.root)
+        groups.now }
     ensures apart { option_copied result ≡ None → GroupsApart groups.now }
 {
     for (_, instance) in groups.iter() {
-        if let Some(what) = instance_left_out(types, places, instance) {
+        if let Some(what) = instance_left_out(slot_1, types, places, instance) {
             return Some(what);
         }
     }
@@ -145,14 +177,16 @@ fn exports_left_out(types: &[TypeDef], exports: &Keyed<Text, Export>) -> Option<
 
 /// What of a module's imports and exports is left out, by their roles; where nothing is, no import occurs twice.
 pub(crate) fn roles_left_out(
+    slot_1: bool,
     types: &[TypeDef],
     places: &Places,
     info: &ValidatedModule,
 ) -> Option<&'static str>
-    ensures reported { option_copied result ≡ roles_left_out types.now places.now.types places.now.interfaces.root info.now }
+    ensures reported { option_copied result
+        ≡ roles_left_out slot_1 types.now places.now.types places.now.interfaces.root info.now }
     ensures apart { option_copied result ≡ None → GroupsApart info.now.imports.modules }
 {
-    match groups_left_out(types, places, &info.imports.modules) {
+    match groups_left_out(slot_1, types, places, &info.imports.modules) {
         Some(what) => Some(what),
         None => exports_left_out(types, &info.exports.exports),
     }

@@ -1,5 +1,5 @@
-//! Whether no interface is imported or exported twice, which interfaces user modules have to export, and whether something has
-//! to be exported twice.
+//! Whether no interface is imported or exported twice, which interfaces user modules have to
+//! export, and whether something has to be exported twice.
 
 ghost use Rattle.std.specs.Prelude.{◌≡◌, ◌++◌, IfOk, OnOk, codes};
 ghost use Rattle.std.specs.List.{flat_map};
@@ -67,7 +67,8 @@ fn interfaces_of(
 
 /// The interfaces that a world imports, and then those that it exports.
 fn world_interfaces(alloc: Global, world: &World) -> Result<Vec<InterfaceId>, AllocError>
-    ensures { IfOk result (λ line. line.items ≡ interfaces_of world.now.imports ++ interfaces_of world.now.exports) }
+    ensures { IfOk result
+        (λ line. line.items ≡ interfaces_of world.now.imports ++ interfaces_of world.now.exports) }
 {
     let mut line = interfaces_of(alloc, &world.imports)?;
     let exported = interfaces_of(alloc, &world.exports)?;
@@ -75,7 +76,8 @@ fn world_interfaces(alloc: Global, world: &World) -> Result<Vec<InterfaceId>, Al
     Ok(line)
 }
 
-/// Whether no interface is imported or exported twice, nor both. The time is linear in the number of the world's imports and exports.
+/// Whether no interface is imported or exported twice, nor both. The time is linear in the number
+/// of the world's imports and exports.
 #[tactic(auto, using(crate::proofs::Gathered::is_apart, crate::proofs::Gathered::is_twice))]
 fn are_interfaces_apart(alloc: Global, world: &World) -> Result<bool, AllocError>
     ensures { IfOk result (λ apart. apart ≡ are_interfaces_apart world.now) }
@@ -162,7 +164,8 @@ fn are_keys_apart(alloc: Global, keys: &[WorldKey]) -> Result<bool, AllocError>
 
 /// What is left out of keys that occur twice.
 fn keys_left_out(alloc: Global, keys: &[WorldKey]) -> Result<Option<&'static str>, AllocError>
-    ensures { IfOk result (λ o. option_copied o ≡ unless (are_apart is_same_key keys.now) (codes "world-func")) }
+    ensures { IfOk result
+        (λ o. option_copied o ≡ unless (are_apart is_same_key keys.now) (codes "world-func")) }
 {
     if are_keys_apart(alloc, keys)? {
         Ok(None)
@@ -171,7 +174,8 @@ fn keys_left_out(alloc: Global, keys: &[WorldKey]) -> Result<Option<&'static str
     }
 }
 
-/// What is left out of the keys that have to be exported: an interface or a function among them that has to be exported twice.
+/// What is left out of the keys that have to be exported: an interface or a function among them
+/// that has to be exported twice.
 #[tactic(auto, using(crate::proofs::Keys::once_found, crate::proofs::Keys::twice_found))]
 fn required_left_out(
     alloc: Global,
@@ -196,7 +200,8 @@ fn all_required(
     main: &Seq<WorldKey>,
     adapters: &Keyed<Text, WorldAdapter>,
 ) -> Result<Seq<WorldKey>, AllocError>
-    ensures { IfOk result (λ keys. keys ≡ main.now ++ flat_map (λ a. a.1.required_exports) adapters.now) }
+    ensures { IfOk result
+        (λ keys. keys ≡ main.now ++ flat_map (λ a. a.1.required_exports) adapters.now) }
 {
     let mut keys = main.clone(alloc)?;
     for (_, adapter) in adapters.iter() {
@@ -213,7 +218,8 @@ pub(crate) fn twice_left_out(
     parts: &WorldParts,
     world: &World,
 ) -> Result<Option<&'static str>, AllocError>
-    ensures { IfOk result (λ o. option_copied o ≡ twice_left_out (all_required parts.now) world.now) }
+    ensures { IfOk result
+        (λ o. option_copied o ≡ twice_left_out (all_required parts.now) world.now) }
 {
     if !are_interfaces_apart(alloc, world)? {
         return Ok(Some("interface"));

@@ -1,11 +1,11 @@
 //! The program `tests_of_bytes`: components as bytes, how they are built, read, checked and shown, by cases.
 //!
-//! The input of a case is a call with its arguments (`test_cases` says how the files are read). The expected answers were worked
-//! out by hand from the binary format of components.
+//! The input of a case is a call with its arguments (`test_cases` says how the files are read). The
+//! expected answers were worked out by hand from the binary format of components.
 //!
 //! In reading order: `cases` (the calls of inputs), `components` (components by their bytes: how
-//! they are read, checked and shown), `building` (components that are built again, and measured), `values` (counts, spaces
-//! and the texts of faults).
+//! they are read, checked and shown), `building` (components that are built again, and measured),
+//! `values` (counts, spaces and the texts of faults).
 #![tactic(auto)]
 
 mod building;

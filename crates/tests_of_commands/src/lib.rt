@@ -1,9 +1,10 @@
-//! Tests of the commands over the lower layer that the program uses: runs over a store in memory, for what no clause says of
-//! them, the printed lines above all. Each needs a lower layer, and that of the program is proved next to the commands and not
-//! before them.
+//! Tests of the commands over the lower layer that the program uses: runs over a store in memory,
+//! for what no clause says of them, the printed lines above all. Each needs a lower layer, and that
+//! of the program is proved next to the commands and not before them.
 //!
-//! In reading order: `modules` (modules, and their components), `store` (a store in memory, and writers that fail), `rows`
-//! (modules through the encoder's calls), `canonical` (canonical names of worlds), `runs` (runs of the commands), `adapting` (runs with adapters).
+//! In reading order: `modules` (modules, and their components), `store` (a store in memory, and
+//! writers that fail), `rows` (modules through the encoder's calls), `canonical` (canonical names
+//! of worlds), `runs` (runs of the commands), `adapting` (runs with adapters).
 #![tactic(auto)]
 
 #[cfg(test)]

@@ -1,18 +1,22 @@
-//! The program `tests_of_components`: the components of core modules with records, by cases from files.
+//! The program `tests_of_components`: the components of core modules with records or packages, by cases from files.
 //!
-//! The input of a case is a core module in hexadecimal digits and, after a space, its records, with ` & ` between two of them, if it
-//! has any. Further modules follow after ` + `, each with its name: `NAME: MODULE` is an adapter, and `library NAME: MODULE` a
-//! library, with its arguments behind its name (`argument_cases`). Options may be in front of all, as in
-//! `[canonical, rename a:b/c to d:e/f] 0061736d..`: `canonical`, `debug-names`, `no-merge`, `memory-grow`, `unchecked` (without
-//! `validate`, which is on otherwise) and `rename NAME to NAME`. The answer is the component in hexadecimal digits, by the encoder over
-//! the lower layer by records; or the fault. `test_cases` says how the files are read; each says where its expected answers are from.
+//! The input of a case is a core module in hexadecimal digits and, after a space, its records, with
+//! ` & ` between two of them, if it has any. Further modules follow after ` + `, each with its
+//! name: `NAME: MODULE` is an adapter, and `library NAME: MODULE` a library, with its arguments
+//! behind its name (`argument_cases`). Options may be in front of all, as in `[canonical, rename
+//! a:b/c to d:e/f] 0061736d..`: `canonical`, `debug-names`, `no-merge`, `memory-grow`,
+//! `reject-legacy`, `unchecked` (without `validate`, which is on otherwise) and `rename NAME to
+//! NAME`. The answer is the component in hexadecimal digits, by the encoder over the lower layer by
+//! records, and in the file `packages.txt` over that by packages; or the fault. `test_cases` says
+//! how the files are read; each says where its expected answers are from.
 #![tactic(auto)]
 
 use argument_cases::{library_info, name_and_arguments};
 use comp_encoder::{ComponentEncoder, EncodeFault};
 use comp_lists::{Keyed, Text};
 use comp_worlds::Lower;
-use plain_lower::{PlainFault, PlainLower};
+use package_lower::PackageLower;
+use plain_lower::PlainLower;
 use std::alloc::{AllocError, Global};
 use std::process::ExitCode;
 use test_cases::{Topic, answer_files, bytes_of, word_and_rest};
@@ -70,9 +74,13 @@ fn has(options: &str, wanted: &str) -> bool {
 }
 
 /// An encoder with options.
-fn encoder_with(alloc: Global, options: &str) -> Result<ComponentEncoder<PlainLower>, AllocError> {
+fn encoder_with<L: Lower + Drop>(
+    alloc: Global,
+    layer: L,
+    options: &str,
+) -> Result<ComponentEncoder<L>, AllocError> {
     let names = names_of(alloc, options)?;
-    let mut encoder = ComponentEncoder::new(alloc, PlainLower::new());
+    let mut encoder = ComponentEncoder::new(alloc, layer);
     encoder.validate(!has(options, "unchecked"));
     encoder.debug_names(has(options, "debug-names"));
     encoder.merge_imports_based_on_semver(!has(options, "no-merge"));
@@ -109,9 +117,13 @@ fn add_part<L: Lower>(
 }
 
 /// The component of the modules of an input, the first of which is given as main.
-fn component_of(alloc: Global, input: &str) -> Result<Vec<u8>, EncodeFault<PlainFault>> {
+fn component_of<L: Lower + Drop>(
+    alloc: Global,
+    layer: L,
+    input: &str,
+) -> Result<Vec<u8>, EncodeFault<L::Fault>> {
     let (options, rest) = options_and_rest(input);
-    let mut encoder = encoder_with(alloc, options)?;
+    let mut encoder = encoder_with(alloc, layer, options)?;
     let (main, _) = rest.split_once(" + ").unwrap_or((rest, ""));
     encoder.add_module(module_of(alloc, main)?)?;
     for part in rest.split(" + ").skip(1) {
@@ -120,20 +132,42 @@ fn component_of(alloc: Global, input: &str) -> Result<Vec<u8>, EncodeFault<Plain
     encoder.encode()
 }
 
-/// All files have modules.
+/// The lower layer by packages, with the options of an input.
+fn layer_with(input: &str) -> PackageLower {
+    let (options, _) = options_and_rest(input);
+    PackageLower {
+        reject_legacy_names: has(options, "reject-legacy"),
+    }
+}
+
+/// The component, or the fault, as text.
+fn answer_by<L: Lower + Drop>(alloc: Global, layer: L, input: &str) -> Result<String, AllocError> {
+    match component_of(alloc, layer, input) {
+        Ok(component) => hex::encode(alloc, &component),
+        Err(EncodeFault::Memory) => Err(AllocError),
+        Err(fault) => format!(in alloc; "{fault}"),
+    }
+}
+
+/// What describes the components of the modules of a file.
 #[derive(Clone, Copy)]
-struct Modules;
+enum Modules {
+    Records,
+    Packages,
+}
 
 impl Topic for Modules {
-    fn of(_name: &str) -> Option<Modules> {
-        Some(Modules)
+    fn of(name: &str) -> Option<Modules> {
+        match name {
+            "packages.txt" => Some(Modules::Packages),
+            _ => Some(Modules::Records),
+        }
     }
 
     fn answer(self, alloc: Global, _given: &str, input: &str) -> Result<String, AllocError> {
-        match component_of(alloc, input) {
-            Ok(component) => hex::encode(alloc, &component),
-            Err(EncodeFault::Memory) => Err(AllocError),
-            Err(fault) => format!(in alloc; "{fault}"),
+        match self {
+            Modules::Records => answer_by(alloc, PlainLower::new(), input),
+            Modules::Packages => answer_by(alloc, layer_with(input), input),
         }
     }
 }

@@ -1,8 +1,9 @@
-//! The program `tests_of_core_types`: what a core module offers to others, and the core types that roles require, tested on
-//! cases from files (`test_cases` says how they are read; each file says where its expected answers are from).
+//! The program `tests_of_core_types`: what a core module offers to others, and the core types that
+//! roles require, tested on cases from files (`test_cases` says how they are read; each file says
+//! where its expected answers are from).
 //!
-//! In reading order: `offers` (what a core module offers, and sizes), and the core types of roles: `made` (the world they
-//! are in), `imports`, `exports` and `roles`.
+//! In reading order: `offers` (what a core module offers, and sizes), and the core types of roles:
+//! `made` (the world they are in), `imports`, `exports` and `roles`.
 #![tactic(auto)]
 
 mod exports;

@@ -1,4 +1,5 @@
-//! What a core module offers. The query is a module, in hexadecimal digits. The answer is what it offers: each name, and its type.
+//! What a core module offers. The query is a module, in hexadecimal digits. The answer is what it
+//! offers: each name, and its type.
 //!
 //! A size (`sizes`) is requested by a minimum, a maximum or `_`, and `narrow`, or `wide` for addresses of 64 bits.
 

@@ -1,8 +1,9 @@
 //! Whether core types fit roles of imports and exports, in the world of `made`.
 //!
-//! The query is a group of roles, the words of one of them, `|`, and types of functions, with `, ` between them: parameters, `>` and
-//! results by letters, as in `made`. For `imported-memory` and `exported-memory`, of at least one page, the query has the limits of a
-//! memory: a minimum, a maximum or `_`, and `narrow` or `wide`. The answer is `yes` or `no` for each type.
+//! The query is a group of roles, the words of one of them, `|`, and types of functions, with `, `
+//! between them: parameters, `>` and results by letters, as in `made`. For `imported-memory` and
+//! `exported-memory`, of at least one page, the query has the limits of a memory: a minimum, a
+//! maximum or `_`, and `narrow` or `wide`. The answer is `yes` or `no` for each type.
 
 ghost use Rattle.std.specs.Prelude.{IsTrue};
 ghost use Rattle.world_values.specs.Mentions.{HasReturned};

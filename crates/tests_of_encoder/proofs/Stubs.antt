@@ -76,7 +76,7 @@ valid_of : (bytes : List ℕ) → take 8 bytes ≡ core_preamble → IsWorld (st
 unfolding stub_parts stub_world
 valid_of bytes core = record {
   present = omega arith;
-  imports = ((refl, tt), tt);
+  imports = (refl, tt);
   exports = tt;
   import_keys_apart = one_key (keys.Name (codes "f"));
   import_names_apart = alone (codes "f");
@@ -87,7 +87,7 @@ valid_of bytes core = record {
   main = record {
     core = core;
     modules_apart = alone (codes "$root");
-    import_roles = ((alone (codes "f"), (((0, omega arith, refl), refl, refl), tt)), tt);
+    import_roles = ((alone (codes "f"), (((0, omega arith, refl), refl, tt), tt)), tt);
     own_keys = (tt, tt);
     imported = (inl (record { role = stub_role; has_role = refl; fits = refl }), tt);
     export_roles = tt;

@@ -68,8 +68,8 @@ fn the_refusals_of_encode_are_reported(rt: HostRuntime) {
     }
 }
 
-/// A call that gives the encoder an adapter, or a library with arguments. Each argument is a word: `main`, `items of` an adapter,
-/// or an adapter's name.
+/// A call that gives the encoder an adapter, or a library with arguments. Each argument is a word:
+/// `main`, `items of` an adapter, or an adapter's name.
 #[derive(Clone, Copy)]
 struct Call {
     name: &'static str,

@@ -1,4 +1,5 @@
-//! The lower layers of the tests, and their faults. The definitions of `specs/` name them, which are read without the tests too.
+//! The lower layers of the tests, and their faults. The definitions of `specs/` name them, which
+//! are read without the tests too.
 
 use comp_lists::Text;
 use thiserror::Error;

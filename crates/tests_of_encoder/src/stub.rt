@@ -24,7 +24,8 @@ impl From<AllocError> for StubFault {
 
 /// Whether these bytes begin with the preamble of a core module.
 fn is_core_module(bytes: &[u8]) -> bool
-    ensures { MatchBool result (take 8 bytes.now ≡ core_preamble) (take 8 bytes.now ≢ core_preamble) }
+    ensures { MatchBool result (take 8 bytes.now ≡ core_preamble)
+        (take 8 bytes.now ≢ core_preamble) }
 {
     bytes.starts_with(b"\0asm\x01\0\0\0")
 }
@@ -43,7 +44,8 @@ fn world_of_core(alloc: Global, bytes: &[u8]) -> Result<ComponentWorld, StubFaul
     ensures valid { IfOk result IsEncodable }
     ensures tables { IfOk result HasTables }
     ensures refused { IsOk result → take 8 bytes.now ≡ core_preamble }
-    ensures cause { IfErr result (λ f. (f ≡ Memory) ⊎ (f ≡ Refused) × (take 8 bytes.now ≢ core_preamble)) }
+    ensures cause { IfErr result
+        (λ f. (f ≡ Memory) ⊎ (f ≡ Refused) × (take 8 bytes.now ≢ core_preamble)) }
 {
     if is_core_module(bytes) {
         Ok(world(alloc, bytes)?)
@@ -62,7 +64,9 @@ fn world_alone(
     ensures valid { IfOk result IsEncodable }
     ensures tables { IfOk result HasTables }
     ensures refused { IsOk result → (take 8 bytes.now ≡ core_preamble) × (adapters.now ≡ []) }
-    ensures cause { IfErr result (λ f. (f ≡ Memory) ⊎ (f ≡ Refused) × ((take 8 bytes.now ≢ core_preamble) ⊎ (adapters.now ≢ []))) }
+    ensures cause { IfErr result (λ f. (f ≡ Memory)
+        ⊎ (f ≡ Refused)
+        × ((take 8 bytes.now ≢ core_preamble) ⊎ (adapters.now ≢ []))) }
 {
     if has_adapters(adapters) {
         return Err(StubFault::Refused);
@@ -81,7 +85,8 @@ fn decoded(bytes: Vec<u8>) -> Result<(SharedBytes, ()), AllocError>
 fn decoded_core(bytes: Vec<u8>) -> Result<(SharedBytes, ()), StubFault>
     ensures ok { IfOk result (λ p. p ≡ decoded_of bytes.items) }
     ensures refused { IsOk result → take 8 bytes.items ≡ core_preamble }
-    ensures cause { IfErr result (λ f. (f ≡ Memory) ⊎ (f ≡ Refused) × (take 8 bytes.items ≢ core_preamble)) }
+    ensures cause { IfErr result
+        (λ f. (f ≡ Memory) ⊎ (f ≡ Refused) × (take 8 bytes.items ≢ core_preamble)) }
 {
     if is_core_module(&bytes) {
         Ok(decoded(bytes)?)

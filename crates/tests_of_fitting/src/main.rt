@@ -1,8 +1,9 @@
-//! The program `tests_of_fitting`: adapters that get a stack, main modules that get a realloc, imports of it that get another
-//! name, and active data, by cases.
+//! The program `tests_of_fitting`: adapters that get a stack, main modules that get a realloc,
+//! imports of it that get another name, and active data, by cases.
 //!
-//! The input of a case is a call and the digits of a module (`test_cases` says how the files are read). The expected answers were
-//! made by another program, after the binary format of core modules.
+//! The input of a case is a call and the digits of a module (`test_cases` says how the files are
+//! read). The expected answers were made by another program, after the binary format of core
+//! modules.
 //!
 //! In reading order: `cases` (the calls of inputs).
 #![tactic(auto)]

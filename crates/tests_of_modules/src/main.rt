@@ -1,7 +1,7 @@
 //! The program `tests_of_modules`: core modules, how they are read, written and generated, by cases.
 //!
-//! The input of a case is a call with its arguments (`test_cases` says how the files are read). The expected answers were worked
-//! out by hand from the binary format of core modules.
+//! The input of a case is a call with its arguments (`test_cases` says how the files are read). The
+//! expected answers were worked out by hand from the binary format of core modules.
 //!
 //! Modules that are read are in the data. What is written has no bytes before: it is made in the code, and the
 //! input is its name.

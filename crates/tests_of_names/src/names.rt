@@ -1,16 +1,19 @@
 //! What names mean in a world.
 //!
-//! Given is a world. An input is `main import KIND MODULE FIELD`, with `adapter` in place of
-//! `main` for an adapter, or `main export KIND NAME`; `standard` in place of `main` rejects the older form. The answer is
-//! the role, `nothing`, or why the name is refused.
+//! Given is a world. An input is `main import KIND MODULE FIELD`, with `adapter` in place of `main`
+//! for an adapter, or `main export KIND NAME`; `standard` in place of `main` rejects the older
+//! form. The answer is the role, `nothing`, or why the name is refused.
 
 use crate::roles::{print_export, print_import};
 use crate::worlds::world_of;
-use core_names::{ModuleKind, Reading, Refusal, WorldNames, export_role, import_role};
+use core_export_names::export_role;
+use core_import_names::{ModuleKind, import_role};
+use name_parts::{Reading, Refusal};
 use record_values::{ExportRole, ImportRole, Wit};
 use standard_kinds::ExportKind;
 use std::alloc::{AllocError, Global};
 use test_cases::word_and_rest;
+use world_names::WorldNames;
 
 fn kind(word: &str) -> ExportKind {
     match word {
@@ -47,7 +50,7 @@ fn print_export_reading(alloc: Global, reading: Reading<ExportRole>) -> Result<S
 
 fn import_answer(
     alloc: Global,
-    names: &WorldNames<'_>,
+    names: &WorldNames,
     word: &str,
     name: &str,
 ) -> Result<String, AllocError> {
@@ -72,7 +75,7 @@ fn import_answer(
 
 fn export_answer(
     alloc: Global,
-    names: &WorldNames<'_>,
+    names: &WorldNames,
     word: &str,
     name: &str,
 ) -> Result<String, AllocError> {
@@ -82,7 +85,7 @@ fn export_answer(
     print_export_reading(alloc, reading)
 }
 
-fn name_answer(alloc: Global, wit: &Wit, input: &str) -> Result<String, AllocError> {
+fn name_answer(alloc: Global, wit: Wit, input: &str) -> Result<String, AllocError> {
     let names = WorldNames::of(alloc, wit)?;
     let (word, rest) = word_and_rest(input);
     let (what, name) = word_and_rest(rest);
@@ -94,5 +97,5 @@ fn name_answer(alloc: Global, wit: &Wit, input: &str) -> Result<String, AllocErr
 
 pub(crate) fn answer(alloc: Global, given: &str, input: &str) -> Result<String, AllocError> {
     let wit = world_of(alloc, given)?;
-    name_answer(alloc, &wit, input)
+    name_answer(alloc, wit, input)
 }

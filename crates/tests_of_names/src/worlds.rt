@@ -1,7 +1,8 @@
-//! Worlds, as the cases give them: items with `; ` between them, each with its side. `import func f` is a function and
-//! `import resource r` a resource of the world, and `import interface LABEL` an interface, by its id or its name, with its
-//! members behind it: `f.NAME` a function, `r.NAME` a resource, `v.NAME` a type of values, and `a.NAME=LABEL=OTHER` a
-//! name for a type of an interface with an id.
+//! Worlds, as the cases give them: items with `; ` between them, each with its side. `import func
+//! f` is a function and `import resource r` a resource of the world, and `import interface LABEL`
+//! an interface, by its id or its name, with its members behind it: `f.NAME` a function, `r.NAME` a
+//! resource, `v.NAME` a type of values, and `a.NAME=LABEL=OTHER` a name for a type of an interface
+//! with an id.
 
 use comp_lists::{Keyed, Seq, SharedText, Text};
 use record_values::{

@@ -1,5 +1,5 @@
-//! The program `tests_of_packages`: what WIT packages in binary form say, tested on cases from files (`test_cases` says how
-//! they are read; each file says where its expected answers are from).
+//! The program `tests_of_packages`: what WIT packages in binary form say, tested on cases from
+//! files (`test_cases` says how they are read; each file says where its expected answers are from).
 //!
 //! In reading order: `faults` (why a package is refused), `worlds` (what one says, as text).
 #![tactic(auto)]

@@ -1,5 +1,5 @@
-//! What a package says: the names of its world, its encoding, its interfaces, its imports and its exports. The query is the
-//! package, in hexadecimal digits.
+//! What a package says: the names of its world, its encoding, its interfaces, its imports and its
+//! exports. The query is the package, in hexadecimal digits.
 
 use crate::faults::print_fault;
 use comp_lists::Keyed;

@@ -1,7 +1,7 @@
 //! The kinds of functions: which type of its interface or of its world each belongs to by its name, if any.
 //!
-//! The query is a record, in JSON, without its version. The answer has the functions that the world imports, those of each
-//! interface, and those that the world exports.
+//! The query is a record, in JSON, without its version. The answer has the functions that the world
+//! imports, those of each interface, and those that the world exports.
 
 use crate::faults::print_fault;
 use comp_lists::Keyed;

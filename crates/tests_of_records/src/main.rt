@@ -1,10 +1,11 @@
-//! The program `tests_of_records`: what records say, and the resolve that is made of it, tested on cases from files
-//! (`test_cases` says how they are read; each file says where its expected answers are from). The cases of refused records,
-//! with their paths, are in the program `record_cases`.
+//! The program `tests_of_records`: what records say, and the resolve that is made of it, tested on
+//! cases from files (`test_cases` says how they are read; each file says where its expected answers
+//! are from). The cases of refused records, with their paths, are in the program `record_cases`.
 //!
-//! In reading order: `faults` (printed faults), then the topics: `types` (the nodes and sizes of types, and functions),
-//! `worlds` (interfaces of whole records), `wits` (worlds by names), `versions` (compatible interfaces), `resolving` (how
-//! many types a world has), `kinds` (the types to which functions belong).
+//! In reading order: `faults` (printed faults), then the topics: `types` (the nodes and sizes of
+//! types, and functions), `worlds` (interfaces of whole records), `wits` (worlds by names),
+//! `versions` (compatible interfaces), `resolving` (how many types a world has), `kinds` (the types
+//! to which functions belong).
 #![tactic(auto)]
 
 mod faults;

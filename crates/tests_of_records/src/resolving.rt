@@ -1,7 +1,7 @@
 //! How many types a small world has, or that it is refused.
 //!
-//! The query is the id of an interface of two functions that return lists of texts, and the side that it is on: `import`, `export`, `both` or
-//! `nowhere`.
+//! The query is the id of an interface of two functions that return lists of texts, and the side
+//! that it is on: `import`, `export`, `both` or `nowhere`.
 
 use crate::faults::print_fault;
 use crate::wits::{add_item, empty, name};

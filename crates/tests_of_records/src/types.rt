@@ -1,8 +1,8 @@
 //! The nodes and sizes of types, and functions.
 //!
-//! Given are the interfaces of a record, whose types a world may name; the query is a type or a function of that world, all
-//! in JSON. The world has a resource `w`. The answer is the levels and the nodes of a type, its kind, and its nodes; or
-//! the function; or the path of what is wrong.
+//! Given are the interfaces of a record, whose types a world may name; the query is a type or a
+//! function of that world, all in JSON. The world has a resource `w`. The answer is the levels and
+//! the nodes of a type, its kind, and its nodes; or the function; or the path of what is wrong.
 
 use crate::faults::print_fault;
 use comp_lists::{Keyed, Text};

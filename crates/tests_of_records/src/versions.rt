@@ -1,8 +1,9 @@
 //! Worlds with compatible interfaces: the imports that are left and their order, or the refusal.
 //!
-//! The query is `merging` or `keeping`, and then interfaces, with `; ` between them: the side of one (`import`, `export` or `both`),
-//! its id, and the ids of at most two others. It has types `t` and `u`, each of which is the `t` of such another
-//! interface, in turn, or a number where none is named.
+//! The query is `merging` or `keeping`, and then interfaces, with `; ` between them: the side of
+//! one (`import`, `export` or `both`), its id, and the ids of at most two others. It has types `t`
+//! and `u`, each of which is the `t` of such another interface, in turn, or a number where none is
+//! named.
 
 use crate::faults::print_fault;
 use crate::wits::{add_item, empty, name};

@@ -1,4 +1,5 @@
-//! What is read of whole records: the names of interfaces, and the sides that they are on. The query is a record, in JSON, without its version.
+//! What is read of whole records: the names of interfaces, and the sides that they are on. The
+//! query is a record, in JSON, without its version.
 
 use crate::faults::print_fault;
 use json_paths::read_value;

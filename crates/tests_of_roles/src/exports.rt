@@ -1,8 +1,9 @@
 //! Look-ups in the roles of the exports of a core module.
 //!
-//! Given are exports, with `; ` between them: a name, `=`, and its role, as `memory 1`, `dtor 3` or `func 0 f GuestExport`. A
-//! function, its post-return (`post`) and its callback (`back`) have the index of an interface, or `root`, before their
-//! names. The query is what is looked up. The answer is the name of an export, or `none`.
+//! Given are exports, with `; ` between them: a name, `=`, and its role, as `memory 1`, `dtor 3` or
+//! `func 0 f GuestExport`. A function, its post-return (`post`) and its callback (`back`) have the
+//! index of an interface, or `root`, before their names. The query is what is looked up. The answer
+//! is the name of an export, or `none`.
 
 use comp_lists::{Keyed, Text};
 use comp_roles::{Export, ExportMap};

@@ -1,8 +1,9 @@
 //! Look-ups in the roles of the imports of a core module.
 //!
-//! Given are modules, with `; ` between them: a name, and `whole` where all of main's exports are imported, or the fields, as
-//! `memory=7` for main's memory of seven pages, or `cancel=_` for something else. The query is `memory`: the size in which main's memory is
-//! imported; or `list`: the module and the field of each import that is listed by its field.
+//! Given are modules, with `; ` between them: a name, and `whole` where all of main's exports are
+//! imported, or the fields, as `memory=7` for main's memory of seven pages, or `cancel=_` for
+//! something else. The query is `memory`: the size in which main's memory is imported; or `list`:
+//! the module and the field of each import that is listed by its field.
 
 use crate::exports::memory;
 use comp_lists::{Keyed, Text};

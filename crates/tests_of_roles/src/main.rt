@@ -1,8 +1,9 @@
-//! The program `tests_of_roles`: canonical options, and the roles of core imports and exports, tested on cases from files
-//! (`test_cases` says how they are read; each file says where its expected answers are from).
+//! The program `tests_of_roles`: canonical options, and the roles of core imports and exports,
+//! tested on cases from files (`test_cases` says how they are read; each file says where its
+//! expected answers are from).
 //!
-//! In reading order: `options`, `exports` and `imports` (look-ups in roles), and `matching` (what may be given for an import).
-//! Types and functions of WIT are read by `wit_texts`.
+//! In reading order: `options`, `exports` and `imports` (look-ups in roles), and `matching` (what
+//! may be given for an import). Types and functions of WIT are read by `wit_texts`.
 #![tactic(auto)]
 
 mod exports;

@@ -1,9 +1,10 @@
 //! Import matching, and kinds of core types.
 //!
-//! A type is a word and what follows it: `func ii>l` with the types of a function's parameters and results, `table 1-2` and `memory 1-`
-//! with limits, `concrete 1-2` for a table of references to functions of one type, `global i` and `mutable i` with the type of its value.
-//! The queries are `kind` and a type, `numbers` and the letters of a function, and `match` with the type of an import, ` | ` and that of what
-//! is offered.
+//! A type is a word and what follows it: `func ii>l` with the types of a function's parameters and
+//! results, `table 1-2` and `memory 1-` with limits, `concrete 1-2` for a table of references to
+//! functions of one type, `global i` and `mutable i` with the type of its value. The queries are
+//! `kind` and a type, `numbers` and the letters of a function, and `match` with the type of an
+//! import, ` | ` and that of what is offered.
 
 use comp_lists::Seq;
 use comp_roles::{ExternType, has_numbers};

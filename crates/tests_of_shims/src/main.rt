@@ -1,7 +1,8 @@
-//! The program `tests_of_shims`: which shims worlds need, tested on cases from a file (`test_cases` says how it is read; the file
-//! says where its expected answers are from).
+//! The program `tests_of_shims`: which shims worlds need, tested on cases from a file (`test_cases`
+//! says how it is read; the file says where its expected answers are from).
 //!
-//! In reading order: `modules` (modules that are described by words), `worlds` (the worlds of these), `shims` (the questions).
+//! In reading order: `modules` (modules that are described by words), `worlds` (the worlds of
+//! these), `shims` (the questions).
 #![tactic(auto)]
 
 mod modules;

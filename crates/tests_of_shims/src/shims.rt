@@ -1,7 +1,8 @@
 //! Questions about shims.
 //!
-//! A question is one of these, with the words of a world (`modules`, `worlds`). Its answer is the list of shims, each by its name
-//! and its debug name; where the call is refused, the fault is before the list, which is as it was.
+//! A question is one of these, with the words of a world (`modules`, `worlds`). Its answer is the
+//! list of shims, each by its name and its debug name; where the call is refused, the fault is
+//! before the list, which is as it was.
 //!
 //! - `plan`: the shims of main;
 //! - `both`: those of main and of the library `ad`;
@@ -90,8 +91,8 @@ fn push_waits(alloc: Global, shims: &mut Shims) -> Result<(), AllocError> {
     push(alloc, shims, ShimKind::WaitableSetPoll, "waitable-set.poll")
 }
 
-/// Appends the shims of a module: nothing is answered where they are there, and the refusal where they are not. Where memory
-/// is refused, that is the answer, unless the list was changed.
+/// Appends the shims of a module: nothing is answered where they are there, and the refusal where
+/// they are not. Where memory is refused, that is the answer, unless the list was changed.
 fn append(
     alloc: Global,
     shims: &mut Shims,

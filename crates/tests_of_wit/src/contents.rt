@@ -1,5 +1,5 @@
-//! What types contain. Given are types; the query is the index of one. The answer is its bits: 1 where it has texts in it, 2 where it
-//! needs memory.
+//! What types contain. Given are types; the query is the index of one. The answer is its bits: 1
+//! where it has texts in it, 2 where it needs memory.
 
 use bitflags::Flags;
 use std::alloc::{AllocError, Global};

@@ -1,5 +1,5 @@
-//! The program `tests_of_wit`: what follows from WIT values alone, tested on cases from files (`test_cases` says how they
-//! are read; each file says where its expected answers are from).
+//! The program `tests_of_wit`: what follows from WIT values alone, tested on cases from files
+//! (`test_cases` says how they are read; each file says where its expected answers are from).
 //!
 //! In reading order: `signatures` (core signatures), `soundness` and `positions` (what is sound), `names`, `contents`,
 //! `reached` (live types). Types and functions are read by `wit_texts`.

@@ -9,8 +9,8 @@
 //! - `id` or `canonical-id`, and such an index: the name of the interface;
 //! - `plain-key` or `canonical-plain-key`, and a text: the name of that key.
 //!
-//! Given are the names of interfaces, with `; ` between them, or `_` where one has none. What is absent is printed as `none`, and
-//! an empty text as `empty`.
+//! Given are the names of interfaces, with `; ` between them, or `_` where one has none. What is
+//! absent is printed as `none`, and an empty text as `empty`.
 
 use comp_lists::{Seq, Text};
 use semver::Version;

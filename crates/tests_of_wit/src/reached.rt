@@ -1,5 +1,6 @@
-//! Which types of an interface others reach. Given are types, `|`, and the indices of those that the interface names, in its
-//! order; the query is the indices of two types, or of none. The answer is the indices of the types that they reach, or `nothing`.
+//! Which types of an interface others reach. Given are types, `|`, and the indices of those that
+//! the interface names, in its order; the query is the indices of two types, or of none. The answer
+//! is the indices of the types that they reach, or `nothing`.
 
 use comp_lists::{Keyed, Seq, Text};
 use std::alloc::{AllocError, Global};

@@ -1,8 +1,8 @@
-//! The program `tests_of_worlds`: worlds, and what follows from their parts, tested on cases from files (`test_cases` says
-//! how they are read; each file says where its expected answers are from).
+//! The program `tests_of_worlds`: worlds, and what follows from their parts, tested on cases from
+//! files (`test_cases` says how they are read; each file says where its expected answers are from).
 //!
-//! In reading order: `worlds` (other modules of a world), `tables` (what follows from a world's parts). Types and functions
-//! are read by `wit_texts`.
+//! In reading order: `worlds` (other modules of a world), `tables` (what follows from a world's
+//! parts). Types and functions are read by `wit_texts`.
 #![tactic(auto)]
 
 mod tables;

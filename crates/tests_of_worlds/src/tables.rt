@@ -1,5 +1,6 @@
-//! The tables that follow from a world's parts: an interface `i` is imported, with types `r` and `s` and functions `f` and `g`,
-//! which main imports; `k` and `j` are exported, and `j` has a function that takes a type of `k`.
+//! The tables that follow from a world's parts: an interface `i` is imported, with types `r` and
+//! `s` and functions `f` and `g`, which main imports; `k` and `j` are exported, and `j` has a
+//! function that takes a type of `k`.
 //!
 //! The query is one of these:
 //!

@@ -1,5 +1,5 @@
--- The types of other interfaces of which types and functions are made, in the order in which they are met (component model,
--- WIT: `use`).
+-- The types of other interfaces of which types and functions are made, in the order in which they
+-- are met (component model, WIT: `use`).
 use Rattle.std.specs.Prelude.{◌≡◌, ℕ, true, List, [], ◌∷◌, ◌++◌, Option, Some, None, get_or, is_some}
 use Rattle.std.specs.List.{AllByRecursion, flat_map}
 use Rattle.std.specs.Map.{lookup}

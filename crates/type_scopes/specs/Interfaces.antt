@@ -27,7 +27,8 @@ use Rattle.type_scopes.specs.Titles.{IsTitled, title}
 use Rattle.type_scopes.specs.Exports.{IsExport, any_index, AreOwnExports, exports_of, function_exports}
 use Rattle.type_scopes.specs.Offers.{Offer, placed}
 
--- A type has a value type in the scope. Where that is a type of the scope, it is the one that the type's name stands for.
+-- A type has a value type in the scope. Where that is a type of the scope, it is the one that the
+-- type's name stands for.
 pub record TypeIn (s : Setting) (scope : List TypeTree) (names : List ℕ → ℕ → Type 0) (id : TypeId) : Type 0 where
   pub value : ComponentValType
   pub denotes : ValueDenotes scope value (wit_tree s.origin s.types (Some (Id id)))

@@ -1,5 +1,5 @@
--- What the instance type of an interface needs to be at hand: the types of which its types and functions are made (component
--- model, WIT: interfaces, `use`, resources).
+-- What the instance type of an interface needs to be at hand: the types of which its types and
+-- functions are made (component model, WIT: interfaces, `use`, resources).
 use Rattle.std.specs.Prelude.{ℕ, ◌≡◌, ◌<◌, ◌&&◌, ◌||◌, Bool, true, false, not, List, length, Option, Some, None, is_none, is_some, if◌then◌else◌}
 use Rattle.std.specs.List.{AllByRecursion, list_all}
 use Rattle.wit_data.specs.declared.ids.TypeId.{TypeId}
@@ -34,7 +34,8 @@ pub record HasNoTitle (types : List TypeDef) (n : ℕ) : Type 0 where
   pub unnamed : name_at types n ≡ None
   pub values : is_resource (kind_at types n) ≡ false
 
--- A live type that no other interface owns is made of live types, and it is one of these, or has no name and is no resource.
+-- A live type that no other interface owns is made of live types, and it is one of these, or has no
+-- name and is no resource.
 pub record AreLiveClosed (types : List TypeDef) (here : InterfaceId) (ids : List TypeId) (live : ℕ → Bool) : Type 0 where
   pub made : (n : ℕ) → n < length types → live n ≡ true → IsOwn types here n → AllByRecursion (IsLive live) (parts (kind_at types n))
   pub known : (n : ℕ) → n < length types → live n ≡ true → IsOwn types here n → is_one_of ids n ≡ false → HasNoTitle types n
@@ -60,8 +61,9 @@ function_passes test types f = list_all (λ p. value (each_passes test) types (S
 abbrev pub is_unnamed : List TypeDef → ℕ → TypeDefKind → Bool
 is_unnamed types n kind = is_none (name_at types n) && (is_none (foreign None (owner_at types n)) && not (is_resource kind))
 
--- A type of another interface that has a name and that is lent, be it a resource; or a resource of this interface that has a name and
--- that is lent; or a type of values that this interface owns, or that has no name and no interface.
+-- A type of another interface that has a name and that is lent, be it a resource; or a resource of
+-- this interface that has a name and that is lent; or a type of values that this interface owns, or
+-- that has no name and no interface.
 abbrev pub is_at_home : List TypeDef → (ℕ → Bool) → InterfaceId → ℕ → TypeDefKind → Bool
 is_at_home types lent here n kind = elim (foreign (Some here) (owner_at types n)) [
   | Some other ↦ lent n && is_some (name_at types n)

@@ -34,9 +34,10 @@ offered o other id = lookup (same_type.eq-value.it (record { interface = other; 
 pub record IsOfferedType (o : Offer) (t : OuterType) : Type 0 where
   pub there : is_some (offered o t.interface t.id) ≡ true
 
--- What the definitions in the instance type of an interface take as given, where these of its types were passed: they are
--- exported under their names, and in the tables. What is offered may be imported, and types without a name may be defined. A
--- type gets its name once it is defined, and not while others are: so nothing is exported meanwhile.
+-- What the definitions in the instance type of an interface take as given, where these of its types
+-- were passed: they are exported under their names, and in the tables. What is offered may be
+-- imported, and types without a name may be defined. A type gets its name once it is defined, and
+-- not while others are: so nothing is exported meanwhile.
 abbrev pub placed : Surroundings → (TypeId → Resource) → Offer → InterfaceId → List TypeId → Setting
 placed s origin o here passed =
     record {

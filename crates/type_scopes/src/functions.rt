@@ -31,11 +31,19 @@ pub(crate) fn encode_functions<P: Placement>(
     requires sound { IsSound resolve.now }
     requires same { encoder.old.outer.types ≡ resolve.now.types }
     requires present { AllByRecursion (λ e. HasFunction resolve.now e.1) functions.now }
-    requires allowed { AllByRecursion (λ f. allows_function (placed P.surroundings P.origin encoder.old.outer encoder.old.interface encoder.old.passed.now) f ≡ true) (used_among used.now functions.now) }
-    requires right { IsRight P.surroundings P.origin encoder.old.outer encoder.old.interface encoder.old.passed.now encoder.old.members encoder.old.maps }
+    requires allowed { AllByRecursion (λ f. allows_function (placed P.surroundings P.origin
+        encoder.old.outer encoder.old.interface encoder.old.passed.now) f
+        ≡ true) (used_among used.now functions.now) }
+    requires right { IsRight P.surroundings P.origin encoder.old.outer encoder.old.interface
+        encoder.old.passed.now encoder.old.members encoder.old.maps }
     requires first { function_exports encoder.old.members ≡ [] }
-    ensures functions { OnOk result (FunctionsIn (placed P.surroundings P.origin encoder.old.outer encoder.old.interface encoder.old.passed.now) (member_trees P.surroundings [] encoder.new.members) (function_exports encoder.new.members) (used_among used.now functions.now)) }
-    ensures names { OnOk result (exports_of encoder.new.members ≡ exports_of encoder.old.members ++ map (λ f. f.name) (used_among used.now functions.now)) }
+    ensures functions { OnOk result (FunctionsIn (placed P.surroundings P.origin encoder.old.outer
+        encoder.old.interface encoder.old.passed.now)
+        (member_trees P.surroundings [] encoder.new.members)
+        (function_exports encoder.new.members) (used_among used.now functions.now)) }
+    ensures names { OnOk result (exports_of encoder.new.members
+        ≡ exports_of encoder.old.members
+        ++ map (λ f. f.name) (used_among used.now functions.now)) }
     ensures extends { MembersExtend P.surroundings encoder.old.members encoder.new.members }
     ensures cause { IfErr result (IsCause is_full encoder.new.members) }
 {
@@ -57,12 +65,22 @@ fn encode_used<P: Placement>(
     requires sound { IsSound resolve.now }
     requires same { encoder.old.outer.types ≡ resolve.now.types }
     requires present { HasFunction resolve.now function.now }
-    requires allowed { AllByRecursion (λ f. allows_function (placed P.surroundings P.origin encoder.old.outer encoder.old.interface encoder.old.passed.now) f ≡ true) (used_function used.now (name.now, function.now)) }
-    requires right { IsRight P.surroundings P.origin encoder.old.outer encoder.old.interface encoder.old.passed.now encoder.old.members encoder.old.maps }
-    ensures functions { OnOk result (AddsFunctions (placed P.surroundings P.origin encoder.old.outer encoder.old.interface encoder.old.passed.now) (member_trees P.surroundings [] encoder.new.members) encoder.old.members encoder.new.members (used_function used.now (name.now, function.now))) }
+    requires allowed { AllByRecursion (λ f. allows_function (placed P.surroundings P.origin
+        encoder.old.outer encoder.old.interface encoder.old.passed.now) f
+        ≡ true) (used_function used.now (name.now, function.now)) }
+    requires right { IsRight P.surroundings P.origin encoder.old.outer encoder.old.interface
+        encoder.old.passed.now encoder.old.members encoder.old.maps }
+    ensures functions { OnOk result (AddsFunctions (placed P.surroundings P.origin encoder.old.outer
+        encoder.old.interface encoder.old.passed.now)
+        (member_trees P.surroundings [] encoder.new.members) encoder.old.members
+        encoder.new.members (used_function used.now (name.now, function.now))) }
     ensures extends { MembersExtend P.surroundings encoder.old.members encoder.new.members }
-    ensures setting { placed P.surroundings P.origin encoder.new.outer encoder.new.interface encoder.new.passed.now ≡ placed P.surroundings P.origin encoder.old.outer encoder.old.interface encoder.old.passed.now }
-    ensures right { IsRight P.surroundings P.origin encoder.new.outer encoder.new.interface encoder.new.passed.now encoder.new.members encoder.new.maps }
+    ensures setting { placed P.surroundings P.origin encoder.new.outer encoder.new.interface
+        encoder.new.passed.now
+        ≡ placed P.surroundings P.origin encoder.old.outer encoder.old.interface
+        encoder.old.passed.now }
+    ensures right { IsRight P.surroundings P.origin encoder.new.outer encoder.new.interface
+        encoder.new.passed.now encoder.new.members encoder.new.maps }
     ensures cause { IfErr result (IsCause is_full encoder.new.members) }
 {
     if used.contains_key(name) {
@@ -82,12 +100,21 @@ fn encode_function<P: Placement>(
     requires sound { IsSound resolve.now }
     requires same { encoder.old.outer.types ≡ resolve.now.types }
     requires present { HasFunction resolve.now function.now }
-    requires allowed { IsTrue (allows_function (placed P.surroundings P.origin encoder.old.outer encoder.old.interface encoder.old.passed.now) function.now) }
-    requires right { IsRight P.surroundings P.origin encoder.old.outer encoder.old.interface encoder.old.passed.now encoder.old.members encoder.old.maps }
-    ensures function { OnOk result (AddsFunctions (placed P.surroundings P.origin encoder.old.outer encoder.old.interface encoder.old.passed.now) (member_trees P.surroundings [] encoder.new.members) encoder.old.members encoder.new.members (function.now ∷ [])) }
+    requires allowed { IsTrue (allows_function (placed P.surroundings P.origin encoder.old.outer
+        encoder.old.interface encoder.old.passed.now) function.now) }
+    requires right { IsRight P.surroundings P.origin encoder.old.outer encoder.old.interface
+        encoder.old.passed.now encoder.old.members encoder.old.maps }
+    ensures function { OnOk result (AddsFunctions (placed P.surroundings P.origin encoder.old.outer
+        encoder.old.interface encoder.old.passed.now)
+        (member_trees P.surroundings [] encoder.new.members) encoder.old.members
+        encoder.new.members (function.now ∷ [])) }
     ensures extends { MembersExtend P.surroundings encoder.old.members encoder.new.members }
-    ensures setting { placed P.surroundings P.origin encoder.new.outer encoder.new.interface encoder.new.passed.now ≡ placed P.surroundings P.origin encoder.old.outer encoder.old.interface encoder.old.passed.now }
-    ensures right { IsRight P.surroundings P.origin encoder.new.outer encoder.new.interface encoder.new.passed.now encoder.new.members encoder.new.maps }
+    ensures setting { placed P.surroundings P.origin encoder.new.outer encoder.new.interface
+        encoder.new.passed.now
+        ≡ placed P.surroundings P.origin encoder.old.outer encoder.old.interface
+        encoder.old.passed.now }
+    ensures right { IsRight P.surroundings P.origin encoder.new.outer encoder.new.interface
+        encoder.new.passed.now encoder.new.members encoder.new.maps }
     ensures cause { IfErr result (IsCause is_full encoder.new.members) }
 {
     let index = encode_func_type(alloc, encoder, resolve, function)?;

@@ -29,8 +29,9 @@ use std::alloc::{AllocError, Global};
 use wit_data::{InterfaceId, TypeId};
 use wit_types::{TypeEncodingMaps, ValtypeEncoder};
 
-/// An instance type that is being built: the types of its interface are exported, one after the other, each before the types
-/// that are made of it; and a type of another interface is an alias of the type that the outer scope offers.
+/// An instance type that is being built: the types of its interface are exported, one after the
+/// other, each before the types that are made of it; and a type of another interface is an alias of
+/// the type that the outer scope offers.
 pub struct InstanceTypeEncoder<'a, P: Placement> {
     outer: OuterTypes<'a, P>,
     interface: InterfaceId,
@@ -76,7 +77,11 @@ impl<'a, P: Placement> InstanceTypeEncoder<'a, P> {
 
     /// Exports the type with an index under a name, and returns the index of the export.
     pub fn add_type(&mut self, name: ExternName, index: u32) -> Result<u32, BuildFault>
-        ensures added { OnOk result (self.new ≡ record self.old { members = self.old.members ++ members.Export name (descriptions.TypeEqual index) ∷ [] }) }
+        ensures added { OnOk result (self.new
+            ≡ record self.old {
+              members = self.old.members
+                  ++ members.Export name (descriptions.TypeEqual index) ∷ [];
+            }) }
         ensures index { IfOk result (λ index. index ≡ types_in self.old.members) }
         ensures kept { OnErr result (self.new ≡ self.old) }
         ensures cause { IfErr result (IsCause is_full self.new.members) }
@@ -87,7 +92,11 @@ impl<'a, P: Placement> InstanceTypeEncoder<'a, P> {
 
     /// Exports a resource under a name, and returns its index.
     pub fn add_resource(&mut self, name: ExternName) -> Result<u32, BuildFault>
-        ensures added { OnOk result (self.new ≡ record self.old { members = self.old.members ++ members.Export name descriptions.SubResource ∷ [] }) }
+        ensures added { OnOk result (self.new
+            ≡ record self.old {
+              members = self.old.members
+                  ++ members.Export name descriptions.SubResource ∷ [];
+            }) }
         ensures index { IfOk result (λ index. index ≡ types_in self.old.members) }
         ensures kept { OnErr result (self.new ≡ self.old) }
         ensures cause { IfErr result (IsCause is_full self.new.members) }
@@ -109,7 +118,11 @@ impl<'a, P: Placement> InstanceTypeEncoder<'a, P> {
 
     /// Exports a function of the type with an index, under a name.
     pub fn add_function(&mut self, name: ExternName, index: u32) -> Result<(), AllocError>
-        ensures added { OnOk result (self.new ≡ record self.old { members = self.old.members ++ members.Export name (descriptions.Func index) ∷ [] }) }
+        ensures added { OnOk result (self.new
+            ≡ record self.old {
+              members = self.old.members
+                  ++ members.Export name (descriptions.Func index) ∷ [];
+            }) }
         ensures kept { OnErr result (self.new ≡ self.old) }
     {
         self.members.add_function(name, index)
@@ -167,27 +180,47 @@ impl<'a, P: Placement> ValtypeEncoder for InstanceTypeEncoder<'a, P> {
 
     fn defined_type(&mut self, ty: DefinedType) -> Result<u32, BuildFault>
         requires known { is_known (defined_tree (member_trees P.surroundings [] self.old.members) ty) ≡ true }
-        ensures added { OnOk result (self.new ≡ record self.old { members = self.old.members ++ members.Type (types.Defined ty) ∷ [] }) }
+        ensures added { OnOk result (self.new
+            ≡ record self.old
+            { members = self.old.members ++ members.Type (types.Defined ty) ∷ [] }) }
         ensures index { IfOk result (λ index. index ≡ types_in self.old.members) }
         ensures kept { OnErr result (self.new ≡ self.old) }
-        ensures makes { Makes (member_trees P.surroundings [] self.old.members) (member_trees P.surroundings [] self.new.members) result (OfValues (defined_tree (member_trees P.surroundings [] self.old.members) ty)) }
-        ensures setting { placed P.surroundings P.origin self.new.outer self.new.interface self.new.passed.now ≡ placed P.surroundings P.origin self.old.outer self.old.interface self.old.passed.now }
+        ensures makes { Makes (member_trees P.surroundings [] self.old.members)
+            (member_trees P.surroundings [] self.new.members) result
+            (OfValues (defined_tree (member_trees P.surroundings [] self.old.members) ty)) }
+        ensures setting { placed P.surroundings P.origin self.new.outer self.new.interface
+            self.new.passed.now
+            ≡ placed P.surroundings P.origin self.old.outer self.old.interface self.old.passed.now }
         ensures maps { self.new.maps ≡ self.old.maps }
-        ensures follows { (self.new.outer ≡ self.old.outer) × (self.new.interface ≡ self.old.interface) × (self.new.passed ≡ self.old.passed) × MembersGrow P.surroundings self.old.members self.new.members }
+        ensures follows { (self.new.outer ≡ self.old.outer)
+            × (self.new.interface ≡ self.old.interface)
+            × (self.new.passed ≡ self.old.passed)
+            × MembersGrow P.surroundings self.old.members self.new.members }
         ensures cause { IfErr result (IsCause is_full self.new.members) }
     {
         self.members.add_type(Member::Type(TypeDef::Defined(ty)))
     }
 
     fn define_function_type(&mut self, ty: FuncTypeDef) -> Result<u32, BuildFault>
-        requires known { is_known_function (function_tree (member_trees P.surroundings [] self.old.members) ty) ≡ true }
-        ensures added { OnOk result (self.new ≡ record self.old { members = self.old.members ++ members.Type (types.Func ty) ∷ [] }) }
+        requires known { is_known_function
+            (function_tree (member_trees P.surroundings [] self.old.members) ty)
+            ≡ true }
+        ensures added { OnOk result (self.new
+            ≡ record self.old
+            { members = self.old.members ++ members.Type (types.Func ty) ∷ [] }) }
         ensures index { IfOk result (λ index. index ≡ types_in self.old.members) }
         ensures kept { OnErr result (self.new ≡ self.old) }
-        ensures makes { Makes (member_trees P.surroundings [] self.old.members) (member_trees P.surroundings [] self.new.members) result (OfFunctions (function_tree (member_trees P.surroundings [] self.old.members) ty)) }
-        ensures setting { placed P.surroundings P.origin self.new.outer self.new.interface self.new.passed.now ≡ placed P.surroundings P.origin self.old.outer self.old.interface self.old.passed.now }
+        ensures makes { Makes (member_trees P.surroundings [] self.old.members)
+            (member_trees P.surroundings [] self.new.members) result
+            (OfFunctions (function_tree (member_trees P.surroundings [] self.old.members) ty)) }
+        ensures setting { placed P.surroundings P.origin self.new.outer self.new.interface
+            self.new.passed.now
+            ≡ placed P.surroundings P.origin self.old.outer self.old.interface self.old.passed.now }
         ensures maps { self.new.maps ≡ self.old.maps }
-        ensures follows { (self.new.outer ≡ self.old.outer) × (self.new.interface ≡ self.old.interface) × (self.new.passed ≡ self.old.passed) × MembersGrow P.surroundings self.old.members self.new.members }
+        ensures follows { (self.new.outer ≡ self.old.outer)
+            × (self.new.interface ≡ self.old.interface)
+            × (self.new.passed ≡ self.old.passed)
+            × MembersGrow P.surroundings self.old.members self.new.members }
         ensures cause { IfErr result (IsCause is_full self.new.members) }
     {
         self.members.add_type(Member::Type(TypeDef::Func(ty)))
@@ -198,10 +231,17 @@ impl<'a, P: Placement> ValtypeEncoder for InstanceTypeEncoder<'a, P> {
         ensures same { self.new ≡ self.old }
         ensures none { IfOk result (λ exported. exported ≡ None) }
         ensures names { IfOk result (λ exported. any_index name.name (exported_or exported index)) }
-        ensures makes { MayMake (member_trees P.surroundings [] self.old.members) (member_trees P.surroundings [] self.new.members) result (get_or (member_trees P.surroundings [] self.old.members) index OfOthers) }
-        ensures setting { placed P.surroundings P.origin self.new.outer self.new.interface self.new.passed.now ≡ placed P.surroundings P.origin self.old.outer self.old.interface self.old.passed.now }
+        ensures makes { MayMake (member_trees P.surroundings [] self.old.members)
+            (member_trees P.surroundings [] self.new.members) result
+            (get_or (member_trees P.surroundings [] self.old.members) index OfOthers) }
+        ensures setting { placed P.surroundings P.origin self.new.outer self.new.interface
+            self.new.passed.now
+            ≡ placed P.surroundings P.origin self.old.outer self.old.interface self.old.passed.now }
         ensures maps { self.new.maps ≡ self.old.maps }
-        ensures follows { (self.new.outer ≡ self.old.outer) × (self.new.interface ≡ self.old.interface) × (self.new.passed ≡ self.old.passed) × MembersGrow P.surroundings self.old.members self.new.members }
+        ensures follows { (self.new.outer ≡ self.old.outer)
+            × (self.new.interface ≡ self.old.interface)
+            × (self.new.passed ≡ self.old.passed)
+            × MembersGrow P.surroundings self.old.members self.new.members }
         ensures cause { IfErr result (IsCause is_full self.new.members) }
     {
         let _ = (index, name);
@@ -212,10 +252,17 @@ impl<'a, P: Placement> ValtypeEncoder for InstanceTypeEncoder<'a, P> {
     fn export_resource(&mut self, name: ExternName) -> Result<u32, BuildFault>
         ensures same { self.new ≡ self.old }
         ensures names { IfOk result (λ index. any_index name.name index) }
-        ensures makes { Makes (member_trees P.surroundings [] self.old.members) (member_trees P.surroundings [] self.new.members) result (OfValues (ResourceAt (P.surroundings.resource name.name))) }
-        ensures setting { placed P.surroundings P.origin self.new.outer self.new.interface self.new.passed.now ≡ placed P.surroundings P.origin self.old.outer self.old.interface self.old.passed.now }
+        ensures makes { Makes (member_trees P.surroundings [] self.old.members)
+            (member_trees P.surroundings [] self.new.members) result
+            (OfValues (ResourceAt (P.surroundings.resource name.name))) }
+        ensures setting { placed P.surroundings P.origin self.new.outer self.new.interface
+            self.new.passed.now
+            ≡ placed P.surroundings P.origin self.old.outer self.old.interface self.old.passed.now }
         ensures maps { self.new.maps ≡ self.old.maps }
-        ensures follows { (self.new.outer ≡ self.old.outer) × (self.new.interface ≡ self.old.interface) × (self.new.passed ≡ self.old.passed) × MembersGrow P.surroundings self.old.members self.new.members }
+        ensures follows { (self.new.outer ≡ self.old.outer)
+            × (self.new.interface ≡ self.old.interface)
+            × (self.new.passed ≡ self.old.passed)
+            × MembersGrow P.surroundings self.old.members self.new.members }
         ensures cause { IfErr result (IsCause is_full self.new.members) }
     {
         let _ = name;
@@ -224,13 +271,25 @@ impl<'a, P: Placement> ValtypeEncoder for InstanceTypeEncoder<'a, P> {
 
     fn import_type(&mut self, interface: InterfaceId, id: TypeId) -> Result<u32, BuildFault>
         requires may { IsTrue (is_some (offered self.old.outer interface id)) }
-        ensures added { OnOk result (IfSome (offered self.old.outer interface id) (λ outer. self.new ≡ record self.old { members = self.old.members ++ members.Alias (aliases.Outer 1 outer) ∷ [] })) }
+        ensures added { OnOk result (IfSome (offered self.old.outer interface id) (λ outer. self.new
+            ≡ record self.old {
+              members = self.old.members
+                  ++ members.Alias (aliases.Outer 1 outer) ∷ [];
+            })) }
         ensures index { IfOk result (λ index. index ≡ types_in self.old.members) }
         ensures kept { OnErr result (self.new ≡ self.old) }
-        ensures makes { Makes (member_trees P.surroundings [] self.old.members) (member_trees P.surroundings [] self.new.members) result (OfValues (tree_in (placed P.surroundings P.origin self.old.outer self.old.interface self.old.passed.now) (Some (Id id)))) }
-        ensures setting { placed P.surroundings P.origin self.new.outer self.new.interface self.new.passed.now ≡ placed P.surroundings P.origin self.old.outer self.old.interface self.old.passed.now }
+        ensures makes { Makes (member_trees P.surroundings [] self.old.members)
+            (member_trees P.surroundings [] self.new.members) result (OfValues (tree_in
+            (placed P.surroundings P.origin self.old.outer self.old.interface
+            self.old.passed.now) (Some (Id id)))) }
+        ensures setting { placed P.surroundings P.origin self.new.outer self.new.interface
+            self.new.passed.now
+            ≡ placed P.surroundings P.origin self.old.outer self.old.interface self.old.passed.now }
         ensures maps { self.new.maps ≡ self.old.maps }
-        ensures follows { (self.new.outer ≡ self.old.outer) × (self.new.interface ≡ self.old.interface) × (self.new.passed ≡ self.old.passed) × MembersGrow P.surroundings self.old.members self.new.members }
+        ensures follows { (self.new.outer ≡ self.old.outer)
+            × (self.new.interface ≡ self.old.interface)
+            × (self.new.passed ≡ self.old.passed)
+            × MembersGrow P.surroundings self.old.members self.new.members }
         ensures cause { IfErr result (IsCause is_full self.new.members) }
     {
         match self.outer.index_of(interface, id) {

@@ -68,7 +68,8 @@ impl MemberList {
 
     /// Adds an export of a function of the type with an index.
     pub fn add_function(&mut self, name: ExternName, index: u32) -> Result<(), AllocError>
-        ensures ok { OnOk result (self.new ≡ self.old ++ members.Export name (descriptions.Func index) ∷ []) }
+        ensures ok { OnOk result
+            (self.new ≡ self.old ++ members.Export name (descriptions.Func index) ∷ []) }
         ensures err { OnErr result (self.new ≡ self.old) }
     {
         let description = Description::Func(index);

@@ -53,12 +53,17 @@ fn export_value_type<P: Placement>(
     requires sound { IsSound resolve.now }
     requires same { encoder.old.outer.types ≡ resolve.now.types }
     requires titled { IsTitled resolve.now.types encoder.old.interface id name.name }
-    requires defined { IsDefinedHere (placed P.surroundings P.origin encoder.old.outer encoder.old.interface encoder.old.passed.now) (kind_at resolve.now.types id.index) }
-    requires exported { AreExported P.surroundings P.origin encoder.old.outer encoder.old.interface encoder.old.passed.now encoder.old.members }
-    requires right { IsRight P.surroundings P.origin encoder.old.outer encoder.old.interface encoder.old.passed.now encoder.old.members encoder.old.maps }
-    ensures exported { OnOk result (AreExported P.surroundings P.origin encoder.old.outer encoder.old.interface (encoder.old.passed.now ++ id ∷ []) encoder.new.members) }
+    requires defined { IsDefinedHere (placed P.surroundings P.origin encoder.old.outer
+        encoder.old.interface encoder.old.passed.now) (kind_at resolve.now.types id.index) }
+    requires exported { AreExported P.surroundings P.origin encoder.old.outer encoder.old.interface
+        encoder.old.passed.now encoder.old.members }
+    requires right { IsRight P.surroundings P.origin encoder.old.outer encoder.old.interface
+        encoder.old.passed.now encoder.old.members encoder.old.maps }
+    ensures exported { OnOk result (AreExported P.surroundings P.origin encoder.old.outer
+        encoder.old.interface (encoder.old.passed.now ++ id ∷ []) encoder.new.members) }
     ensures recorded { OnOk result (HasIndex encoder.new.maps id) }
-    ensures right { OnOk result (IsRight P.surroundings P.origin encoder.old.outer encoder.old.interface encoder.old.passed.now encoder.new.members encoder.new.maps) }
+    ensures right { OnOk result (IsRight P.surroundings P.origin encoder.old.outer
+        encoder.old.interface encoder.old.passed.now encoder.new.members encoder.new.maps) }
     ensures outer { OnOk result (encoder.new.outer ≡ encoder.old.outer) }
     ensures interface { OnOk result (encoder.new.interface ≡ encoder.old.interface) }
     ensures cause { IfErr result (IsCause is_full encoder.new.members) }
@@ -81,11 +86,15 @@ fn export_resource<P: Placement>(
     requires titled { IsTitled resolve.now.types encoder.old.interface id name.name }
     requires resource { is_resource (kind_at resolve.now.types id.index) ≡ true }
     requires known { IsKnownByName P.surroundings P.origin resolve.now.types id }
-    requires exported { AreExported P.surroundings P.origin encoder.old.outer encoder.old.interface encoder.old.passed.now encoder.old.members }
-    requires right { IsRight P.surroundings P.origin encoder.old.outer encoder.old.interface encoder.old.passed.now encoder.old.members encoder.old.maps }
-    ensures exported { OnOk result (AreExported P.surroundings P.origin encoder.old.outer encoder.old.interface (encoder.old.passed.now ++ id ∷ []) encoder.new.members) }
+    requires exported { AreExported P.surroundings P.origin encoder.old.outer encoder.old.interface
+        encoder.old.passed.now encoder.old.members }
+    requires right { IsRight P.surroundings P.origin encoder.old.outer encoder.old.interface
+        encoder.old.passed.now encoder.old.members encoder.old.maps }
+    ensures exported { OnOk result (AreExported P.surroundings P.origin encoder.old.outer
+        encoder.old.interface (encoder.old.passed.now ++ id ∷ []) encoder.new.members) }
     ensures recorded { OnOk result (HasIndex encoder.new.maps id) }
-    ensures right { OnOk result (IsRight P.surroundings P.origin encoder.old.outer encoder.old.interface encoder.old.passed.now encoder.new.members encoder.new.maps) }
+    ensures right { OnOk result (IsRight P.surroundings P.origin encoder.old.outer
+        encoder.old.interface encoder.old.passed.now encoder.new.members encoder.new.maps) }
     ensures outer { OnOk result (encoder.new.outer ≡ encoder.old.outer) }
     ensures interface { OnOk result (encoder.new.interface ≡ encoder.old.interface) }
     ensures cause { IfErr result (IsCause is_full encoder.new.members) }
@@ -106,12 +115,17 @@ fn export_named_type<P: Placement>(
     requires same { encoder.old.outer.types ≡ resolve.now.types }
     requires titled { HasTitle resolve.now.types encoder.old.interface id }
     requires known { IsKnownByName P.surroundings P.origin resolve.now.types id }
-    requires next { IsNext P.surroundings P.origin encoder.old.outer encoder.old.interface encoder.old.passed.now id }
-    requires exported { AreExported P.surroundings P.origin encoder.old.outer encoder.old.interface encoder.old.passed.now encoder.old.members }
-    requires right { IsRight P.surroundings P.origin encoder.old.outer encoder.old.interface encoder.old.passed.now encoder.old.members encoder.old.maps }
-    ensures exported { OnOk result (AreExported P.surroundings P.origin encoder.old.outer encoder.old.interface (encoder.old.passed.now ++ id ∷ []) encoder.new.members) }
+    requires next { IsNext P.surroundings P.origin encoder.old.outer encoder.old.interface
+        encoder.old.passed.now id }
+    requires exported { AreExported P.surroundings P.origin encoder.old.outer encoder.old.interface
+        encoder.old.passed.now encoder.old.members }
+    requires right { IsRight P.surroundings P.origin encoder.old.outer encoder.old.interface
+        encoder.old.passed.now encoder.old.members encoder.old.maps }
+    ensures exported { OnOk result (AreExported P.surroundings P.origin encoder.old.outer
+        encoder.old.interface (encoder.old.passed.now ++ id ∷ []) encoder.new.members) }
     ensures recorded { OnOk result (HasIndex encoder.new.maps id) }
-    ensures right { OnOk result (IsRight P.surroundings P.origin encoder.old.outer encoder.old.interface encoder.old.passed.now encoder.new.members encoder.new.maps) }
+    ensures right { OnOk result (IsRight P.surroundings P.origin encoder.old.outer
+        encoder.old.interface encoder.old.passed.now encoder.new.members encoder.new.maps) }
     ensures outer { OnOk result (encoder.new.outer ≡ encoder.old.outer) }
     ensures interface { OnOk result (encoder.new.interface ≡ encoder.old.interface) }
     ensures cause { IfErr result (IsCause is_full encoder.new.members) }
@@ -139,14 +153,20 @@ fn export_next<'a, P: Placement>(
     requires same { encoder.old.outer.types ≡ resolve.now.types }
     requires present { n < length ids.now }
     requires titled { AllByRecursion (HasTitle resolve.now.types encoder.old.interface) ids.now }
-    requires known { AllByRecursion (IsKnownByName P.surroundings P.origin resolve.now.types) ids.now }
-    requires order { AreInOrder P.surroundings P.origin encoder.old.outer encoder.old.interface ids.now }
+    requires known { AllByRecursion (IsKnownByName P.surroundings P.origin resolve.now.types)
+        ids.now }
+    requires order { AreInOrder P.surroundings P.origin encoder.old.outer encoder.old.interface
+        ids.now }
     requires passed { encoder.old.passed.now ≡ take n ids.now }
-    requires exported { AreExported P.surroundings P.origin encoder.old.outer encoder.old.interface (take n ids.now) encoder.old.members }
-    requires right { IsRight P.surroundings P.origin encoder.old.outer encoder.old.interface (take n ids.now) encoder.old.members encoder.old.maps }
+    requires exported { AreExported P.surroundings P.origin encoder.old.outer encoder.old.interface
+        (take n ids.now) encoder.old.members }
+    requires right { IsRight P.surroundings P.origin encoder.old.outer encoder.old.interface
+        (take n ids.now) encoder.old.members encoder.old.maps }
     ensures passed { OnOk result (encoder.new.passed.now ≡ take (n + 1) ids.now) }
-    ensures exported { OnOk result (AreExported P.surroundings P.origin encoder.old.outer encoder.old.interface (take (n + 1) ids.now) encoder.new.members) }
-    ensures right { OnOk result (IsRight P.surroundings P.origin encoder.old.outer encoder.old.interface (take (n + 1) ids.now) encoder.new.members encoder.new.maps) }
+    ensures exported { OnOk result (AreExported P.surroundings P.origin encoder.old.outer
+        encoder.old.interface (take (n + 1) ids.now) encoder.new.members) }
+    ensures right { OnOk result (IsRight P.surroundings P.origin encoder.old.outer
+        encoder.old.interface (take (n + 1) ids.now) encoder.new.members encoder.new.maps) }
     ensures outer { OnOk result (encoder.new.outer ≡ encoder.old.outer) }
     ensures interface { OnOk result (encoder.new.interface ≡ encoder.old.interface) }
     ensures cause { IfErr result (IsCause is_full encoder.new.members) }
@@ -166,14 +186,20 @@ pub(crate) fn export_types<'a, P: Placement>(
     requires sound { IsSound resolve.now }
     requires same { encoder.old.outer.types ≡ resolve.now.types }
     requires titled { AllByRecursion (HasTitle resolve.now.types encoder.old.interface) ids.now }
-    requires known { AllByRecursion (IsKnownByName P.surroundings P.origin resolve.now.types) ids.now }
-    requires order { AreInOrder P.surroundings P.origin encoder.old.outer encoder.old.interface ids.now }
+    requires known { AllByRecursion (IsKnownByName P.surroundings P.origin resolve.now.types)
+        ids.now }
+    requires order { AreInOrder P.surroundings P.origin encoder.old.outer encoder.old.interface
+        ids.now }
     requires passed { encoder.old.passed.now ≡ [] }
-    requires exported { AreExported P.surroundings P.origin encoder.old.outer encoder.old.interface [] encoder.old.members }
-    requires right { IsRight P.surroundings P.origin encoder.old.outer encoder.old.interface [] encoder.old.members encoder.old.maps }
+    requires exported { AreExported P.surroundings P.origin encoder.old.outer encoder.old.interface
+        [] encoder.old.members }
+    requires right { IsRight P.surroundings P.origin encoder.old.outer encoder.old.interface []
+        encoder.old.members encoder.old.maps }
     ensures passed { OnOk result (encoder.new.passed.now ≡ ids.now) }
-    ensures exported { OnOk result (AreExported P.surroundings P.origin encoder.old.outer encoder.old.interface ids.now encoder.new.members) }
-    ensures right { OnOk result (IsRight P.surroundings P.origin encoder.old.outer encoder.old.interface ids.now encoder.new.members encoder.new.maps) }
+    ensures exported { OnOk result (AreExported P.surroundings P.origin encoder.old.outer
+        encoder.old.interface ids.now encoder.new.members) }
+    ensures right { OnOk result (IsRight P.surroundings P.origin encoder.old.outer
+        encoder.old.interface ids.now encoder.new.members encoder.new.maps) }
     ensures outer { OnOk result (encoder.new.outer ≡ encoder.old.outer) }
     ensures interface { OnOk result (encoder.new.interface ≡ encoder.old.interface) }
     ensures cause { IfErr result (IsCause is_full encoder.new.members) }

@@ -18,7 +18,8 @@ use wit_data::{
 };
 use wit_types::{foreign, owner_of};
 
-/// The types of other interfaces that were met, in the order in which they were met first, and the types that were entered.
+/// The types of other interfaces that were met, in the order in which they were met first, and the
+/// types that were entered.
 pub struct ForeignTypes {
     pub types: Keyed<OuterType, ()>,
     pub entered: Keyed<TypeId, ()>,
@@ -65,7 +66,8 @@ fn meet_part(
     requires back { RefersBack types.now }
     requires present { IsBelow (length types.now) part }
     requires entered { KnowsEntered types.now here met.old }
-    ensures met { OnOk result (met.new.types ≡ with_each met.old.types (met_in types.now here part)) }
+    ensures met { OnOk result
+        (met.new.types ≡ with_each met.old.types (met_in types.now here part)) }
     ensures entered { OnOk result (KnowsEntered types.now here met.new) }
 {
     match part {
@@ -86,7 +88,9 @@ fn meet_type(
     requires back { RefersBack types.now }
     requires present { id.index < length types.now }
     requires entered { KnowsEntered types.now here met.old }
-    ensures met { OnOk result (met.new.types ≡ with_each met.old.types (get_or (values (meeting types.now here) types.now) id.index [])) }
+    ensures met { OnOk result (met.new.types
+        ≡ with_each met.old.types
+        (get_or (values (meeting types.now here) types.now) id.index [])) }
     ensures entered { OnOk result (KnowsEntered types.now here met.new) }
 {
     if met.entered.contains_key(&id) {
@@ -108,7 +112,9 @@ fn enter_type(
     requires back { RefersBack types.now }
     requires present { id.index < length types.now }
     requires entered { KnowsEntered types.now here met.old }
-    ensures met { OnOk result (met.new.types ≡ with_each met.old.types (get_or (values (meeting types.now here) types.now) id.index [])) }
+    ensures met { OnOk result (met.new.types
+        ≡ with_each met.old.types
+        (get_or (values (meeting types.now here) types.now) id.index [])) }
     ensures entered { OnOk result (KnowsEntered types.now here met.new) }
 {
     match foreign(Some(here), owner_of(types, id)) {
@@ -131,7 +137,9 @@ fn meet_parts(
     requires back { RefersBack types.now }
     requires present { id.index < length types.now }
     requires entered { KnowsEntered types.now here met.old }
-    ensures met { OnOk result (met.new.types ≡ with_each met.old.types (flat_map (λ ts. ts) (part_values (meeting types.now here) types.now id.index))) }
+    ensures met { OnOk result (met.new.types
+        ≡ with_each met.old.types
+        (flat_map (λ ts. ts) (part_values (meeting types.now here) types.now id.index))) }
     ensures entered { OnOk result (KnowsEntered types.now here met.new) }
 {
     for n in 0..part_count_of(types, id.index) {
@@ -150,7 +158,10 @@ fn meet_types(
     requires back { RefersBack types.now }
     requires present { AllByRecursion (λ id. id.index < length types.now) ids.now }
     requires entered { KnowsEntered types.now here met.old }
-    ensures met { OnOk result (met.new.types ≡ with_each met.old.types (flat_map (λ id. get_or (values (meeting types.now here) types.now) id.index []) ids.now)) }
+    ensures met { OnOk result (met.new.types
+        ≡ with_each met.old.types (flat_map
+        (λ id. get_or (values (meeting types.now here) types.now) id.index [])
+        ids.now)) }
     ensures entered { OnOk result (KnowsEntered types.now here met.new) }
 {
     for n in 0..ids.len() {
@@ -169,7 +180,9 @@ fn meet_params(
     requires back { RefersBack types.now }
     requires present { AllByRecursion (λ p. IsBelow (length types.now) (Some p.ty)) params.now }
     requires entered { KnowsEntered types.now here met.old }
-    ensures met { OnOk result (met.new.types ≡ with_each met.old.types (flat_map (λ p. met_in types.now here (Some p.ty)) params.now)) }
+    ensures met { OnOk result (met.new.types
+        ≡ with_each met.old.types
+        (flat_map (λ p. met_in types.now here (Some p.ty)) params.now)) }
     ensures entered { OnOk result (KnowsEntered types.now here met.new) }
 {
     for n in 0..params.len() {
@@ -188,7 +201,8 @@ fn meet_function(
     requires sound { IsSound resolve.now }
     requires present { HasFunction resolve.now function.now }
     requires entered { KnowsEntered resolve.now.types here met.old }
-    ensures met { OnOk result (met.new.types ≡ with_each met.old.types (met_in_function resolve.now.types here function.now)) }
+    ensures met { OnOk result (met.new.types
+        ≡ with_each met.old.types (met_in_function resolve.now.types here function.now)) }
     ensures entered { OnOk result (KnowsEntered resolve.now.types here met.new) }
 {
     let types = resolve.types.as_slice();
@@ -209,7 +223,9 @@ fn meet_used(
     requires sound { IsSound resolve.now }
     requires present { HasFunction resolve.now function.now }
     requires entered { KnowsEntered resolve.now.types here met.old }
-    ensures met { OnOk result (met.new.types ≡ with_each met.old.types (flat_map (met_in_function resolve.now.types here) (used_function used.now (name.now, function.now)))) }
+    ensures met { OnOk result (met.new.types
+        ≡ with_each met.old.types (flat_map (met_in_function resolve.now.types here)
+        (used_function used.now (name.now, function.now)))) }
     ensures entered { OnOk result (KnowsEntered resolve.now.types here met.new) }
 {
     if used.contains_key(name) {
@@ -230,7 +246,9 @@ fn meet_functions(
     requires sound { IsSound resolve.now }
     requires present { AllByRecursion (λ e. HasFunction resolve.now e.1) functions.now }
     requires entered { KnowsEntered resolve.now.types here met.old }
-    ensures met { OnOk result (met.new.types ≡ with_each met.old.types (flat_map (met_in_function resolve.now.types here) (used_among used.now functions.now))) }
+    ensures met { OnOk result (met.new.types
+        ≡ with_each met.old.types (flat_map (met_in_function resolve.now.types here)
+        (used_among used.now functions.now))) }
 {
     for (name, function) in functions.iter() {
         meet_used(resolve, here, met, used, name, function)?;
@@ -238,9 +256,9 @@ fn meet_functions(
     Ok(())
 }
 
-/// The types of other interfaces of which these types of an interface, and then those of these functions whose names are
-/// used, are made, each once, in the order in which the encoder of the instance type meets them first
-/// ([`encode_interface_type`](crate::encode_interface_type)).
+/// The types of other interfaces of which these types of an interface, and then those of these
+/// functions whose names are used, are made, each once, in the order in which the encoder of the
+/// instance type meets them first ([`encode_interface_type`](crate::encode_interface_type)).
 pub fn foreign_types(
     alloc: Global,
     resolve: &Resolve,
@@ -252,7 +270,9 @@ pub fn foreign_types(
     requires sound { IsSound resolve.now }
     requires types { AllByRecursion (λ id. HasTypeId resolve.now id) types.now }
     requires functions { AllByRecursion (λ e. HasFunction resolve.now e.1) functions.now }
-    ensures { IfOk result (λ met. met ≡ with_each [] (met_in_all resolve.now.types interface types.now (used_among used.now functions.now))) }
+    ensures { IfOk result (λ met. met
+        ≡ with_each [] (met_in_all resolve.now.types interface types.now
+        (used_among used.now functions.now))) }
 {
     let mut met = ForeignTypes::new(alloc);
     meet_types(resolve.types.as_slice(), interface, &mut met, types)?;

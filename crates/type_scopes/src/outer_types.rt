@@ -44,7 +44,8 @@ impl<'a, P: Placement> Model for OuterTypes<'a, P> {
 impl<'a, P: Placement> OuterTypes<'a, P> {
     /// What a table offers, whose indices denote the types of the resolve in the outer scope.
     pub fn new(resolve: &'a Resolve, table: &'a Keyed<OuterType, u32>) -> OuterTypes<'a, P>
-        requires { IsOffered P.surroundings P.origin (record { types = resolve.now.types; table = table.now }) }
+        requires { IsOffered P.surroundings P.origin
+            (record { types = resolve.now.types; table = table.now }) }
         ensures { result ≡ record { types = resolve.entry.now.types; table = table.entry.now } }
     {
         OuterTypes {
@@ -57,7 +58,8 @@ impl<'a, P: Placement> OuterTypes<'a, P> {
     /// The index in the outer scope of a type of another interface.
     pub fn index_of(&self, interface: InterfaceId, id: TypeId) -> Option<u32>
         ensures found { result ≡ offered self.now interface id }
-        ensures denotes { IfSome result (λ index. Denotes P.surroundings.outer index (OfValues (wit_tree P.origin self.now.types (Some (Id id))))) }
+        ensures denotes { IfSome result (λ index. Denotes P.surroundings.outer index
+            (OfValues (wit_tree P.origin self.now.types (Some (Id id))))) }
     {
         self.table.get(&OuterType { interface, id }).copied()
     }

@@ -2,8 +2,8 @@
 
 use std::marker::Brand;
 
-/// Where an instance type is defined. No code knows more of it: a caller that passes `Brand` picks in its proofs what the
-/// surroundings are.
+/// Where an instance type is defined. No code knows more of it: a caller that passes `Brand` picks
+/// in its proofs what the surroundings are.
 pub trait Placement {
     ghost use Rattle.comp_trees.specs.Trees.{Resource};
     ghost use Rattle.comp_trees.specs.Members.{Surroundings};

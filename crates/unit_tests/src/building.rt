@@ -1,4 +1,5 @@
-//! A component that is built: that each call succeeds, and how often memory is asked for (`tests/measured_growths.sh` refuses it).
+//! A component that is built: that each call succeeds, and how often memory is asked for
+//! (`tests/measured_growths.sh` refuses it).
 //!
 //! The component is that of `examples/component.wasm`: an import, a core module that is given it, and an export.
 

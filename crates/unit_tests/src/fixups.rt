@@ -1,5 +1,5 @@
-//! The module that fills shims: the printed form of faults, and that each call succeeds. The bytes of the modules are those of
-//! `crates/fixup_modules/proofs/Worked.antt`.
+//! The module that fills shims: the printed form of faults, and that each call succeeds. The bytes
+//! of the modules are those of `crates/fixup_modules/proofs/Worked.antt`.
 
 use byte_encoding::BuildFault;
 use comp_lists::{Seq, Text};

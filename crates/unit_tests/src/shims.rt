@@ -1,5 +1,6 @@
-//! The modules that are generated for shims: that each call succeeds. The bytes of the modules of one shim, and of two with a memory,
-//! are those of `crates/world_shims/proofs/Worked.antt`; those of a memory alone are in the crate `shim_modules`.
+//! The modules that are generated for shims: that each call succeeds. The bytes of the modules of
+//! one shim, and of two with a memory, are those of `crates/world_shims/proofs/Worked.antt`; those
+//! of a memory alone are in the crate `shim_modules`.
 
 ghost use Rattle.std.specs.Prelude.{◌≡◌};
 

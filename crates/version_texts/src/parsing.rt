@@ -16,7 +16,8 @@ fn is_memory(fault: Error) -> bool
 
 /// The version that a text is, or `None` where it is no version. The only error is out of memory.
 pub fn parse_version(alloc: Global, text: &str) -> Result<Option<Version>, AllocError>
-    ensures some { IfOk result (λ found. IfSome found (λ version. version_parts text.now ≡ Ok (parts_of version))) }
+    ensures some { IfOk result
+        (λ found. IfSome found (λ version. version_parts text.now ≡ Ok (parts_of version))) }
     ensures none { IfOk result (λ found. IfNone found (IsNoVersion text.now)) }
 {
     match Version::parse(alloc, text) {

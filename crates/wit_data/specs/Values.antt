@@ -9,7 +9,8 @@ use Rattle.wit_data.specs.declared.types.TypeDefKind.TheVariants as kinds
 use Rattle.wit_data.specs.declared.types.TypeDef.{TypeDef}
 use Rattle.wit_data.specs.Parts.{parts}
 
--- How a value is made: of nothing, of a primitive, of the kind of the type with a given index and the values of its parts.
+-- How a value is made: of nothing, of a primitive, of the kind of the type with a given index and
+-- the values of its parts.
 pub record Making (A : Type 0) : Type 0 where
   pub absent : A
   pub simple : Prim → A

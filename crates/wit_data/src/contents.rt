@@ -157,8 +157,10 @@ fn met_in_kind(types: &[TypeDef], id: usize) -> Met
 fn met_in_parts(types: &[TypeDef], id: usize, before: Met) -> Met
     requires sound { RefersBack types.now }
     requires present { id < length types.now }
-    ensures text { result.text ≡ (before.text || list_any (λ b. b) (part_values finding_texts types.now id)) }
-    ensures list { result.list ≡ (before.list || list_any (λ b. b) (part_values finding_lists types.now id)) }
+    ensures text { result.text
+        ≡ (before.text || list_any (λ b. b) (part_values finding_texts types.now id)) }
+    ensures list { result.list
+        ≡ (before.list || list_any (λ b. b) (part_values finding_lists types.now id)) }
 {
     let mut met = before;
     for n in 0..part_count_of(types, id) {

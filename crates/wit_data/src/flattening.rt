@@ -189,7 +189,8 @@ fn flatten_shape(
 ) -> Result<(), AllocError>
     requires back { RefersBack types.now }
     requires present { id < length types.now }
-    ensures { OnOk result (out.new.items ≡ out.old.items ++ get_or (values flattening types.now) id []) }
+    ensures { OnOk result
+        (out.new.items ≡ out.old.items ++ get_or (values flattening types.now) id []) }
 {
     match shape_of(&types[id].kind) {
         Shape::Single => push_type(out, WasmType::I32),
@@ -209,7 +210,8 @@ fn flatten_together(
 ) -> Result<(), AllocError>
     requires back { RefersBack types.now }
     requires present { id < length types.now }
-    ensures { OnOk result (out.new.items ≡ out.old.items ++ flat_map (λ f. f) (part_values flattening types.now id)) }
+    ensures { OnOk result
+        (out.new.items ≡ out.old.items ++ flat_map (λ f. f) (part_values flattening types.now id)) }
 {
     for index in 0..part_count_of(types, id) {
         flatten(types, part_of(types, id, index), alloc, out)?;
@@ -227,7 +229,8 @@ fn flatten_cases(
 ) -> Result<(), AllocError>
     requires back { RefersBack types.now }
     requires present { id < length types.now }
-    ensures { OnOk result (out.new.items ≡ out.old.items ++ I32 ∷ joined [] (part_values flattening types.now id)) }
+    ensures { OnOk result
+        (out.new.items ≡ out.old.items ++ I32 ∷ joined [] (part_values flattening types.now id)) }
 {
     let mut values = joined_cases(types, id, alloc)?;
     out.push(WasmType::I32)?;
@@ -239,7 +242,8 @@ fn flatten_cases(
 fn joined_cases(types: &[TypeDef], id: usize, alloc: Global) -> Result<Vec<WasmType>, AllocError>
     requires back { RefersBack types.now }
     requires present { id < length types.now }
-    ensures { IfOk result (λ values. values.items ≡ joined [] (part_values flattening types.now id)) }
+    ensures { IfOk result
+        (λ values. values.items ≡ joined [] (part_values flattening types.now id)) }
 {
     let mut values = Vec::new(alloc);
     for index in 0..part_count_of(types, id) {

@@ -12,11 +12,11 @@
 //! ([`Resolve::live_types`]).
 //!
 //! In reading order: `ids` (indices of interfaces, types and worlds), `types` (types), `functions`
-//! (functions and the forms in which they are called), `names` (names of interfaces), `worlds` (worlds
-//! and their keys), `resolve` (all of it together); `parts` (what a type names), `sizes` and `soundness`
-//! (whether all of it is consistent), `flattening` and `signatures` (core values and core signatures),
-//! `versions` (versions of packages, and what compatible ones share), `contents` (what types contain), `liveness` (the types
-//! that others reach).
+//! (functions and the forms in which they are called), `names` (names of interfaces), `worlds`
+//! (worlds and their keys), `resolve` (all of it together); `parts` (what a type names), `sizes`
+//! and `soundness` (whether all of it is consistent), `flattening` and `signatures` (core values
+//! and core signatures), `versions` (versions of packages, and what compatible ones share),
+//! `contents` (what types contain), `liveness` (the types that others reach).
 #![tactic(auto)]
 
 mod contents;

@@ -29,7 +29,8 @@ impl Resolve {
         requires sound { IsSound self.now }
         requires present { HasInterface self.now id }
         requires given { AllByRecursion (λ t. HasType self.now (Some t)) given.now }
-        ensures { IfOk result (λ v. v.items ≡ live_types self.now.types given.now (named_types self.now id)) }
+        ensures { IfOk result
+            (λ v. v.items ≡ live_types self.now.types given.now (named_types self.now id)) }
     {
         let marks = live_marks(alloc, self.types.as_slice(), given)?;
         marked_of(
@@ -68,7 +69,8 @@ fn mark_given(types: &[TypeDef], marks: &mut [bool], given: &[Type])
     requires sound { RefersBack types.now }
     requires long { length marks.old ≡ length types.now }
     requires given { AllByRecursion (λ t. IsBelow (length types.now) (Some t)) given.now }
-    ensures { Spreads types.now marks.old marks.new (length types.now) (λ target. map (λ t. value (reaching target) types.now (Some t)) given.now) }
+    ensures { Spreads types.now marks.old marks.new (length types.now)
+        (λ target. map (λ t. value (reaching target) types.now (Some t)) given.now) }
 {
     for n in 0..given.len() {
         mark(marks, Some(given[n]));
@@ -106,7 +108,8 @@ fn mark_parts(types: &[TypeDef], marks: &mut [bool], id: usize)
     requires sound { RefersBack types.now }
     requires long { length marks.old ≡ length types.now }
     requires present { id < length types.now }
-    ensures { Spreads types.now marks.old marks.new id (λ target. part_values (reaching target) types.now id) }
+    ensures { Spreads types.now marks.old marks.new id
+        (λ target. part_values (reaching target) types.now id) }
 {
     for n in 0..part_count_of(types, id) {
         mark(marks, part_of(types, id, n));
@@ -130,7 +133,8 @@ pub fn marked_of(
     named: &Keyed<Text, TypeId>,
 ) -> Result<Vec<TypeId>, AllocError>
     requires { AllByRecursion (λ entry. entry.1.index < length marks.now) named.now }
-    ensures { IfOk result (λ v. v.items ≡ filter (λ id. get_or marks.now id.index false) (map (λ entry. entry.1) named.now)) }
+    ensures { IfOk result (λ v. v.items
+        ≡ filter (λ id. get_or marks.now id.index false) (map (λ entry. entry.1) named.now)) }
 {
     let mut found = Vec::new(alloc);
     for (_, id) in named.iter() {

@@ -70,7 +70,8 @@ fn flat_params(
 ) -> Result<Vec<WasmType>, AllocError>
     requires back { RefersBack types.now }
     requires present { AllByRecursion (λ p. IsBelow (length types.now) (Some p.ty)) params.now }
-    ensures { IfOk result (λ values. values.items ≡ flat_map (λ p. flat types.now (Some p.ty)) params.now) }
+    ensures { IfOk result
+        (λ values. values.items ≡ flat_map (λ p. flat types.now (Some p.ty)) params.now) }
 {
     let mut values = Vec::new(alloc);
     for index in 0..params.len() {
@@ -146,7 +147,10 @@ impl Resolve {
     ) -> Result<Vec<WasmType>, AllocError>
         requires sound { IsSound self.now }
         requires present { HasFunction self.now function.now }
-        ensures { IfOk result (λ values. values.items ≡ (if indirect then I32 ∷ [] else signatures.flat_params self.now.types function.now)) }
+        ensures { IfOk result (λ values. values.items
+            ≡ (if indirect
+            then I32 ∷ []
+            else signatures.flat_params self.now.types function.now)) }
     {
         if indirect {
             one_pointer(alloc)
@@ -165,7 +169,9 @@ impl Resolve {
     ) -> Result<Vec<WasmType>, AllocError>
         requires sound { IsSound self.now }
         requires present { HasFunction self.now function.now }
-        ensures { IfOk result (λ values. values.items ≡ signatures.core_results abi in_memory (signatures.flat_result self.now.types function.now)) }
+        ensures { IfOk result (λ values. values.items
+            ≡ signatures.core_results abi in_memory
+            (signatures.flat_result self.now.types function.now)) }
     {
         match abi {
             AbiVariant::GuestImport => self.import_results(alloc, function, in_memory),
@@ -184,7 +190,8 @@ impl Resolve {
     ) -> Result<Vec<WasmType>, AllocError>
         requires sound { IsSound self.now }
         requires present { HasFunction self.now function.now }
-        ensures { IfOk result (λ values. values.items ≡ (if in_memory then [] else signatures.flat_result self.now.types function.now)) }
+        ensures { IfOk result (λ values. values.items
+            ≡ (if in_memory then [] else signatures.flat_result self.now.types function.now)) }
     {
         if in_memory {
             Ok(Vec::new(alloc))
@@ -201,7 +208,10 @@ impl Resolve {
     ) -> Result<Vec<WasmType>, AllocError>
         requires sound { IsSound self.now }
         requires present { HasFunction self.now function.now }
-        ensures { IfOk result (λ values. values.items ≡ (if in_memory then I32 ∷ [] else signatures.flat_result self.now.types function.now)) }
+        ensures { IfOk result (λ values. values.items
+            ≡ (if in_memory
+            then I32 ∷ []
+            else signatures.flat_result self.now.types function.now)) }
     {
         if in_memory {
             one_pointer(alloc)
@@ -214,7 +224,8 @@ impl Resolve {
     fn flat_result(&self, alloc: Global, function: &Function) -> Result<Vec<WasmType>, AllocError>
         requires sound { IsSound self.now }
         requires present { HasFunction self.now function.now }
-        ensures { IfOk result (λ values. values.items ≡ signatures.flat_result self.now.types function.now) }
+        ensures { IfOk result
+            (λ values. values.items ≡ signatures.flat_result self.now.types function.now) }
     {
         let mut values = Vec::new(alloc);
         flatten(self.types.as_slice(), function.result, alloc, &mut values)?;
@@ -228,7 +239,8 @@ fn push_result_pointer(
     abi: AbiVariant,
     in_memory: bool,
 ) -> Result<(), AllocError>
-    ensures { OnOk result (params.new.items ≡ params.old.items ++ signatures.result_pointer abi in_memory) }
+    ensures { OnOk result
+        (params.new.items ≡ params.old.items ++ signatures.result_pointer abi in_memory) }
 {
     match abi {
         AbiVariant::GuestImport => push_pointer_if(params, in_memory),
@@ -238,7 +250,8 @@ fn push_result_pointer(
 }
 
 fn push_pointer_if(params: &mut Vec<WasmType>, is_passed: bool) -> Result<(), AllocError>
-    ensures { OnOk result (params.new.items ≡ params.old.items ++ (if is_passed then I32 ∷ [] else [])) }
+    ensures { OnOk result
+        (params.new.items ≡ params.old.items ++ (if is_passed then I32 ∷ [] else [])) }
 {
     if is_passed {
         params.push(WasmType::I32)?;

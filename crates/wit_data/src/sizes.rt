@@ -48,7 +48,9 @@ fn has_few_labels(kind: &TypeDefKind) -> bool
 /// it are known to be small, so that no walk is long or deep.
 fn are_within(types: &[TypeDef]) -> bool
     requires { RefersBack types.now }
-    ensures { IsTrue result ↔ (AllByRecursion (λ n. n ≤ 10000) (values sizes.counting_nodes types.now) × AllByRecursion (λ n. n ≤ 100) (values sizes.counting_levels types.now)) }
+    ensures { IsTrue result
+        ↔ (AllByRecursion (λ n. n ≤ 10000) (values sizes.counting_nodes types.now)
+        × AllByRecursion (λ n. n ≤ 100) (values sizes.counting_levels types.now)) }
 {
     for id in 0..types.len() {
         if node_count_of(types, id) >= MANY_NODES {

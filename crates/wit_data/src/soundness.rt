@@ -88,7 +88,8 @@ impl Resolve {
     }
 
     fn has_params(&self, params: &[Param]) -> bool
-        ensures { IsTrue result ↔ AllByRecursion (λ p. sound.HasType self.now (Some p.ty)) params.now }
+        ensures { IsTrue result
+            ↔ AllByRecursion (λ p. sound.HasType self.now (Some p.ty)) params.now }
     {
         for index in 0..params.len() {
             if !self.has_type(Some(params[index].ty)) {
@@ -110,7 +111,8 @@ impl Resolve {
     }
 
     fn has_functions(&self, functions: &Keyed<Text, Function>) -> bool
-        ensures { IsTrue result ↔ AllByRecursion (λ f. sound.HasFunction self.now f.1) functions.now }
+        ensures { IsTrue result
+            ↔ AllByRecursion (λ f. sound.HasFunction self.now f.1) functions.now }
     {
         for (_, function) in functions.iter() {
             if !self.has_function(function) {

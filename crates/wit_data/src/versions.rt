@@ -69,8 +69,10 @@ pub struct CanonicalVersion {
 /// `canonversion`). Where the version has more than numbers, or begins with two zeros, it is the whole.
 /// The only error is out of memory.
 pub fn canonical_version(alloc: Global, version: &Version) -> Result<CanonicalVersion, AllocError>
-    ensures version { IfOk result (λ c. c.version ≡ (canonical_version (parts_of version.now)).version) }
-    ensures suffix { IfOk result (λ c. c.suffix ≡ (canonical_version (parts_of version.now)).suffix) }
+    ensures version { IfOk result
+        (λ c. c.version ≡ (canonical_version (parts_of version.now)).version) }
+    ensures suffix { IfOk result
+        (λ c. c.suffix ≡ (canonical_version (parts_of version.now)).suffix) }
 {
     let (major, minor, patch) = (version.major, version.minor, version.patch);
     if !version.pre.is_empty() || !version.build.is_empty() {
@@ -95,7 +97,8 @@ pub fn canonical_version(alloc: Global, version: &Version) -> Result<CanonicalVe
 
 /// A version that is kept whole.
 fn whole_version(alloc: Global, version: &Version) -> Result<CanonicalVersion, AllocError>
-    ensures version { IfOk result (λ c. c.version ≡ (whole_version (parts_of version.now)).version) }
+    ensures version { IfOk result
+        (λ c. c.version ≡ (whole_version (parts_of version.now)).version) }
     ensures suffix { IfOk result (λ c. c.suffix ≡ (whole_version (parts_of version.now)).suffix) }
 {
     Ok(CanonicalVersion {

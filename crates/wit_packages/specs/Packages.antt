@@ -1,10 +1,12 @@
--- What a WIT package says: the names of its world, the world, and how its functions encode texts. Component model, binary
--- format: `component`; the section `wit-component-encoding` is that of the tools which write packages.
-use Rattle.std.specs.Prelude.{◌≡◌, ℕ, ◌==◌, ◌||◌, ◌&&◌, not, List, [], ◌∷◌, codes, Option, Some, None, is_some, Result, Ok, Err, if◌then◌else◌}
+-- What a WIT package says: the names of its world, the world, and how its functions encode texts.
+-- Component model, binary format: `component`; the section `wit-component-encoding` is that of the
+-- tools which write packages.
+use Rattle.std.specs.Prelude.{◌≡◌, ⊤, ℕ, ◌==◌, ◌||◌, ◌&&◌, not, List, [], ◌∷◌, length, codes, Option, Some, None, is_some, Result, Ok, Err, if◌then◌else◌}
 use Rattle.std.specs.Str.{bytes_eq}
 use Rattle.standard_kinds.specs.declared.kinds.StringEncoding.{StringEncoding}
 use Rattle.standard_kinds.specs.declared.kinds.StringEncoding.TheVariants as encodings
 use Rattle.comp_bytes.specs.declared.types.ExternName.{ExternName}
+use Rattle.package_copies.specs.Worlds.{allowed, first_over, start}
 use Rattle.package_syntax.specs.declared.fault.Refusal.{Refusal}
 use Rattle.package_syntax.specs.declared.syntax.WorldType.{WorldType}
 use Rattle.package_syntax.specs.declared.syntax.Section.{Section}
@@ -14,6 +16,7 @@ use Rattle.wit_packages.specs.declared.fault.Lack.{Lack}
 use Rattle.wit_packages.specs.declared.fault.Lack.TheVariants as lacks
 use Rattle.wit_packages.specs.declared.fault.PackageFault.{PackageFault}
 use Rattle.wit_packages.specs.declared.fault.PackageFault.TheVariants as faults
+use Rattle.wit_packages.specs.declared.fault.Wrong.TheVariants as wrongs
 use Rattle.wit_packages.specs.declared.packages.Package.{Package}
 use Rattle.wit_packages.specs.declared.packages.Parts.{Parts}
 use Rattle.wit_packages.specs.declared.packages.Whole.{Whole}
@@ -90,6 +93,14 @@ one_part name (Some suffix) = Err (faults.Sections lacks.Name)
 abbrev pub plain_name : ExternName → Read (List ℕ)
 plain_name n = one_part n.name n.version_suffix
 
+-- what its types say, with each use of an unnamed one as a copy of it, is bounded by the length of the package
+abbrev pub copied_by : Option ℕ → Read ⊤
+copied_by None = Ok tt
+copied_by (Some n) = Err (faults.Declaration n wrongs.Copies)
+
+abbrev pub copies_checked : ℕ → Whole → Read ⊤
+copies_checked n w = copied_by (first_over (allowed n) 0 w.world.declarations start)
+
 unfoldable pub said_by : Whole → Read Package
 said_by w =
     plain_name w.name >-> λ name.
@@ -106,4 +117,5 @@ unfoldable pub package_of : List ℕ → Read Package
 package_of bytes =
     syntax (package_at bytes) >-> λ ss.
     whole_of ss >-> λ w.
+    copies_checked (length bytes) w >-> λ _.
     said_by w

@@ -1,8 +1,9 @@
--- What a world's declarations say, one after the other. Component model, binary format: `componenttype`, `componentdecl`,
--- `importdecl`, `exportdecl`.
+-- What a world's declarations say, one after the other. Component model, binary format:
+-- `componenttype`, `componentdecl`, `importdecl`, `exportdecl`.
 --
--- A world has two index spaces: its types, a list of entries, and its instances, each an interface by its name. An imported
--- type is from then on its name, and so is an alias of a type of an instance.
+-- A world has two index spaces: its types, a list of entries, and its instances, each an interface
+-- by its name. An imported type is from then on its name, and so is an alias of a type of an
+-- instance.
 use Rattle.std.specs.Prelude.{◌≡◌, ⊤, ℕ, suc, nat_eq, List, [], ◌∷◌, ◌++◌, slice_get, Bool, Option, Some, None, is_some, Result, Ok, Err, if◌then◌else◌}
 use Rattle.std.specs.List.{list_any}
 use Rattle.std.specs.Map.{lookup}

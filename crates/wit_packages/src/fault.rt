@@ -10,6 +10,7 @@ ghost use Rattle.package_types.specs.declared.instances.MemberFault.TheVariants 
 use package_syntax::{Refusal, SyntaxFault};
 use package_types::{Cause, MemberFault, TypeFault};
 use std::alloc::{AllocError, AllocFailed};
+use std::fmt;
 
 /// What is wrong with a declaration of a world.
 #[derive(Clone, Copy, Debug, PartialEq, Eq)]
@@ -22,6 +23,21 @@ pub enum Wrong {
     ExportedType,
     /// An interface is imported and exported, and its two types differ.
     Different,
+    /// What the package says up to here, with each use of an unnamed type as a copy of it, is more
+    /// than is allowed for its length (`package_copies`).
+    Copies,
+}
+
+impl fmt::Display for Wrong {
+    fn fmt<W: fmt::Write>(&self, f: &mut fmt::Formatter<W>) -> fmt::Result {
+        match self {
+            Wrong::Cause(cause) => write!(f, "reason={cause:?}"),
+            Wrong::Member { member, cause } => write!(f, "member={member} reason={cause:?}"),
+            Wrong::ExportedType => write!(f, "reason=ExportedType"),
+            Wrong::Different => write!(f, "reason=Different"),
+            Wrong::Copies => write!(f, "reason=Copies"),
+        }
+    }
 }
 
 /// Why a declaration of a world is refused.
@@ -84,5 +100,20 @@ impl<T: Drop> From<AllocFailed<T>> for PackageFault {
 
     fn from(_fault: AllocFailed<T>) -> PackageFault {
         PackageFault::Memory
+    }
+}
+
+impl fmt::Display for PackageFault {
+    fn fmt<W: fmt::Write>(&self, f: &mut fmt::Formatter<W>) -> fmt::Result {
+        match self {
+            PackageFault::Memory => write!(f, "reason=Memory"),
+            PackageFault::Syntax(refusal) => {
+                write!(f, "place={} reason={:?}", refusal.place, refusal.reason)
+            }
+            PackageFault::Sections(lack) => write!(f, "reason={lack:?}"),
+            PackageFault::Declaration { declaration, wrong } => {
+                write!(f, "declaration={declaration} {wrong}")
+            }
+        }
     }
 }

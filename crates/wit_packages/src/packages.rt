@@ -4,12 +4,13 @@ ghost use Rattle.std.specs.Prelude.{◌≡◌, codes};
 ghost use Rattle.std.specs.Str.{bytes_eq};
 ghost use Rattle.package_syntax.specs.Sections.{package_at};
 ghost use Rattle.wit_packages.specs.Worlds.{Gives};
-ghost use Rattle.wit_packages.specs.Packages.{encoding_byte, encoding_of, encoding_part, custom_part, world_part, export_part, part_step, parts_from, no_parts, whole_by, whole_of, plain_name, said_by, syntax, package_of};
+ghost use Rattle.wit_packages.specs.Packages.{encoding_byte, encoding_of, encoding_part, custom_part, world_part, export_part, part_step, parts_from, no_parts, whole_by, whole_of, plain_name, copies_checked, said_by, syntax, package_of};
 
-use crate::fault::{Lack, PackageFault};
+use crate::fault::{Lack, PackageFault, Wrong};
 use crate::worlds::world_of;
 use comp_bytes::ExternName;
 use comp_lists::{Bytes, Seq, Text};
+use package_copies::first_over;
 use package_syntax::{Section, SyntaxFault, WorldType, read_sections};
 use record_values::Wit;
 use standard_kinds::StringEncoding;
@@ -197,6 +198,19 @@ fn put_together(name: Text, id: Text, encoding: StringEncoding, wit: Wit) -> Pac
     }
 }
 
+/// Refuses a package that says too much for its length, in bytes.
+fn check_copies(alloc: Global, length: usize, whole: &Whole) -> Result<(), PackageFault>
+    ensures { Gives (λ _. tt) result (copies_checked length whole.now) }
+{
+    match first_over(alloc, length, whole.world.declarations.as_slice())? {
+        Some(declaration) => Err(PackageFault::Declaration {
+            declaration,
+            wrong: Wrong::Copies,
+        }),
+        None => Ok(()),
+    }
+}
+
 /// What all parts say.
 #[tactic(auto, unfolding(crate::specs::Packages::said_by))]
 fn said_by(alloc: Global, whole: &Whole) -> Result<Package, PackageFault>
@@ -220,13 +234,15 @@ fn sections_of(alloc: Global, bytes: &[u8]) -> Result<Seq<Section>, PackageFault
 
 /// What a WIT package in binary form says, the contents of a custom section whose name begins `component-type`.
 ///
-/// The errors are out of memory and, in this order, the first place of the bytes that can't be read, what the sections
-/// lack, and the first declaration of the world that has no meaning.
+/// The errors are out of memory and, in this order, the first place of the bytes that can't be
+/// read, what the sections lack, the declaration of the world with which it says too much for its
+/// length, and the first one that has no meaning.
 #[tactic(auto, unfolding(crate::specs::Packages::package_of))]
 pub fn read_package(alloc: Global, bytes: &[u8]) -> Result<Package, PackageFault>
     ensures { Gives (λ p. p) result (package_of bytes.now) }
 {
     let sections = sections_of(alloc, bytes)?;
     let whole = whole_of(sections)?;
+    check_copies(alloc, bytes.len(), &whole)?;
     said_by(alloc, &whole)
 }

@@ -1,5 +1,5 @@
--- Which types may be encoded in a scope: all that they are made of is in the tables, is defined there, or may be imported
--- or exported (component model, WIT: `use`, resources).
+-- Which types may be encoded in a scope: all that they are made of is in the tables, is defined
+-- there, or may be imported or exported (component model, WIT: `use`, resources).
 use Rattle.std.specs.Prelude.{ℕ, ◌≡◌, ◌==◌, Bool, true, false, ◌&&◌, List, Option, Some, None, if◌then◌else◌, length}
 use Rattle.std.specs.List.{list_all}
 use Rattle.wit_data.specs.declared.ids.InterfaceId.{InterfaceId}

@@ -1,5 +1,5 @@
--- The definition of a type of a kind, from the value types of its parts, which are given in their order, none where there
--- is no type (component model, explainer: `defvaltype`).
+-- The definition of a type of a kind, from the value types of its parts, which are given in their
+-- order, none where there is no type (component model, explainer: `defvaltype`).
 use Rattle.std.specs.Prelude.{List, [], ◌∷◌, Option, Some, None, option_map}
 use Rattle.std.specs.List.{AllZip}
 use Rattle.wit_data.specs.declared.types.Type.{«Type» as Ty}
@@ -47,8 +47,8 @@ abbrev pub second : List (Option ComponentValType) → Option ComponentValType
 second [] = None
 second (v ∷ vs) = first vs
 
--- the definition of a type of this kind; a handle names its resource by an index, another name for a type has that type's
--- value, and a resource is no type of values
+-- the definition of a type of this kind; a handle names its resource by an index, another name for
+-- a type has that type's value, and a resource is no type of values
 abbrev pub definition : TypeDefKind → List (Option ComponentValType) → Option DefinedType
 definition (kinds.Record fields) vs = Some (defined.Record (fields_of fields vs))
 definition (kinds.Variant cases) vs = Some (defined.Variant (cases_of cases vs))

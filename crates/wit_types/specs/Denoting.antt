@@ -33,8 +33,8 @@ IsValue scope (values.Defined index) t = Denotes scope index (OfValues t)
 pub record ValueDenotes (scope : List TypeTree) (v : ComponentValType) (t : Tree) : Type 0 where
   pub is : IsValue scope v t
 
--- The result of a call that defines a type: the scope has this type more and no other, and the index denotes it. A refusal
--- leaves the types that there were.
+-- The result of a call that defines a type: the scope has this type more and no other, and the
+-- index denotes it. A refusal leaves the types that there were.
 abbrev pub Makes : List TypeTree → List TypeTree → Result ℕ BuildFault → TypeTree → Type 0
 Makes old new (Ok index) t = AddsOne old new t × Denotes new index t
 Makes old new (Err e) t = Longer old new

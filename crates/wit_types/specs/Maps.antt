@@ -70,8 +70,9 @@ IsNamedValue s names (Id id) (values.Defined index) = IsNamed s names id index
 IsNamedValue s names (Id id) (values.Primitive p) = IsUnnamed s id
 IsNamedValue s names ty v = Unit {0}
 
--- Each index of the tables denotes the type of its key, and the types that are said to be there are; what a kind is doesn't
--- depend on the index of the type that has it. And what is known of imports of types holds.
+-- Each index of the tables denotes the type of its key, and the types that are said to be there
+-- are; what a kind is doesn't depend on the index of the type that has it. And what is known of
+-- imports of types holds.
 pub record Faithful (s : Setting) (scope : List TypeTree) (names : List ℕ → ℕ → Type 0) (known : Type 0) (maps : TypeEncodingMaps) : Type 0 where
   pub ids : AllByRecursion (λ e. Denotes scope e.1 (OfValues (tree_in s (Some (Id e.0))))) maps.id_to_index
   pub named : AllByRecursion (λ e. IsNamed s names e.0 e.1) maps.id_to_index

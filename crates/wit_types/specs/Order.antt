@@ -52,7 +52,8 @@ abbrev pub AreEncoded : List TypeTree → List Tree → List TypeTree → Type 0
 AreEncoded old [] new = new ≡ old
 AreEncoded old (t ∷ ts) new = (after : List TypeTree) × IsEncoded old after t × AreEncoded after ts new
 
--- the types that a function's type names: those of the parameters, in their order, and then that of the result, if it has one
+-- the types that a function's type names: those of the parameters, in their order, and then that of
+-- the result, if it has one
 abbrev pub named_types : FunctionTree → List Tree
 named_types f = map (λ p. p.tree) f.params ++ option_to_list f.result
 

@@ -23,8 +23,8 @@ use comp_bytes::{ComponentValType, DefinedType};
 use std::alloc::{AllocError, Global};
 use wit_data::{Function, Resolve, Type, TypeId};
 
-/// The value type of a type of the resolve: it, and all that it is made of, is defined in the scope, where it is not yet, and
-/// nothing else is.
+/// The value type of a type of the resolve: it, and all that it is made of, is defined in the
+/// scope, where it is not yet, and nothing else is.
 pub fn encode_valtype<E: ValtypeEncoder>(
     alloc: Global,
     encoder: &mut E,
@@ -35,23 +35,29 @@ pub fn encode_valtype<E: ValtypeEncoder>(
     requires same { (E.setting encoder.old).types ≡ resolve.now.types }
     requires present { HasType resolve.now (Some ty.now) }
     requires allowed { IsTrue (is_allowed (E.setting encoder.old) (Some ty.now)) }
-    requires faithful { Faithful (E.setting encoder.old) (E.scope encoder.old) (E.names encoder.old) (E.offers encoder.old) (E.maps encoder.old) }
-    ensures value { IfOk result (λ v. ValueDenotes (E.scope encoder.new) v (wit_tree (E.setting encoder.old).origin resolve.now.types (Some ty.now))) }
+    requires faithful { Faithful (E.setting encoder.old) (E.scope encoder.old) (E.names encoder.old)
+        (E.offers encoder.old) (E.maps encoder.old) }
+    ensures value { IfOk result (λ v. ValueDenotes (E.scope encoder.new) v
+        (wit_tree (E.setting encoder.old).origin resolve.now.types (Some ty.now))) }
     ensures recorded { IfOk result (λ v. IsRecorded (E.maps encoder.new) ty.now v) }
-    ensures named { IfOk result (λ v. IsNamedValue (E.setting encoder.old) (E.names encoder.new) ty.now v) }
-    ensures adds { IfOk result (λ v. AddsParts (E.scope encoder.old) (E.scope encoder.new) (wit_tree (E.setting encoder.old).origin resolve.now.types (Some ty.now))) }
+    ensures named { IfOk result
+        (λ v. IsNamedValue (E.setting encoder.old) (E.names encoder.new) ty.now v) }
+    ensures adds { IfOk result (λ v. AddsParts (E.scope encoder.old) (E.scope encoder.new)
+        (wit_tree (E.setting encoder.old).origin resolve.now.types (Some ty.now))) }
     ensures grows { Longer (E.scope encoder.old) (E.scope encoder.new) }
     ensures setting { E.setting encoder.new ≡ E.setting encoder.old }
-    ensures faithful { Faithful (E.setting encoder.new) (E.scope encoder.new) (E.names encoder.new) (E.offers encoder.new) (E.maps encoder.new) }
+    ensures faithful { Faithful (E.setting encoder.new) (E.scope encoder.new) (E.names encoder.new)
+        (E.offers encoder.new) (E.maps encoder.new) }
     ensures follows { E.follows encoder.old encoder.new }
     ensures cause { IfErr result (IsCause E.refuses encoder.new) }
 {
     encode_type(alloc, encoder, resolve.types.as_slice(), *ty)
 }
 
-/// The index of a type that is what a type of the resolve is. It is defined without its name, of its parts, which are encoded
-/// before it, in their order; a primitive type gets a definition. Nothing is recorded for the type itself: a scope that gives
-/// it a name records the index that has the name ([`record_type_index`]).
+/// The index of a type that is what a type of the resolve is. It is defined without its name, of
+/// its parts, which are encoded before it, in their order; a primitive type gets a definition.
+/// Nothing is recorded for the type itself: a scope that gives it a name records the index that has
+/// the name ([`record_type_index`]).
 pub fn encode_definition<E: ValtypeEncoder>(
     alloc: Global,
     encoder: &mut E,
@@ -62,12 +68,16 @@ pub fn encode_definition<E: ValtypeEncoder>(
     requires same { (E.setting encoder.old).types ≡ resolve.now.types }
     requires present { id.index < length resolve.now.types }
     requires defined { IsDefinedHere (E.setting encoder.old) (kind_at resolve.now.types id.index) }
-    requires faithful { Faithful (E.setting encoder.old) (E.scope encoder.old) (E.names encoder.old) (E.offers encoder.old) (E.maps encoder.old) }
-    ensures denotes { IfOk result (λ index. Denotes (E.scope encoder.new) index (OfValues (wit_tree (E.setting encoder.old).origin resolve.now.types (Some (Id id))))) }
-    ensures adds { IfOk result (λ index. AddsParts (E.scope encoder.old) (E.scope encoder.new) (wit_tree (E.setting encoder.old).origin resolve.now.types (Some (Id id)))) }
+    requires faithful { Faithful (E.setting encoder.old) (E.scope encoder.old) (E.names encoder.old)
+        (E.offers encoder.old) (E.maps encoder.old) }
+    ensures denotes { IfOk result (λ index. Denotes (E.scope encoder.new) index
+        (OfValues (wit_tree (E.setting encoder.old).origin resolve.now.types (Some (Id id))))) }
+    ensures adds { IfOk result (λ index. AddsParts (E.scope encoder.old) (E.scope encoder.new)
+        (wit_tree (E.setting encoder.old).origin resolve.now.types (Some (Id id)))) }
     ensures grows { Longer (E.scope encoder.old) (E.scope encoder.new) }
     ensures setting { E.setting encoder.new ≡ E.setting encoder.old }
-    ensures faithful { Faithful (E.setting encoder.new) (E.scope encoder.new) (E.names encoder.new) (E.offers encoder.new) (E.maps encoder.new) }
+    ensures faithful { Faithful (E.setting encoder.new) (E.scope encoder.new) (E.names encoder.new)
+        (E.offers encoder.new) (E.maps encoder.new) }
     ensures follows { E.follows encoder.old encoder.new }
     ensures cause { IfErr result (IsCause E.refuses encoder.new) }
 {
@@ -80,20 +90,24 @@ pub fn record_type_index<E: ValtypeEncoder>(
     id: TypeId,
     index: u32,
 ) -> Result<(), AllocError>
-    requires faithful { Faithful (E.setting encoder.old) (E.scope encoder.old) (E.names encoder.old) (E.offers encoder.old) (E.maps encoder.old) }
-    requires denotes { Denotes (E.scope encoder.old) index (OfValues (wit_tree (E.setting encoder.old).origin (E.setting encoder.old).types (Some (Id id)))) }
+    requires faithful { Faithful (E.setting encoder.old) (E.scope encoder.old) (E.names encoder.old)
+        (E.offers encoder.old) (E.maps encoder.old) }
+    requires denotes { Denotes (E.scope encoder.old) index (OfValues (wit_tree
+        (E.setting encoder.old).origin (E.setting encoder.old).types (Some (Id id)))) }
     requires named { IsNamed (E.setting encoder.old) (E.names encoder.old) id index }
     ensures recorded { OnOk result (HasIndex (E.maps encoder.new) id) }
     ensures scope { E.scope encoder.new ≡ E.scope encoder.old }
     ensures setting { E.setting encoder.new ≡ E.setting encoder.old }
-    ensures faithful { Faithful (E.setting encoder.new) (E.scope encoder.new) (E.names encoder.new) (E.offers encoder.new) (E.maps encoder.new) }
+    ensures faithful { Faithful (E.setting encoder.new) (E.scope encoder.new) (E.names encoder.new)
+        (E.offers encoder.new) (E.maps encoder.new) }
     ensures follows { E.follows encoder.old encoder.new }
 {
     record_type(encoder, id, index)
 }
 
-/// The index of the type of a function of the resolve, which is defined in the scope, where it is not yet: first what its
-/// parameters need, in their order, then what its result needs, and then the type itself.
+/// The index of the type of a function of the resolve, which is defined in the scope, where it is
+/// not yet: first what its parameters need, in their order, then what its result needs, and then
+/// the type itself.
 pub fn encode_func_type<E: ValtypeEncoder>(
     alloc: Global,
     encoder: &mut E,
@@ -104,12 +118,17 @@ pub fn encode_func_type<E: ValtypeEncoder>(
     requires same { (E.setting encoder.old).types ≡ resolve.now.types }
     requires present { HasFunction resolve.now function.now }
     requires allowed { IsTrue (allows_function (E.setting encoder.old) function.now) }
-    requires faithful { Faithful (E.setting encoder.old) (E.scope encoder.old) (E.names encoder.old) (E.offers encoder.old) (E.maps encoder.old) }
-    ensures denotes { IfOk result (λ index. Denotes (E.scope encoder.new) index (OfFunctions (wit_function_tree (E.setting encoder.old).origin resolve.now.types function.now))) }
-    ensures adds { IfOk result (λ index. MayAddFunction (E.scope encoder.old) (E.scope encoder.new) (wit_function_tree (E.setting encoder.old).origin resolve.now.types function.now)) }
+    requires faithful { Faithful (E.setting encoder.old) (E.scope encoder.old) (E.names encoder.old)
+        (E.offers encoder.old) (E.maps encoder.old) }
+    ensures denotes { IfOk result (λ index. Denotes (E.scope encoder.new) index (OfFunctions
+        (wit_function_tree (E.setting encoder.old).origin resolve.now.types
+        function.now))) }
+    ensures adds { IfOk result (λ index. MayAddFunction (E.scope encoder.old) (E.scope encoder.new)
+        (wit_function_tree (E.setting encoder.old).origin resolve.now.types function.now)) }
     ensures grows { Longer (E.scope encoder.old) (E.scope encoder.new) }
     ensures setting { E.setting encoder.new ≡ E.setting encoder.old }
-    ensures faithful { Faithful (E.setting encoder.new) (E.scope encoder.new) (E.names encoder.new) (E.offers encoder.new) (E.maps encoder.new) }
+    ensures faithful { Faithful (E.setting encoder.new) (E.scope encoder.new) (E.names encoder.new)
+        (E.offers encoder.new) (E.maps encoder.new) }
     ensures follows { E.follows encoder.old encoder.new }
     ensures cause { IfErr result (IsCause E.refuses encoder.new) }
 {
@@ -118,12 +137,16 @@ pub fn encode_func_type<E: ValtypeEncoder>(
 
 /// The index of a new type of streams that carry nothing.
 pub fn encode_unit_stream<E: ValtypeEncoder>(encoder: &mut E) -> Result<u32, BuildFault>
-    requires faithful { Faithful (E.setting encoder.old) (E.scope encoder.old) (E.names encoder.old) (E.offers encoder.old) (E.maps encoder.old) }
-    ensures denotes { IfOk result (λ index. Denotes (E.scope encoder.new) index (OfValues (StreamOf Absent))) }
-    ensures adds { IfOk result (λ index. AddsOne (E.scope encoder.old) (E.scope encoder.new) (OfValues (StreamOf Absent))) }
+    requires faithful { Faithful (E.setting encoder.old) (E.scope encoder.old) (E.names encoder.old)
+        (E.offers encoder.old) (E.maps encoder.old) }
+    ensures denotes { IfOk result
+        (λ index. Denotes (E.scope encoder.new) index (OfValues (StreamOf Absent))) }
+    ensures adds { IfOk result (λ index. AddsOne (E.scope encoder.old) (E.scope encoder.new)
+        (OfValues (StreamOf Absent))) }
     ensures grows { Longer (E.scope encoder.old) (E.scope encoder.new) }
     ensures setting { E.setting encoder.new ≡ E.setting encoder.old }
-    ensures faithful { Faithful (E.setting encoder.new) (E.scope encoder.new) (E.names encoder.new) (E.offers encoder.new) (E.maps encoder.new) }
+    ensures faithful { Faithful (E.setting encoder.new) (E.scope encoder.new) (E.names encoder.new)
+        (E.offers encoder.new) (E.maps encoder.new) }
     ensures follows { E.follows encoder.old encoder.new }
     ensures cause { IfErr result (IsCause E.refuses encoder.new) }
 {
@@ -132,12 +155,16 @@ pub fn encode_unit_stream<E: ValtypeEncoder>(encoder: &mut E) -> Result<u32, Bui
 
 /// The index of a new type of futures that carry nothing.
 pub fn encode_unit_future<E: ValtypeEncoder>(encoder: &mut E) -> Result<u32, BuildFault>
-    requires faithful { Faithful (E.setting encoder.old) (E.scope encoder.old) (E.names encoder.old) (E.offers encoder.old) (E.maps encoder.old) }
-    ensures denotes { IfOk result (λ index. Denotes (E.scope encoder.new) index (OfValues (FutureOf Absent))) }
-    ensures adds { IfOk result (λ index. AddsOne (E.scope encoder.old) (E.scope encoder.new) (OfValues (FutureOf Absent))) }
+    requires faithful { Faithful (E.setting encoder.old) (E.scope encoder.old) (E.names encoder.old)
+        (E.offers encoder.old) (E.maps encoder.old) }
+    ensures denotes { IfOk result
+        (λ index. Denotes (E.scope encoder.new) index (OfValues (FutureOf Absent))) }
+    ensures adds { IfOk result (λ index. AddsOne (E.scope encoder.old) (E.scope encoder.new)
+        (OfValues (FutureOf Absent))) }
     ensures grows { Longer (E.scope encoder.old) (E.scope encoder.new) }
     ensures setting { E.setting encoder.new ≡ E.setting encoder.old }
-    ensures faithful { Faithful (E.setting encoder.new) (E.scope encoder.new) (E.names encoder.new) (E.offers encoder.new) (E.maps encoder.new) }
+    ensures faithful { Faithful (E.setting encoder.new) (E.scope encoder.new) (E.names encoder.new)
+        (E.offers encoder.new) (E.maps encoder.new) }
     ensures follows { E.follows encoder.old encoder.new }
     ensures cause { IfErr result (IsCause E.refuses encoder.new) }
 {

@@ -16,8 +16,8 @@ use byte_encoding::BuildFault;
 use comp_bytes::{DefinedType, ExternName, FuncTypeDef};
 use wit_data::{InterfaceId, TypeId};
 
-/// A scope in which types are defined: a component, or an instance type. A call that defines, exports or imports a type adds
-/// that type at the end of the scope, and no other.
+/// A scope in which types are defined: a component, or an instance type. A call that defines,
+/// exports or imports a type adds that type at the end of the scope, and no other.
 pub trait ValtypeEncoder {
     ghost use Rattle.wit_types.specs.declared.maps.TypeEncodingMaps.{TypeEncodingMaps};
 
@@ -64,7 +64,8 @@ pub trait ValtypeEncoder {
     fn defined_type(&mut self, ty: DefinedType) -> Result<u32, BuildFault>
         requires present { AreTypes (length (scope self.old)) (defined_references ty) }
         requires known { is_known (defined_tree (scope self.old) ty) ≡ true }
-        ensures makes { Makes (scope self.old) (scope self.new) result (OfValues (defined_tree (scope self.old) ty)) }
+        ensures makes { Makes (scope self.old) (scope self.new) result
+            (OfValues (defined_tree (scope self.old) ty)) }
         ensures setting { setting self.new ≡ setting self.old }
         ensures maps { maps self.new ≡ maps self.old }
         ensures follows { follows self.old self.new }
@@ -72,9 +73,11 @@ pub trait ValtypeEncoder {
 
     /// Defines a type of functions, in which nothing is unknown.
     fn define_function_type(&mut self, ty: FuncTypeDef) -> Result<u32, BuildFault>
-        requires present { AreTypes (length (scope self.old)) (type_references (definitions.Func ty)) }
+        requires present { AreTypes (length (scope self.old))
+            (type_references (definitions.Func ty)) }
         requires known { is_known_function (function_tree (scope self.old) ty) ≡ true }
-        ensures makes { Makes (scope self.old) (scope self.new) result (OfFunctions (function_tree (scope self.old) ty)) }
+        ensures makes { Makes (scope self.old) (scope self.new) result
+            (OfFunctions (function_tree (scope self.old) ty)) }
         ensures setting { setting self.new ≡ setting self.old }
         ensures maps { maps self.new ≡ maps self.old }
         ensures follows { follows self.old self.new }
@@ -83,9 +86,12 @@ pub trait ValtypeEncoder {
     /// Exports a type under its name, where the scope exports its types, and returns the index of the export.
     fn export_type(&mut self, index: u32, name: ExternName) -> Result<Option<u32>, BuildFault>
         requires present { index < length (scope self.old) }
-        requires named { NamesType (setting self.old) name (get_or (scope self.old) index OfOthers) }
-        ensures names { IfOk result (λ exported. names self.new name.name (exported_or exported index)) }
-        ensures makes { MayMake (scope self.old) (scope self.new) result (get_or (scope self.old) index OfOthers) }
+        requires named { NamesType (setting self.old) name
+            (get_or (scope self.old) index OfOthers) }
+        ensures names { IfOk result
+            (λ exported. names self.new name.name (exported_or exported index)) }
+        ensures makes { MayMake (scope self.old) (scope self.new) result
+            (get_or (scope self.old) index OfOthers) }
         ensures setting { setting self.new ≡ setting self.old }
         ensures maps { maps self.new ≡ maps self.old }
         ensures follows { follows self.old self.new }
@@ -94,9 +100,11 @@ pub trait ValtypeEncoder {
     /// Exports the resource that is known by a name.
     fn export_resource(&mut self, name: ExternName) -> Result<u32, BuildFault>
         requires may { IsTrue ((setting self.old).may_export name.name) }
-        requires named { NamesType (setting self.old) name (OfValues (ResourceAt ((setting self.old).resource name.name))) }
+        requires named { NamesType (setting self.old) name
+            (OfValues (ResourceAt ((setting self.old).resource name.name))) }
         ensures names { IfOk result (λ index. names self.new name.name index) }
-        ensures makes { Makes (scope self.old) (scope self.new) result (OfValues (ResourceAt ((setting self.old).resource name.name))) }
+        ensures makes { Makes (scope self.old) (scope self.new) result
+            (OfValues (ResourceAt ((setting self.old).resource name.name))) }
         ensures setting { setting self.new ≡ setting self.old }
         ensures maps { maps self.new ≡ maps self.old }
         ensures follows { follows self.old self.new }
@@ -106,7 +114,8 @@ pub trait ValtypeEncoder {
     fn import_type(&mut self, interface: InterfaceId, id: TypeId) -> Result<u32, BuildFault>
         requires may { IsTrue ((setting self.old).may_import interface id) }
         requires offers { offers self.old }
-        ensures makes { Makes (scope self.old) (scope self.new) result (OfValues (tree_in (setting self.old) (Some (Id id)))) }
+        ensures makes { Makes (scope self.old) (scope self.new) result
+            (OfValues (tree_in (setting self.old) (Some (Id id)))) }
         ensures setting { setting self.new ≡ setting self.old }
         ensures maps { maps self.new ≡ maps self.old }
         ensures follows { follows self.old self.new }

@@ -33,16 +33,21 @@ pub(crate) fn encode_type<E: ValtypeEncoder>(
 ) -> Result<ComponentValType, BuildFault>
     requires back { RefersBack types.now }
     requires same { (E.setting encoder.old).types ≡ types.now }
-    requires faithful { Faithful (E.setting encoder.old) (E.scope encoder.old) (E.names encoder.old) (E.offers encoder.old) (E.maps encoder.old) }
+    requires faithful { Faithful (E.setting encoder.old) (E.scope encoder.old) (E.names encoder.old)
+        (E.offers encoder.old) (E.maps encoder.old) }
     requires present { IsBelow (length types.now) (Some ty) }
     requires allowed { IsTrue (is_allowed (E.setting encoder.old) (Some ty)) }
-    ensures value { IfOk result (λ v. ValueDenotes (E.scope encoder.new) v (tree_in (E.setting encoder.old) (Some ty))) }
+    ensures value { IfOk result
+        (λ v. ValueDenotes (E.scope encoder.new) v (tree_in (E.setting encoder.old) (Some ty))) }
     ensures recorded { IfOk result (λ v. IsRecorded (E.maps encoder.new) ty v) }
-    ensures named { IfOk result (λ v. IsNamedValue (E.setting encoder.old) (E.names encoder.new) ty v) }
-    ensures adds { IfOk result (λ v. AddsParts (E.scope encoder.old) (E.scope encoder.new) (tree_in (E.setting encoder.old) (Some ty))) }
+    ensures named { IfOk result
+        (λ v. IsNamedValue (E.setting encoder.old) (E.names encoder.new) ty v) }
+    ensures adds { IfOk result (λ v. AddsParts (E.scope encoder.old) (E.scope encoder.new)
+        (tree_in (E.setting encoder.old) (Some ty))) }
     ensures grows { Longer (E.scope encoder.old) (E.scope encoder.new) }
     ensures setting { E.setting encoder.new ≡ E.setting encoder.old }
-    ensures faithful { Faithful (E.setting encoder.new) (E.scope encoder.new) (E.names encoder.new) (E.offers encoder.new) (E.maps encoder.new) }
+    ensures faithful { Faithful (E.setting encoder.new) (E.scope encoder.new) (E.names encoder.new)
+        (E.offers encoder.new) (E.maps encoder.new) }
     ensures follows { E.follows encoder.old encoder.new }
     ensures cause { IfErr result (IsCause E.refuses encoder.new) }
 {
@@ -62,16 +67,21 @@ fn encode_id<E: ValtypeEncoder>(
 ) -> Result<ComponentValType, BuildFault>
     requires back { RefersBack types.now }
     requires same { (E.setting encoder.old).types ≡ types.now }
-    requires faithful { Faithful (E.setting encoder.old) (E.scope encoder.old) (E.names encoder.old) (E.offers encoder.old) (E.maps encoder.old) }
+    requires faithful { Faithful (E.setting encoder.old) (E.scope encoder.old) (E.names encoder.old)
+        (E.offers encoder.old) (E.maps encoder.old) }
     requires present { id.index < length types.now }
     requires allowed { IsTrue (is_allowed (E.setting encoder.old) (Some (Id id))) }
-    ensures value { IfOk result (λ v. ValueDenotes (E.scope encoder.new) v (tree_in (E.setting encoder.old) (Some (Id id)))) }
+    ensures value { IfOk result (λ v. ValueDenotes (E.scope encoder.new) v
+        (tree_in (E.setting encoder.old) (Some (Id id)))) }
     ensures recorded { IfOk result (λ v. IsRecorded (E.maps encoder.new) (Id id) v) }
-    ensures named { IfOk result (λ v. IsNamedValue (E.setting encoder.old) (E.names encoder.new) (Id id) v) }
-    ensures adds { IfOk result (λ v. AddsParts (E.scope encoder.old) (E.scope encoder.new) (tree_in (E.setting encoder.old) (Some (Id id)))) }
+    ensures named { IfOk result
+        (λ v. IsNamedValue (E.setting encoder.old) (E.names encoder.new) (Id id) v) }
+    ensures adds { IfOk result (λ v. AddsParts (E.scope encoder.old) (E.scope encoder.new)
+        (tree_in (E.setting encoder.old) (Some (Id id)))) }
     ensures grows { Longer (E.scope encoder.old) (E.scope encoder.new) }
     ensures setting { E.setting encoder.new ≡ E.setting encoder.old }
-    ensures faithful { Faithful (E.setting encoder.new) (E.scope encoder.new) (E.names encoder.new) (E.offers encoder.new) (E.maps encoder.new) }
+    ensures faithful { Faithful (E.setting encoder.new) (E.scope encoder.new) (E.names encoder.new)
+        (E.offers encoder.new) (E.maps encoder.new) }
     ensures follows { E.follows encoder.old encoder.new }
     ensures cause { IfErr result (IsCause E.refuses encoder.new) }
 {
@@ -92,14 +102,18 @@ fn encode_parts<E: ValtypeEncoder>(
 ) -> Result<Vec<Option<ComponentValType>>, BuildFault>
     requires back { RefersBack types.now }
     requires same { (E.setting encoder.old).types ≡ types.now }
-    requires faithful { Faithful (E.setting encoder.old) (E.scope encoder.old) (E.names encoder.old) (E.offers encoder.old) (E.maps encoder.old) }
+    requires faithful { Faithful (E.setting encoder.old) (E.scope encoder.old) (E.names encoder.old)
+        (E.offers encoder.old) (E.maps encoder.old) }
     requires present { id.index < length types.now }
     requires defined { IsDefinedHere (E.setting encoder.old) (kind_at types.now id.index) }
-    ensures parts { IfOk result (λ given. PartsDenote (E.setting encoder.old) (E.scope encoder.new) given.items (kind_at types.now id.index)) }
-    ensures adds { IfOk result (λ given. AddsParts (E.scope encoder.old) (E.scope encoder.new) (tree_in (E.setting encoder.old) (Some (Id id)))) }
+    ensures parts { IfOk result (λ given. PartsDenote (E.setting encoder.old) (E.scope encoder.new)
+        given.items (kind_at types.now id.index)) }
+    ensures adds { IfOk result (λ given. AddsParts (E.scope encoder.old) (E.scope encoder.new)
+        (tree_in (E.setting encoder.old) (Some (Id id)))) }
     ensures grows { Longer (E.scope encoder.old) (E.scope encoder.new) }
     ensures setting { E.setting encoder.new ≡ E.setting encoder.old }
-    ensures faithful { Faithful (E.setting encoder.new) (E.scope encoder.new) (E.names encoder.new) (E.offers encoder.new) (E.maps encoder.new) }
+    ensures faithful { Faithful (E.setting encoder.new) (E.scope encoder.new) (E.names encoder.new)
+        (E.offers encoder.new) (E.maps encoder.new) }
     ensures follows { E.follows encoder.old encoder.new }
     ensures cause { IfErr result (IsCause E.refuses encoder.new) }
 {
@@ -121,15 +135,19 @@ fn encode_part<E: ValtypeEncoder>(
 ) -> Result<Option<ComponentValType>, BuildFault>
     requires back { RefersBack types.now }
     requires same { (E.setting encoder.old).types ≡ types.now }
-    requires faithful { Faithful (E.setting encoder.old) (E.scope encoder.old) (E.names encoder.old) (E.offers encoder.old) (E.maps encoder.old) }
+    requires faithful { Faithful (E.setting encoder.old) (E.scope encoder.old) (E.names encoder.old)
+        (E.offers encoder.old) (E.maps encoder.old) }
     requires present { id.index < length types.now }
     requires index { n < length (parts (kind_at types.now id.index)) }
     requires defined { IsDefinedHere (E.setting encoder.old) (kind_at types.now id.index) }
-    ensures part { IfOk result (λ v. PartDenotes (E.setting encoder.old) (E.scope encoder.new) v (get_or (parts (kind_at types.now id.index)) n None)) }
-    ensures adds { IfOk result (λ v. AddsParts (E.scope encoder.old) (E.scope encoder.new) (tree_in (E.setting encoder.old) (Some (Id id)))) }
+    ensures part { IfOk result (λ v. PartDenotes (E.setting encoder.old) (E.scope encoder.new) v
+        (get_or (parts (kind_at types.now id.index)) n None)) }
+    ensures adds { IfOk result (λ v. AddsParts (E.scope encoder.old) (E.scope encoder.new)
+        (tree_in (E.setting encoder.old) (Some (Id id)))) }
     ensures grows { Longer (E.scope encoder.old) (E.scope encoder.new) }
     ensures setting { E.setting encoder.new ≡ E.setting encoder.old }
-    ensures faithful { Faithful (E.setting encoder.new) (E.scope encoder.new) (E.names encoder.new) (E.offers encoder.new) (E.maps encoder.new) }
+    ensures faithful { Faithful (E.setting encoder.new) (E.scope encoder.new) (E.names encoder.new)
+        (E.offers encoder.new) (E.maps encoder.new) }
     ensures follows { E.follows encoder.old encoder.new }
     ensures cause { IfErr result (IsCause E.refuses encoder.new) }
 {
@@ -149,18 +167,24 @@ fn make_type<E: ValtypeEncoder>(
 ) -> Result<ComponentValType, BuildFault>
     requires back { RefersBack types.now }
     requires same { (E.setting encoder.old).types ≡ types.now }
-    requires faithful { Faithful (E.setting encoder.old) (E.scope encoder.old) (E.names encoder.old) (E.offers encoder.old) (E.maps encoder.old) }
+    requires faithful { Faithful (E.setting encoder.old) (E.scope encoder.old) (E.names encoder.old)
+        (E.offers encoder.old) (E.maps encoder.old) }
     requires present { id.index < length types.now }
     requires own { (E.setting encoder.old).may_own id.index ≡ true }
     requires defined { IsDefinedHere (E.setting encoder.old) (kind_at types.now id.index) }
-    requires parts { PartsDenote (E.setting encoder.old) (E.scope encoder.old) given.items (kind_at types.now id.index) }
-    ensures value { IfOk result (λ v. ValueDenotes (E.scope encoder.new) v (tree_in (E.setting encoder.old) (Some (Id id)))) }
+    requires parts { PartsDenote (E.setting encoder.old) (E.scope encoder.old) given.items
+        (kind_at types.now id.index) }
+    ensures value { IfOk result (λ v. ValueDenotes (E.scope encoder.new) v
+        (tree_in (E.setting encoder.old) (Some (Id id)))) }
     ensures recorded { IfOk result (λ v. IsRecorded (E.maps encoder.new) (Id id) v) }
-    ensures named { IfOk result (λ v. IsNamedValue (E.setting encoder.old) (E.names encoder.new) (Id id) v) }
-    ensures adds { IfOk result (λ v. AddsParts (E.scope encoder.old) (E.scope encoder.new) (tree_in (E.setting encoder.old) (Some (Id id)))) }
+    ensures named { IfOk result
+        (λ v. IsNamedValue (E.setting encoder.old) (E.names encoder.new) (Id id) v) }
+    ensures adds { IfOk result (λ v. AddsParts (E.scope encoder.old) (E.scope encoder.new)
+        (tree_in (E.setting encoder.old) (Some (Id id)))) }
     ensures grows { Longer (E.scope encoder.old) (E.scope encoder.new) }
     ensures setting { E.setting encoder.new ≡ E.setting encoder.old }
-    ensures faithful { Faithful (E.setting encoder.new) (E.scope encoder.new) (E.names encoder.new) (E.offers encoder.new) (E.maps encoder.new) }
+    ensures faithful { Faithful (E.setting encoder.new) (E.scope encoder.new) (E.names encoder.new)
+        (E.offers encoder.new) (E.maps encoder.new) }
     ensures follows { E.follows encoder.old encoder.new }
     ensures cause { IfErr result (IsCause E.refuses encoder.new) }
 {
@@ -168,8 +192,8 @@ fn make_type<E: ValtypeEncoder>(
     export_and_record(alloc, encoder, types, id, value)
 }
 
-/// The index of a type that is what the type with an index is: it is defined of the value types of its parts, without its
-/// name, and not recorded.
+/// The index of a type that is what the type with an index is: it is defined of the value types of
+/// its parts, without its name, and not recorded.
 pub(crate) fn define_unnamed<E: ValtypeEncoder>(
     alloc: Global,
     encoder: &mut E,
@@ -178,14 +202,18 @@ pub(crate) fn define_unnamed<E: ValtypeEncoder>(
 ) -> Result<u32, BuildFault>
     requires back { RefersBack types.now }
     requires same { (E.setting encoder.old).types ≡ types.now }
-    requires faithful { Faithful (E.setting encoder.old) (E.scope encoder.old) (E.names encoder.old) (E.offers encoder.old) (E.maps encoder.old) }
+    requires faithful { Faithful (E.setting encoder.old) (E.scope encoder.old) (E.names encoder.old)
+        (E.offers encoder.old) (E.maps encoder.old) }
     requires present { id.index < length types.now }
     requires defined { IsDefinedHere (E.setting encoder.old) (kind_at types.now id.index) }
-    ensures denotes { IfOk result (λ index. Denotes (E.scope encoder.new) index (OfValues (tree_in (E.setting encoder.old) (Some (Id id))))) }
-    ensures adds { IfOk result (λ index. AddsParts (E.scope encoder.old) (E.scope encoder.new) (tree_in (E.setting encoder.old) (Some (Id id)))) }
+    ensures denotes { IfOk result (λ index. Denotes (E.scope encoder.new) index
+        (OfValues (tree_in (E.setting encoder.old) (Some (Id id))))) }
+    ensures adds { IfOk result (λ index. AddsParts (E.scope encoder.old) (E.scope encoder.new)
+        (tree_in (E.setting encoder.old) (Some (Id id)))) }
     ensures grows { Longer (E.scope encoder.old) (E.scope encoder.new) }
     ensures setting { E.setting encoder.new ≡ E.setting encoder.old }
-    ensures faithful { Faithful (E.setting encoder.new) (E.scope encoder.new) (E.names encoder.new) (E.offers encoder.new) (E.maps encoder.new) }
+    ensures faithful { Faithful (E.setting encoder.new) (E.scope encoder.new) (E.names encoder.new)
+        (E.offers encoder.new) (E.maps encoder.new) }
     ensures follows { E.follows encoder.old encoder.new }
     ensures cause { IfErr result (IsCause E.refuses encoder.new) }
 {
@@ -203,15 +231,20 @@ fn define_index<E: ValtypeEncoder>(
 ) -> Result<u32, BuildFault>
     requires back { RefersBack types.now }
     requires same { (E.setting encoder.old).types ≡ types.now }
-    requires faithful { Faithful (E.setting encoder.old) (E.scope encoder.old) (E.names encoder.old) (E.offers encoder.old) (E.maps encoder.old) }
+    requires faithful { Faithful (E.setting encoder.old) (E.scope encoder.old) (E.names encoder.old)
+        (E.offers encoder.old) (E.maps encoder.old) }
     requires present { id.index < length types.now }
     requires defined { IsDefinedHere (E.setting encoder.old) (kind_at types.now id.index) }
-    requires parts { PartsDenote (E.setting encoder.old) (E.scope encoder.old) given.items (kind_at types.now id.index) }
-    ensures denotes { IfOk result (λ index. Denotes (E.scope encoder.new) index (OfValues (tree_in (E.setting encoder.old) (Some (Id id))))) }
-    ensures adds { IfOk result (λ index. AddsParts (E.scope encoder.old) (E.scope encoder.new) (tree_in (E.setting encoder.old) (Some (Id id)))) }
+    requires parts { PartsDenote (E.setting encoder.old) (E.scope encoder.old) given.items
+        (kind_at types.now id.index) }
+    ensures denotes { IfOk result (λ index. Denotes (E.scope encoder.new) index
+        (OfValues (tree_in (E.setting encoder.old) (Some (Id id))))) }
+    ensures adds { IfOk result (λ index. AddsParts (E.scope encoder.old) (E.scope encoder.new)
+        (tree_in (E.setting encoder.old) (Some (Id id)))) }
     ensures grows { Longer (E.scope encoder.old) (E.scope encoder.new) }
     ensures setting { E.setting encoder.new ≡ E.setting encoder.old }
-    ensures faithful { Faithful (E.setting encoder.new) (E.scope encoder.new) (E.names encoder.new) (E.offers encoder.new) (E.maps encoder.new) }
+    ensures faithful { Faithful (E.setting encoder.new) (E.scope encoder.new) (E.names encoder.new)
+        (E.offers encoder.new) (E.maps encoder.new) }
     ensures follows { E.follows encoder.old encoder.new }
     ensures cause { IfErr result (IsCause E.refuses encoder.new) }
 {

@@ -33,18 +33,26 @@ pub(crate) fn find_type<E: ValtypeEncoder>(
 ) -> Result<Option<u32>, BuildFault>
     requires back { RefersBack types.now }
     requires same { (E.setting encoder.old).types ≡ types.now }
-    requires faithful { Faithful (E.setting encoder.old) (E.scope encoder.old) (E.names encoder.old) (E.offers encoder.old) (E.maps encoder.old) }
+    requires faithful { Faithful (E.setting encoder.old) (E.scope encoder.old) (E.names encoder.old)
+        (E.offers encoder.old) (E.maps encoder.old) }
     requires present { id.index < length types.now }
     requires allowed { IsTrue (is_allowed (E.setting encoder.old) (Some (Id id))) }
-    ensures denotes { IfOk result (λ found. IfSome found (λ index. Denotes (E.scope encoder.new) index (OfValues (tree_in (E.setting encoder.old) (Some (Id id)))))) }
-    ensures recorded { IfOk result (λ found. IfSome found (λ index. HasIndex (E.maps encoder.new) id)) }
-    ensures named { IfOk result (λ found. IfSome found (λ index. IsNamed (E.setting encoder.old) (E.names encoder.new) id index)) }
-    ensures defined { IfOk result (λ found. found ≡ None → IsDefinedHere (E.setting encoder.old) (kind_at types.now id.index)) }
-    ensures own { IfOk result (λ found. found ≡ None → (E.setting encoder.old).may_own id.index ≡ true) }
-    ensures adds { IfOk result (λ found. AddsParts (E.scope encoder.old) (E.scope encoder.new) (tree_in (E.setting encoder.old) (Some (Id id)))) }
+    ensures denotes { IfOk result (λ found. IfSome found (λ index. Denotes (E.scope encoder.new)
+        index (OfValues (tree_in (E.setting encoder.old) (Some (Id id)))))) }
+    ensures recorded { IfOk result
+        (λ found. IfSome found (λ index. HasIndex (E.maps encoder.new) id)) }
+    ensures named { IfOk result (λ found. IfSome found
+        (λ index. IsNamed (E.setting encoder.old) (E.names encoder.new) id index)) }
+    ensures defined { IfOk result (λ found. found ≡ None
+        → IsDefinedHere (E.setting encoder.old) (kind_at types.now id.index)) }
+    ensures own { IfOk result
+        (λ found. found ≡ None → (E.setting encoder.old).may_own id.index ≡ true) }
+    ensures adds { IfOk result (λ found. AddsParts (E.scope encoder.old) (E.scope encoder.new)
+        (tree_in (E.setting encoder.old) (Some (Id id)))) }
     ensures grows { Longer (E.scope encoder.old) (E.scope encoder.new) }
     ensures setting { E.setting encoder.new ≡ E.setting encoder.old }
-    ensures faithful { Faithful (E.setting encoder.new) (E.scope encoder.new) (E.names encoder.new) (E.offers encoder.new) (E.maps encoder.new) }
+    ensures faithful { Faithful (E.setting encoder.new) (E.scope encoder.new) (E.names encoder.new)
+        (E.offers encoder.new) (E.maps encoder.new) }
     ensures follows { E.follows encoder.old encoder.new }
     ensures cause { IfErr result (IsCause E.refuses encoder.new) }
 {
@@ -70,18 +78,24 @@ fn import_type<E: ValtypeEncoder>(
 ) -> Result<u32, BuildFault>
     requires back { RefersBack types.now }
     requires same { (E.setting encoder.old).types ≡ types.now }
-    requires faithful { Faithful (E.setting encoder.old) (E.scope encoder.old) (E.names encoder.old) (E.offers encoder.old) (E.maps encoder.old) }
+    requires faithful { Faithful (E.setting encoder.old) (E.scope encoder.old) (E.names encoder.old)
+        (E.offers encoder.old) (E.maps encoder.old) }
     requires present { id.index < length types.now }
     requires unmet { (E.setting encoder.old).met id ≡ false }
     requires allowed { IsTrue (is_allowed (E.setting encoder.old) (Some (Id id))) }
-    requires foreign { foreign (E.setting encoder.old).interface (owner_at types.now id.index) ≡ Some interface }
-    ensures denotes { IfOk result (λ index. Denotes (E.scope encoder.new) index (OfValues (tree_in (E.setting encoder.old) (Some (Id id))))) }
+    requires foreign { foreign (E.setting encoder.old).interface (owner_at types.now id.index)
+        ≡ Some interface }
+    ensures denotes { IfOk result (λ index. Denotes (E.scope encoder.new) index
+        (OfValues (tree_in (E.setting encoder.old) (Some (Id id))))) }
     ensures recorded { IfOk result (λ index. HasIndex (E.maps encoder.new) id) }
-    ensures named { IfOk result (λ index. IsNamed (E.setting encoder.old) (E.names encoder.new) id index) }
-    ensures adds { IfOk result (λ index. AddsParts (E.scope encoder.old) (E.scope encoder.new) (tree_in (E.setting encoder.old) (Some (Id id)))) }
+    ensures named { IfOk result
+        (λ index. IsNamed (E.setting encoder.old) (E.names encoder.new) id index) }
+    ensures adds { IfOk result (λ index. AddsParts (E.scope encoder.old) (E.scope encoder.new)
+        (tree_in (E.setting encoder.old) (Some (Id id)))) }
     ensures grows { Longer (E.scope encoder.old) (E.scope encoder.new) }
     ensures setting { E.setting encoder.new ≡ E.setting encoder.old }
-    ensures faithful { Faithful (E.setting encoder.new) (E.scope encoder.new) (E.names encoder.new) (E.offers encoder.new) (E.maps encoder.new) }
+    ensures faithful { Faithful (E.setting encoder.new) (E.scope encoder.new) (E.names encoder.new)
+        (E.offers encoder.new) (E.maps encoder.new) }
     ensures follows { E.follows encoder.old encoder.new }
     ensures cause { IfErr result (IsCause E.refuses encoder.new) }
 {
@@ -99,19 +113,24 @@ fn export_resource<E: ValtypeEncoder>(
 ) -> Result<u32, BuildFault>
     requires back { RefersBack types.now }
     requires same { (E.setting encoder.old).types ≡ types.now }
-    requires faithful { Faithful (E.setting encoder.old) (E.scope encoder.old) (E.names encoder.old) (E.offers encoder.old) (E.maps encoder.old) }
+    requires faithful { Faithful (E.setting encoder.old) (E.scope encoder.old) (E.names encoder.old)
+        (E.offers encoder.old) (E.maps encoder.old) }
     requires present { id.index < length types.now }
     requires unmet { (E.setting encoder.old).met id ≡ false }
     requires allowed { IsTrue (is_allowed (E.setting encoder.old) (Some (Id id))) }
     requires own { foreign (E.setting encoder.old).interface (owner_at types.now id.index) ≡ None }
     requires resource { is_resource (kind_at types.now id.index) ≡ true }
-    ensures denotes { IfOk result (λ index. Denotes (E.scope encoder.new) index (OfValues (tree_in (E.setting encoder.old) (Some (Id id))))) }
+    ensures denotes { IfOk result (λ index. Denotes (E.scope encoder.new) index
+        (OfValues (tree_in (E.setting encoder.old) (Some (Id id))))) }
     ensures recorded { IfOk result (λ index. HasIndex (E.maps encoder.new) id) }
-    ensures named { IfOk result (λ index. IsNamed (E.setting encoder.old) (E.names encoder.new) id index) }
-    ensures adds { IfOk result (λ index. AddsParts (E.scope encoder.old) (E.scope encoder.new) (tree_in (E.setting encoder.old) (Some (Id id)))) }
+    ensures named { IfOk result
+        (λ index. IsNamed (E.setting encoder.old) (E.names encoder.new) id index) }
+    ensures adds { IfOk result (λ index. AddsParts (E.scope encoder.old) (E.scope encoder.new)
+        (tree_in (E.setting encoder.old) (Some (Id id)))) }
     ensures grows { Longer (E.scope encoder.old) (E.scope encoder.new) }
     ensures setting { E.setting encoder.new ≡ E.setting encoder.old }
-    ensures faithful { Faithful (E.setting encoder.new) (E.scope encoder.new) (E.names encoder.new) (E.offers encoder.new) (E.maps encoder.new) }
+    ensures faithful { Faithful (E.setting encoder.new) (E.scope encoder.new) (E.names encoder.new)
+        (E.offers encoder.new) (E.maps encoder.new) }
     ensures follows { E.follows encoder.old encoder.new }
     ensures cause { IfErr result (IsCause E.refuses encoder.new) }
 {
@@ -130,19 +149,24 @@ fn export_resource_as<E: ValtypeEncoder>(
 ) -> Result<u32, BuildFault>
     requires back { RefersBack types.now }
     requires same { (E.setting encoder.old).types ≡ types.now }
-    requires faithful { Faithful (E.setting encoder.old) (E.scope encoder.old) (E.names encoder.old) (E.offers encoder.old) (E.maps encoder.old) }
+    requires faithful { Faithful (E.setting encoder.old) (E.scope encoder.old) (E.names encoder.old)
+        (E.offers encoder.old) (E.maps encoder.old) }
     requires present { id.index < length types.now }
     requires title { name_at types.now id.index ≡ Some name }
     requires named { IsTrue (may_export_as (E.setting encoder.old) id.index (Some name)) }
     requires own { (E.setting encoder.old).may_own id.index ≡ true }
     requires resource { is_resource (kind_at types.now id.index) ≡ true }
-    ensures denotes { IfOk result (λ index. Denotes (E.scope encoder.new) index (OfValues (tree_in (E.setting encoder.old) (Some (Id id))))) }
+    ensures denotes { IfOk result (λ index. Denotes (E.scope encoder.new) index
+        (OfValues (tree_in (E.setting encoder.old) (Some (Id id))))) }
     ensures recorded { IfOk result (λ index. HasIndex (E.maps encoder.new) id) }
-    ensures named { IfOk result (λ index. IsNamed (E.setting encoder.old) (E.names encoder.new) id index) }
-    ensures adds { IfOk result (λ index. AddsParts (E.scope encoder.old) (E.scope encoder.new) (tree_in (E.setting encoder.old) (Some (Id id)))) }
+    ensures named { IfOk result
+        (λ index. IsNamed (E.setting encoder.old) (E.names encoder.new) id index) }
+    ensures adds { IfOk result (λ index. AddsParts (E.scope encoder.old) (E.scope encoder.new)
+        (tree_in (E.setting encoder.old) (Some (Id id)))) }
     ensures grows { Longer (E.scope encoder.old) (E.scope encoder.new) }
     ensures setting { E.setting encoder.new ≡ E.setting encoder.old }
-    ensures faithful { Faithful (E.setting encoder.new) (E.scope encoder.new) (E.names encoder.new) (E.offers encoder.new) (E.maps encoder.new) }
+    ensures faithful { Faithful (E.setting encoder.new) (E.scope encoder.new) (E.names encoder.new)
+        (E.offers encoder.new) (E.maps encoder.new) }
     ensures follows { E.follows encoder.old encoder.new }
     ensures cause { IfErr result (IsCause E.refuses encoder.new) }
 {
@@ -162,14 +186,19 @@ fn equal_type<E: ValtypeEncoder>(
 ) -> Result<Option<u32>, BuildFault>
     requires back { RefersBack types.now }
     requires same { (E.setting encoder.old).types ≡ types.now }
-    requires faithful { Faithful (E.setting encoder.old) (E.scope encoder.old) (E.names encoder.old) (E.offers encoder.old) (E.maps encoder.old) }
+    requires faithful { Faithful (E.setting encoder.old) (E.scope encoder.old) (E.names encoder.old)
+        (E.offers encoder.old) (E.maps encoder.old) }
     requires present { id.index < length types.now }
-    ensures denotes { IfOk result (λ found. IfSome found (λ index. Denotes (E.scope encoder.new) index (OfValues (tree_in (E.setting encoder.old) (Some (Id id)))))) }
-    ensures recorded { IfOk result (λ found. IfSome found (λ index. HasIndex (E.maps encoder.new) id)) }
-    ensures named { IfOk result (λ found. IfSome found (λ index. IsNamed (E.setting encoder.old) (E.names encoder.new) id index)) }
+    ensures denotes { IfOk result (λ found. IfSome found (λ index. Denotes (E.scope encoder.new)
+        index (OfValues (tree_in (E.setting encoder.old) (Some (Id id)))))) }
+    ensures recorded { IfOk result
+        (λ found. IfSome found (λ index. HasIndex (E.maps encoder.new) id)) }
+    ensures named { IfOk result (λ found. IfSome found
+        (λ index. IsNamed (E.setting encoder.old) (E.names encoder.new) id index)) }
     ensures scope { E.scope encoder.new ≡ E.scope encoder.old }
     ensures setting { E.setting encoder.new ≡ E.setting encoder.old }
-    ensures faithful { Faithful (E.setting encoder.new) (E.scope encoder.new) (E.names encoder.new) (E.offers encoder.new) (E.maps encoder.new) }
+    ensures faithful { Faithful (E.setting encoder.new) (E.scope encoder.new) (E.names encoder.new)
+        (E.offers encoder.new) (E.maps encoder.new) }
     ensures follows { E.follows encoder.old encoder.new }
     ensures cause { IfErr result (IsCause E.refuses encoder.new) }
 {

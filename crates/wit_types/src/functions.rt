@@ -35,14 +35,19 @@ pub(crate) fn encode_function<E: ValtypeEncoder>(
 ) -> Result<u32, BuildFault>
     requires back { RefersBack types.now }
     requires same { (E.setting encoder.old).types ≡ types.now }
-    requires faithful { Faithful (E.setting encoder.old) (E.scope encoder.old) (E.names encoder.old) (E.offers encoder.old) (E.maps encoder.old) }
-    requires params { AllByRecursion (λ p. MayEncode (E.setting encoder.old) types.now (Some p.ty)) (key_of function.now).params }
+    requires faithful { Faithful (E.setting encoder.old) (E.scope encoder.old) (E.names encoder.old)
+        (E.offers encoder.old) (E.maps encoder.old) }
+    requires params { AllByRecursion (λ p. MayEncode (E.setting encoder.old) types.now (Some p.ty))
+        (key_of function.now).params }
     requires result { MayEncode (E.setting encoder.old) types.now function.now.result }
-    ensures denotes { IfOk result (λ index. Denotes (E.scope encoder.new) index (OfFunctions (key_tree (E.setting encoder.old) (key_of function.now)))) }
-    ensures adds { IfOk result (λ index. MayAddFunction (E.scope encoder.old) (E.scope encoder.new) (key_tree (E.setting encoder.old) (key_of function.now))) }
+    ensures denotes { IfOk result (λ index. Denotes (E.scope encoder.new) index
+        (OfFunctions (key_tree (E.setting encoder.old) (key_of function.now)))) }
+    ensures adds { IfOk result (λ index. MayAddFunction (E.scope encoder.old) (E.scope encoder.new)
+        (key_tree (E.setting encoder.old) (key_of function.now))) }
     ensures grows { Longer (E.scope encoder.old) (E.scope encoder.new) }
     ensures setting { E.setting encoder.new ≡ E.setting encoder.old }
-    ensures faithful { Faithful (E.setting encoder.new) (E.scope encoder.new) (E.names encoder.new) (E.offers encoder.new) (E.maps encoder.new) }
+    ensures faithful { Faithful (E.setting encoder.new) (E.scope encoder.new) (E.names encoder.new)
+        (E.offers encoder.new) (E.maps encoder.new) }
     ensures follows { E.follows encoder.old encoder.new }
     ensures cause { IfErr result (IsCause E.refuses encoder.new) }
 {
@@ -100,14 +105,19 @@ fn encode_key<E: ValtypeEncoder>(
 ) -> Result<u32, BuildFault>
     requires back { RefersBack types.now }
     requires same { (E.setting encoder.old).types ≡ types.now }
-    requires faithful { Faithful (E.setting encoder.old) (E.scope encoder.old) (E.names encoder.old) (E.offers encoder.old) (E.maps encoder.old) }
-    requires params { AllByRecursion (λ p. MayEncode (E.setting encoder.old) types.now (Some p.ty)) key.params }
+    requires faithful { Faithful (E.setting encoder.old) (E.scope encoder.old) (E.names encoder.old)
+        (E.offers encoder.old) (E.maps encoder.old) }
+    requires params { AllByRecursion (λ p. MayEncode (E.setting encoder.old) types.now (Some p.ty))
+        key.params }
     requires result { MayEncode (E.setting encoder.old) types.now key.result }
-    ensures denotes { IfOk result (λ index. Denotes (E.scope encoder.new) index (OfFunctions (key_tree (E.setting encoder.old) key))) }
-    ensures adds { IfOk result (λ index. AddsFunction (E.scope encoder.old) (E.scope encoder.new) (key_tree (E.setting encoder.old) key)) }
+    ensures denotes { IfOk result (λ index. Denotes (E.scope encoder.new) index
+        (OfFunctions (key_tree (E.setting encoder.old) key))) }
+    ensures adds { IfOk result (λ index. AddsFunction (E.scope encoder.old) (E.scope encoder.new)
+        (key_tree (E.setting encoder.old) key)) }
     ensures grows { Longer (E.scope encoder.old) (E.scope encoder.new) }
     ensures setting { E.setting encoder.new ≡ E.setting encoder.old }
-    ensures faithful { Faithful (E.setting encoder.new) (E.scope encoder.new) (E.names encoder.new) (E.offers encoder.new) (E.maps encoder.new) }
+    ensures faithful { Faithful (E.setting encoder.new) (E.scope encoder.new) (E.names encoder.new)
+        (E.offers encoder.new) (E.maps encoder.new) }
     ensures follows { E.follows encoder.old encoder.new }
     ensures cause { IfErr result (IsCause E.refuses encoder.new) }
 {
@@ -125,14 +135,19 @@ fn define_function<E: ValtypeEncoder>(
 ) -> Result<u32, BuildFault>
     requires back { RefersBack types.now }
     requires same { (E.setting encoder.old).types ≡ types.now }
-    requires faithful { Faithful (E.setting encoder.old) (E.scope encoder.old) (E.names encoder.old) (E.offers encoder.old) (E.maps encoder.old) }
-    requires params { AllByRecursion (λ p. MayEncode (E.setting encoder.old) types.now (Some p.ty)) key.now.params }
+    requires faithful { Faithful (E.setting encoder.old) (E.scope encoder.old) (E.names encoder.old)
+        (E.offers encoder.old) (E.maps encoder.old) }
+    requires params { AllByRecursion (λ p. MayEncode (E.setting encoder.old) types.now (Some p.ty))
+        key.now.params }
     requires result { MayEncode (E.setting encoder.old) types.now key.now.result }
-    ensures denotes { IfOk result (λ index. Denotes (E.scope encoder.new) index (OfFunctions (key_tree (E.setting encoder.old) key.now))) }
-    ensures adds { IfOk result (λ index. AddsFunction (E.scope encoder.old) (E.scope encoder.new) (key_tree (E.setting encoder.old) key.now)) }
+    ensures denotes { IfOk result (λ index. Denotes (E.scope encoder.new) index
+        (OfFunctions (key_tree (E.setting encoder.old) key.now))) }
+    ensures adds { IfOk result (λ index. AddsFunction (E.scope encoder.old) (E.scope encoder.new)
+        (key_tree (E.setting encoder.old) key.now)) }
     ensures grows { Longer (E.scope encoder.old) (E.scope encoder.new) }
     ensures setting { E.setting encoder.new ≡ E.setting encoder.old }
-    ensures faithful { Faithful (E.setting encoder.new) (E.scope encoder.new) (E.names encoder.new) (E.offers encoder.new) (E.maps encoder.new) }
+    ensures faithful { Faithful (E.setting encoder.new) (E.scope encoder.new) (E.names encoder.new)
+        (E.offers encoder.new) (E.maps encoder.new) }
     ensures follows { E.follows encoder.old encoder.new }
     ensures cause { IfErr result (IsCause E.refuses encoder.new) }
 {
@@ -148,14 +163,20 @@ fn define_made<E: ValtypeEncoder>(
     params: Seq<Field>,
     returned: Option<ComponentValType>,
 ) -> Result<u32, BuildFault>
-    requires faithful { Faithful (E.setting encoder.old) (E.scope encoder.old) (E.names encoder.old) (E.offers encoder.old) (E.maps encoder.old) }
-    requires params { FieldsDenote (E.setting encoder.old) (E.scope encoder.old) params key.now.params }
-    requires result { PartDenotes (E.setting encoder.old) (E.scope encoder.old) returned key.now.result }
-    ensures denotes { IfOk result (λ index. Denotes (E.scope encoder.new) index (OfFunctions (key_tree (E.setting encoder.old) key.now))) }
-    ensures adds { IfOk result (λ index. AddsOne (E.scope encoder.old) (E.scope encoder.new) (OfFunctions (key_tree (E.setting encoder.old) key.now))) }
+    requires faithful { Faithful (E.setting encoder.old) (E.scope encoder.old) (E.names encoder.old)
+        (E.offers encoder.old) (E.maps encoder.old) }
+    requires params { FieldsDenote (E.setting encoder.old) (E.scope encoder.old) params
+        key.now.params }
+    requires result { PartDenotes (E.setting encoder.old) (E.scope encoder.old) returned
+        key.now.result }
+    ensures denotes { IfOk result (λ index. Denotes (E.scope encoder.new) index
+        (OfFunctions (key_tree (E.setting encoder.old) key.now))) }
+    ensures adds { IfOk result (λ index. AddsOne (E.scope encoder.old) (E.scope encoder.new)
+        (OfFunctions (key_tree (E.setting encoder.old) key.now))) }
     ensures grows { Longer (E.scope encoder.old) (E.scope encoder.new) }
     ensures setting { E.setting encoder.new ≡ E.setting encoder.old }
-    ensures faithful { Faithful (E.setting encoder.new) (E.scope encoder.new) (E.names encoder.new) (E.offers encoder.new) (E.maps encoder.new) }
+    ensures faithful { Faithful (E.setting encoder.new) (E.scope encoder.new) (E.names encoder.new)
+        (E.offers encoder.new) (E.maps encoder.new) }
     ensures follows { E.follows encoder.old encoder.new }
     ensures cause { IfErr result (IsCause E.refuses encoder.new) }
 {
@@ -175,13 +196,19 @@ fn encode_params<E: ValtypeEncoder>(
 ) -> Result<Seq<Field>, BuildFault>
     requires back { RefersBack types.now }
     requires same { (E.setting encoder.old).types ≡ types.now }
-    requires faithful { Faithful (E.setting encoder.old) (E.scope encoder.old) (E.names encoder.old) (E.offers encoder.old) (E.maps encoder.old) }
-    requires params { AllByRecursion (λ p. MayEncode (E.setting encoder.old) types.now (Some p.ty)) params.now }
-    ensures fields { IfOk result (λ fields. FieldsDenote (E.setting encoder.old) (E.scope encoder.new) fields params.now) }
-    ensures adds { IfOk result (λ fields. AreEncoded (E.scope encoder.old) (map (λ p. tree_in (E.setting encoder.old) (Some p.ty)) params.now) (E.scope encoder.new)) }
+    requires faithful { Faithful (E.setting encoder.old) (E.scope encoder.old) (E.names encoder.old)
+        (E.offers encoder.old) (E.maps encoder.old) }
+    requires params { AllByRecursion (λ p. MayEncode (E.setting encoder.old) types.now (Some p.ty))
+        params.now }
+    ensures fields { IfOk result
+        (λ fields. FieldsDenote (E.setting encoder.old) (E.scope encoder.new) fields params.now) }
+    ensures adds { IfOk result (λ fields. AreEncoded (E.scope encoder.old)
+        (map (λ p. tree_in (E.setting encoder.old) (Some p.ty)) params.now)
+        (E.scope encoder.new)) }
     ensures grows { Longer (E.scope encoder.old) (E.scope encoder.new) }
     ensures setting { E.setting encoder.new ≡ E.setting encoder.old }
-    ensures faithful { Faithful (E.setting encoder.new) (E.scope encoder.new) (E.names encoder.new) (E.offers encoder.new) (E.maps encoder.new) }
+    ensures faithful { Faithful (E.setting encoder.new) (E.scope encoder.new) (E.names encoder.new)
+        (E.offers encoder.new) (E.maps encoder.new) }
     ensures follows { E.follows encoder.old encoder.new }
     ensures cause { IfErr result (IsCause E.refuses encoder.new) }
 {
@@ -201,13 +228,17 @@ fn encode_param<E: ValtypeEncoder>(
 ) -> Result<Field, BuildFault>
     requires back { RefersBack types.now }
     requires same { (E.setting encoder.old).types ≡ types.now }
-    requires faithful { Faithful (E.setting encoder.old) (E.scope encoder.old) (E.names encoder.old) (E.offers encoder.old) (E.maps encoder.old) }
+    requires faithful { Faithful (E.setting encoder.old) (E.scope encoder.old) (E.names encoder.old)
+        (E.offers encoder.old) (E.maps encoder.old) }
     requires param { MayEncode (E.setting encoder.old) types.now (Some param.now.ty) }
-    ensures field { IfOk result (λ field. FieldDenotes (E.setting encoder.old) (E.scope encoder.new) field param.now) }
-    ensures adds { IfOk result (λ field. IsEncoded (E.scope encoder.old) (E.scope encoder.new) (tree_in (E.setting encoder.old) (Some param.now.ty))) }
+    ensures field { IfOk result
+        (λ field. FieldDenotes (E.setting encoder.old) (E.scope encoder.new) field param.now) }
+    ensures adds { IfOk result (λ field. IsEncoded (E.scope encoder.old) (E.scope encoder.new)
+        (tree_in (E.setting encoder.old) (Some param.now.ty))) }
     ensures grows { Longer (E.scope encoder.old) (E.scope encoder.new) }
     ensures setting { E.setting encoder.new ≡ E.setting encoder.old }
-    ensures faithful { Faithful (E.setting encoder.new) (E.scope encoder.new) (E.names encoder.new) (E.offers encoder.new) (E.maps encoder.new) }
+    ensures faithful { Faithful (E.setting encoder.new) (E.scope encoder.new) (E.names encoder.new)
+        (E.offers encoder.new) (E.maps encoder.new) }
     ensures follows { E.follows encoder.old encoder.new }
     ensures cause { IfErr result (IsCause E.refuses encoder.new) }
 {
@@ -225,13 +256,18 @@ fn encode_payload<E: ValtypeEncoder>(
 ) -> Result<Option<ComponentValType>, BuildFault>
     requires back { RefersBack types.now }
     requires same { (E.setting encoder.old).types ≡ types.now }
-    requires faithful { Faithful (E.setting encoder.old) (E.scope encoder.old) (E.names encoder.old) (E.offers encoder.old) (E.maps encoder.old) }
+    requires faithful { Faithful (E.setting encoder.old) (E.scope encoder.old) (E.names encoder.old)
+        (E.offers encoder.old) (E.maps encoder.old) }
     requires part { MayEncode (E.setting encoder.old) types.now part }
-    ensures value { IfOk result (λ v. PartDenotes (E.setting encoder.old) (E.scope encoder.new) v part) }
-    ensures adds { IfOk result (λ v. AreEncoded (E.scope encoder.old) (option_to_list (option_map (λ t. tree_in (E.setting encoder.old) (Some t)) part)) (E.scope encoder.new)) }
+    ensures value { IfOk result
+        (λ v. PartDenotes (E.setting encoder.old) (E.scope encoder.new) v part) }
+    ensures adds { IfOk result (λ v. AreEncoded (E.scope encoder.old)
+        (option_to_list (option_map (λ t. tree_in (E.setting encoder.old) (Some t)) part))
+        (E.scope encoder.new)) }
     ensures grows { Longer (E.scope encoder.old) (E.scope encoder.new) }
     ensures setting { E.setting encoder.new ≡ E.setting encoder.old }
-    ensures faithful { Faithful (E.setting encoder.new) (E.scope encoder.new) (E.names encoder.new) (E.offers encoder.new) (E.maps encoder.new) }
+    ensures faithful { Faithful (E.setting encoder.new) (E.scope encoder.new) (E.names encoder.new)
+        (E.offers encoder.new) (E.maps encoder.new) }
     ensures follows { E.follows encoder.old encoder.new }
     ensures cause { IfErr result (IsCause E.refuses encoder.new) }
 {

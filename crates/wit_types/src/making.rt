@@ -33,15 +33,20 @@ pub(crate) fn define<E: ValtypeEncoder>(
 ) -> Result<ComponentValType, BuildFault>
     requires back { RefersBack types.now }
     requires same { (E.setting encoder.old).types ≡ types.now }
-    requires faithful { Faithful (E.setting encoder.old) (E.scope encoder.old) (E.names encoder.old) (E.offers encoder.old) (E.maps encoder.old) }
+    requires faithful { Faithful (E.setting encoder.old) (E.scope encoder.old) (E.names encoder.old)
+        (E.offers encoder.old) (E.maps encoder.old) }
     requires present { id.index < length types.now }
     requires defined { IsDefinedHere (E.setting encoder.old) (kind_at types.now id.index) }
-    requires parts { PartsDenote (E.setting encoder.old) (E.scope encoder.old) given.now (kind_at types.now id.index) }
-    ensures value { IfOk result (λ v. ValueDenotes (E.scope encoder.new) v (tree_in (E.setting encoder.old) (Some (Id id)))) }
-    ensures adds { IfOk result (λ v. AddsParts (E.scope encoder.old) (E.scope encoder.new) (tree_in (E.setting encoder.old) (Some (Id id)))) }
+    requires parts { PartsDenote (E.setting encoder.old) (E.scope encoder.old) given.now
+        (kind_at types.now id.index) }
+    ensures value { IfOk result (λ v. ValueDenotes (E.scope encoder.new) v
+        (tree_in (E.setting encoder.old) (Some (Id id)))) }
+    ensures adds { IfOk result (λ v. AddsParts (E.scope encoder.old) (E.scope encoder.new)
+        (tree_in (E.setting encoder.old) (Some (Id id)))) }
     ensures grows { Longer (E.scope encoder.old) (E.scope encoder.new) }
     ensures setting { E.setting encoder.new ≡ E.setting encoder.old }
-    ensures faithful { Faithful (E.setting encoder.new) (E.scope encoder.new) (E.names encoder.new) (E.offers encoder.new) (E.maps encoder.new) }
+    ensures faithful { Faithful (E.setting encoder.new) (E.scope encoder.new) (E.names encoder.new)
+        (E.offers encoder.new) (E.maps encoder.new) }
     ensures follows { E.follows encoder.old encoder.new }
     ensures cause { IfErr result (IsCause E.refuses encoder.new) }
 {
@@ -60,7 +65,8 @@ fn only_value<E: ValtypeEncoder>(
     ty: Type,
 ) -> ComponentValType
     requires only { OnlyPart (E.setting _encoder.now) (E.scope _encoder.now) given.now ty }
-    ensures { ValueDenotes (E.scope _encoder.now) result (tree_in (E.setting _encoder.now) (Some ty)) }
+    ensures { ValueDenotes (E.scope _encoder.now) result
+        (tree_in (E.setting _encoder.now) (Some ty)) }
 {
     match first(given) {
         Some(value) => value,
@@ -74,13 +80,17 @@ fn define_own<E: ValtypeEncoder>(
     given: &[Option<ComponentValType>],
     resource: TypeId,
 ) -> Result<ComponentValType, BuildFault>
-    requires faithful { Faithful (E.setting encoder.old) (E.scope encoder.old) (E.names encoder.old) (E.offers encoder.old) (E.maps encoder.old) }
+    requires faithful { Faithful (E.setting encoder.old) (E.scope encoder.old) (E.names encoder.old)
+        (E.offers encoder.old) (E.maps encoder.old) }
     requires only { OnlyPart (E.setting encoder.old) (E.scope encoder.old) given.now (Id resource) }
-    ensures value { IfOk result (λ v. ValueDenotes (E.scope encoder.new) v (OwnOf (tree_in (E.setting encoder.old) (Some (Id resource))))) }
-    ensures adds { IfOk result (λ v. AddsParts (E.scope encoder.old) (E.scope encoder.new) (OwnOf (tree_in (E.setting encoder.old) (Some (Id resource))))) }
+    ensures value { IfOk result (λ v. ValueDenotes (E.scope encoder.new) v
+        (OwnOf (tree_in (E.setting encoder.old) (Some (Id resource))))) }
+    ensures adds { IfOk result (λ v. AddsParts (E.scope encoder.old) (E.scope encoder.new)
+        (OwnOf (tree_in (E.setting encoder.old) (Some (Id resource))))) }
     ensures grows { Longer (E.scope encoder.old) (E.scope encoder.new) }
     ensures setting { E.setting encoder.new ≡ E.setting encoder.old }
-    ensures faithful { Faithful (E.setting encoder.new) (E.scope encoder.new) (E.names encoder.new) (E.offers encoder.new) (E.maps encoder.new) }
+    ensures faithful { Faithful (E.setting encoder.new) (E.scope encoder.new) (E.names encoder.new)
+        (E.offers encoder.new) (E.maps encoder.new) }
     ensures follows { E.follows encoder.old encoder.new }
     ensures cause { IfErr result (IsCause E.refuses encoder.new) }
 {
@@ -96,13 +106,17 @@ fn define_borrow<E: ValtypeEncoder>(
     given: &[Option<ComponentValType>],
     resource: TypeId,
 ) -> Result<ComponentValType, BuildFault>
-    requires faithful { Faithful (E.setting encoder.old) (E.scope encoder.old) (E.names encoder.old) (E.offers encoder.old) (E.maps encoder.old) }
+    requires faithful { Faithful (E.setting encoder.old) (E.scope encoder.old) (E.names encoder.old)
+        (E.offers encoder.old) (E.maps encoder.old) }
     requires only { OnlyPart (E.setting encoder.old) (E.scope encoder.old) given.now (Id resource) }
-    ensures value { IfOk result (λ v. ValueDenotes (E.scope encoder.new) v (BorrowOf (tree_in (E.setting encoder.old) (Some (Id resource))))) }
-    ensures adds { IfOk result (λ v. AddsParts (E.scope encoder.old) (E.scope encoder.new) (BorrowOf (tree_in (E.setting encoder.old) (Some (Id resource))))) }
+    ensures value { IfOk result (λ v. ValueDenotes (E.scope encoder.new) v
+        (BorrowOf (tree_in (E.setting encoder.old) (Some (Id resource))))) }
+    ensures adds { IfOk result (λ v. AddsParts (E.scope encoder.old) (E.scope encoder.new)
+        (BorrowOf (tree_in (E.setting encoder.old) (Some (Id resource))))) }
     ensures grows { Longer (E.scope encoder.old) (E.scope encoder.new) }
     ensures setting { E.setting encoder.new ≡ E.setting encoder.old }
-    ensures faithful { Faithful (E.setting encoder.new) (E.scope encoder.new) (E.names encoder.new) (E.offers encoder.new) (E.maps encoder.new) }
+    ensures faithful { Faithful (E.setting encoder.new) (E.scope encoder.new) (E.names encoder.new)
+        (E.offers encoder.new) (E.maps encoder.new) }
     ensures follows { E.follows encoder.old encoder.new }
     ensures cause { IfErr result (IsCause E.refuses encoder.new) }
 {
@@ -119,14 +133,22 @@ fn define_kind<E: ValtypeEncoder>(
     kind: &TypeDefKind,
     given: &[Option<ComponentValType>],
 ) -> Result<ComponentValType, BuildFault>
-    requires faithful { Faithful (E.setting encoder.old) (E.scope encoder.old) (E.names encoder.old) (E.offers encoder.old) (E.maps encoder.old) }
+    requires faithful { Faithful (E.setting encoder.old) (E.scope encoder.old) (E.names encoder.old)
+        (E.offers encoder.old) (E.maps encoder.old) }
     requires defined { IsDefined kind.now }
     requires parts { PartsDenote (E.setting encoder.old) (E.scope encoder.old) given.now kind.now }
-    ensures value { (n : ℕ) → IfOk result (λ v. ValueDenotes (E.scope encoder.new) v (kind_tree (E.setting encoder.old).origin n kind.now (map (tree_in (E.setting encoder.old)) (parts kind.now)))) }
-    ensures adds { (n : ℕ) → IfOk result (λ v. AddsParts (E.scope encoder.old) (E.scope encoder.new) (kind_tree (E.setting encoder.old).origin n kind.now (map (tree_in (E.setting encoder.old)) (parts kind.now)))) }
+    ensures value { (n : ℕ)
+        → IfOk result (λ v. ValueDenotes (E.scope encoder.new) v (kind_tree
+        (E.setting encoder.old).origin n kind.now
+        (map (tree_in (E.setting encoder.old)) (parts kind.now)))) }
+    ensures adds { (n : ℕ)
+        → IfOk result (λ v. AddsParts (E.scope encoder.old) (E.scope encoder.new) (kind_tree
+        (E.setting encoder.old).origin n kind.now
+        (map (tree_in (E.setting encoder.old)) (parts kind.now)))) }
     ensures grows { Longer (E.scope encoder.old) (E.scope encoder.new) }
     ensures setting { E.setting encoder.new ≡ E.setting encoder.old }
-    ensures faithful { Faithful (E.setting encoder.new) (E.scope encoder.new) (E.names encoder.new) (E.offers encoder.new) (E.maps encoder.new) }
+    ensures faithful { Faithful (E.setting encoder.new) (E.scope encoder.new) (E.names encoder.new)
+        (E.offers encoder.new) (E.maps encoder.new) }
     ensures follows { E.follows encoder.old encoder.new }
     ensures cause { IfErr result (IsCause E.refuses encoder.new) }
 {
@@ -141,12 +163,18 @@ pub(crate) fn index_of<E: ValtypeEncoder>(
     encoder: &mut E,
     value: ComponentValType,
 ) -> Result<u32, BuildFault>
-    requires faithful { Faithful (E.setting encoder.old) (E.scope encoder.old) (E.names encoder.old) (E.offers encoder.old) (E.maps encoder.old) }
-    ensures denotes { (t : Tree) → ValueDenotes (E.scope encoder.old) value t → IfOk result (λ index. Denotes (E.scope encoder.new) index (OfValues t)) }
-    ensures adds { (t : Tree) → ValueDenotes (E.scope encoder.old) value t → IfOk result (λ index. AddsParts (E.scope encoder.old) (E.scope encoder.new) t) }
+    requires faithful { Faithful (E.setting encoder.old) (E.scope encoder.old) (E.names encoder.old)
+        (E.offers encoder.old) (E.maps encoder.old) }
+    ensures denotes { (t : Tree)
+        → ValueDenotes (E.scope encoder.old) value t
+        → IfOk result (λ index. Denotes (E.scope encoder.new) index (OfValues t)) }
+    ensures adds { (t : Tree)
+        → ValueDenotes (E.scope encoder.old) value t
+        → IfOk result (λ index. AddsParts (E.scope encoder.old) (E.scope encoder.new) t) }
     ensures grows { Longer (E.scope encoder.old) (E.scope encoder.new) }
     ensures setting { E.setting encoder.new ≡ E.setting encoder.old }
-    ensures faithful { Faithful (E.setting encoder.new) (E.scope encoder.new) (E.names encoder.new) (E.offers encoder.new) (E.maps encoder.new) }
+    ensures faithful { Faithful (E.setting encoder.new) (E.scope encoder.new) (E.names encoder.new)
+        (E.offers encoder.new) (E.maps encoder.new) }
     ensures follows { E.follows encoder.old encoder.new }
     ensures cause { IfErr result (IsCause E.refuses encoder.new) }
 {
@@ -163,14 +191,18 @@ pub(crate) fn define_type<E: ValtypeEncoder>(
     encoder: &mut E,
     ty: DefinedType,
 ) -> Result<u32, BuildFault>
-    requires faithful { Faithful (E.setting encoder.old) (E.scope encoder.old) (E.names encoder.old) (E.offers encoder.old) (E.maps encoder.old) }
+    requires faithful { Faithful (E.setting encoder.old) (E.scope encoder.old) (E.names encoder.old)
+        (E.offers encoder.old) (E.maps encoder.old) }
     requires present { AreTypes (length (E.scope encoder.old)) (defined_references ty) }
     requires known { is_known (defined_tree (E.scope encoder.old) ty) ≡ true }
-    ensures denotes { IfOk result (λ index. Denotes (E.scope encoder.new) index (OfValues (defined_tree (E.scope encoder.old) ty))) }
-    ensures adds { IfOk result (λ index. AddsOne (E.scope encoder.old) (E.scope encoder.new) (OfValues (defined_tree (E.scope encoder.old) ty))) }
+    ensures denotes { IfOk result (λ index. Denotes (E.scope encoder.new) index
+        (OfValues (defined_tree (E.scope encoder.old) ty))) }
+    ensures adds { IfOk result (λ index. AddsOne (E.scope encoder.old) (E.scope encoder.new)
+        (OfValues (defined_tree (E.scope encoder.old) ty))) }
     ensures grows { Longer (E.scope encoder.old) (E.scope encoder.new) }
     ensures setting { E.setting encoder.new ≡ E.setting encoder.old }
-    ensures faithful { Faithful (E.setting encoder.new) (E.scope encoder.new) (E.names encoder.new) (E.offers encoder.new) (E.maps encoder.new) }
+    ensures faithful { Faithful (E.setting encoder.new) (E.scope encoder.new) (E.names encoder.new)
+        (E.offers encoder.new) (E.maps encoder.new) }
     ensures follows { E.follows encoder.old encoder.new }
     ensures cause { IfErr result (IsCause E.refuses encoder.new) }
 {

@@ -82,7 +82,11 @@ impl TypeEncodingMaps {
 
     /// Records the index of a type, unless it has one.
     pub fn record_type(&mut self, id: TypeId, index: u32) -> Result<(), AllocError>
-        ensures ok { OnOk result (self.new ≡ record self.old { id_to_index = with_first (⟦<TypeId as PartialEq>⟧.eq) self.old.id_to_index id index }) }
+        ensures ok { OnOk result (self.new
+            ≡ record self.old {
+              id_to_index = with_first (⟦<TypeId as PartialEq>⟧.eq)
+                  self.old.id_to_index id index;
+            }) }
         ensures err { OnErr result (self.new ≡ self.old) }
     {
         self.id_to_index.insert_if_absent(id, index)
@@ -90,7 +94,11 @@ impl TypeEncodingMaps {
 
     /// Records the index of a type without a name, by its kind, unless it has one.
     pub fn record_kind(&mut self, kind: TypeDefKind, index: u32) -> Result<(), AllocError>
-        ensures ok { OnOk result (self.new ≡ record self.old { def_to_index = with_first (⟦<TypeDefKind as PartialEq>⟧.eq) self.old.def_to_index kind index }) }
+        ensures ok { OnOk result (self.new
+            ≡ record self.old {
+              def_to_index = with_first (⟦<TypeDefKind as PartialEq>⟧.eq)
+                  self.old.def_to_index kind index;
+            }) }
         ensures err { OnErr result (self.new ≡ self.old) }
     {
         self.def_to_index.insert_if_absent(kind, index)
@@ -98,7 +106,11 @@ impl TypeEncodingMaps {
 
     /// Records the index of the type of the functions with this key, unless it has one.
     pub fn record_function(&mut self, key: FuncTypeKey, index: u32) -> Result<(), AllocError>
-        ensures ok { OnOk result (self.new ≡ record self.old { func_type_map = with_first (⟦<FuncTypeKey as PartialEq>⟧.eq) self.old.func_type_map key index }) }
+        ensures ok { OnOk result (self.new
+            ≡ record self.old {
+              func_type_map = with_first (⟦<FuncTypeKey as PartialEq>⟧.eq)
+                  self.old.func_type_map key index;
+            }) }
         ensures err { OnErr result (self.new ≡ self.old) }
     {
         self.func_type_map.insert_if_absent(key, index)
@@ -106,7 +118,13 @@ impl TypeEncodingMaps {
 
     /// Forgets a type that was met: its index, and that of the types without a name of its kind.
     pub fn forget(&mut self, id: TypeId, kind: &TypeDefKind)
-        ensures { self.new ≡ record self.old { id_to_index = swap_remove_entry (⟦<TypeId as PartialEq>⟧.eq id) self.old.id_to_index; def_to_index = swap_remove_entry (⟦<TypeDefKind as PartialEq>⟧.eq kind.now) self.old.def_to_index } }
+        ensures { self.new
+            ≡ record self.old {
+              id_to_index = swap_remove_entry (⟦<TypeId as PartialEq>⟧.eq id)
+                  self.old.id_to_index;
+              def_to_index = swap_remove_entry
+                  (⟦<TypeDefKind as PartialEq>⟧.eq kind.now) self.old.def_to_index;
+            } }
     {
         self.id_to_index.remove(&id);
         self.def_to_index.remove(kind);

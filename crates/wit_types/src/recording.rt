@@ -32,18 +32,24 @@ pub(crate) fn export_and_record<E: ValtypeEncoder>(
 ) -> Result<ComponentValType, BuildFault>
     requires back { RefersBack types.now }
     requires same { (E.setting encoder.old).types ≡ types.now }
-    requires faithful { Faithful (E.setting encoder.old) (E.scope encoder.old) (E.names encoder.old) (E.offers encoder.old) (E.maps encoder.old) }
+    requires faithful { Faithful (E.setting encoder.old) (E.scope encoder.old) (E.names encoder.old)
+        (E.offers encoder.old) (E.maps encoder.old) }
     requires present { id.index < length types.now }
     requires own { (E.setting encoder.old).may_own id.index ≡ true }
     requires values { is_resource (kind_at types.now id.index) ≡ false }
-    requires value { ValueDenotes (E.scope encoder.old) value (tree_in (E.setting encoder.old) (Some (Id id))) }
-    ensures value { IfOk result (λ v. ValueDenotes (E.scope encoder.new) v (tree_in (E.setting encoder.old) (Some (Id id)))) }
+    requires value { ValueDenotes (E.scope encoder.old) value
+        (tree_in (E.setting encoder.old) (Some (Id id))) }
+    ensures value { IfOk result (λ v. ValueDenotes (E.scope encoder.new) v
+        (tree_in (E.setting encoder.old) (Some (Id id)))) }
     ensures recorded { IfOk result (λ v. IsRecorded (E.maps encoder.new) (Id id) v) }
-    ensures named { IfOk result (λ v. IsNamedValue (E.setting encoder.old) (E.names encoder.new) (Id id) v) }
-    ensures adds { IfOk result (λ v. AddsParts (E.scope encoder.old) (E.scope encoder.new) (tree_in (E.setting encoder.old) (Some (Id id)))) }
+    ensures named { IfOk result
+        (λ v. IsNamedValue (E.setting encoder.old) (E.names encoder.new) (Id id) v) }
+    ensures adds { IfOk result (λ v. AddsParts (E.scope encoder.old) (E.scope encoder.new)
+        (tree_in (E.setting encoder.old) (Some (Id id)))) }
     ensures grows { Longer (E.scope encoder.old) (E.scope encoder.new) }
     ensures setting { E.setting encoder.new ≡ E.setting encoder.old }
-    ensures faithful { Faithful (E.setting encoder.new) (E.scope encoder.new) (E.names encoder.new) (E.offers encoder.new) (E.maps encoder.new) }
+    ensures faithful { Faithful (E.setting encoder.new) (E.scope encoder.new) (E.names encoder.new)
+        (E.offers encoder.new) (E.maps encoder.new) }
     ensures follows { E.follows encoder.old encoder.new }
     ensures cause { IfErr result (IsCause E.refuses encoder.new) }
 {
@@ -63,18 +69,24 @@ fn record_named<E: ValtypeEncoder>(
 ) -> Result<ComponentValType, BuildFault>
     requires back { RefersBack types.now }
     requires same { (E.setting encoder.old).types ≡ types.now }
-    requires faithful { Faithful (E.setting encoder.old) (E.scope encoder.old) (E.names encoder.old) (E.offers encoder.old) (E.maps encoder.old) }
+    requires faithful { Faithful (E.setting encoder.old) (E.scope encoder.old) (E.names encoder.old)
+        (E.offers encoder.old) (E.maps encoder.old) }
     requires present { id.index < length types.now }
     requires own { (E.setting encoder.old).may_own id.index ≡ true }
     requires named { name_at types.now id.index ≡ Some name }
-    requires value { ValueDenotes (E.scope encoder.old) value (tree_in (E.setting encoder.old) (Some (Id id))) }
-    ensures value { IfOk result (λ v. ValueDenotes (E.scope encoder.new) v (tree_in (E.setting encoder.old) (Some (Id id)))) }
+    requires value { ValueDenotes (E.scope encoder.old) value
+        (tree_in (E.setting encoder.old) (Some (Id id))) }
+    ensures value { IfOk result (λ v. ValueDenotes (E.scope encoder.new) v
+        (tree_in (E.setting encoder.old) (Some (Id id)))) }
     ensures recorded { IfOk result (λ v. IsRecorded (E.maps encoder.new) (Id id) v) }
-    ensures named { IfOk result (λ v. IsNamedValue (E.setting encoder.old) (E.names encoder.new) (Id id) v) }
-    ensures adds { IfOk result (λ v. AddsParts (E.scope encoder.old) (E.scope encoder.new) (tree_in (E.setting encoder.old) (Some (Id id)))) }
+    ensures named { IfOk result
+        (λ v. IsNamedValue (E.setting encoder.old) (E.names encoder.new) (Id id) v) }
+    ensures adds { IfOk result (λ v. AddsParts (E.scope encoder.old) (E.scope encoder.new)
+        (tree_in (E.setting encoder.old) (Some (Id id)))) }
     ensures grows { Longer (E.scope encoder.old) (E.scope encoder.new) }
     ensures setting { E.setting encoder.new ≡ E.setting encoder.old }
-    ensures faithful { Faithful (E.setting encoder.new) (E.scope encoder.new) (E.names encoder.new) (E.offers encoder.new) (E.maps encoder.new) }
+    ensures faithful { Faithful (E.setting encoder.new) (E.scope encoder.new) (E.names encoder.new)
+        (E.offers encoder.new) (E.maps encoder.new) }
     ensures follows { E.follows encoder.old encoder.new }
     ensures cause { IfErr result (IsCause E.refuses encoder.new) }
 {
@@ -84,7 +96,8 @@ fn record_named<E: ValtypeEncoder>(
     Ok(ComponentValType::Defined(index))
 }
 
-/// Exports a type under its name, and returns the index of the export, or that of the type where the scope exports none.
+/// Exports a type under its name, and returns the index of the export, or that of the type where
+/// the scope exports none.
 fn export_index<E: ValtypeEncoder>(
     encoder: &mut E,
     types: &[TypeDef],
@@ -94,17 +107,23 @@ fn export_index<E: ValtypeEncoder>(
 ) -> Result<u32, BuildFault>
     requires back { RefersBack types.now }
     requires same { (E.setting encoder.old).types ≡ types.now }
-    requires faithful { Faithful (E.setting encoder.old) (E.scope encoder.old) (E.names encoder.old) (E.offers encoder.old) (E.maps encoder.old) }
+    requires faithful { Faithful (E.setting encoder.old) (E.scope encoder.old) (E.names encoder.old)
+        (E.offers encoder.old) (E.maps encoder.old) }
     requires present { id.index < length types.now }
     requires own { (E.setting encoder.old).may_own id.index ≡ true }
     requires named { name_at types.now id.index ≡ Some name }
-    requires denotes { Denotes (E.scope encoder.old) defined (OfValues (tree_in (E.setting encoder.old) (Some (Id id)))) }
-    ensures named { IfOk result (λ index. IsNamed (E.setting encoder.old) (E.names encoder.new) id index) }
-    ensures denotes { IfOk result (λ index. Denotes (E.scope encoder.new) index (OfValues (tree_in (E.setting encoder.old) (Some (Id id))))) }
-    ensures adds { IfOk result (λ index. AddsParts (E.scope encoder.old) (E.scope encoder.new) (tree_in (E.setting encoder.old) (Some (Id id)))) }
+    requires denotes { Denotes (E.scope encoder.old) defined
+        (OfValues (tree_in (E.setting encoder.old) (Some (Id id)))) }
+    ensures named { IfOk result
+        (λ index. IsNamed (E.setting encoder.old) (E.names encoder.new) id index) }
+    ensures denotes { IfOk result (λ index. Denotes (E.scope encoder.new) index
+        (OfValues (tree_in (E.setting encoder.old) (Some (Id id))))) }
+    ensures adds { IfOk result (λ index. AddsParts (E.scope encoder.old) (E.scope encoder.new)
+        (tree_in (E.setting encoder.old) (Some (Id id)))) }
     ensures grows { Longer (E.scope encoder.old) (E.scope encoder.new) }
     ensures setting { E.setting encoder.new ≡ E.setting encoder.old }
-    ensures faithful { Faithful (E.setting encoder.new) (E.scope encoder.new) (E.names encoder.new) (E.offers encoder.new) (E.maps encoder.new) }
+    ensures faithful { Faithful (E.setting encoder.new) (E.scope encoder.new) (E.names encoder.new)
+        (E.offers encoder.new) (E.maps encoder.new) }
     ensures follows { E.follows encoder.old encoder.new }
     ensures cause { IfErr result (IsCause E.refuses encoder.new) }
 {
@@ -131,17 +150,22 @@ fn record_unnamed<E: ValtypeEncoder>(
 ) -> Result<ComponentValType, BuildFault>
     requires back { RefersBack types.now }
     requires same { (E.setting encoder.old).types ≡ types.now }
-    requires faithful { Faithful (E.setting encoder.old) (E.scope encoder.old) (E.names encoder.old) (E.offers encoder.old) (E.maps encoder.old) }
+    requires faithful { Faithful (E.setting encoder.old) (E.scope encoder.old) (E.names encoder.old)
+        (E.offers encoder.old) (E.maps encoder.old) }
     requires present { id.index < length types.now }
     requires unnamed { name_at types.now id.index ≡ None }
     requires values { is_resource (kind_at types.now id.index) ≡ false }
-    requires value { ValueDenotes (E.scope encoder.old) value (tree_in (E.setting encoder.old) (Some (Id id))) }
-    ensures value { IfOk result (λ v. ValueDenotes (E.scope encoder.new) v (tree_in (E.setting encoder.old) (Some (Id id)))) }
+    requires value { ValueDenotes (E.scope encoder.old) value
+        (tree_in (E.setting encoder.old) (Some (Id id))) }
+    ensures value { IfOk result (λ v. ValueDenotes (E.scope encoder.new) v
+        (tree_in (E.setting encoder.old) (Some (Id id)))) }
     ensures recorded { IfOk result (λ v. IsRecorded (E.maps encoder.new) (Id id) v) }
-    ensures named { IfOk result (λ v. IsNamedValue (E.setting encoder.old) (E.names encoder.new) (Id id) v) }
+    ensures named { IfOk result
+        (λ v. IsNamedValue (E.setting encoder.old) (E.names encoder.new) (Id id) v) }
     ensures scope { E.scope encoder.new ≡ E.scope encoder.old }
     ensures setting { E.setting encoder.new ≡ E.setting encoder.old }
-    ensures faithful { Faithful (E.setting encoder.new) (E.scope encoder.new) (E.names encoder.new) (E.offers encoder.new) (E.maps encoder.new) }
+    ensures faithful { Faithful (E.setting encoder.new) (E.scope encoder.new) (E.names encoder.new)
+        (E.offers encoder.new) (E.maps encoder.new) }
     ensures follows { E.follows encoder.old encoder.new }
     ensures cause { IfErr result (IsCause E.refuses encoder.new) }
 {

@@ -1,5 +1,5 @@
-//! A list of types that stands alone, which shows what a type is made of: a type of an interface is imported there, and a
-//! resource is known by its name.
+//! A list of types that stands alone, which shows what a type is made of: a type of an interface is
+//! imported there, and a resource is known by its name.
 
 ghost use Rattle.std.specs.Prelude.{◌≡◌, ◌++◌, ◌∷◌, [], length, IfOk, IfErr, IsTrue, OnOk, OnErr, Some};
 ghost use Rattle.std.proofs.Common.{refl};
@@ -165,7 +165,9 @@ pub fn encode_alone(alloc: Global, resolve: &Resolve, ty: &Type) -> Result<Alone
     requires sound { IsSound resolve.now }
     requires present { HasType resolve.now (Some ty.now) }
     requires allowed { IsTrue (is_allowed (standing_alone resolve.now.types) (Some ty.now)) }
-    ensures { IfOk result (λ alone. value_tree (listed_trees resolve.now.types [] alone.listed) alone.value ≡ wit_tree (λ id. DefinedAt id.index) resolve.now.types (Some ty.now)) }
+    ensures { IfOk result (λ alone. value_tree (listed_trees resolve.now.types [] alone.listed)
+        alone.value
+        ≡ wit_tree (λ id. DefinedAt id.index) resolve.now.types (Some ty.now)) }
 {
     let mut list = TypeList::new(alloc, resolve);
     let value = encode_valtype(alloc, &mut list, resolve, ty)?;

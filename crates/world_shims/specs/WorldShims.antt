@@ -1,5 +1,5 @@
--- The shims of a world, and the two modules that are generated for them, as values. (The rules are this project's own, over
--- the core standard's modules.)
+-- The shims of a world, and the two modules that are generated for them, as values. (The rules are
+-- this project's own, over the core standard's modules.)
 use Rattle.std.specs.Prelude.{ℕ, Bool, List, [], ◌∷◌, ◌++◌, length, map, codes, Option, Some, None}
 use Rattle.std.specs.List.{flat_map}
 use Rattle.core_types.specs.declared.types.FuncType.{FuncType}

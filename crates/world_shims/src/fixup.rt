@@ -35,7 +35,8 @@ fn build_fault(fault: ShimFault) -> BuildFault
 /// Lets the next slot be filled for the shim of its place.
 fn add_shim(alloc: Global, fixup: &mut FixupModule, shim: &Shim) -> Result<(), BuildFault>
     requires { IsNext fixup.old shim.now }
-    ensures ok { OnOk result (fixup.new ≡ with_shim fixup.old shim.now.name (type_of_shim shim.now)) }
+    ensures ok { OnOk result
+        (fixup.new ≡ with_shim fixup.old shim.now.name (type_of_shim shim.now)) }
     ensures room { OnOk result (length fixup.new.fills < 2 ^ 32) }
     ensures cause { IfErr result IsFullOrMemory }
     ensures many { IfErr result (HasTooMany (length fixup.old.fills + 1)) }
@@ -79,12 +80,14 @@ fn add_call(fixup: &mut FixupModule, initialize: Option<&str>) -> Result<(), Bui
     }
 }
 
-/// The module that is instantiated last, with its arguments, or `None` where there is nothing to do: it imports a function for each
-/// shim from `actual`, under the shim's name and with its type, the function `initialize`, where main has one, from `main`, and the table of the shims, where there are any, from `shim`; slot number i is filled with the function of shim number i; and
-/// then main is initialized.
+/// The module that is instantiated last, with its arguments, or `None` where there is nothing to
+/// do: it imports a function for each shim from `actual`, under the shim's name and with its type,
+/// the function `initialize`, where main has one, from `main`, and the table of the shims, where
+/// there are any, from `shim`; slot number i is filled with the function of shim number i; and then
+/// main is initialized.
 ///
-/// It is refused with [`BuildFault::TooMany`] only where there are 2^32 - 1 shims or more, and with [`BuildFault::Memory`]
-/// when out of memory.
+/// It is refused with [`BuildFault::TooMany`] only where there are 2^32 - 1 shims or more, and with
+/// [`BuildFault::Memory`] when out of memory.
 ///
 /// Core standard, structure: modules, element segments, start function.
 #[tactic(auto, using(crate::proofs::Calling::encode_refused, crate::proofs::Calling::encode_too_many, crate::proofs::Calling::call_beyond, crate::proofs::Calling::shims_beyond))]
@@ -94,7 +97,8 @@ pub fn fixup_of_shims(
     initialize: Option<&str>,
     debug_names: bool,
 ) -> Result<Option<EncodedFixup>, BuildFault>
-    ensures ok { IfOk result (λ made. made ≡ encoded_fixup (fixup_of shims.now (option_copied initialize.entry)) debug_names) }
+    ensures ok { IfOk result (λ made. made
+        ≡ encoded_fixup (fixup_of shims.now (option_copied initialize.entry)) debug_names) }
     ensures cause { IfErr result IsFullOrMemory }
     ensures many { IfErr result (HasTooMany (length shims.now + 1)) }
 {

@@ -1,13 +1,15 @@
 //! The shims of a world, and the two core modules that are generated for them.
 //!
-//! `specs/WorldShims.antt` says what they are: which shims the user modules need, the module of shims, and the fixup module that
-//! fills their table and initializes main. A memory that main imports is defined in the module of shims, so that module may be there without shims.
-//! `specs/Refusals.antt` says why a module can't be made: there is no memory, or there are too many shims, or parameters of one.
-//! A fixup refuses imports that contradict one another, and those of shims don't, since each is named by its place
-//! (`specs/Fixing.antt`).
+//! `specs/WorldShims.antt` says what they are: which shims the user modules need, the module of
+//! shims, and the fixup module that fills their table and initializes main. A memory that main
+//! imports is defined in the module of shims, so that module may be there without shims.
+//! `specs/Refusals.antt` says why a module can't be made: there is no memory, or there are too many
+//! shims, or parameters of one. A fixup refuses imports that contradict one another, and those of
+//! shims don't, since each is named by its place (`specs/Fixing.antt`).
 //!
-//! In reading order: `plan` (the shims that the user modules need), `core_type` (the core type of a shim), `shim_module` (their
-//! module), `fixup` (the module that fills their table, and initializes main).
+//! In reading order: `plan` (the shims that the user modules need), `core_type` (the core type of a
+//! shim), `shim_module` (their module), `fixup` (the module that fills their table, and initializes
+//! main).
 #![tactic(auto)]
 
 mod core_type;

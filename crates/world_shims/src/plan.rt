@@ -14,9 +14,13 @@ use std::alloc::Global;
 /// Appends the shims that the adapters need, in order.
 #[tactic(auto, using(crate::proofs::Planned::all_appended, crate::proofs::Planned::all_encoded))]
 fn append_adapters(shims: &mut Shims, world: &ComponentWorld) -> Result<(), ShimFault>
-    ensures ok { OnOk result (shims.new ≡ with_needed shims.old (flat_map (needed world.now) (map adapter_at world.now.adapters))) }
-    ensures encoded { OnOk result (flat_map (unencoded world.now) (map adapter_at world.now.adapters) ≡ []) }
-    ensures cause { IfErr result (Explains (flat_map (unencoded world.now) (map adapter_at world.now.adapters))) }
+    ensures ok { OnOk result (shims.new
+        ≡ with_needed shims.old
+        (flat_map (needed world.now) (map adapter_at world.now.adapters))) }
+    ensures encoded { OnOk result
+        (flat_map (unencoded world.now) (map adapter_at world.now.adapters) ≡ []) }
+    ensures cause { IfErr result
+        (Explains (flat_map (unencoded world.now) (map adapter_at world.now.adapters))) }
 {
     for (name, _) in world.adapters.iter() {
         shims.append_indirect(world, CustomModule::Adapter(name.as_str()))?;
@@ -24,14 +28,16 @@ fn append_adapters(shims: &mut Shims, world: &ComponentWorld) -> Result<(), Shim
     Ok(())
 }
 
-/// The shims that the user modules need, in order: [`Shims::append_indirect`] of main, and then of each adapter, to no shims. It
-/// is refused as that is: with [`ShimFault::NoEncoding`] for the first import that is called through a table and has no string
-/// encoding, and with [`ShimFault::Memory`] when out of memory.
+/// The shims that the user modules need, in order: [`Shims::append_indirect`] of main, and then of
+/// each adapter, to no shims. It is refused as that is: with [`ShimFault::NoEncoding`] for the
+/// first import that is called through a table and has no string encoding, and with
+/// [`ShimFault::Memory`] when out of memory.
 #[tactic(auto, using(crate::proofs::Planned::main_and_more, crate::proofs::Planned::main_refused, crate::proofs::Planned::more_refused, crate::proofs::Planned::both_encoded))]
 pub fn plan_shims(alloc: Global, world: &ComponentWorld) -> Result<Shims, ShimFault>
     ensures ok { IfOk result (λ shims. shims ≡ shims_of world.now) }
     ensures encoded { OnOk result (flat_map (unencoded world.now) (modules_in world.now) ≡ []) }
-    ensures cause { IfErr result (Explains (flat_map (unencoded world.now) (modules_in world.now))) }
+    ensures cause { IfErr result
+        (Explains (flat_map (unencoded world.now) (modules_in world.now))) }
 {
     let mut shims = Shims::new(alloc);
     shims.append_indirect(world, CustomModule::Main)?;

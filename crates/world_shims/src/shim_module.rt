@@ -58,7 +58,8 @@ fn add_function(
     requires room { length functions.old.items < 2 ^ 32 }
     requires few { length types.old ≤ length functions.old.items }
     ensures types { OnOk result (types.new ≡ interned types.old (type_of_shim shim.now)) }
-    ensures functions { OnOk result (functions.new.items ≡ functions.old.items ++ function_of types.old shim.now ∷ []) }
+    ensures functions { OnOk result
+        (functions.new.items ≡ functions.old.items ++ function_of types.old shim.now ∷ []) }
     ensures room { OnOk result (length functions.new.items < 2 ^ 32) }
     ensures cause { IfErr result IsFullOrMemory }
     ensures many { IfErr result (IsBeyond (length functions.old.items + 1) shim.now) }
@@ -91,11 +92,12 @@ fn shim_functions(
     Ok(functions)
 }
 
-/// The module of shims, or `None` where there are no shims and no memory: their types, each once, and a function for each shim, in
-/// order, which forwards through the slot of its place; and the memory, for the module that imports it.
+/// The module of shims, or `None` where there are no shims and no memory: their types, each once,
+/// and a function for each shim, in order, which forwards through the slot of its place; and the
+/// memory, for the module that imports it.
 ///
-/// It is refused with [`BuildFault::TooMany`] only where there are more than 2^32 - 1 shims, or parameters of a shim, and with
-/// [`BuildFault::Memory`] when out of memory.
+/// It is refused with [`BuildFault::TooMany`] only where there are more than 2^32 - 1 shims, or
+/// parameters of a shim, and with [`BuildFault::Memory`] when out of memory.
 ///
 /// Core standard, structure: modules.
 pub fn module_of_shims(
@@ -104,7 +106,8 @@ pub fn module_of_shims(
     shims: &Shims,
     debug_names: bool,
 ) -> Result<Option<Module>, BuildFault>
-    ensures ok { IfOk result (λ made. made ≡ if_needed memory shims.now (sections_of_shims memory shims.now debug_names)) }
+    ensures ok { IfOk result (λ made. made
+        ≡ if_needed memory shims.now (sections_of_shims memory shims.now debug_names)) }
     ensures count { OnOk result (length shims.now < 2 ^ 32) }
     ensures cause { IfErr result IsFullOrMemory }
     ensures many { IfErr result (AreTooMany shims.now) }

@@ -53,7 +53,9 @@ fn add_called(
 ) -> Result<(), AllocError>
     requires sound { IsSound resolve.now }
     requires present { HasFunction resolve.now function.now }
-    ensures { OnOk result (table.new ≡ with_all is_same_lowering table.old (called_as (used_in uses.now) resolve.now.types key.now function.now abi)) }
+    ensures { OnOk result (table.new
+        ≡ with_all is_same_lowering table.old
+        (called_as (used_in uses.now) resolve.now.types key.now function.now abi)) }
 {
     let call = call_at(alloc, key, &function.name, abi)?;
     if !uses.calls.contains_key(&call) {
@@ -75,7 +77,9 @@ fn add_function(
 ) -> Result<(), AllocError>
     requires sound { IsSound resolve.now }
     requires present { HasFunction resolve.now function.now }
-    ensures { OnOk result (table.new ≡ with_all is_same_lowering table.old (function_lowerings (used_in uses.now) resolve.now.types key.now function.now)) }
+    ensures { OnOk result (table.new
+        ≡ with_all is_same_lowering table.old
+        (function_lowerings (used_in uses.now) resolve.now.types key.now function.now)) }
 {
     add_called(
         alloc,
@@ -105,7 +109,8 @@ fn add_drop(
     name: &str,
     id: TypeId,
 ) -> Result<(), AllocError>
-    ensures { OnOk result (table.new ≡ with_all is_same_lowering table.old (drop_lowerings (used_in uses.now) name.now id)) }
+    ensures { OnOk result (table.new
+        ≡ with_all is_same_lowering table.old (drop_lowerings (used_in uses.now) name.now id)) }
 {
     if !uses.drops.contains_key(&id.index) {
         return Ok(());
@@ -138,7 +143,9 @@ fn add_root_item(
 ) -> Result<(), AllocError>
     requires sound { IsSound resolve.now }
     requires present { HasEntry resolve.now (key.now, item.now) }
-    ensures { OnOk result (table.new ≡ with_all is_same_lowering table.old (root_lowerings (used_in uses.now) resolve.now.types (key.now, item.now))) }
+    ensures { OnOk result (table.new
+        ≡ with_all is_same_lowering table.old
+        (root_lowerings (used_in uses.now) resolve.now.types (key.now, item.now))) }
 {
     match item {
         WorldItem::Function(function) => add_function(alloc, table, uses, resolve, key, function),
@@ -167,7 +174,9 @@ fn root_lowerings(
 ) -> Result<Lowerings, AllocError>
     requires sound { IsSound resolve.now }
     requires all_present { AllByRecursion (HasEntry resolve.now) entries.now }
-    ensures { IfOk result (λ t. t ≡ with_all is_same_lowering [] (flat_map (root_lowerings (used_in uses.now) resolve.now.types) entries.now)) }
+    ensures { IfOk result (λ t. t
+        ≡ with_all is_same_lowering []
+        (flat_map (root_lowerings (used_in uses.now) resolve.now.types) entries.now)) }
 {
     let mut table = Keyed::new(alloc);
     for (key, item) in entries.iter() {
@@ -184,7 +193,9 @@ fn add_drops(
     uses: &Uses,
     types: &Keyed<Text, TypeId>,
 ) -> Result<(), AllocError>
-    ensures { OnOk result (table.new ≡ with_all is_same_lowering table.old (flat_map (λ t. drop_lowerings (used_in uses.now) t.0 t.1) types.now)) }
+    ensures { OnOk result (table.new
+        ≡ with_all is_same_lowering table.old
+        (flat_map (λ t. drop_lowerings (used_in uses.now) t.0 t.1) types.now)) }
 {
     for (name, id) in types.iter() {
         add_drop(alloc, table, uses, name.as_str(), *id)?;
@@ -204,7 +215,10 @@ fn add_functions(
 ) -> Result<(), AllocError>
     requires sound { IsSound resolve.now }
     requires all_present { AllByRecursion (λ f. HasFunction resolve.now f.1) functions.now }
-    ensures { OnOk result (table.new ≡ with_all is_same_lowering table.old (flat_map (λ f. function_lowerings (used_in uses.now) resolve.now.types key.now f.1) functions.now)) }
+    ensures { OnOk result (table.new
+        ≡ with_all is_same_lowering table.old (flat_map
+        (λ f. function_lowerings (used_in uses.now) resolve.now.types key.now f.1)
+        functions.now)) }
 {
     for (_, function) in functions.iter() {
         add_function(alloc, table, uses, resolve, key, function)?;
@@ -223,7 +237,9 @@ fn interface_lowerings(
 ) -> Result<Lowerings, AllocError>
     requires sound { IsSound resolve.now }
     requires present { HasInterface resolve.now id }
-    ensures { IfOk result (λ t. t ≡ with_all is_same_lowering [] (interface_lowerings (used_in uses.now) resolve.now key.now id)) }
+    ensures { IfOk result (λ t. t
+        ≡ with_all is_same_lowering []
+        (interface_lowerings (used_in uses.now) resolve.now key.now id)) }
 {
     let interface = interface_of(resolve, id);
     let mut table = Keyed::new(alloc);
@@ -243,7 +259,9 @@ fn add_interface(
 ) -> Result<(), AllocError>
     requires sound { IsSound resolve.now }
     requires present { HasEntry resolve.now (key.now, item.now) }
-    ensures { OnOk result (table.new ≡ with_all is_same_import_key table.old (interface_entry (used_in uses.now) resolve.now (key.now, item.now))) }
+    ensures { OnOk result (table.new
+        ≡ with_all is_same_import_key table.old
+        (interface_entry (used_in uses.now) resolve.now (key.now, item.now))) }
 {
     let WorldItem::Interface(id) = item else {
         return Ok(());
@@ -262,7 +280,8 @@ fn of_root(
     alloc: Global,
     lowerings: Lowerings,
 ) -> Result<Keyed<Option<WorldKey>, ImportedInterface>, AllocError>
-    ensures { IfOk result (λ t. t ≡ (None, record { lowerings = lowerings; interface = None }) ∷ []) }
+    ensures { IfOk result
+        (λ t. t ≡ (None, record { lowerings = lowerings; interface = None }) ∷ []) }
 {
     let mut table = Keyed::new(alloc);
     let entry = ImportedInterface {

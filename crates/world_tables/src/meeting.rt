@@ -1,5 +1,5 @@
-//! A walk through types and all of which they are made. Each type is entered once: the time is linear in the number of the
-//! types that are met and of their parts.
+//! A walk through types and all of which they are made. Each type is entered once: the time is
+//! linear in the number of the types that are met and of their parts.
 
 ghost use Rattle.std.specs.Prelude.{◌≡◌, ◌<◌, nat_eq, length, Some, OnOk, IfOk, ℕ};
 ghost use Rattle.std.specs.List.{AllByRecursion};
@@ -108,7 +108,8 @@ pub(crate) fn owners_among(
 ) -> Result<Keyed<usize, ()>, AllocError>
     requires back { RefersBack types.now }
     requires present { AllByRecursion (λ t. IsBelow (length types.now) (Some t)) given.now }
-    ensures { IfOk result (λ t. (n : ℕ) → has t n ≡ has (owners_from (is_live types.now given.now) 0 types.now) n) }
+    ensures { IfOk result
+        (λ t. (n : ℕ) → has t n ≡ has (owners_from (is_live types.now given.now) 0 types.now) n) }
 {
     let mut walk = Walk::new(alloc);
     meet_given(types, &mut walk, given)?;

@@ -87,7 +87,8 @@ fn add_types(list: &mut Vec<Type>, types: &Keyed<Text, TypeId>) -> Result<(), Al
 /// Adds the types that these functions name.
 #[tactic(auto, using(comp_roles::proofs::Walking::item_step))]
 fn add_functions(list: &mut Vec<Type>, functions: &Keyed<Text, Function>) -> Result<(), AllocError>
-    ensures { OnOk result (list.new.items ≡ list.old.items ++ flat_map (λ f. function_types f.1) functions.now) }
+    ensures { OnOk result
+        (list.new.items ≡ list.old.items ++ flat_map (λ f. function_types f.1) functions.now) }
 {
     for (_, function) in functions.iter() {
         add_function(list, function)?;
@@ -116,7 +117,8 @@ pub fn interface_types(
     requires sound { IsSound resolve.now }
     requires present { HasInterface resolve.now id }
     ensures named { IfOk result (λ v. v.items ≡ interface_types resolve.now id) }
-    ensures all_present { IfOk result (λ v. AllByRecursion (λ t. HasType resolve.now (Some t)) v.items) }
+    ensures all_present { IfOk result
+        (λ v. AllByRecursion (λ t. HasType resolve.now (Some t)) v.items) }
 {
     let mut named = Vec::new(alloc);
     add_interface(&mut named, resolve, id)?;
@@ -194,7 +196,8 @@ fn interface_function<'a>(
 
 /// Adds the types that a function names, if there is one.
 fn add_found(list: &mut Vec<Type>, function: Option<&Function>) -> Result<(), AllocError>
-    ensures { OnOk result (list.new.items ≡ list.old.items ++ types_of_function (option_copied function.entry)) }
+    ensures { OnOk result
+        (list.new.items ≡ list.old.items ++ types_of_function (option_copied function.entry)) }
 {
     match function {
         Some(function) => add_function(list, function),
@@ -209,7 +212,8 @@ fn add_role(
     entries: &Keyed<WorldKey, WorldItem>,
     role: &Import,
 ) -> Result<(), AllocError>
-    ensures { OnOk result (list.new.items ≡ list.old.items ++ role_types resolve.now entries.now role.now) }
+    ensures { OnOk result
+        (list.new.items ≡ list.old.items ++ role_types resolve.now entries.now role.now) }
 {
     match role {
         Import::WorldFunc(key, _, _) => add_found(list, root_function_at(entries, key)),
@@ -229,7 +233,9 @@ fn add_roles(
     entries: &Keyed<WorldKey, WorldItem>,
     imports: &[NamedImport<'_>],
 ) -> Result<(), AllocError>
-    ensures { OnOk result (list.new.items ≡ list.old.items ++ flat_map (λ i. role_types resolve.now entries.now i.role) (map core_import imports.now)) }
+    ensures { OnOk result (list.new.items
+        ≡ list.old.items ++ flat_map (λ i. role_types resolve.now entries.now i.role)
+        (map core_import imports.now)) }
 {
     for import in imports {
         add_role(list, resolve, entries, import.role)?;
@@ -240,7 +246,8 @@ fn add_roles(
 /// Adds the bare types that a world imports.
 #[tactic(auto, using(comp_roles::proofs::Walking::item_step))]
 fn add_imports(list: &mut Vec<Type>, entries: &Keyed<WorldKey, WorldItem>) -> Result<(), AllocError>
-    ensures { OnOk result (list.new.items ≡ list.old.items ++ flat_map (λ e. import_types e.1) entries.now) }
+    ensures { OnOk result
+        (list.new.items ≡ list.old.items ++ flat_map (λ e. import_types e.1) entries.now) }
 {
     for (_, item) in entries.iter() {
         add_import(list, item)?;
@@ -280,7 +287,8 @@ fn add_exports(
 ) -> Result<(), AllocError>
     requires sound { IsSound resolve.now }
     requires all_present { AllByRecursion (HasEntry resolve.now) entries.now }
-    ensures { OnOk result (list.new.items ≡ list.old.items ++ flat_map (λ e. export_types resolve.now e.1) entries.now) }
+    ensures { OnOk result (list.new.items
+        ≡ list.old.items ++ flat_map (λ e. export_types resolve.now e.1) entries.now) }
 {
     for (_, item) in entries.iter() {
         add_export(list, resolve, item)?;
@@ -297,7 +305,8 @@ fn listed_types(
 ) -> Result<Vec<Type>, AllocError>
     requires sound { IsSound resolve.now }
     requires all_present { AllByRecursion (HasEntry resolve.now) world.now.exports }
-    ensures { IfOk result (λ v. v.items ≡ used_types (map core_import imports.now) resolve.now world.now) }
+    ensures { IfOk result
+        (λ v. v.items ≡ used_types (map core_import imports.now) resolve.now world.now) }
 {
     let mut list = Vec::new(alloc);
     add_roles(&mut list, resolve, &world.imports, imports)?;
@@ -315,9 +324,12 @@ pub(crate) fn used_types(
 ) -> Result<Vec<Type>, AllocError>
     requires sound { IsSound resolve.now }
     requires present { HasWorld resolve.now world.now }
-    requires roles { AllByRecursion (λ i. HasRole resolve.now i.role) (map core_import imports.now) }
-    ensures used { IfOk result (λ v. v.items ≡ used_types (map core_import imports.now) resolve.now world.now) }
-    ensures all_present { IfOk result (λ v. AllByRecursion (λ t. HasType resolve.now (Some t)) v.items) }
+    requires roles { AllByRecursion (λ i. HasRole resolve.now i.role)
+        (map core_import imports.now) }
+    ensures used { IfOk result
+        (λ v. v.items ≡ used_types (map core_import imports.now) resolve.now world.now) }
+    ensures all_present { IfOk result
+        (λ v. AllByRecursion (λ t. HasType resolve.now (Some t)) v.items) }
 {
     let list = listed_types(alloc, imports, resolve, world)?;
     Ok(list)

@@ -18,7 +18,8 @@ pub(crate) type Places = HashMap<usize, Seq<usize>>;
 /// Takes the places of an interface out of the table.
 fn take_places(alloc: Global, places: &mut Places, id: InterfaceId) -> Seq<usize>
     ensures list { (q : ℕ) → list_any (nat_eq q) result ≡ is_place places.old id.index q }
-    ensures others { (n q : ℕ) → is_place places.new n q ≡ (if nat_eq id.index n then false else is_place places.old n q) }
+    ensures others { (n q : ℕ)
+        → is_place places.new n q ≡ (if nat_eq id.index n then false else is_place places.old n q) }
 {
     match places.remove(&id.index) {
         Some(list) => list,
@@ -33,7 +34,9 @@ fn add_place(
     id: InterfaceId,
     place: usize,
 ) -> Result<(), AllocError>
-    ensures { OnOk result ((n q : ℕ) → is_place places.new n q ≡ ((nat_eq id.index n && nat_eq q place) || is_place places.old n q)) }
+    ensures { OnOk result ((n q : ℕ)
+        → is_place places.new n q
+        ≡ ((nat_eq id.index n && nat_eq q place) || is_place places.old n q)) }
 {
     let mut list = take_places(alloc, places, id);
     list.push(place)?;
@@ -54,7 +57,9 @@ pub(crate) fn places_of(alloc: Global, ids: &[InterfaceId]) -> Result<Places, Al
 
 /// Adds places to others.
 fn add_all(found: &mut BTreeSet<usize>, places: &[usize]) -> Result<(), AllocError>
-    ensures { OnOk result ((q : ℕ) → contains nat_cmp found.new q ≡ (contains nat_cmp found.old q || list_any (nat_eq q) places.now)) }
+    ensures { OnOk result ((q : ℕ)
+        → contains nat_cmp found.new q
+        ≡ (contains nat_cmp found.old q || list_any (nat_eq q) places.now)) }
 {
     for place in places {
         found.insert(*place)?;
@@ -69,7 +74,10 @@ fn add_other(
     id: InterfaceId,
     other: usize,
 ) -> Result<(), AllocError>
-    ensures { OnOk result ((q : ℕ) → contains nat_cmp found.new q ≡ (contains nat_cmp found.old q || (not (other == id.index) && is_place places.now other q))) }
+    ensures { OnOk result ((q : ℕ)
+        → contains nat_cmp found.new q
+        ≡ (contains nat_cmp found.old q
+        || (not (other == id.index) && is_place places.now other q))) }
 {
     if other == id.index {
         return Ok(());
@@ -87,7 +95,9 @@ pub(crate) fn places_among(
     id: InterfaceId,
     others: &Keyed<usize, ()>,
 ) -> Result<BTreeSet<usize>, AllocError>
-    ensures { IfOk result (λ s. (q : ℕ) → contains nat_cmp s q ≡ list_any (λ e. not (e.0 == id.index) && is_place places.now e.0 q) others.now) }
+    ensures { IfOk result (λ s. (q : ℕ)
+        → contains nat_cmp s q
+        ≡ list_any (λ e. not (e.0 == id.index) && is_place places.now e.0 q) others.now) }
 {
     let mut found = BTreeSet::new(alloc);
     for (other, _) in others.iter() {
@@ -109,7 +119,9 @@ pub(crate) fn at_places(
     ids: &[InterfaceId],
     places: &BTreeSet<usize>,
 ) -> Result<Vec<InterfaceId>, AllocError>
-    ensures { IfOk result (λ v. (test : InterfaceId → Bool) → ((q : ℕ) → contains nat_cmp places.now q ≡ passes_at test ids.now q) → v.items ≡ filter test ids.now) }
+    ensures { IfOk result (λ v. (test : InterfaceId → Bool)
+        → ((q : ℕ) → contains nat_cmp places.now q ≡ passes_at test ids.now q)
+        → v.items ≡ filter test ids.now) }
 {
     let mut list = Vec::new(alloc);
     for place in places.iter() {

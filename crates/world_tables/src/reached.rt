@@ -25,7 +25,9 @@ fn live_in(
     requires sound { IsSound resolve.now }
     requires present { HasInterface resolve.now id }
     requires long { length marks.now ≡ length resolve.now.types }
-    ensures { IfOk result (λ v. v.items ≡ filter (λ t. get_or marks.now t.index false) (map (λ e. e.1) (named_types resolve.now id))) }
+    ensures { IfOk result (λ v. v.items
+        ≡ filter (λ t. get_or marks.now t.index false)
+        (map (λ e. e.1) (named_types resolve.now id))) }
 {
     let interface = interface_of(resolve, id);
     marked_of(alloc, marks, &interface.types)
@@ -42,7 +44,9 @@ fn add_live(
     requires sound { IsSound resolve.now }
     requires present { HasItem resolve.now item.now }
     requires long { length marks.now ≡ length resolve.now.types }
-    ensures { OnOk result (table.new ≡ with_all same_interface table.old (live_entry (λ n. get_or marks.now n false) resolve.now item.now)) }
+    ensures { OnOk result (table.new
+        ≡ with_all same_interface table.old
+        (live_entry (λ n. get_or marks.now n false) resolve.now item.now)) }
 {
     let WorldItem::Interface(id) = item else {
         return Ok(());
@@ -62,7 +66,10 @@ pub(crate) fn live_imports(
     requires sound { IsSound resolve.now }
     requires all_present { AllByRecursion (HasEntry resolve.now) entries.now }
     requires long { length marks.now ≡ length resolve.now.types }
-    ensures { IfOk result (λ t. t ≡ with_all same_interface [] (flat_map (λ e. live_entry (λ n. get_or marks.now n false) resolve.now e.1) entries.now)) }
+    ensures { IfOk result (λ t. t
+        ≡ with_all same_interface [] (flat_map
+        (λ e. live_entry (λ n. get_or marks.now n false) resolve.now e.1)
+        entries.now)) }
 {
     let mut table = Keyed::new(alloc);
     for (_, item) in entries.iter() {
@@ -108,7 +115,10 @@ fn named_by(
     requires sound { IsSound resolve.now }
     requires present { HasInterface resolve.now id }
     requires placed { ArePlaces all.now places.now }
-    ensures { IfOk result (λ v. v.items ≡ filter (λ other. names_interface resolve.now id other && not (other.index == id.index)) all.now) }
+    ensures { IfOk result (λ v. v.items
+        ≡ filter
+        (λ other. names_interface resolve.now id other && not (other.index == id.index))
+        all.now) }
 {
     let given = interface_types(alloc, resolve, id)?;
     let owners = owners_among(alloc, resolve.types.as_slice(), given.as_slice())?;
@@ -129,7 +139,8 @@ fn add_used(
     requires sound { IsSound resolve.now }
     requires present { HasItem resolve.now item.now }
     requires placed { ArePlaces all.now places.now }
-    ensures { OnOk result (table.new ≡ with_all same_interface table.old (used_entry resolve.now all.now item.now)) }
+    ensures { OnOk result
+        (table.new ≡ with_all same_interface table.old (used_entry resolve.now all.now item.now)) }
 {
     let WorldItem::Interface(id) = item else {
         return Ok(());
@@ -150,7 +161,9 @@ fn used_among(
     requires sound { IsSound resolve.now }
     requires all_present { AllByRecursion (HasEntry resolve.now) entries.now }
     requires placed { ArePlaces all.now places.now }
-    ensures { IfOk result (λ t. t ≡ with_all same_interface [] (flat_map (λ e. used_entry resolve.now all.now e.1) entries.now)) }
+    ensures { IfOk result (λ t. t
+        ≡ with_all same_interface []
+        (flat_map (λ e. used_entry resolve.now all.now e.1) entries.now)) }
 {
     let mut table = Keyed::new(alloc);
     for (_, item) in entries.iter() {
@@ -159,9 +172,9 @@ fn used_among(
     Ok(table)
 }
 
-/// For each exported interface, the other exported ones that it names. Each takes time linear in the number of what its
-/// functions and types name, of the types that these reach, and of their parts, and, up to a logarithm, of the interfaces
-/// that it names.
+/// For each exported interface, the other exported ones that it names. Each takes time linear in
+/// the number of what its functions and types name, of the types that these reach, and of their
+/// parts, and, up to a logarithm, of the interfaces that it names.
 pub(crate) fn exports_used(
     alloc: Global,
     resolve: &Resolve,

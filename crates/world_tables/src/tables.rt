@@ -38,7 +38,9 @@ fn import_map(
 ) -> Result<Keyed<Option<WorldKey>, ImportedInterface>, AllocError>
     requires sound { IsSound resolve.now }
     requires present { HasWorld resolve.now world.now }
-    ensures { IfOk result (λ t. t ≡ imported (used_by (map core_import imports.now) shares_memory) resolve.now world.now.imports) }
+    ensures { IfOk result (λ t. t
+        ≡ imported (used_by (map core_import imports.now) shares_memory) resolve.now
+        world.now.imports) }
 {
     let uses = uses_of(alloc, imports, shares_memory)?;
     let table = imported(alloc, &uses, resolve, &world.imports)?;
@@ -55,8 +57,10 @@ fn live_type_imports(
 ) -> Result<Keyed<InterfaceId, Seq<TypeId>>, AllocError>
     requires sound { IsSound resolve.now }
     requires present { HasWorld resolve.now world.now }
-    requires roles { AllByRecursion (λ i. HasRole resolve.now i.role) (map core_import imports.now) }
-    ensures { IfOk result (λ t. t ≡ live_type_imports (map core_import imports.now) resolve.now world.now) }
+    requires roles { AllByRecursion (λ i. HasRole resolve.now i.role)
+        (map core_import imports.now) }
+    ensures { IfOk result
+        (λ t. t ≡ live_type_imports (map core_import imports.now) resolve.now world.now) }
 {
     let given = used_types(alloc, imports, resolve, world)?;
     let marks = live_marks(alloc, resolve.types.as_slice(), given.as_slice())?;
@@ -74,9 +78,13 @@ fn tables_with(
 ) -> Result<Tables, AllocError>
     requires sound { IsSound resolve.now }
     requires present { HasWorld resolve.now world.now }
-    requires roles { AllByRecursion (λ i. HasRole resolve.now i.role) (map core_import imports.now) }
-    ensures imports { IfOk result (λ t. t.import_map ≡ imported (used_by (map core_import imports.now) shares_memory) resolve.now world.now.imports) }
-    ensures live { IfOk result (λ t. t.live_type_imports ≡ live_type_imports (map core_import imports.now) resolve.now world.now) }
+    requires roles { AllByRecursion (λ i. HasRole resolve.now i.role)
+        (map core_import imports.now) }
+    ensures imports { IfOk result (λ t. t.import_map
+        ≡ imported (used_by (map core_import imports.now) shares_memory) resolve.now
+        world.now.imports) }
+    ensures live { IfOk result (λ t. t.live_type_imports
+        ≡ live_type_imports (map core_import imports.now) resolve.now world.now) }
     ensures used { IfOk result (λ t. t.exports_used ≡ exports_used resolve.now world.now) }
 {
     let import_map = import_map(alloc, imports, shares_memory, resolve, world)?;
@@ -99,9 +107,14 @@ pub(crate) fn tables_of(
 ) -> Result<Tables, AllocError>
     requires sound { IsSound resolve.now }
     requires present { HasWorld resolve.now world.now }
-    requires roles { AllByRecursion (λ i. HasRole resolve.now i.role) (all_imports main.now adapters.now) }
-    ensures imports { IfOk result (λ t. t.import_map ≡ imported (used_by (all_imports main.now adapters.now) (is_some (imported_memory main.now.imports.modules))) resolve.now world.now.imports) }
-    ensures live { IfOk result (λ t. t.live_type_imports ≡ live_type_imports (all_imports main.now adapters.now) resolve.now world.now) }
+    requires roles { AllByRecursion (λ i. HasRole resolve.now i.role)
+        (all_imports main.now adapters.now) }
+    ensures imports { IfOk result (λ t. t.import_map
+        ≡ imported (used_by (all_imports main.now adapters.now)
+        (is_some (imported_memory main.now.imports.modules))) resolve.now
+        world.now.imports) }
+    ensures live { IfOk result (λ t. t.live_type_imports
+        ≡ live_type_imports (all_imports main.now adapters.now) resolve.now world.now) }
     ensures used { IfOk result (λ t. t.exports_used ≡ exports_used resolve.now world.now) }
 {
     let list = all_imports(alloc, main, adapters)?;

@@ -75,7 +75,9 @@ pub(crate) fn all_imports<'a>(
 /// The calls that are roles of imports.
 #[tactic(auto, using(crate::proofs::Entering::after_item))]
 fn calls_of(alloc: Global, imports: &[NamedImport<'_>]) -> Result<Keyed<Call, ()>, AllocError>
-    ensures { IfOk result (λ t. t ≡ with_all is_same_call [] (flat_map (λ i. calls_in i.role) (map core_import imports.now))) }
+    ensures { IfOk result (λ t. t
+        ≡ with_all is_same_call []
+        (flat_map (λ i. calls_in i.role) (map core_import imports.now))) }
 {
     let mut calls = Keyed::new(alloc);
     for import in imports {
@@ -87,7 +89,8 @@ fn calls_of(alloc: Global, imports: &[NamedImport<'_>]) -> Result<Keyed<Call, ()
 /// The numbers of the resources that imports drop.
 #[tactic(auto, using(crate::proofs::Entering::after_item))]
 fn drops_of(alloc: Global, imports: &[NamedImport<'_>]) -> Result<Keyed<usize, ()>, AllocError>
-    ensures { IfOk result (λ t. t ≡ with_all nat_eq [] (flat_map (λ i. drops_in i.role) (map core_import imports.now))) }
+    ensures { IfOk result (λ t. t
+        ≡ with_all nat_eq [] (flat_map (λ i. drops_in i.role) (map core_import imports.now))) }
 {
     let mut drops = Keyed::new(alloc);
     for import in imports {
@@ -103,7 +106,8 @@ pub(crate) fn uses_of(
     imports: &[NamedImport<'_>],
     shares_memory: bool,
 ) -> Result<Uses, AllocError>
-    ensures { IfOk result (λ u. IsUsed (used_in u) (used_by (map core_import imports.now) shares_memory)) }
+    ensures { IfOk result
+        (λ u. IsUsed (used_in u) (used_by (map core_import imports.now) shares_memory)) }
 {
     let calls = calls_of(alloc, imports)?;
     let drops = drops_of(alloc, imports)?;

@@ -30,7 +30,8 @@ fn items_in(resolve: &Resolve, world: WorldId) -> &World
 pub fn world_of_parts(alloc: Global, parts: WorldParts) -> Result<ComponentWorld, AllocError>
     requires sound { IsSound parts.resolve }
     requires present { parts.world.index < length parts.resolve.worlds }
-    requires roles { AllByRecursion (λ i. HasRole parts.resolve i.role) (all_imports parts.main parts.adapters) }
+    requires roles { AllByRecursion (λ i. HasRole parts.resolve i.role)
+        (all_imports parts.main parts.adapters) }
     ensures { IfOk result (λ w. w ≡ whole_of parts) }
 {
     let items = items_in(&parts.resolve, parts.world);

@@ -1,5 +1,5 @@
--- The functions of core exports, by the key of the world's export that has them and their name there (Canonical ABI: `canon
--- lift`, with its options `post-return` and `callback`).
+-- The functions of core exports, by the key of the world's export that has them and their name
+-- there (Canonical ABI: `canon lift`, with its options `post-return` and `callback`).
 use Rattle.std.specs.Prelude.{ℕ, List, [], ◌∷◌, map, Option, Some, None}
 use Rattle.std.specs.List.{flat_map}
 use Rattle.wit_data.specs.declared.functions.AbiVariant.{AbiVariant}

@@ -6,12 +6,12 @@ use Rattle.comp_bytes.specs.declared.def.Item.TheVariants as items
 use Rattle.comp_items.proofs.Remembering.{longer}
 use Rattle.comp_terms.specs.Rules.{Grows}
 use Rattle.comp_links.specs.Modules.{user_imports}
-use Rattle.core_options.proofs.OptionTerms.{refused_with, some_mapped}
+use Rattle.core_options.proofs.OptionTerms.{options_right, refused_with, some_mapped}
 use Rattle.core_options.specs.Causes.{IsCauseAmong}
 use Rattle.core_options.specs.MainOptions.{export_ref_of}
 use Rattle.root_imports.specs.Growing.{Grows-by, Grows-then}
 use Rattle.main_fixup.specs.Filling.{IsBehind}
-use Rattle.main_fixup.proofs.Lowering.{behind-kept, lower_options_right, lowering_for, options_there, shim_refused}
+use Rattle.main_fixup.proofs.Lowering.{behind-kept, lowering_for, options_there, shim_refused}
 use Rattle.main_fixup.proofs.lowerings.lower_function.Goals as goal
 
 pub returns-clause-grows : goal.returns-clause-grows
@@ -23,7 +23,7 @@ returns-clause-grows c =
     let b : IsBehind w mid s c.args.encoding own c.args.function = behind-kept w c.args.root.now.items.defs mid (longer c.in_ok-options.ensures.extends) s c.args.encoding own c.args.function c.requires.behind in
     let one : Grows w mid c.lower_function.new.self.defs [] =
     Grows-by (defs.Item (items.Lower c.args.function c.in_ok-options.options)) (ap (λ (x : Built). x.defs) c.in_ok-index.ensures.adds.1)
-    (record { origin = b.is.origin; type = b.is.type; is = b.is.is }, lower_options_right w s c.args.encoding own mid b.given b.stands c.in_ok-options.options c.in_ok-options.ensures.named) in
+    (record { origin = b.is.origin; type = b.is.type; is = b.is.is }, options_right w mid c.in_ok-options.options c.in_ok-options.ensures.named.terms c.in_ok-options.ensures.named.are) in
     Grows-then c.in_ok-options.ensures.grows one
 
 pub returns-clause-serves : goal.returns-clause-serves

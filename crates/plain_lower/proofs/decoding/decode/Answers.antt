@@ -1,7 +1,8 @@
 use Rattle.std.proofs.Common.{map, ap}
 use Rattle.plain_lower.specs.Causes.{DecodeCause}
 use Rattle.record_faults.specs.Faults.{of_section, of_record, flat}
-use Rattle.plain_lower.proofs.Records.{handed_out, sections_caused, decode_caused, decode_has_none}
+use Rattle.plain_lower.proofs.Records.{sections_caused, decode_caused, decode_has_none}
+use Rattle.gathered_worlds.proofs.Steps.{handed_out}
 use Rattle.plain_lower.proofs.decoding.decode.Goals as goal
 
 pub returns-in_err-prefix-clause-cause : goal.returns-in_err-prefix-clause-cause

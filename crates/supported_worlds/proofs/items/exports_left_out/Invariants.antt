@@ -1,8 +1,7 @@
 use Rattle.std.proofs.Common.{◌≡◌}
-use Rattle.std.specs.List.{IsDistinct, AllByRecursion}
+use Rattle.std.specs.List.{IsDistinct}
 use Rattle.std.specs.Map.{keys_of}
 use Rattle.wit_data.specs.Keys.{is_same_key}
-use Rattle.wit_data.specs.Sound.{HasEntry}
 use Rattle.comp_roles.specs.Lookups.{first_some}
 use Rattle.supported_worlds.specs.LeftOut.{export_item_left_out}
 use Rattle.supported_worlds.proofs.items.exports_left_out.Given as goal
@@ -11,6 +10,5 @@ abbrev pub invariant-loop-key : goal.invariant-loop-key
 invariant-loop-key l =
     goal.iterator-loop-key.can_next l.key-iterator ×
     goal.iterator-loop-key.is_finite l.key-iterator ×
-    AllByRecursion (HasEntry l.resolve) l.key-iterator ×
-    (first_some (export_item_left_out l.resolve) l.key-iterator ≡ first_some (export_item_left_out l.resolve) l.items) ×
+    (first_some export_item_left_out l.key-iterator ≡ first_some export_item_left_out l.items) ×
     IsDistinct is_same_key (keys_of l.items)

@@ -1,5 +1,5 @@
-use Rattle.plain_lower.specs.Causes.{MergeCause}
-use Rattle.plain_lower.proofs.Reporting.{reported_unless_memory}
+use Rattle.gathered_worlds.specs.Causes.{MergeCause}
+use Rattle.gathered_worlds.proofs.Reporting.{reported_unless_memory}
 use Rattle.plain_lower.proofs.lower.PlainLowerLower.merge.Goals as goal
 
 pub returns-clause-refused : goal.returns-clause-refused

@@ -1,6 +1,6 @@
-use Rattle.plain_lower.specs.Causes.{PrepareCause}
-use Rattle.plain_lower.proofs.Reporting.{reported_unless_memory}
-use Rattle.plain_lower.proofs.Gathering.{prepared_modules}
+use Rattle.gathered_worlds.specs.Causes.{PrepareCause}
+use Rattle.gathered_worlds.proofs.Reporting.{reported_unless_memory}
+use Rattle.gathered_worlds.proofs.Gathering.{prepared_modules}
 use Rattle.plain_lower.proofs.lower.PlainLowerLower.prepare.Goals as goal
 
 pub returns-clause-refused : goal.returns-clause-refused

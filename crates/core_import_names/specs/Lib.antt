@@ -1,0 +1,2 @@
+pub mod ImportNames
+pub mod Spelling

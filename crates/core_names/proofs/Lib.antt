@@ -1,3 +1,0 @@
-mod Affixes
-mod Numbers
-mod Readback

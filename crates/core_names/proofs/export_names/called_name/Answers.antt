@@ -1,4 +1,0 @@
-use Rattle.core_names.proofs.export_names.called_name.Goals as goal
-
-pub returns : goal.returns
-returns c = search (c.any_of_three.ensures, c.used_name.ensures, c.used_name_after.ensures, c.used_name_after-2.ensures)

@@ -1,4 +1,0 @@
-use Rattle.core_names.proofs.export_names.function_export.Goals as goal
-
-pub returns : goal.returns
-returns c = search (c.either.ensures, c.standard_function.ensures, c.older_if.ensures)

@@ -1,4 +1,0 @@
-use Rattle.core_names.proofs.import_names.encoded_field.Goals as goal
-
-pub returns : goal.returns
-returns c = search (c.either.ensures, c.field_on_side.ensures, c.payload_field.ensures)

@@ -1,4 +1,0 @@
-use Rattle.core_names.proofs.import_names.exported_field.Goals as goal
-
-pub returns : goal.returns
-returns c = search (c.any_of_three.ensures, c.handle_field.ensures, c.returned_after.ensures, c.cancelled.ensures)

@@ -1,4 +1,0 @@
-use Rattle.core_names.proofs.import_names.handle_field.Goals as goal
-
-pub returns : goal.returns
-returns c = search (c.any_of_three.ensures, c.own_resource_after.ensures, c.own_resource_after-2.ensures, c.own_resource_after-3.ensures)

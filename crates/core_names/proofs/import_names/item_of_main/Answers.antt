@@ -1,4 +1,0 @@
-use Rattle.core_names.proofs.import_names.item_of_main.Goals as goal
-
-pub returns : goal.returns
-returns c = search (c.either.ensures, c.memory_of_main.ensures, c.export_of_main.ensures)

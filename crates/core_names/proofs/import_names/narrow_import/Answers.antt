@@ -1,4 +1,0 @@
-use Rattle.core_names.proofs.import_names.narrow_import.Goals as goal
-
-pub returns : goal.returns
-returns c = search (c.either.ensures, c.adapter_import.ensures, c.function_import.ensures)

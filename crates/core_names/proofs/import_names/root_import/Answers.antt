@@ -1,4 +1,0 @@
-use Rattle.core_names.proofs.import_names.root_import.Goals as goal
-
-pub returns : goal.returns
-returns c = search (c.either.ensures, c.root_field.ensures, c.as_builtin.ensures)

@@ -1,4 +1,0 @@
-use Rattle.core_names.proofs.import_names.standard_exported.Goals as goal
-
-pub returns : goal.returns
-returns c = search (c.any_of_three.ensures, c.own_resource_before.ensures, c.own_resource_before-2.ensures, c.own_resource_before-3.ensures)

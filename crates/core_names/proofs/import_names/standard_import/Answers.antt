@@ -1,6 +1,0 @@
-use Rattle.core_names.specs.ImportNames.{standard_import}
-use Rattle.core_names.proofs.import_names.standard_import.Goals as goal
-
-pub returns : goal.returns
-unfolding standard_import
-returns c = search (c.any_of_three.ensures, c.standard_root.ensures, c.standard_after.ensures, c.standard_after-2.ensures)

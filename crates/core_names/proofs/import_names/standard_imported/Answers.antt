@@ -1,4 +1,0 @@
-use Rattle.core_names.proofs.import_names.standard_imported.Goals as goal
-
-pub returns : goal.returns
-returns c = search (c.either.ensures, c.called.ensures, c.dropped_before.ensures)

@@ -1,6 +1,0 @@
-use Rattle.core_names.specs.Labels.{canonical_label}
-use Rattle.core_names.proofs.labels.canonical_label.Goals as goal
-
-pub returns : goal.returns
-unfolding canonical_label
-returns c = search (c.any_of_three.ensures, c.interface_named.ensures, c.whole_id.ensures, c.of_canonical.ensures)

@@ -1,5 +1,0 @@
-use Rattle.core_names.proofs.Readback.{import_names_differ_lem}
-use Rattle.core_names.proofs.laws.import_names_differ.Goals as goal
-
-pub returns : goal.returns
-returns c = import_names_differ_lem

@@ -1,5 +1,0 @@
-use Rattle.core_names.proofs.Readback.{imports_are_read_back_lem}
-use Rattle.core_names.proofs.laws.imports_are_read_back.Goals as goal
-
-pub returns : goal.returns
-returns c = imports_are_read_back_lem

@@ -1,6 +1,0 @@
-use Rattle.std.proofs.Common.{◌≡◌, drop}
-use Rattle.core_names.specs.WorldNames.{with_functions}
-use Rattle.core_names.proofs.world_names.add_functions.Given as goal
-
-abbrev pub invariant-loop-function : goal.invariant-loop-function
-invariant-loop-function l = with_functions l.table l.interface (drop l.function-index l.functions) ≡ with_functions l.fn.table l.interface l.functions

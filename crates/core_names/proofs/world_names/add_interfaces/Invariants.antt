@@ -1,9 +1,0 @@
-use Rattle.std.proofs.Common.{◌≡◌}
-use Rattle.core_names.specs.WorldNames.{of_interfaces}
-use Rattle.core_names.proofs.world_names.add_interfaces.Given as goal
-
-abbrev pub invariant-loop-name : goal.invariant-loop-name
-invariant-loop-name l =
-    (goal.iterator-loop-name).can_next l.name-iterator ×
-    (goal.iterator-loop-name).is_finite l.name-iterator ×
-    (of_interfaces l.table l.name-iterator ≡ of_interfaces l.fn.table l.interfaces)

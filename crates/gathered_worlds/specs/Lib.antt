@@ -1,0 +1,9 @@
+pub mod Equalities
+pub mod Merging
+pub mod Arguments
+pub mod Reach
+pub mod Preparing
+pub mod Guarantees
+pub mod Layer
+pub mod Causes
+pub mod Adding

@@ -1,0 +1,3 @@
+mod SameTypes
+mod Linked
+mod LinkRefusals

@@ -1,0 +1,4 @@
+pub mod Reports
+pub mod Giving
+pub mod Linking
+pub mod LinkCauses

@@ -1,0 +1,2 @@
+mod Affixes
+mod Numbers

@@ -1,0 +1,4 @@
+pub mod Readings
+pub mod Texts
+pub mod Builtins
+pub mod PayloadNames

@@ -1,7 +1,0 @@
-use Rattle.std.proofs.Common.{◌≡◌, drop}
-use Rattle.plain_lower.specs.Linking.{each_passes, typed_given}
-use Rattle.plain_lower.proofs.linking.check_types.Given as goal
-
-abbrev pub invariant-loop-import : goal.invariant-loop-import
-invariant-loop-import l =
-    each_passes (typed_given l.importer l.main l.adapters l.map.modules) (drop l.import-index l.imports) ≡ each_passes (typed_given l.importer l.main l.adapters l.map.modules) l.imports

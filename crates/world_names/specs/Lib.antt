@@ -1,0 +1,3 @@
+pub mod WorldNames
+pub mod Labels
+pub mod Scopes
