@@ -1,9 +1,12 @@
 #!/usr/bin/env python3
-"""Runs `rt ci` on the repository in the current folder: the kit's own, but for two functions that are called with less work.
+"""Runs the kit's `rt` with these words, and without any `rt ci`: all is the kit's own, but two functions do less work.
+
+    prove.py                    at the top of the repository, as the gate does
+    ../../tests/prove.py check  in a crate's folder
 
 The kit asks for the crates below a crate, and for the sum of all that a crate is made from, once for each way that leads to a
 crate in crates.txt. To the lowest crates there are hundreds of thousands of ways, and each reads the crate's files: that took an
-hour of the gate. Here each call of these two functions goes to each crate once, and gives the same answer. All else, and so what
+hour of the gate, and some minutes of each check of a high crate. Here each call of these two functions goes to each crate once, and gives the same answer. All else, and so what
 is proved and how, is the kit's.
 """
 import importlib.machinery
@@ -51,7 +54,7 @@ def program(path):
 def main():
     rt = program(os.path.realpath(shutil.which("rt") or sys.exit("prove: there is no rt on the PATH")))
     improve(rt.rtlib.Crate)
-    return rt.main(["ci"])
+    return rt.main(sys.argv[1:] or ["ci"])
 
 
 if __name__ == "__main__":
