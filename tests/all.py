@@ -13,7 +13,7 @@ The steps, in order:
     tools        the tests of the programs that test
     edits        all wrong bodies are read: one that fits the code no longer is found
     ci           `rt ci` proves each crate from nothing, tries the wrong bodies of must-fail/, and runs tests and programs
-    wrong        the wrong bodies of wrong/ are tried: which, tests/verdicts.py says
+    wrong        the wrong bodies of wrong/ are tried: which, tests/verdicts.py says, and as far as the time suffices
     program      the built program on real files
     components   the components of examples/ in Node, and those that are compiled anew
     growths      a component is measured without memory, and finished in one buffer
@@ -23,8 +23,8 @@ The steps, in order:
 
 It stops at the first step that fails. Where the checkout holds nothing of earlier commands, as a fresh clone, the steps run
 in it; otherwise in a copy of its files, so that they neither trip over what is there nor change it. Before the last line,
-'N passed, M failed', with ', K skipped' where a step lacks a program of the system, it prints the processor seconds of each
-crate, of which bench/gate_costs.py makes a table.
+'N passed, M failed', with ', K skipped' where a step lacks a program of the system or had no time for some wrong bodies, it prints
+the processor seconds of each crate, of which bench/gate_costs.py makes a table.
 """
 import argparse
 import contextlib
@@ -46,7 +46,9 @@ sys.path.insert(0, HERE)
 from costs import Sampler  # noqa: E402
 from verdicts import NAME as REFUSED  # noqa: E402
 
-SUM = re.compile(r"(\d+) passed, (\d+) failed")
+SUM = re.compile(r"(\d+) passed, (\d+) failed(?:, (\d+) skipped)?")
+# The minutes after which no further crate's wrong bodies are begun.
+MINUTES = 40
 SKIPPED = 77
 PYTHON = [sys.executable, "-u"]
 QUICK = ["graph", "documents", "tools", "edits", "cases"]
@@ -87,8 +89,8 @@ def run_program(words, folder, env):
     found = SUM.fullmatch(last)
     if not found:
         print(last)
-    passed, failed = (int(found[1]), int(found[2])) if found else (0, 1)
-    return passed, failed if failed or not status else 1, 0
+    passed, failed, skipped = (int(it or 0) for it in found.groups()) if found else (0, 1, 0)
+    return passed, failed if failed or not status else 1, skipped
 
 
 def run_script(words, folder, env):
@@ -165,7 +167,7 @@ def place(top, begins):
 
 def call_of(step, room, commit, tries_all):
     """The command of a step, and how its lines are read."""
-    due = [] if tries_all else ["--due", commit]
+    due = [] if tries_all else ["--due", commit, "--minutes", str(MINUTES)]
     return {
         "graph": ([*PYTHON, "tests/crate_graph.py", "--check"], run_program),
         "documents": ([*PYTHON, "tests/docs.py", "--check"], run_program),

@@ -104,8 +104,8 @@ class Choosing(unittest.TestCase):
 class Trying(unittest.TestCase):
     """The same with the prover, over a small crate."""
 
-    def tried(self, commit):
-        words = [sys.executable, f"{HERE}/wrong_bodies.py", "--after-ci", "--due", commit]
+    def tried(self, commit, *more):
+        words = [sys.executable, f"{HERE}/wrong_bodies.py", "--after-ci", "--due", commit, *more]
         ran = subprocess.run(words, cwd=self.top, capture_output=True, text=True, stdin=subprocess.DEVNULL)
         return ran.returncode, ran.stdout
 
@@ -120,6 +120,17 @@ class Trying(unittest.TestCase):
             self.assertEqual((status, said.splitlines()[-1]), (0, "1 passed, 0 failed"), said)
             self.assertIn("of 1 crates that changed", said)
             self.spoilt_edit_in_an_unchanged_crate()
+
+    def test_what_there_is_no_time_for_is_counted(self):
+        with tempfile.TemporaryDirectory(prefix="small-") as self.top:
+            subprocess.run(["git", "init", "-q", self.top], check=True)
+            write(f"{self.top}/crates.txt", "small:\n")
+            write(f"{self.top}/HANDLES", "Handles allowed: none.\n")
+            write(f"{self.top}/crates/small/src/lib.rt", SOURCE)
+            write(f"{self.top}/crates/small/wrong/other.edit", EDIT)
+            status, said = self.tried("a", "--minutes", "0")
+            self.assertEqual((status, said.splitlines()[-1]), (0, "0 passed, 0 failed, 1 skipped"), said)
+            self.assertFalse(os.path.exists(f"{self.top}/{NAME}"))
 
     def spoilt_edit_in_an_unchanged_crate(self):
         """A verdict that is wrong, as the program would have written it, is found when the crate's turn comes."""

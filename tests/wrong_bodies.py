@@ -1,7 +1,7 @@
 #!/usr/bin/env python3
 """Tries wrong bodies, many in one check, and reports which of them the prover refuses.
 
-    wrong_bodies.py [--jobs N] [--after-ci [--due COMMIT] | --edits] [NAME..]     at the top of the repository; with no NAME, every crate
+    wrong_bodies.py [--jobs N] [--minutes M] [--after-ci [--due COMMIT] | --edits] [NAME..]     at the top of the repository; with no NAME, every crate
 
 A wrong body is a file crates/NAME/wrong/*.edit or crates/NAME/must-fail/*.edit, in the form that `rt must-fail` reads.
 It has to change the bodies of functions, and nothing else. Each function is proved from its own body and the contracts
@@ -16,8 +16,10 @@ batch are proved from nothing, and only those of wrong/ are tried: `rt ci` has t
 wrong body calls too, so their proofs are left out, but for methods: each gets a proof with a hole, and counts as proved.
 With --due only those of the crates that are due at a commit are tried: verdicts.py says which. Whatever is tried, what was seen of
 a crate is written to tests/refused.txt: that all wrong bodies of wrong/ were refused, or, where one wasn't, nothing more of it.
+With --minutes no crate is begun any more after that time: the crates that changed come first, and of these the small ones. Those that
+it didn't come to keep no line of their old text, so they come first the next time.
 With --edits nothing is checked, and the edits of wrong/ are only read, in seconds: each has to change the bodies of functions.
-The last line is 'N passed, M failed', and the exit status is 1 where M is not 0.
+The last line is 'N passed, M failed', with ', K skipped' where the time was up before K wrong bodies, and the exit status is 1 where M is not 0.
 
 Written for the kit rattle-kit-13f: how a crate is checked is taken from its rtlib.py, and the form of the lines that a
 check prints from its rattle.
@@ -29,6 +31,7 @@ import difflib
 import glob
 import importlib.machinery
 import importlib.util
+import math
 import os
 import re
 import shutil
@@ -498,12 +501,32 @@ def due(verdicts, crates, commit):
     return [it for it in crates if it.name in wanted], line
 
 
-def report(passed, failed):
+def report(passed, failed, left=()):
     """Prints what failed, where the end of a long output shows it, and the sum, and returns the exit status."""
     if failed:
         print("\n".join(["failed:", *failed]))
-    print(f"{passed} passed, {len(failed)} failed")
+    skipped = sum(len(edits_of(it, after_ci=True)) for it in left)
+    if left:
+        print(f"the time was up before {skipped} wrong bodies of {len(left)} crates: {' '.join(sorted(it.name for it in left))}")
+    print(f"{passed} passed, {len(failed)} failed" + (f", {skipped} skipped" if skipped else ""))
     return 1 if failed else 0
+
+
+def try_all(chosen, given, verdicts):
+    """Tries the wrong bodies of crates side by side, as long as there is time, and returns what came of them."""
+    deadline = time.time() + 60 * given.minutes if given.minutes is not None else math.inf
+    passed, failed, left = 0, [], []
+    with ThreadPoolExecutor(given.jobs) as pool:
+        begun = {pool.submit(lambda it: tried(it, given.after_ci) if time.time() < deadline else None, it): it for it in chosen}
+        for task in as_completed(begun):
+            seen = task.result()
+            if seen is None:
+                left.append(begun[task])
+                continue
+            passed, failed = passed + seen.refused, failed + seen.others
+            print("\n".join(seen.lines), flush=True)
+            take(verdicts, seen)
+    return passed, failed, left
 
 
 def read(crates):
@@ -527,6 +550,7 @@ def main():
     parser.add_argument("--jobs", type=int, default=len(os.sched_getaffinity(0)), help="how many crates are tried side by side")
     parser.add_argument("--after-ci", action="store_true", help="rt ci has just proved the crates, and left its libraries")
     parser.add_argument("--due", metavar="COMMIT", help="only the crates that are due at this commit")
+    parser.add_argument("--minutes", type=float, help="begin with no further crate after so many minutes")
     parser.add_argument("--edits", action="store_true", help="only read the edits")
     given = parser.parse_args()
     rtlib.guarded()  # (its first call sets a signal's handler, which only the main thread may)
@@ -544,15 +568,11 @@ def main():
         is_left_by_ci = os.path.isdir(library.rlib) and not os.path.isfile(f"{library.folder}/out/rlib/stamp")
         if not (given.after_ci and is_left_by_ci) and library.build_rlib(ONE_JOB, anew=False):
             sys.exit(f"wrong_bodies: the library {library.name} is not proved")
-    passed, failed = 0, []
-    chosen.sort(key=lambda it: -it.count(rb"\n"))
-    with ThreadPoolExecutor(given.jobs) as pool:
-        for it in as_completed([pool.submit(tried, it, given.after_ci) for it in chosen]):
-            seen = it.result()
-            passed, failed = passed + seen.refused, failed + seen.others
-            print("\n".join(seen.lines), flush=True)
-            take(verdicts, seen)
-    return report(passed, failed)
+    if given.minutes is None:
+        chosen.sort(key=lambda it: -it.count(rb"\n"))
+    else:
+        chosen.sort(key=lambda it: (not verdicts.is_changed(it.name), it.count(rb"\n")))
+    return report(*try_all(chosen, given, verdicts))
 
 
 if __name__ == "__main__":
