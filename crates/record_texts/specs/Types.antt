@@ -1,12 +1,13 @@
 -- Types in a record. A type is the list of its nodes, each after its parts (component model, WIT: `ty`).
 use Rattle.std.specs.Prelude.{ℕ, List, [], ◌∷◌, codes, length, map, reverse, replicate, Bool, true, false}
 use Rattle.serde_json.specs.Data.{Data, null, boolean, string, array}
-use Rattle.serde_json.specs.View.{items_of}
+use Rattle.serde_json.specs.View.{view, items_of}
 use Rattle.standard_kinds.specs.declared.kinds.Primitive.{Primitive}
 use Rattle.standard_kinds.specs.declared.kinds.Primitive.TheVariants as primitives
 use Rattle.record_values.specs.declared.types.Case.{Case}
 use Rattle.record_values.specs.declared.types.Node.{Node}
 use Rattle.record_values.specs.declared.types.Node.TheVariants as nodes
+use Rattle.record_texts.specs.declared.types.Stack.{Stack as Written}
 use Rattle.record_texts.specs.Names.{Indices, pair, only, type_name_data}
 
 abbrev pub primitive_name : Primitive → List ℕ
@@ -40,6 +41,9 @@ parts_of node = []
 -- values of types, the last one first
 abbrev pub Stack : Type 0
 Stack = List Data
+
+abbrev pub stack_view : Written → Stack
+stack_view s = reverse (map view s.values.items)
 
 abbrev pub top : Stack → Data
 top [] = null

@@ -4,7 +4,7 @@ ghost use Rattle.std.specs.Prelude.{◌≡◌, ◌∷◌, [], codes, true, if◌
 ghost use Rattle.serde_json.specs.Data.{null, array};
 ghost use Rattle.serde_json.specs.View.{view, items_of};
 ghost use Rattle.record_texts.specs.Names.{only, type_name_data};
-ghost use Rattle.record_texts.specs.Types.{primitive_name, parts_of, top, rest, parts_before, named_parts, texts, node_data, with_node, type_data};
+ghost use Rattle.record_texts.specs.Types.{primitive_name, parts_of, stack_view, top, rest, parts_before, named_parts, texts, node_data, with_node, type_data};
 
 use crate::names::{Indices, type_name_value};
 use crate::values::{append, named, only, texts};
@@ -13,9 +13,8 @@ use record_values::{Case, Node, TypeName};
 use serde_json::Value;
 use standard_kinds::Primitive;
 use std::alloc::{AllocError, Global};
-use std::marker::Model;
 
-/// Values of types, which contracts see with the last one first.
+/// Values of types. Contracts see the last one first (`stack_view`).
 pub(crate) struct Stack {
     values: Vec<Value>,
 }
@@ -26,20 +25,19 @@ impl Drop for Stack {
     }
 }
 
-impl Model for Stack {
-    ghost use Rattle.std.specs.Prelude.{List, map, reverse};
-    ghost use Rattle.serde_json.specs.Data.{Data};
-    ghost use Rattle.serde_json.specs.View.{view};
-
-    ghost Value = { List Data };
-
-    ghost view = { λ s. reverse (map view s.values.items) };
+/// Values in the other order.
+#[tactic(auto, using(crate::proofs::Stacks::turned))]
+fn reversed(mut values: Vec<Value>) -> Vec<Value>
+    ensures { map view result.items ≡ reverse (map view values.items) }
+{
+    values.reverse();
+    values
 }
 
 impl Stack {
     /// No values.
     fn new(alloc: Global) -> Stack
-        ensures { result ≡ [] }
+        ensures { stack_view result ≡ [] }
     {
         Stack {
             values: Vec::new(alloc),
@@ -47,15 +45,15 @@ impl Stack {
     }
 
     fn push(&mut self, value: Value) -> Result<(), AllocError>
-        ensures { OnOk result (self.new ≡ view value ∷ self.old) }
+        ensures { OnOk result (stack_view self.new ≡ view value ∷ stack_view self.old) }
     {
         Ok(self.values.push(value)?)
     }
 
     /// The last value, which is taken away, or null where there is none.
     fn pop(&mut self) -> Value
-        ensures value { view result ≡ top self.old }
-        ensures left { self.new ≡ rest self.old }
+        ensures value { view result ≡ top (stack_view self.old) }
+        ensures left { stack_view self.new ≡ rest (stack_view self.old) }
     {
         match self.values.pop() {
             Some(value) => value,
@@ -65,11 +63,10 @@ impl Stack {
 
     /// The values, the last one first.
     fn into_values(self) -> Vec<Value>
-        ensures { map view result.items ≡ self }
+        ensures { map view result.items ≡ stack_view self }
     {
-        let Self { mut values } = self;
-        values.reverse();
-        values
+        let Self { values } = self;
+        reversed(values)
     }
 }
 
@@ -152,16 +149,17 @@ fn parts_of(alloc: Global, node: &Node) -> Result<Vec<bool>, AllocError>
 
 /// The part that belongs here: the last value, or null where there is none.
 fn next_part(stack: &mut Stack, is_there: bool) -> Value
-    ensures value { view result ≡ (if is_there then top stack.old else null) }
-    ensures left { stack.new ≡ (if is_there then rest stack.old else stack.old) }
+    ensures value { view result ≡ (if is_there then top (stack_view stack.old) else null) }
+    ensures left { stack_view stack.new
+        ≡ (if is_there then rest (stack_view stack.old) else stack_view stack.old) }
 {
     if is_there { stack.pop() } else { Value::Null }
 }
 
 /// The parts, by whether each is there, from the last one on.
 fn take_parts(alloc: Global, flags: &[bool], stack: &mut Stack) -> Result<Stack, AllocError>
-    ensures { IfOk result (λ parts. (stack.new, parts)
-        ≡ parts_before flags.now stack.old []) }
+    ensures { IfOk result (λ parts. (stack_view stack.new, stack_view parts)
+        ≡ parts_before flags.now (stack_view stack.old) []) }
 {
     let mut parts = Stack::new(alloc);
     for flag in flags {
@@ -174,23 +172,21 @@ fn take_parts(alloc: Global, flags: &[bool], stack: &mut Stack) -> Result<Stack,
 
 /// An object whose one member is the list of the parts.
 fn listed(alloc: Global, key: &str, parts: Stack) -> Result<Value, AllocError>
-    ensures { IfOk result (λ v. view v ≡ only key.now (array (items_of parts))) }
+    ensures { IfOk result (λ v. view v ≡ only key.now (array (items_of (stack_view parts)))) }
 {
     only(alloc, key, Value::Array(parts.into_values()))
 }
 
 /// An object whose one member is the first part, or null.
-fn holding(alloc: Global, key: &str, parts: Stack) -> Result<Value, AllocError>
-    ensures { IfOk result (λ v. view v ≡ only key.now (top parts)) }
+fn holding(alloc: Global, key: &str, mut parts: Stack) -> Result<Value, AllocError>
+    ensures { IfOk result (λ v. view v ≡ only key.now (top (stack_view parts))) }
 {
-    let mut parts = parts;
     only(alloc, key, parts.pop())
 }
 
-fn fields_with(alloc: Global, fields: &[Text], parts: Stack) -> Result<Vec<Value>, AllocError>
-    ensures { IfOk result (λ vs. map view vs.items ≡ named_parts fields.now parts) }
+fn fields_with(alloc: Global, fields: &[Text], mut parts: Stack) -> Result<Vec<Value>, AllocError>
+    ensures { IfOk result (λ vs. map view vs.items ≡ named_parts fields.now (stack_view parts)) }
 {
-    let mut parts = parts;
     let mut values = Vec::new(alloc);
     for field in fields {
         let value = named(alloc, field.as_str(), parts.pop())?;
@@ -199,11 +195,10 @@ fn fields_with(alloc: Global, fields: &[Text], parts: Stack) -> Result<Vec<Value
     Ok(values)
 }
 
-fn cases_with(alloc: Global, cases: &[Case], parts: Stack) -> Result<Vec<Value>, AllocError>
+fn cases_with(alloc: Global, cases: &[Case], mut parts: Stack) -> Result<Vec<Value>, AllocError>
     ensures { IfOk result (λ vs. map view vs.items
-        ≡ named_parts (map (λ c. c.name) cases.now) parts) }
+        ≡ named_parts (map (λ c. c.name) cases.now) (stack_view parts)) }
 {
-    let mut parts = parts;
     let mut values = Vec::new(alloc);
     for case in cases {
         let value = named(alloc, case.name.as_str(), parts.pop())?;
@@ -215,7 +210,7 @@ fn cases_with(alloc: Global, cases: &[Case], parts: Stack) -> Result<Vec<Value>,
 /// A type that holds a list of names with their types.
 fn record_value(alloc: Global, fields: &[Text], parts: Stack) -> Result<Value, AllocError>
     ensures { IfOk result (λ v. view v
-        ≡ only (codes "record") (array (items_of (named_parts fields.now parts)))) }
+        ≡ only (codes "record") (array (items_of (named_parts fields.now (stack_view parts))))) }
 {
     let values = fields_with(alloc, fields, parts)?;
     only(alloc, "record", Value::Array(values))
@@ -223,7 +218,7 @@ fn record_value(alloc: Global, fields: &[Text], parts: Stack) -> Result<Value, A
 
 fn variant_value(alloc: Global, cases: &[Case], parts: Stack) -> Result<Value, AllocError>
     ensures { IfOk result (λ v. view v ≡ only (codes "variant")
-        (array (items_of (named_parts (map (λ c. c.name) cases.now) parts)))) }
+        (array (items_of (named_parts (map (λ c. c.name) cases.now) (stack_view parts))))) }
 {
     let values = cases_with(alloc, cases, parts)?;
     only(alloc, "variant", Value::Array(values))
@@ -255,7 +250,7 @@ fn node_value(
     node: &Node,
     parts: Stack,
 ) -> Result<Value, AllocError>
-    ensures { IfOk result (λ v. view v ≡ node_data indices.now node.now parts) }
+    ensures { IfOk result (λ v. view v ≡ node_data indices.now node.now (stack_view parts)) }
 {
     match node {
         Node::Primitive(primitive) => Value::try_from_str(alloc, primitive_name(*primitive)),
@@ -283,8 +278,8 @@ fn node_value(
 
 /// The parts of a node, from the last one on, of the values before it.
 fn parts_before(alloc: Global, node: &Node, stack: &mut Stack) -> Result<Stack, AllocError>
-    ensures { IfOk result (λ parts. (stack.new, parts)
-        ≡ parts_before (reverse (parts_of node.now)) stack.old []) }
+    ensures { IfOk result (λ parts. (stack_view stack.new, stack_view parts)
+        ≡ parts_before (reverse (parts_of node.now)) (stack_view stack.old) []) }
 {
     let mut flags = parts_of(alloc, node)?;
     flags.reverse();
@@ -298,7 +293,8 @@ fn add_node(
     stack: &mut Stack,
     node: &Node,
 ) -> Result<(), AllocError>
-    ensures { OnOk result (stack.new ≡ with_node indices.now stack.old node.now) }
+    ensures { OnOk result (stack_view stack.new
+        ≡ with_node indices.now (stack_view stack.old) node.now) }
 {
     let parts = parts_before(alloc, node, stack)?;
     let value = node_value(alloc, indices, node, parts)?;
