@@ -9,12 +9,12 @@ pub returns-in-Ok-push-clause-read : goal.returns-in-Ok-push-clause-read
 returns-in-Ok-push-clause-read g c = (
   _,
   c.in-Ok.ensures.event,
-  λ main rest. adapter_read main rest c.args.modules.now c.push.new.self c.args.adapter _ _ c.from_vec.result c.as_str.ensures c.from_vec.ensures c.in-Ok-push.ensures.ok,
+  λ main rest. adapter_read {F = g.row.F.Denot} main rest c.args.modules.now c.push.new.self c.args.adapter _ _ c.from_vec.result c.as_str.ensures c.from_vec.ensures c.in-Ok-push.ensures.ok,
 )
 
 pub returns-clause-read : goal.returns-clause-read
 returns-clause-read g c = (
   _,
   c.in-Ok.ensures.event,
-  λ main rest. adapter_not_added main rest c.args.modules.now c.push.new.self c.args.adapter _ _ c.out_of_memory.result c.as_str.ensures c.out_of_memory.ensures,
+  λ main rest. adapter_not_added {F = g.row.F.Denot} main rest c.args.modules.now c.push.new.self c.args.adapter _ _ c.out_of_memory.result c.as_str.ensures c.out_of_memory.ensures,
 )
