@@ -16,6 +16,7 @@ The steps, in order:
     wrong        the wrong bodies of wrong/ are tried: which, tests/verdicts.py says
     program      the built program on real files
     components   the components of examples/ in Node, and those that are compiled anew
+    programs     C programs over the adapters of WASI in Node, beside the components that Rust makes of them
     growths      a component is measured without memory, and finished in one buffer
     memory       each allocation of the built program is refused in turn, for some inputs
     modules      generated core modules in Node
@@ -50,7 +51,7 @@ SUM = re.compile(r"(\d+) passed, (\d+) failed")
 SKIPPED = 77
 PYTHON = [sys.executable, "-u"]
 QUICK = ["graph", "documents", "tools", "edits", "cases"]
-STEPS = ["graph", "documents", "tools", "edits", "ci", "wrong", "program", "components", "growths", "memory", "modules", "fuzz"]
+STEPS = ["graph", "documents", "tools", "edits", "ci", "wrong", "program", "components", "programs", "growths", "memory", "modules", "fuzz"]
 
 
 class Sums:
@@ -176,6 +177,7 @@ def call_of(step, room, commit, tries_all):
         "wrong": ([*PYTHON, "tests/wrong_bodies.py", "--after-ci", *due], run_program),
         "program": (["sh", "tests/built_program.sh"], run_script),
         "components": (["sh", "tests/run_components.sh"], run_script),
+        "programs": (["sh", "tests/run_programs.sh"], run_script),
         "growths": (["sh", "tests/measured_growths.sh"], run_script),
         "memory": (["sh", "tests/refuse_memory.sh"], run_script),
         "modules": (["sh", "tests/run_modules.sh"], run_script),

@@ -1,4 +1,5 @@
 mod Steps
+mod FilesRead
 mod Supplying
 mod Lines
 mod Words

@@ -1,12 +1,13 @@
--- The lines that report a failure. (The program's own. Of what a line says of a file's name, of an encoder's
--- fault or of a component that can't be read only the beginning is specified here.)
+-- The lines that report a failure. (The program's own. Of what a line says of a file's name, of
+-- modules that can't be fitted, of an encoder's fault or of a component that can't be read only the
+-- beginning is specified here.)
 use Rattle.std.specs.Prelude.{◌≡◌, ℕ, Bool, List, [], ◌++◌, ◌⊎◌, Option, Result, Ok, Err, ⊤, true, false, codes, if◌then◌else◌, IsTrue}
 use Rattle.std.specs.Fmt.{decimal}
 use Rattle.std.specs.Io.KnownBytes.{Appends}
 use Rattle.comp_check.specs.declared.fault.CheckFault.TheVariants as checks
 use Rattle.comp_encoder.specs.declared.fault.EncodeFault.TheVariants as encode_faults
 use Rattle.command_line.specs.declared.fault.RunFault.{RunFault}
-use Rattle.command_line.specs.declared.fault.RunFault.TheVariants.{Usage, Read, Write, Out, Closed, Encode, Check}
+use Rattle.command_line.specs.declared.fault.RunFault.TheVariants.{Usage, Read, Write, Out, Closed, Fit, Encode, Check}
 
 abbrev pub usage_line : List ℕ
 usage_line = codes "usage: component_new new OUT MAIN [options] | defs FILE\n"
@@ -60,6 +61,7 @@ IsLineOf memory (Read name) line = IsTextOr memory (codes "error: read ") line
 IsLineOf memory (Write name) line = IsTextOr memory (codes "error: write ") line
 IsLineOf memory Out line = line ≡ codes "error: write \"-\"\n"
 IsLineOf memory Closed line = ⊥
+IsLineOf memory (Fit _) line = IsTextOr memory (codes "error: ") line
 IsLineOf memory (Encode encode_faults.Memory) line = line ≡ memory_line
 IsLineOf memory (Encode _) line = IsTextOr memory (codes "error: ") line
 IsLineOf memory (Check checks.Memory) line = line ≡ listing_memory_line

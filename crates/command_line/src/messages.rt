@@ -138,6 +138,7 @@ pub(crate) fn print_fault<W: Write, F: Display>(
         RunFault::Write { name } => say_value(alloc, writer, memory, "error: write ", name),
         RunFault::Out => say(writer, OUT),
         RunFault::Closed => {}
+        RunFault::Fit(fault) => say_value(alloc, writer, memory, "error: ", fault),
         RunFault::Encode(EncodeFault::Memory) => say(writer, MEMORY),
         RunFault::Encode(fault) => say_value(alloc, writer, memory, "error: ", fault),
         RunFault::Check(CheckFault::Memory) => say(writer, LISTING_MEMORY),
