@@ -20,8 +20,8 @@ pub enum RecordingFault {
     #[error("R1 SeveralEncodings")]
     SeveralEncodings,
     /// The record's size passes 2^32 - 1.
-    #[error("E16 TooMany {0}")]
-    TooMany(Excess),
+    #[error("E16 TooMany excess={excess}")]
+    TooMany { excess: Excess },
 }
 
 impl From<AllocError> for RecordingFault {

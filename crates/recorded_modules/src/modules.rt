@@ -44,7 +44,7 @@ fn with_section(alloc: Global, rest: &[u8], text: &[u8]) -> Result<Vec<u8>, Reco
     match put_custom_section(&mut module, b"component-type", text) {
         Ok(()) => Ok(module),
         Err(BuildFault::Memory) => Err(RecordingFault::Memory),
-        Err(BuildFault::TooMany(count)) => Err(RecordingFault::TooMany(count)),
+        Err(BuildFault::TooMany { excess }) => Err(RecordingFault::TooMany { excess }),
     }
 }
 
