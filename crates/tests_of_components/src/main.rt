@@ -8,18 +8,21 @@
 //! `reject-legacy`, `unchecked` (without `validate`, which is on otherwise) and `rename NAME to
 //! NAME`. The answer is the component in hexadecimal digits, by the encoder over the lower layer by
 //! records, and in the files `packages.txt` and `fitted.txt` over that by packages; or the fault. In
-//! `fitted.txt` the modules are fitted first (`fitted_modules`). `test_cases` says how the files are
+//! `fitted.txt` the modules are fitted first (`fitted_modules`); in `packages.txt` the component is made
+//! once more with records in the place of packages (`recorded_modules`), and has to be the same. `test_cases` says how the files are
 //! read; each says where its expected answers are from.
 //!
 //! In reading order: `inputs` (the modules and options of inputs), `components` (their components),
-//! `fitted` (those of modules that are fitted).
+//! `fitted` (those of modules that are fitted), `recorded` (those of modules with records in the place
+//! of packages).
 #![tactic(auto)]
 
 mod components;
 mod fitted;
 mod inputs;
+mod recorded;
 
-use components::{answer_by, layer_with};
+use components::answer_by;
 use plain_lower::PlainLower;
 use std::alloc::{AllocError, Global};
 use std::process::ExitCode;
@@ -45,7 +48,7 @@ impl Topic for Modules {
     fn answer(self, alloc: Global, _given: &str, input: &str) -> Result<String, AllocError> {
         match self {
             Modules::Records => answer_by(alloc, PlainLower::new(), input),
-            Modules::Packages => answer_by(alloc, layer_with(input), input),
+            Modules::Packages => recorded::answer(alloc, input),
             Modules::Fitted => fitted::answer(alloc, input),
         }
     }
