@@ -1,5 +1,5 @@
 -- Files that are read one after the other.
-use Rattle.std.proofs.Common.{◌≡◌, ◌+◌, ℕ, List, [], ◌∷◌, ◌++◌, Option, None, Some, Result, Ok, Err, refl, sym, ap, subst, ◌∙◌, append_assoc, append-nil, arith, inl, inr}
+use Rattle.std.proofs.Common.{◌≡◌, ◌+◌, ℕ, false, List, [], ◌∷◌, ◌++◌, Option, None, Some, Result, Ok, Err, refl, sym, ap, subst, ◌∙◌, append_assoc, append-nil, arith, inl, inr}
 use Rattle.std.specs.Prelude.{⊤, ◌⊎◌}
 use Rattle.std.specs.Result.{IsErrAnd}
 use Rattle.atomic_files.specs.Files.{Node, Known}
@@ -63,6 +63,10 @@ module _ {V F : Type 0} where
   reported_read file Next (Put to bytes ∷ es) r next h = absurd h
   reported_read file Next (NotPut to bytes ∷ es) r next h = absurd h
 
+no_memory_left : (F : Type 0) (main : List ℕ) (read : List NamedModule) (rest : List Adapter) → AdaptersRead {F = F} main read rest [] (Err no_memory)
+no_memory_left F main read [] = (refl, inr refl)
+no_memory_left F main read (a ∷ rest) = refl
+
 module _ {F : Type 0} where
   -- the main module was read
   pub main_read : (adapters : List Adapter) (file name bytes main : List ℕ) → name ≡ file → main ≡ bytes →
@@ -83,17 +87,13 @@ module _ {F : Type 0} where
         (subst (λ (ms : List NamedModule). AdaptersRead main ms rest more r) added then),
   )
 
-  no_memory_left : (main : List ℕ) (read : List NamedModule) (rest : List Adapter) → AdaptersRead {F = F} main read rest [] (Err no_memory)
-  no_memory_left main read [] = (refl, inr refl)
-  no_memory_left main read (a ∷ rest) = refl
-
   -- an adapter was read, and there was no memory to add it
   pub adapter_not_added : (main : List ℕ) (rest : List Adapter) (old new : List NamedModule) (a : Adapter) (name bytes : List ℕ) (f : RunFault F) → name ≡ a.file → f ≡ no_memory →
       Leads {U = ⊤} {V = Modules} {F = F} (AdaptersRead main old (a ∷ rest)) (λ _. AdaptersRead main new rest) (Read name bytes ∷ []) (Err f)
   adapter_not_added main rest old new a name bytes f k h = (
     k,
     subst (λ (x : RunFault F). AdaptersRead {F = F} main (old ++ record { name = a.name; bytes = bytes } ∷ []) rest [] (Err x)) (sym h)
-        (no_memory_left main (old ++ record { name = a.name; bytes = bytes } ∷ []) rest),
+        (no_memory_left F main (old ++ record { name = a.name; bytes = bytes } ∷ []) rest),
   )
 
 -- What was read so far of a list of adapters: with these events, and what holds of the rest holds of all.

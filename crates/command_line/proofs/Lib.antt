@@ -3,3 +3,4 @@ mod FilesRead
 mod Supplying
 mod Lines
 mod Words
+mod Refusing

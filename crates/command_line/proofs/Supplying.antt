@@ -15,7 +15,7 @@ use Rattle.fitted_modules.specs.declared.fault.ModulesFault.TheVariants as fits
 use Rattle.fitted_modules.specs.declared.modules.Modules.{Modules}
 use Rattle.fitted_modules.specs.declared.modules.NamedModule.{NamedModule}
 use Rattle.command_line.specs.Events.{events_of_put, device_faults}
-use Rattle.command_line.specs.Faults.{of_fit, of_put, reported_faults}
+use Rattle.command_line.specs.Faults.{of_fit, of_put, reported_faults, reported_fault}
 use Rattle.command_line.specs.Files.{FilesRead}
 use Rattle.command_line.specs.Making.{begun, Then, Continues, AreFitted, IsFitFault, IsEncoded, AdaptersEncoded, ModulesEncoded, Encoded, Composed, IsPut, Made}
 use Rattle.command_line.specs.declared.adapters.Adapter.{Adapter}

@@ -16,7 +16,7 @@ returns-in_err-modules-clause-composed g c =
     let read = c.in_ok-read.ensures.read in (
       read.0,
       read.1,
-      unfitted g.L.Lower (begun g.L.Lower c.args.lower c.args.flags) c.args.main c.args.adapters read.0 c.in_ok-read.read c.in_err-modules.field-0.0 c.from_residual.result c.from_residual.ensures.1 read.2
+      unfitted g.L.Lower (begun g.L.Lower c.args.lower c.args.flags) c.args.main c.args.adapters read.0 c.in_ok-read.read c.in_err-modules.field-0.0 c.from_residual-in_err-modules.result c.from_residual-in_err-modules.ensures.1 read.2
           c.in_err-modules.ensures,
     )
 
@@ -24,8 +24,3 @@ pub returns-in-Ok-clause-composed : goal.returns-in-Ok-clause-composed
 returns-in-Ok-clause-composed g c =
     let read = c.in_ok-read.ensures.read in
     (read.0, read.1, record { read = Ok c.in_ok-read.read; are_read = read.2; fitted = Ok c.in_ok-modules.modules; are_fitted = c.in_ok-modules.ensures; encoded = c.in-Ok.ensures })
-
-pub returns-clause-composed : goal.returns-clause-composed
-returns-clause-composed g c =
-    let read = c.in_ok-read.ensures.read in
-    (read.0, read.1, record { read = Ok c.in_ok-read.read; are_read = read.2; fitted = Ok c.in_ok-modules.modules; are_fitted = c.in_ok-modules.ensures; encoded = c.in-Err.ensures })

@@ -6,7 +6,3 @@ pub returns-in-Ok : goal.returns-in-Ok
 returns-in-Ok g c =
     module_given g.L.Lower c.args.encoder.now c.add_module.new.self c.give_adapters.new.encoder c.args.modules _ c.give_adapters.result
     c.into_vec.ensures c.in-Ok.ensures.ok (c.in-Ok.ensures.refused refl) c.give_adapters.ensures
-
-pub returns : goal.returns
-returns g c =
-    module_refused g.L.Lower c.args.encoder.now c.add_module.new.self c.args.modules _ c.in-Err.fault c.into_vec.ensures c.in-Err.ensures.cause
