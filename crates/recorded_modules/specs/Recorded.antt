@@ -1,6 +1,8 @@
 -- A module whose component is described by a record in one custom section. (Core standard, binary
 -- format: custom section. The section's name is that of the component model's tools.)
-use Rattle.std.specs.Prelude.{◌≡◌, ◌≤◌, ◌^◌, ℕ, Bool, false, List, ◌++◌, ⊥, codes}
+use Rattle.std.specs.Prelude.{◌≡◌, ◌≤◌, ◌^◌, ℕ, Bool, false, List, ◌++◌, codes}
+use Rattle.byte_encoding.specs.declared.fault.BuildFault.{BuildFault}
+use Rattle.byte_encoding.specs.declared.fault.BuildFault.TheVariants as build_faults
 use Rattle.byte_encoding.specs.Encoding.{Encoding, ◌⊕◌, raw, octet, named, sized}
 use Rattle.record_merge.specs.declared.bindgen.Bindgen.{Bindgen}
 use Rattle.package_lower.specs.Causes.{DecodeCause}
@@ -8,6 +10,11 @@ use Rattle.package_lower.specs.Layer.{decoded}
 use Rattle.record_texts.specs.Records.{IsTextOf, record_data, encoding_of, encodings_of, has_one_encoding}
 use Rattle.recorded_modules.specs.declared.fault.RecordingFault.{RecordingFault}
 use Rattle.recorded_modules.specs.declared.fault.RecordingFault.TheVariants as faults
+
+-- the fault of a section that can't be written
+abbrev pub build_fault : BuildFault → RecordingFault
+build_fault build_faults.Memory = faults.Memory
+build_fault (build_faults.TooMany n) = faults.TooMany n
 
 -- a custom section of this name and these contents
 abbrev pub custom_section : List ℕ → List ℕ → Encoding

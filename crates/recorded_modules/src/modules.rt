@@ -6,7 +6,7 @@ ghost use Rattle.package_lower.specs.Layer.{decoded, is_memory};
 ghost use Rattle.package_lower.specs.declared.fault.LowerFault.{LowerFault as DecodeFault};
 ghost use Rattle.record_texts.specs.Records.{IsTextOf, record_data, encoding_of, encodings_of, has_one_encoding};
 ghost use Rattle.recorded_modules.specs.declared.fault.RecordingFault.TheVariants as faults;
-ghost use Rattle.recorded_modules.specs.Recorded.{custom_section, IsRecordedFrom, IsRecorded, IsSizeFault, IsRecordFault, RecordingCause};
+ghost use Rattle.recorded_modules.specs.Recorded.{build_fault, custom_section, IsRecordedFrom, IsRecorded, IsSizeFault, IsRecordFault, RecordingCause};
 
 use crate::fault::RecordingFault;
 use crate::sections::put_custom_section;
@@ -33,6 +33,16 @@ fn text_of(alloc: Global, said: &Bindgen) -> Result<Vec<u8>, RecordingFault>
     }
 }
 
+/// The fault of a section that can't be written.
+fn of_build(fault: BuildFault) -> RecordingFault
+    ensures { result ≡ build_fault fault }
+{
+    match fault {
+        BuildFault::Memory => RecordingFault::Memory,
+        BuildFault::TooMany { excess } => RecordingFault::TooMany { excess },
+    }
+}
+
 /// A module with a record behind it.
 fn with_section(alloc: Global, rest: &[u8], text: &[u8]) -> Result<Vec<u8>, RecordingFault>
     ensures ok { IfOk result (λ m. m.items
@@ -43,8 +53,7 @@ fn with_section(alloc: Global, rest: &[u8], text: &[u8]) -> Result<Vec<u8>, Reco
     module.extend_from_slice(rest)?;
     match put_custom_section(&mut module, b"component-type", text) {
         Ok(()) => Ok(module),
-        Err(BuildFault::Memory) => Err(RecordingFault::Memory),
-        Err(BuildFault::TooMany { excess }) => Err(RecordingFault::TooMany { excess }),
+        Err(fault) => Err(of_build(fault)),
     }
 }
 
