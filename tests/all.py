@@ -16,6 +16,7 @@ The steps, in order:
     wrong        the wrong bodies of wrong/ are tried: which, tests/verdicts.py says, and as far as the time suffices
     program      the built program on real files
     components   the components of examples/ in Node, and those that are compiled anew
+    programs     C programs over the adapters of WASI in Node, beside the components that Rust makes of them
     growths      a component is measured without memory, and finished in one buffer
     memory       each allocation of the built program is refused in turn, for some inputs
     modules      generated core modules in Node
@@ -52,7 +53,7 @@ MINUTES = 40
 SKIPPED = 77
 PYTHON = [sys.executable, "-u"]
 QUICK = ["graph", "documents", "tools", "edits", "cases"]
-STEPS = ["graph", "documents", "tools", "edits", "ci", "wrong", "program", "components", "growths", "memory", "modules", "fuzz"]
+STEPS = ["graph", "documents", "tools", "edits", "ci", "wrong", "program", "components", "programs", "growths", "memory", "modules", "fuzz"]
 
 
 class Sums:
@@ -178,6 +179,7 @@ def call_of(step, room, commit, tries_all):
         "wrong": ([*PYTHON, "tests/wrong_bodies.py", "--after-ci", *due], run_program),
         "program": (["sh", "tests/built_program.sh"], run_script),
         "components": (["sh", "tests/run_components.sh"], run_script),
+        "programs": (["sh", "tests/run_programs.sh"], run_script),
         "growths": (["sh", "tests/measured_growths.sh"], run_script),
         "memory": (["sh", "tests/refuse_memory.sh"], run_script),
         "modules": (["sh", "tests/run_modules.sh"], run_script),

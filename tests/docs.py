@@ -3,18 +3,20 @@
 
     docs.py --check    each file of a crate that a document names exists; docs/LINKING.md lists the files of definitions that the
                        linking theorem uses, directly or not, and no others but those of refusals; the numbers of lines there are
-                       right, and in all no more than MOST_LINES; docs/ERRORS.md has each code of an error; docs/LEFT_OUT.md has
+                       right, and in all no more than MOST_LINES; docs/ERRORS.md has each code of an error, and the program explains
+                       those that it prints by their rows; docs/LEFT_OUT.md has
                        the numbers of cases that wait for what is left out, and docs/PROVED.md those of all files of cases; the names
                        of the cases of a file differ; CONTRIBUTING.md leads to each file in which its examples are found; no more clauses are wider than 100 columns than MOST_WIDE, a number that only
                        falls. The last line is 'N passed, M failed', and the exit status is 1 where M is not 0.
     docs.py --write    fills the numbers of lines in docs/LINKING.md, which count definitions (no imports, comments or blank lines), and
-                       the tables of cases of docs/LEFT_OUT.md and docs/PROVED.md.
+                       the tables of cases of docs/LEFT_OUT.md and docs/PROVED.md, and the texts of crates/explanations.
 """
 import collections
 import glob
 import os
 import re
 import sys
+import textwrap
 
 sys.dont_write_bytecode = True
 TOP = os.path.dirname(os.path.dirname(os.path.realpath(__file__)))
@@ -48,6 +50,12 @@ EXAMPLES = {
     r"\bInstantiate\b": ["A new kind of definition"],
 }
 CODE = re.compile(r'#\[error\("([A-Z]\d+) (\w+)')
+ERRORS = f"{TOP}/docs/ERRORS.md"
+ERROR_HEAD = "| Code | Cause | Example | What to do | Library |\n"
+EXPLAINED = f"{TOP}/crates/explanations/src/codes.rt"
+TEXTS = f"{TOP}/crates/explanations/src/texts.rt"
+TEXTS_HEAD = "//! What codes mean, and what to do. `tests/docs.py --write` writes this file, after docs/ERRORS.md.\n"
+TEXT_WIDTH = 90
 
 
 def text_of(path):
@@ -140,6 +148,38 @@ def faults_of_errors():
         for code, name in CODE.findall(text_of(path)):
             if f"`{code} {name}" not in listed and f"{code} {name}" not in listed:
                 faults.append(f"docs/ERRORS.md: {code} {name} of {os.path.relpath(path, TOP)} is missing")
+    return faults
+
+
+def error_rows():
+    """The cells of docs/ERRORS.md of each code that the program prints: of several rows of one code, the last."""
+    rows = {}
+    for table in text_of(ERRORS).split(ERROR_HEAD)[1:]:
+        for line in table.partition("\n\n")[0].splitlines()[1:]:
+            code, cause, example, remedy, library = [it.strip() for it in re.split(r"(?<!\\)\|", line)[1:-1]]
+            if library != "library":
+                rows[code] = [it.replace("\\|", "|") for it in (cause, example, remedy)]
+    return rows
+
+
+def explained(code, cause, example, remedy):
+    """The text for a code, as a constant."""
+    parts = [f"{code}: {cause}.", f"Example: {example}"] + ([f"What to do: {remedy}."] if remedy else [])
+    lines = [line for part in parts for line in textwrap.wrap(part.replace("*", ""), TEXT_WIDTH, break_long_words=False, break_on_hyphens=False)]
+    quoted = [line.replace("\\", "\\\\").replace('"', '\\"') for line in lines]
+    return f'pub(crate) const {code}: &str = "' + "".join(f"\\\n    {line}\\n" for line in quoted) + '";\n'
+
+
+def texts():
+    rows = sorted(error_rows().items(), key=lambda it: ("ECPF".index(it[0][0]), int(it[0][1:])))
+    return TEXTS_HEAD + "".join("\n" + explained(code, *cells) for code, cells in rows)
+
+
+def faults_of_texts():
+    lacking = [it for it in error_rows() if f'"{it}" => Some({it}),' not in text_of(EXPLAINED)]
+    faults = [f"crates/explanations/src/codes.rt: {it} of docs/ERRORS.md is missing" for it in lacking]
+    if text_of(TEXTS) != texts():
+        faults.append("crates/explanations/src/texts.rt: it has not the rows of docs/ERRORS.md; docs.py --write fills it")
     return faults
 
 
@@ -249,7 +289,7 @@ def faults_of_ways():
 def check():
     crates = set(os.listdir(f"{TOP}/crates"))
     documents = [f"{TOP}/README.md", f"{TOP}/CONTRIBUTING.md", *sorted(glob.glob(f"{TOP}/docs/*.md"))]
-    parts = [faults_of_linking(), faults_of_errors(), faults_of_left_out(), faults_of_case_table(), faults_of_case_names(), faults_of_ways(), faults_of_clauses(), *(faults_of_document(it, crates) for it in documents)]
+    parts = [faults_of_linking(), faults_of_errors(), faults_of_texts(), faults_of_left_out(), faults_of_case_table(), faults_of_case_names(), faults_of_ways(), faults_of_clauses(), *(faults_of_document(it, crates) for it in documents)]
     for faults in parts:
         for fault in faults:
             print(fault)
@@ -263,6 +303,8 @@ def write():
         text = filled(text_of(path))
         with open(path, "w", encoding="utf-8") as file:
             file.write(text)
+    with open(TEXTS, "w", encoding="utf-8") as file:
+        file.write(texts())
 
 
 def main():

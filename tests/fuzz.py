@@ -111,7 +111,7 @@ def corpus():
     for path in sorted(glob.glob(f"{TOP}/examples/*/main.wasm")):
         beside = [("lines", *parts_of_module(read(it))) for it in glob.glob(f"{os.path.dirname(path)}/adapter.wasm")]
         groups.append([("main", *parts_of_module(read(path))), *beside])
-        components.append(read(f"{os.path.dirname(path)}/component.wasm"))
+        components += [read(it) for it in glob.glob(f"{os.path.dirname(path)}/component.wasm")]
     for expected, text in lines_of_cases("tests_of_components"):
         if (made := digits(expected)) and made.startswith(COMPONENT):
             components.append(made)

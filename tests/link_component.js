@@ -2,12 +2,11 @@
 'use strict';
 const { lifted, lowered } = require('./canonical_abi.js');
 
-// A resource that a component defines: the handles that the component has, by their numbers, each with what it represents, and the
-// destructor, a core function, if there is one.
-class Resource {
-  constructor(destructor) {
-    this.destructor = destructor;
+// The handles of a resource that a component has, by their numbers, each with what it represents. None has the number 0.
+class Handles {
+  constructor() {
     this.handles = [];
+    this.handles.length = 1;
   }
 
   added(represents) {
@@ -24,9 +23,60 @@ class Resource {
     delete this.handles[number];
     return represents;
   }
+}
+
+// A resource that a component defines, and its destructor, a core function, if there is one. A handle outside is an object with
+// its resource and what represents it. One that is given up gets a number in the component; of one that is lent the component gets
+// what represents it, since the resource is its own.
+class Resource extends Handles {
+  constructor(destructor) {
+    super();
+    this.destructor = destructor;
+  }
 
   destroyed(represents) {
     if (this.destructor !== null) this.destructor(represents);
+  }
+
+  taken(number) {
+    return { of: this, represents: this.removed(number) };
+  }
+
+  lent(number) {
+    return { of: this, represents: this.represented(number) };
+  }
+
+  shown(handle) {
+    if (handle.of !== this) throw new Error('a handle of another resource');
+    if (handle.represents === null) throw new Error('a handle that was given up');
+    return handle.represents;
+  }
+
+  given(handle) {
+    const number = this.added(this.shown(handle));
+    handle.represents = null;
+    return number;
+  }
+}
+
+// A resource that a component imports: what a handle represents is the value that stands for it outside.
+class Imported extends Handles {
+  destroyed() {}
+
+  taken(number) {
+    return this.removed(number);
+  }
+
+  lent(number) {
+    return this.represented(number);
+  }
+
+  given(value) {
+    return this.added(value);
+  }
+
+  shown() {
+    throw new Error('no handle of an imported resource is lent to a component here');
   }
 }
 
@@ -37,11 +87,14 @@ const resolved = (type, types) => {
   if (typeof type === 'number') return types[type];
   if (type.list !== undefined) return { list: resolved(type.list, types) };
   if (type.option !== undefined) return { option: resolved(type.option, types) };
-  if (type.enum !== undefined) return type;
+  if (type.enum !== undefined || type.flags !== undefined) return type;
+  if (type.tuple !== undefined) return { tuple: type.tuple.map(of => resolved(of, types)) };
+  if (type.variant !== undefined) return { variant: fields(type.variant) };
   if (type.record !== undefined) return { record: fields(type.record) };
   if (type.own !== undefined) return { own: types[type.own] };
   if (type.borrow !== undefined) return { borrow: types[type.borrow] };
   if (type.params !== undefined) return { params: fields(type.params), result: resolved(type.result, types) };
+  if (type.result !== undefined) return { result: { ok: resolved(type.result.ok, types), err: resolved(type.result.err, types) } };
   if (type.members !== undefined) return instanceType(type.members, types);
   throw new Error(`the type ${JSON.stringify(type)} isn't linked here`);
 };
@@ -52,8 +105,8 @@ const instanceType = (members, outer) => {
   for (const member of members) {
     if (member.define === 'type') types.push(resolved(member.type, types));
     else if (member.define === 'outer') types.push(outer[member.index]);
-    else exported[member.sort][member.name] = types[member.index];
-    if (member.define === 'export' && member.sort === 'type') types.push(types[member.index]);
+    else exported[member.sort][member.name] = member.index === null ? new Imported() : types[member.index];
+    if (member.define === 'export' && member.sort === 'type') types.push(exported.type[member.name]);
   }
   return exported;
 };
@@ -101,7 +154,7 @@ const linked = (definitions, outside, seen = () => {}) => {
   const core = { func: [], table: [], memory: [], global: [] };
   const lowerings = new Set();
   const importOf = ({ name, sort, index }, items) => {
-    const type = items.type[index];
+    const type = index === null ? new Imported() : items.type[index];
     if (sort === 'func') return { type, call: outside[name] };
     if (sort === 'type') return type;
     const functions = Object.entries(type.func).map(([of, its]) => [of, { type: its, call: outside[name][of] }]);

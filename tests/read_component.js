@@ -75,6 +75,12 @@ const valueType = from => {
   return primitive;
 };
 const field = from => ({ name: from.name(), type: valueType(from) });
+const optionalType = from => (from.byte() === 0 ? null : valueType(from));
+const variantCase = from => {
+  const read = { name: from.name(), type: optionalType(from) };
+  from.expect(0);
+  return read;
+};
 const resultType = from => {
   if (from.byte() === 0) return valueType(from);
   from.expect(0);
@@ -92,8 +98,12 @@ const definedType = from => {
   if (form === 0x69) return { own: from.number() };
   if (form === 0x68) return { borrow: from.number() };
   if (form === 0x70) return { list: valueType(from) };
+  if (form === 0x6f) return { tuple: from.list(valueType) };
+  if (form === 0x6e) return { flags: from.list(() => from.name()) };
   if (form === 0x6d) return { enum: from.list(() => from.name()) };
   if (form === 0x6b) return { option: valueType(from) };
+  if (form === 0x71) return { variant: from.list(variantCase) };
+  if (form === 0x6a) return { result: { ok: optionalType(from), err: optionalType(from) } };
   if (form === 0x40) return { params: from.list(field), result: resultType(from) };
   if (form === 0x42) return { members: from.list(member) };
   if (form === 0x3f) return resourceType(from);

@@ -4,14 +4,9 @@
 const fs = require('fs');
 const { readComponent } = require('./read_component.js');
 const { linked } = require('./link_component.js');
+const { holds, runAll } = require('./checks.js');
 
 const MAIN = 0;
-let failed = 0;
-const holds = (what, got, wanted) => {
-  const [text, want] = [JSON.stringify(got), JSON.stringify(wanted)];
-  if (text !== want) failed++;
-  console.log(text === want ? `ok: ${what}` : `FAILED: ${what}: got ${text}, not ${want}`);
-};
 const traps = call => {
   try {
     call();
@@ -169,13 +164,4 @@ const runStore = (name, file) => {
 };
 
 const RUNS = { main: runMain, strings: runStrings, log: runLog, squares: runSquares, people: runPeople, search: runSearch, counters: runCounters, lines: runLines, store: runStore };
-for (const argument of process.argv.slice(2)) {
-  const [name, file] = argument.split('=');
-  try {
-    RUNS[name](name, file);
-  } catch (fault) {
-    holds(`${name}: it runs`, String(fault), 'with no fault');
-  }
-}
-console.log(failed === 0 ? 'all hold' : `${failed} failed`);
-process.exitCode = failed === 0 ? 0 : 1;
+runAll(RUNS, process.argv.slice(2));

@@ -1,4 +1,6 @@
 mod Steps
+mod FilesRead
 mod Supplying
 mod Lines
 mod Words
+mod Refusing

@@ -23,6 +23,7 @@ module _ {F : Type 0} where
   reported_text text before after (Err faults.Out) h = refl
   reported_text text before after (Err faults.Closed) h = refl
   reported_text text before after (Err (faults.Check f)) h = absurd h
+  reported_text text before after (Err (faults.Fit f)) h = absurd h
   reported_text text before after (Err (faults.Encode f)) h = absurd h
 
   -- each refusal of the device is reported
@@ -41,6 +42,7 @@ module _ {F : Type 0} where
       reported (Err faults.Out) h = refl
       reported (Err faults.Closed) h = refl
       reported (Err (faults.Check f)) h = refl
+      reported (Err (faults.Fit f)) h = absurd h
       reported (Err (faults.Encode f)) h = absurd h
   reported_listed file (Put to component ∷ es) before after r h = absurd h
   reported_listed file (NotPut to component ∷ es) before after r h = absurd h

@@ -1,8 +1,7 @@
--- Files that are read for an encoder, and the component that is put, step by step.
-use Rattle.std.proofs.Common.{◌≡◌, ℕ, false, List, [], ◌∷◌, ◌++◌, Option, None, Some, Result, Ok, Err, refl, sym, ap, subst, ◌∙◌, append_assoc, append-nil, arith, inl, inr}
-use Rattle.std.specs.Prelude.{⊤, ◌⊎◌}
-use Rattle.atomic_files.specs.Files.{Node, Known}
-use Rattle.atomic_files.specs.Steps.{Unchanged}
+-- Modules that are given to an encoder, and the component that is put, step by step.
+use Rattle.std.proofs.Common.{◌≡◌, ◌+◌, ℕ, List, [], ◌∷◌, ◌++◌, None, Result, Ok, Err, refl, sym, ap, ap₂, subst, ◌∙◌, append-nil, arith, inl, inr}
+use Rattle.std.specs.Prelude.{⊤}
+use Rattle.std.specs.Result.{IsErrAnd}
 use Rattle.comp_worlds.specs.declared.lower.Lower as lower
 use Rattle.comp_encoder.specs.Encoder.{Encoder}
 use Rattle.comp_encoder.specs.Calls.{after_module, after_adapter}
@@ -10,9 +9,15 @@ use Rattle.comp_encoder.specs.Adapters.{NoAdapterCause, IsAdapterRefusal}
 use Rattle.comp_encoder.specs.Refusals.{ModuleCause, IsModuleRefusal, NoEncodeCause, IsEncodeRefusal}
 use Rattle.comp_encoder.specs.declared.fault.EncodeFault.{EncodeFault}
 use Rattle.comp_encoder.specs.Component.{IsEncoding}
-use Rattle.command_line.specs.Events.{happen, events_of_read, events_of_put, device_faults}
-use Rattle.command_line.specs.Faults.{of_put, of_read, reported_faults}
-use Rattle.command_line.specs.Making.{begun, AfterRead, IsRefused, IsPut, Leads, Encoded, Adapted, Supplied, Made}
+use Rattle.fitted_modules.specs.Modules.{fitted_modules, GivesAll}
+use Rattle.fitted_modules.specs.declared.fault.ModulesFault.{ModulesFault}
+use Rattle.fitted_modules.specs.declared.fault.ModulesFault.TheVariants as fits
+use Rattle.fitted_modules.specs.declared.modules.Modules.{Modules}
+use Rattle.fitted_modules.specs.declared.modules.NamedModule.{NamedModule}
+use Rattle.command_line.specs.Events.{events_of_put, device_faults}
+use Rattle.command_line.specs.Faults.{of_fit, of_put, reported_faults, reported_fault}
+use Rattle.command_line.specs.Files.{FilesRead}
+use Rattle.command_line.specs.Making.{begun, Then, Continues, AreFitted, IsFitFault, IsEncoded, AdaptersEncoded, ModulesEncoded, Encoded, Composed, IsPut, Made}
 use Rattle.command_line.specs.declared.adapters.Adapter.{Adapter}
 use Rattle.command_line.specs.declared.arguments.Arguments.{Arguments}
 use Rattle.command_line.specs.declared.store.Event.{Event}
@@ -21,162 +26,163 @@ use Rattle.command_line.specs.declared.store.StoreFault.{StoreFault}
 use Rattle.command_line.specs.declared.store.StoreFault.TheVariants as store_faults
 use Rattle.command_line.specs.declared.fault.RunFault.{RunFault}
 use Rattle.command_line.specs.declared.fault.RunFault.TheVariants as faults
-
-pub two_happened : (known one two : Option (List Event)) (a b : List Event) → one ≡ happen known a → two ≡ happen one b → two ≡ happen known (a ++ b)
-two_happened None one two a b h k = k ∙ ap (λ o. happen o b) h
-two_happened (Some es) one two a b h k = k ∙ ap (λ o. happen o b) h ∙ ap (λ x. Some x) (append_assoc es a b)
-
-pub never_changed : (a : Option (List ℕ → Node)) → Known Unchanged a a
-never_changed None = tt
-never_changed (Some x) = λ name. refl
-
--- the files, where nothing was changed twice
-pub twice_unchanged : (a b c : Option (List ℕ → Node)) → Known Unchanged a b → Known Unchanged b c → Known Unchanged a c
-twice_unchanged None None None h k = tt
-twice_unchanged (Some x) (Some y) (Some z) h k = λ name. k name ∙ h name
-twice_unchanged None None (Some z) h k = absurd k
-twice_unchanged None (Some y) c h k = absurd h
-twice_unchanged (Some x) None c h k = absurd h
-twice_unchanged (Some x) (Some y) None h k = absurd k
-
-module _ {V W F : Type 0} where
-  -- one beginning of a run after the other
-  pub leads_on : (Whole : List Event → Result ⊤ (RunFault F) → Type 0) (Mid : V → List Event → Result ⊤ (RunFault F) → Type 0) (Rest : W → List Event → Result ⊤ (RunFault F) → Type 0)
-      (v : V) (a b : List Event) (r : Result W (RunFault F)) → Leads Whole Mid a (Ok v) → Leads (Mid v) Rest b r → Leads Whole Rest (a ++ b) r
-  leads_on Whole Mid Rest v a b (Ok w) first second =
-      λ more r h. subst (λ es. Whole es r) (sym (append_assoc a b more)) (first (b ++ more) r (second more r h))
-  leads_on Whole Mid Rest v a b (Err f) first second = first b (Err f) second
+use Rattle.command_line.proofs.FilesRead.{failed_as, reported_files}
 
 module _ {F : Type 0} where
-  pub not_read : (file name : List ℕ) (Next : List ℕ → List Event → Result ⊤ (RunFault F) → Type 0) (f : StoreFault) (r : RunFault F) → name ≡ file → r ≡ of_read false file f →
-      AfterRead file Next (events_of_read name (Err f)) (Err r)
-  not_read file name Next store_faults.Device r e h = (e, ap (λ x. Err x) h)
-  not_read file name Next store_faults.Memory r e h = ap (λ x. Err x) h
+  -- modules that can't be fitted
+  pub not_fitted : (read : Modules) (f : ModulesFault) (r : RunFault F) → r ≡ of_fit f → GivesAll {X = Modules} (λ m. m) (Err f) (fitted_modules read.main read.adapters) → IsFitFault read r
+  not_fitted read fits.Memory r k h = subst (λ (x : RunFault F). IsFitFault read x) (sym k) refl
+  not_fitted read (fits.TooMany n) r k h = subst (λ (x : RunFault F). IsFitFault read x) (sym k) h
+  not_fitted read (fits.Main q) r k h = subst (λ (x : RunFault F). IsFitFault read x) (sym k) h
+  not_fitted read (fits.Adapter name q) r k h = subst (λ (x : RunFault F). IsFitFault read x) (sym k) h
 
   pub not_put : (out to bytes component : List ℕ) (f : StoreFault) (r : RunFault F) → to ≡ out → bytes ≡ component → r ≡ of_put out f →
-      IsPut out component (events_of_put to bytes (Err f)) (Err r)
+      IsPut out (Ok component) (events_of_put to bytes (Err f)) (Err r)
   not_put out to bytes component store_faults.Device r k b h = (k, b, ap (λ x. Err x) h)
   not_put out to bytes component store_faults.Memory r k b h = ap (λ x. Err x) h
 
 module _ {L B F : Type 0} (l : lower.Ghosts L B F) where
-  -- the encoder took the module
-  pub module_given : (out : List ℕ) (rest : List Adapter) (e new : Encoder L B) (file name bytes : List ℕ) → name ≡ file → new ≡ after_module l e bytes →
-      ((f : F) → ¬ ModuleCause l e bytes f) → Leads {V = ⊤} {F = F} (Supplied l out e file rest) (λ _. Adapted l out new rest) (Read name bytes ∷ []) (Ok tt)
-  module_given out rest e new file name bytes k h accepted = λ more r then. (k, inr (accepted, subst (λ now. Adapted l out now rest more r) h then))
-
-  -- the encoder took an adapter
-  pub adapter_given : (out : List ℕ) (rest : List Adapter) (e new : Encoder L B) (adapter : Adapter) (name bytes : List ℕ) → name ≡ adapter.file →
-      new ≡ after_adapter l e adapter.name bytes None → NoAdapterCause l e adapter.name bytes None →
-      Leads {V = ⊤} {F = F} (Adapted l out e (adapter ∷ rest)) (λ _. Adapted l out new rest) (Read name bytes ∷ []) (Ok tt)
-  adapter_given out rest e new adapter name bytes k h accepted = λ more r then. (k, inr (accepted, subst (λ now. Adapted l out now rest more r) h then))
-
-  -- What was given so far of a list of adapters: with these events the encoder came from one state
-  -- to another, and what holds of the rest holds of all.
-  pub record GivenSoFar (e now : Encoder L B) (all rest : List Adapter) (before after : Option (List Event)) : Type 0 where
-    pub events : List Event
-    pub happened : after ≡ happen before events
-    pub onward : (out : List ℕ) → Leads {V = ⊤} {F = F} (Adapted l out e all) (λ _. Adapted l out now rest) events (Ok tt)
-
-  pub none_given : (e : Encoder L B) (all : List Adapter) (before : Option (List Event)) → GivenSoFar e e all all before before
-  none_given e all None = record { events = []; happened = refl; onward = λ out more r h. h }
-  none_given e all (Some es) = record { events = []; happened = ap (λ x. Some x) (sym (append-nil es)); onward = λ out more r h. h }
-
-  -- one more is given
-  pub more_given : (e now new : Encoder L B) (all rest : List Adapter) (adapter : Adapter) (before between after : Option (List Event)) (es : List Event) →
-      GivenSoFar e now all (adapter ∷ rest) before between → after ≡ happen between es →
-      ((out : List ℕ) (others : List Adapter) → Leads {V = ⊤} {F = F} (Adapted l out now (adapter ∷ others)) (λ _. Adapted l out new others) es (Ok tt)) →
-      GivenSoFar e new all rest before after
-  more_given e now new all rest adapter before between after es h k leads = record {
-    events = h.events ++ es;
-    happened = two_happened before between after h.events es h.happened k;
-    onward = λ out. leads_on {V = ⊤} {W = ⊤} {F = F} (Adapted l out e all) (λ _. Adapted l out now (adapter ∷ rest)) (λ _. Adapted l out new rest) tt h.events es (Ok tt) (h.onward out) (leads out rest);
-  }
-
-  -- none is left
-  pub all_given : (e now : Encoder L B) (all rest : List Adapter) (before after : Option (List Event)) → rest ≡ [] → GivenSoFar e now all rest before after →
-      (es : List Event) × (after ≡ happen before es) × ((out : List ℕ) → Leads {V = ⊤} {F = F} (Adapted l out e all) (λ _. Encoded l out now) es (Ok tt))
-  all_given e now all [] before after none h = (h.events, h.happened, h.onward)
-  all_given e now all (adapter ∷ rest) before after none h = absurd (cc)
-
-  -- the run ends while one is given
-  pub ended_given : (e now new : Encoder L B) (all rest : List Adapter) (adapter : Adapter) (before between after : Option (List Event)) (es : List Event) (r : Result ⊤ (RunFault F)) (fault : RunFault F) →
-      r ≡ Err fault → GivenSoFar e now all (adapter ∷ rest) before between → after ≡ happen between es →
-      ((out : List ℕ) (others : List Adapter) → Leads {V = ⊤} {F = F} (Adapted l out now (adapter ∷ others)) (λ _. Adapted l out new others) es (Err fault)) →
-      (all_events : List Event) × (after ≡ happen before all_events) × ((out : List ℕ) → Leads {V = ⊤} {F = F} (Adapted l out e all) (λ _. Encoded l out new) all_events r)
-  ended_given e now new all rest adapter before between after es r fault ends h k leads = (
-    h.events ++ es,
-    two_happened before between after h.events es h.happened k,
-    λ out. rw ends (h.onward out es (Err fault) (leads out rest)),
+  -- the encoder took an adapter, or refused it
+  pub adapter_given : (rest : List NamedModule) (e new : Encoder L B) (a : NamedModule) (name bytes : List ℕ) → name ≡ a.name → bytes ≡ a.bytes →
+      new ≡ after_adapter l e name bytes None → NoAdapterCause l e name bytes None →
+      Continues {A = ⊤} {B = List ℕ} {E = EncodeFault F} (AdaptersEncoded l e (a ∷ rest)) (AdaptersEncoded l new rest) (Ok tt)
+  adapter_given rest e new a name bytes n b h accepted = λ r then. inr (
+    subst (λ (y : List ℕ). NoAdapterCause l e a.name y None) b (subst (λ (x : List ℕ). NoAdapterCause l e x bytes None) n accepted),
+    subst (λ (now : Encoder L B). AdaptersEncoded l now rest r) (h ∙ ap₂ (λ x y. after_adapter l e x y None) n b) then,
   )
 
-  -- the encoder made the component
-  pub is_encoded : (out main : List ℕ) (adapters : List Adapter) (start begins e : Encoder L B) (es : List Event) (component : List ℕ) → start ≡ begins →
-      Leads {V = ⊤} {F = F} (Supplied l out start main adapters) (λ _. Encoded l out e) es (Ok tt) → NoEncodeCause l e → IsEncoding l e component →
-      (more : List Event) (r : Result ⊤ (RunFault F)) → IsPut out component more r → Supplied l out begins main adapters (es ++ more) r
-  is_encoded out main adapters start begins e es component same leads clear is = λ more r put.
-      subst (λ s. Supplied l out s main adapters (es ++ more) r) same (leads more r (inr (component, record { clear = clear; encoded = is }, put)))
+  pub adapter_refused : (rest : List NamedModule) (e new : Encoder L B) (a : NamedModule) (name bytes : List ℕ) (f : EncodeFault F) → name ≡ a.name → bytes ≡ a.bytes →
+      IsAdapterRefusal l e name bytes None f →
+      Continues {A = ⊤} {B = List ℕ} {E = EncodeFault F} (AdaptersEncoded l e (a ∷ rest)) (AdaptersEncoded l new rest) (Err f)
+  adapter_refused rest e new a name bytes f n b cause =
+      inl (subst (λ (y : List ℕ). IsAdapterRefusal l e a.name y None f) b (subst (λ (x : List ℕ). IsAdapterRefusal l e x bytes None f) n cause))
 
-  -- the encoder made no component
-  pub not_encoded : (out main : List ℕ) (adapters : List Adapter) (start begins e : Encoder L B) (es : List Event) (fault : EncodeFault F) → start ≡ begins →
-      Leads {V = ⊤} {F = F} (Supplied l out start main adapters) (λ _. Encoded l out e) es (Ok tt) → IsEncodeRefusal l e fault →
-      Supplied l out begins main adapters es (Err (faults.Encode fault))
-  not_encoded out main adapters start begins e es fault same leads cause =
-      subst (λ s. Supplied l out s main adapters es (Err (faults.Encode fault))) same
-      (subst (λ es. Supplied l out start main adapters es (Err (faults.Encode fault))) (append-nil es) (leads [] (Err (faults.Encode fault)) (inl cause)))
+  -- What was given so far of adapters: what is made of the rest is made of all.
+  pub record GivenSoFar (e now : Encoder L B) (all rest : List NamedModule) : Type 0 where
+    pub onward : (r : Result (List ℕ) (EncodeFault F)) → AdaptersEncoded l now rest r → AdaptersEncoded l e all r
+
+  pub none_given : (e : Encoder L B) (all : List NamedModule) → GivenSoFar e e all all
+  none_given e all = record { onward = λ r h. h }
+
+  -- one more is given
+  pub one_given : (e now new : Encoder L B) (all rest : List NamedModule) (a : NamedModule) → GivenSoFar e now all (a ∷ rest) →
+      Continues {A = ⊤} {B = List ℕ} {E = EncodeFault F} (AdaptersEncoded l now (a ∷ rest)) (AdaptersEncoded l new rest) (Ok tt) → GivenSoFar e new all rest
+  one_given e now new all rest a h given = record { onward = λ r k. h.onward r (given r k) }
+
+  -- one is refused
+  pub one_refused : (e now new : Encoder L B) (all rest : List NamedModule) (a : NamedModule) (f : EncodeFault F) (r : Result ⊤ (EncodeFault F)) → IsErrAnd r (λ y. y ≡ f) →
+      GivenSoFar e now all (a ∷ rest) → Continues {A = ⊤} {B = List ℕ} {E = EncodeFault F} (AdaptersEncoded l now (a ∷ rest)) (AdaptersEncoded l new rest) (Err f) →
+      Continues (AdaptersEncoded l e all) (IsEncoded l new) r
+  one_refused e now new all rest a f (Ok x) ends h given = absurd ends
+  one_refused e now new all rest a f (Err d) ends h given = subst (λ (x : EncodeFault F). AdaptersEncoded l e all (Err x)) (sym ends) (h.onward (Err f) given)
+
+  -- all are given
+  pub all_given : (e now : Encoder L B) (all rest : List NamedModule) → rest ≡ [] → GivenSoFar e now all rest →
+      Continues {A = ⊤} {B = List ℕ} {E = EncodeFault F} (AdaptersEncoded l e all) (IsEncoded l now) (Ok tt)
+  all_given e now all [] none h = λ r made. h.onward r made
+  all_given e now all (a ∷ rest) none h = absurd (cc)
+
+  -- the encoder took the main module, and then the adapters were given; or it refused it
+  pub module_given : (e now new : Encoder L B) (m : Modules) (bytes : List ℕ) (r : Result ⊤ (EncodeFault F)) → bytes ≡ m.main → now ≡ after_module l e bytes →
+      ((f : F) → ¬ ModuleCause l e bytes f) → Continues (AdaptersEncoded l now m.adapters) (IsEncoded l new) r → Continues (ModulesEncoded l e m) (IsEncoded l new) r
+  module_given e now new m bytes (Ok x) b h accepted given = λ r made. inr (
+    subst (λ (y : List ℕ). (f : F) → ¬ ModuleCause l e y f) b accepted,
+    subst (λ (d : Encoder L B). AdaptersEncoded l d m.adapters r) (h ∙ ap (λ y. after_module l e y) b) (given r made),
+  )
+  module_given e now new m bytes (Err g) b h accepted given = inr (
+    subst (λ (y : List ℕ). (f : F) → ¬ ModuleCause l e y f) b accepted,
+    subst (λ (d : Encoder L B). AdaptersEncoded l d m.adapters (Err g)) (h ∙ ap (λ y. after_module l e y) b) given,
+  )
+
+  pub module_refused : (e new : Encoder L B) (m : Modules) (bytes : List ℕ) (f : EncodeFault F) → bytes ≡ m.main → IsModuleRefusal l e bytes f →
+      Continues {A = ⊤} {B = List ℕ} {E = EncodeFault F} (ModulesEncoded l e m) (IsEncoded l new) (Err f)
+  module_refused e new m bytes f b cause = inl (subst (λ (y : List ℕ). IsModuleRefusal l e y f) b cause)
+
+  -- the component of what was given, or why there is none
+  pub none_encoded : (e start new : Encoder L B) (m : Modules) (f : EncodeFault F) (r : Result (List ℕ) (EncodeFault F)) → start ≡ e → IsErrAnd r (λ y. y ≡ f) →
+      Continues {A = ⊤} {B = List ℕ} {E = EncodeFault F} (ModulesEncoded l start m) (IsEncoded l new) (Err f) → ModulesEncoded l e m r
+  none_encoded e start new m f (Ok c) k ends given = absurd ends
+  none_encoded e start new m f (Err d) k ends given =
+      subst (λ (x : EncodeFault F). ModulesEncoded l e m (Err x)) (sym ends) (subst (λ (x : Encoder L B). ModulesEncoded l x m (Err f)) k given)
+
+  pub one_encoded : (e start new : Encoder L B) (m : Modules) (bytes component : List ℕ) → start ≡ e → component ≡ bytes →
+      Continues {A = ⊤} {B = List ℕ} {E = EncodeFault F} (ModulesEncoded l start m) (IsEncoded l new) (Ok tt) → NoEncodeCause l new → IsEncoding l new bytes →
+      ModulesEncoded l e m (Ok component)
+  one_encoded e start new m bytes component k same given clear is =
+      subst (λ (x : Encoder L B). ModulesEncoded l x m (Ok component)) k
+      (given (Ok component) (record { clear = clear; encoded = subst (λ (c : List ℕ). IsEncoding l new c) (sym same) is }))
+
+  pub not_encoded : (e start new : Encoder L B) (m : Modules) (f : EncodeFault F) → start ≡ e →
+      Continues {A = ⊤} {B = List ℕ} {E = EncodeFault F} (ModulesEncoded l start m) (IsEncoded l new) (Ok tt) → IsEncodeRefusal l new f →
+      ModulesEncoded l e m (Err f)
+  not_encoded e start new m f k given cause = subst (λ (x : Encoder L B). ModulesEncoded l x m (Err f)) k (given (Err f) cause)
+
+  -- ---- the run
+
+  pub unread : (e : Encoder L B) (main : List ℕ) (adapters : List Adapter) (es : List Event) (f : RunFault F) (r : Result (List ℕ) (RunFault F)) → IsErrAnd r (λ y. y ≡ f) →
+      FilesRead main adapters es (Err f) → Composed l e main adapters es r
+  unread e main adapters es f r ends h = record { read = Err f; are_read = h; fitted = Err f; are_fitted = refl; encoded = failed_as r f ends }
+
+  pub unfitted : (e : Encoder L B) (main : List ℕ) (adapters : List Adapter) (es : List Event) (read : Modules) (f : RunFault F) (r : Result (List ℕ) (RunFault F)) → IsErrAnd r (λ y. y ≡ f) →
+      FilesRead {F = F} main adapters es (Ok read) → AreFitted {F = F} read (Err f) → Composed l e main adapters es r
+  unfitted e main adapters es read f r ends h k = record { read = Ok read; are_read = h; fitted = Err f; are_fitted = k; encoded = failed_as r f ends }
+
+  pub put_none : (layer : L) (names : Arguments) (es : List Event) (f : RunFault F) (r : Result ⊤ (RunFault F)) → IsErrAnd r (λ y. y ≡ f) →
+      Composed l (begun l layer names.flags) names.main names.adapters es (Err f) → Made l layer names es r
+  put_none layer names es f r ends h =
+      record { reads = es; puts = []; in_order = sym (append-nil es); component = Err f; composed = h; is_put = (refl, failed_as r f ends) }
+
+-- ---- refusals of the device
+
+faults_both : (a b : List Event) → device_faults (a ++ b) ≡ device_faults a + device_faults b
+faults_both [] b = omega arith
+faults_both (e ∷ a) b = omega (arith, faults_both a b)
 
 module _ {F : Type 0} where
-  reported_refused : (IsRefusal : EncodeFault F → Type 0) (es : List Event) (r : Result ⊤ (RunFault F)) → IsRefused IsRefusal es r → device_faults es ≡ reported_faults r
-  reported_refused IsRefusal [] (Err (faults.Encode f)) h = refl
-  reported_refused IsRefusal [] (Ok x) h = absurd h
-  reported_refused IsRefusal [] (Err faults.Usage) h = absurd h
-  reported_refused IsRefusal [] (Err (faults.Read name)) h = absurd h
-  reported_refused IsRefusal [] (Err (faults.Write name)) h = absurd h
-  reported_refused IsRefusal [] (Err faults.Out) h = absurd h
-  reported_refused IsRefusal [] (Err faults.Closed) h = absurd h
-  reported_refused IsRefusal [] (Err (faults.Check f)) h = absurd h
-  reported_refused IsRefusal (e ∷ es) r h = absurd h
+  reported_put : (out : List ℕ) (component : Result (List ℕ) (RunFault F)) (es : List Event) (r : Result ⊤ (RunFault F)) → IsPut out component es r →
+      reported_faults component + device_faults es ≡ reported_faults r
+  reported_put out (Ok c) [] r h = rw h refl
+  reported_put out (Ok c) (Put to bytes ∷ []) r h = rw h.2 refl
+  reported_put out (Ok c) (NotPut to bytes ∷ []) r h = rw h.2 refl
+  reported_put out (Ok c) (Put to bytes ∷ e ∷ es) r h = absurd h
+  reported_put out (Ok c) (NotPut to bytes ∷ e ∷ es) r h = absurd h
+  reported_put out (Ok c) (Read name bytes ∷ es) r h = absurd h
+  reported_put out (Ok c) (NotRead name ∷ es) r h = absurd h
+  reported_put out (Err f) es r h = omega (arith, ap device_faults h.0, ap (λ (x : Result ⊤ (RunFault F)). reported_faults x) h.1)
 
-  reported_put : (out component : List ℕ) (es : List Event) (r : Result ⊤ (RunFault F)) → IsPut out component es r → device_faults es ≡ reported_faults r
-  reported_put out component [] r h = rw h refl
-  reported_put out component (Put to bytes ∷ []) r h = rw h.2 refl
-  reported_put out component (NotPut to bytes ∷ []) r h = rw h.2 refl
-  reported_put out component (Put to bytes ∷ e ∷ es) r h = absurd h
-  reported_put out component (NotPut to bytes ∷ e ∷ es) r h = absurd h
-  reported_put out component (Read name bytes ∷ es) r h = absurd h
-  reported_put out component (NotRead name ∷ es) r h = absurd h
-
-  reported_read : (file : List ℕ) (Next : List ℕ → List Event → Result ⊤ (RunFault F) → Type 0) (es : List Event) (r : Result ⊤ (RunFault F)) →
-      ((bytes : List ℕ) (more : List Event) (ended : Result ⊤ (RunFault F)) → Next bytes more ended → device_faults more ≡ reported_faults ended) →
-      AfterRead file Next es r → device_faults es ≡ reported_faults r
-  reported_read file Next [] r next h = rw h refl
-  reported_read file Next (NotRead name ∷ []) r next h = rw h.1 refl
-  reported_read file Next (NotRead name ∷ e ∷ es) r next h = absurd h
-  reported_read file Next (Read name bytes ∷ es) r next h = omega (arith, next bytes es r h.1)
-  reported_read file Next (Put to bytes ∷ es) r next h = absurd h
-  reported_read file Next (NotPut to bytes ∷ es) r next h = absurd h
+  none_of_fitting : (m : Modules) (f : RunFault F) → IsFitFault m f → 0 ≡ reported_fault f
+  none_of_fitting m (faults.Fit f) h = refl
+  none_of_fitting m (faults.Encode f) h = refl
+  none_of_fitting m faults.Usage h = refl
+  none_of_fitting m (faults.Read name) h = absurd (cc)
+  none_of_fitting m (faults.Write name) h = absurd (cc)
+  none_of_fitting m faults.Out h = refl
+  none_of_fitting m faults.Closed h = refl
+  none_of_fitting m (faults.Check f) h = refl
 
 module _ {L B F : Type 0} (l : lower.Ghosts L B F) where
-  reported_encoded : (out : List ℕ) (e : Encoder L B) (es : List Event) (r : Result ⊤ (RunFault F)) → Encoded l out e es r → device_faults es ≡ reported_faults r
-  reported_encoded out e es r (inl h) = reported_refused (IsEncodeRefusal l e) es r h
-  reported_encoded out e es r (inr h) = reported_put out h.0 es r h.2
+  none_of_encoding : (e : Encoder L B) (m : Modules) (r : Result (List ℕ) (RunFault F)) → Encoded l e m r → 0 ≡ reported_faults r
+  none_of_encoding e m (Ok c) h = refl
+  none_of_encoding e m (Err (faults.Encode f)) h = refl
+  none_of_encoding e m (Err faults.Usage) h = absurd h
+  none_of_encoding e m (Err (faults.Read name)) h = absurd h
+  none_of_encoding e m (Err (faults.Write name)) h = absurd h
+  none_of_encoding e m (Err faults.Out) h = absurd h
+  none_of_encoding e m (Err faults.Closed) h = absurd h
+  none_of_encoding e m (Err (faults.Fit f)) h = absurd h
+  none_of_encoding e m (Err (faults.Check f)) h = absurd h
 
-  reported_given : (IsRefusal : EncodeFault F → Type 0) (Accepted : Type 0) (Next : List Event → Result ⊤ (RunFault F) → Type 0) (es : List Event) (r : Result ⊤ (RunFault F)) →
-      ((more : List Event) (ended : Result ⊤ (RunFault F)) → Next more ended → device_faults more ≡ reported_faults ended) →
-      (IsRefused IsRefusal es r ⊎ (Accepted × Next es r)) → device_faults es ≡ reported_faults r
-  reported_given IsRefusal Accepted Next es r next (inl h) = reported_refused IsRefusal es r h
-  reported_given IsRefusal Accepted Next es r next (inr h) = next es r h.1
+  reported_later : (e : Encoder L B) (read fitted : Result Modules (RunFault F)) (r : Result (List ℕ) (RunFault F)) → Then AreFitted read fitted → Then (Encoded l e) fitted r →
+      reported_faults read ≡ reported_faults r
+  reported_later e (Err f) fitted r h k =
+      sym (ap (λ (x : Result (List ℕ) (RunFault F)). reported_faults x) (subst (λ (x : Result Modules (RunFault F)). Then (Encoded l e) x r) h k))
+  reported_later e (Ok m) (Err f) r h k = none_of_fitting m f h ∙ sym (ap (λ (x : Result (List ℕ) (RunFault F)). reported_faults x) k)
+  reported_later e (Ok m) (Ok n) r h k = none_of_encoding e n r k
 
-  reported_adapted : (out : List ℕ) (adapters : List Adapter) (e : Encoder L B) (es : List Event) (r : Result ⊤ (RunFault F)) → Adapted l out e adapters es r → device_faults es ≡ reported_faults r
-  reported_adapted out [] e es r h = reported_encoded out e es r h
-  reported_adapted out (adapter ∷ adapters) e es r h =
-      reported_read adapter.file _ es r (λ bytes more ended.
-      reported_given (IsAdapterRefusal l e adapter.name bytes None) (NoAdapterCause l e adapter.name bytes None) (Adapted l out (after_adapter l e adapter.name bytes None) adapters) more ended
-      (λ es r. reported_adapted out adapters (after_adapter l e adapter.name bytes None) es r)) h
-
-  -- each refusal of the device is reported
+  -- each is reported
   pub reported_made : (layer : L) (names : Arguments) (es : List Event) (r : Result ⊤ (RunFault F)) → Made l layer names es r → device_faults es ≡ reported_faults r
   reported_made layer names es r h =
-      let e : Encoder L B = begun l layer names.flags in
-      reported_read names.main _ es r (λ bytes more ended.
-      reported_given (IsModuleRefusal l e bytes) ((f : F) → ¬ ModuleCause l e bytes f) (Adapted l names.out (after_module l e bytes) names.adapters) more ended
-      (λ es r. reported_adapted names.out names.adapters (after_module l e bytes) es r)) h
+      let c : Composed l (begun l layer names.flags) names.main names.adapters h.reads h.component = h.composed in
+      let read : device_faults h.reads ≡ reported_faults h.component =
+      reported_files names.main names.adapters h.reads c.read c.are_read ∙ reported_later (begun l layer names.flags) c.read c.fitted h.component c.are_fitted c.encoded in
+      omega (arith, ap device_faults h.in_order, faults_both h.reads h.puts, read, reported_put names.out h.component h.puts r h.is_put)

@@ -2,10 +2,12 @@
 use Rattle.std.specs.Prelude.{ℕ, Bool, true, false, List, ⊤, Result, Ok, Err, if◌then◌else◌}
 use Rattle.comp_check.specs.declared.fault.CheckFault.TheVariants as checks
 use Rattle.comp_encoder.specs.declared.fault.EncodeFault.TheVariants as encode_faults
+use Rattle.fitted_modules.specs.declared.fault.ModulesFault.{ModulesFault}
+use Rattle.fitted_modules.specs.declared.fault.ModulesFault.TheVariants as fits
 use Rattle.command_line.specs.declared.store.StoreFault.{StoreFault}
 use Rattle.command_line.specs.declared.store.StoreFault.TheVariants as store_faults
 use Rattle.command_line.specs.declared.fault.RunFault.{RunFault}
-use Rattle.command_line.specs.declared.fault.RunFault.TheVariants.{Usage, Read, Write, Out, Closed, Encode, Check}
+use Rattle.command_line.specs.declared.fault.RunFault.TheVariants.{Usage, Read, Write, Out, Closed, Fit, Encode, Check}
 use Rattle.command_line.specs.declared.fault.Written.{Written}
 use Rattle.command_line.specs.declared.fault.Written.TheVariants as written
 use Rattle.std.specs.declared.io.ErrorKind.{ErrorKind}
@@ -22,6 +24,11 @@ out_of_memory listing = if listing then Check checks.Memory else no_memory
 abbrev pub of_read : {F : Type 0} → Bool → List ℕ → StoreFault → RunFault F
 of_read listing name store_faults.Device = Read name
 of_read listing name store_faults.Memory = out_of_memory listing
+
+-- out of memory, or why modules can't be fitted
+abbrev pub of_fit : {F : Type 0} → ModulesFault → RunFault F
+of_fit fits.Memory = no_memory
+of_fit f = Fit f
 
 abbrev pub of_put : {F : Type 0} → List ℕ → StoreFault → RunFault F
 of_put name store_faults.Device = Write name
@@ -43,10 +50,14 @@ run_written written.Refused = Err Out
 run_written written.Closed = Err Closed
 
 -- 1 where the fault is a refusal of the device
-abbrev pub reported_faults : {F : Type 0} → Result ⊤ (RunFault F) → ℕ
-reported_faults (Err (Read name)) = 1
-reported_faults (Err (Write name)) = 1
-reported_faults _ = 0
+abbrev pub reported_fault : {F : Type 0} → RunFault F → ℕ
+reported_fault (Read name) = 1
+reported_fault (Write name) = 1
+reported_fault _ = 0
+
+abbrev pub reported_faults : {V F : Type 0} → Result V (RunFault F) → ℕ
+reported_faults (Ok x) = 0
+reported_faults (Err f) = reported_fault f
 
 -- the exit status
 abbrev pub status_of : {F : Type 0} → Result ⊤ (RunFault F) → ℕ

@@ -3,6 +3,7 @@ pub mod Flags
 pub mod Arguments
 pub mod Events
 pub mod Faults
+pub mod Files
 pub mod Making
 pub mod Messages
 pub mod Listing

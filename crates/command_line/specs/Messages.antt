@@ -1,12 +1,15 @@
--- The lines that report a failure. (The program's own. Of what a line says of a file's name, of an encoder's
--- fault or of a component that can't be read only the beginning is specified here.)
+-- The lines that report a failure. (The program's own. Of what a line says of a file's name, of
+-- modules that can't be fitted, of an encoder's fault or of a component that can't be read only the
+-- beginning is specified here.)
 use Rattle.std.specs.Prelude.{◌≡◌, ℕ, Bool, List, [], ◌++◌, ◌⊎◌, Option, Result, Ok, Err, ⊤, true, false, codes, if◌then◌else◌, IsTrue}
 use Rattle.std.specs.Fmt.{decimal}
 use Rattle.std.specs.Io.KnownBytes.{Appends}
+use Rattle.comp_check.specs.declared.fault.CheckFault.{CheckFault}
 use Rattle.comp_check.specs.declared.fault.CheckFault.TheVariants as checks
+use Rattle.comp_encoder.specs.declared.fault.EncodeFault.{EncodeFault}
 use Rattle.comp_encoder.specs.declared.fault.EncodeFault.TheVariants as encode_faults
 use Rattle.command_line.specs.declared.fault.RunFault.{RunFault}
-use Rattle.command_line.specs.declared.fault.RunFault.TheVariants.{Usage, Read, Write, Out, Closed, Encode, Check}
+use Rattle.command_line.specs.declared.fault.RunFault.TheVariants.{Usage, Read, Write, Out, Closed, Fit, Encode, Check}
 
 abbrev pub usage_line : List ℕ
 usage_line = codes "usage: component_new new OUT MAIN [options] | defs FILE\n"
@@ -53,6 +56,14 @@ not_text_line n = codes "error: argument " ++ decimal n ++ codes " is not UTF-8\
 abbrev pub IsNotTextLine : ℕ → List ℕ → Type 0
 IsNotTextLine n line = (line ≡ not_text_line n) ⊎ (line ≡ memory_line)
 
+abbrev pub IsEncodeLine : {F : Type 0} → List ℕ → EncodeFault F → List ℕ → Type 0
+IsEncodeLine memory encode_faults.Memory line = line ≡ memory_line
+IsEncodeLine memory _ line = IsTextOr memory (codes "error: ") line
+
+abbrev pub IsCheckLine : List ℕ → CheckFault → List ℕ → Type 0
+IsCheckLine memory checks.Memory line = line ≡ listing_memory_line
+IsCheckLine memory _ line = IsTextOr memory (codes "error: ") line
+
 -- the line of a fault; `memory` is the line that is printed where there is no memory for it
 abbrev pub IsLineOf : {F : Type 0} → List ℕ → RunFault F → List ℕ → Type 0
 IsLineOf memory Usage line = line ≡ usage_line
@@ -60,10 +71,9 @@ IsLineOf memory (Read name) line = IsTextOr memory (codes "error: read ") line
 IsLineOf memory (Write name) line = IsTextOr memory (codes "error: write ") line
 IsLineOf memory Out line = line ≡ codes "error: write \"-\"\n"
 IsLineOf memory Closed line = ⊥
-IsLineOf memory (Encode encode_faults.Memory) line = line ≡ memory_line
-IsLineOf memory (Encode _) line = IsTextOr memory (codes "error: ") line
-IsLineOf memory (Check checks.Memory) line = line ≡ listing_memory_line
-IsLineOf memory (Check _) line = IsTextOr memory (codes "error: ") line
+IsLineOf memory (Fit _) line = IsTextOr memory (codes "error: ") line
+IsLineOf memory (Encode f) line = IsEncodeLine memory f line
+IsLineOf memory (Check f) line = IsCheckLine memory f line
 
 -- a front of the text was appended to a writer's contents, and where `whole` all of it
 pub record Puts (before after : Option (List ℕ)) (text : List ℕ) (whole : Bool) : Type 0 where

@@ -2,12 +2,13 @@
 
 ghost use Rattle.std.specs.Prelude.{◌≡◌, false};
 ghost use Rattle.std.specs.IoError.{error_kind};
-ghost use Rattle.command_line.specs.Faults.{is_whole, of_read, of_put, out_of_memory, run_written, written_of};
+ghost use Rattle.command_line.specs.Faults.{is_whole, of_read, of_fit, of_put, out_of_memory, run_written, written_of};
 
 use crate::store::StoreFault;
 use comp_check::CheckFault;
 use comp_encoder::EncodeFault;
 use comp_lists::Text;
+use fitted_modules::ModulesFault;
 use std::io::{self, ErrorKind};
 
 /// Why a run fails; `F` are the faults of the lower layer.
@@ -23,6 +24,8 @@ pub(crate) enum RunFault<F> {
     Out,
     /// Nobody reads standard output any more.
     Closed,
+    /// The main module or an adapter can't be fitted.
+    Fit(ModulesFault),
     /// There is no component. Out of memory is reported in this way wherever it occurs in `new`.
     Encode(EncodeFault<F>),
     /// The bytes of a file are no component. Out of memory is reported in this way wherever it occurs in
@@ -90,6 +93,16 @@ pub(crate) fn read_fault<F>(listing: bool, fault: StoreFault, name: Text) -> Run
     match fault {
         StoreFault::Device => RunFault::Read { name },
         StoreFault::Memory => out_of_memory(listing),
+    }
+}
+
+/// The fault of the run where modules can't be fitted.
+pub(crate) fn fit_fault<F>(fault: ModulesFault) -> RunFault<F>
+    ensures { result ≡ of_fit fault }
+{
+    match fault {
+        ModulesFault::Memory => out_of_memory(false),
+        fault => RunFault::Fit(fault),
     }
 }
 

@@ -1,13 +1,15 @@
 //! The commands of the program `component_new`, over a store of files.
 //!
 //! `new OUT MAIN [options]` reads the module from the file MAIN, and adapters from those that the
-//! options name, and puts their component into the file OUT. `defs FILE` writes on standard output
-//! a line for each definition of the component in FILE. All that a run does with files, what it
-//! writes and what it prints of a failure is in the contract of [`run_with`].
+//! options name, fits them (`fitted_modules`), and puts their component into the file OUT.
+//! `defs FILE` writes on standard output a line for each definition of the component in FILE. All
+//! that a run does with files, what it writes and what it prints of a failure is in the contract of
+//! [`run_with`].
 //!
 //! In reading order: `adapters`, `flags` and `arguments` (what is asked for), `store` (files by
-//! their names), `fault` (why a run fails), `making` (from files to a file), `messages` (the line
-//! that reports a failure), `listing` (a component on standard output), `running` (a run).
+//! their names), `fault` (why a run fails), `reading` (the files that are read for a component),
+//! `making` (from files to a file), `messages` (the line that reports a failure), `listing` (a
+//! component on standard output), `running` (a run).
 #![tactic(auto)]
 
 mod adapters;
@@ -17,6 +19,7 @@ mod flags;
 mod listing;
 mod making;
 mod messages;
+mod reading;
 mod running;
 mod starting;
 mod store;

@@ -3,7 +3,7 @@
 ghost use Rattle.std.specs.Prelude.{◌≡◌, ◌++◌, ℕ, List, IfOk, take, string_bytes, codes};
 ghost use Rattle.std.specs.Io.KnownBytes.{Appends};
 ghost use Rattle.command_line.specs.Faults.{is_whole};
-ghost use Rattle.command_line.specs.Messages.{IsNotTextLine, Puts, PrintsText, Says, IsText, IsTextOr, Reports, usage_line, memory_line, memory_line_of, not_text_line};
+ghost use Rattle.command_line.specs.Messages.{IsNotTextLine, Puts, PrintsText, Says, IsText, IsTextOr, IsEncodeLine, IsCheckLine, Reports, usage_line, memory_line, memory_line_of, not_text_line};
 
 use crate::fault::{RunFault, Written, run_written, written_of};
 use comp_check::CheckFault;
@@ -120,6 +120,33 @@ fn say_value<W: Write, D: Display>(
     }
 }
 
+/// Writes a front of the line for an encoder's fault.
+fn say_encode_fault<W: Write, F: Display>(
+    alloc: Global,
+    writer: &mut W,
+    memory: &[u8],
+    fault: &EncodeFault<F>,
+)
+    ensures { Says (W.contents writer.old) (W.contents writer.new)
+        (IsEncodeLine memory.now fault.now) }
+{
+    match fault {
+        EncodeFault::Memory => say(writer, MEMORY),
+        fault => say_value(alloc, writer, memory, "error: ", fault),
+    }
+}
+
+/// Writes a front of the line for a component that can't be read.
+fn say_check_fault<W: Write>(alloc: Global, writer: &mut W, memory: &[u8], fault: &CheckFault)
+    ensures { Says (W.contents writer.old) (W.contents writer.new)
+        (IsCheckLine memory.now fault.now) }
+{
+    match fault {
+        CheckFault::Memory => say(writer, LISTING_MEMORY),
+        fault => say_value(alloc, writer, memory, "error: ", fault),
+    }
+}
+
 /// Writes a front of the line that reports a fault, and all of it unless the writer fails; nothing where nobody reads
 /// standard output any more. `listing` is whether the definitions of a component were asked for.
 pub(crate) fn print_fault<W: Write, F: Display>(
@@ -138,9 +165,8 @@ pub(crate) fn print_fault<W: Write, F: Display>(
         RunFault::Write { name } => say_value(alloc, writer, memory, "error: write ", name),
         RunFault::Out => say(writer, OUT),
         RunFault::Closed => {}
-        RunFault::Encode(EncodeFault::Memory) => say(writer, MEMORY),
-        RunFault::Encode(fault) => say_value(alloc, writer, memory, "error: ", fault),
-        RunFault::Check(CheckFault::Memory) => say(writer, LISTING_MEMORY),
-        RunFault::Check(fault) => say_value(alloc, writer, memory, "error: ", fault),
+        RunFault::Fit(fault) => say_value(alloc, writer, memory, "error: ", fault),
+        RunFault::Encode(fault) => say_encode_fault(alloc, writer, memory, fault),
+        RunFault::Check(fault) => say_check_fault(alloc, writer, memory, fault),
     }
 }

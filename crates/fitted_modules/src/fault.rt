@@ -23,7 +23,7 @@ pub enum ModulesFault {
     #[error("{0}")]
     Main(Refusal),
     /// What the adapter of this name is refused for.
-    #[error("{refusal} adapter={name:?}")]
+    #[error("{refusal} adapter={name}")]
     Adapter { name: Text, refusal: Refusal },
 }
 

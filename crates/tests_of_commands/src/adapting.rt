@@ -1,6 +1,6 @@
 //! Runs with adapters: which files are read, in which order, and what a run ends with.
 
-use crate::modules::{CUT, EMPTY, MAIN};
+use crate::modules::{CUT, DATA, EMPTY, MAIN};
 use crate::store::Files;
 use command_line::{Event, run_with};
 use plain_lower::PlainLower;
@@ -18,6 +18,7 @@ fn store_of(alloc: Global) -> Result<Files, AllocError> {
         ("b.wasm", EMPTY),
         ("b=c", EMPTY),
         ("cut.wasm", CUT),
+        ("data.wasm", DATA),
         ("nothing.wasm", b"".as_slice()),
     ];
     for (name, bytes) in more {
@@ -134,13 +135,14 @@ fn adapters_are_read_in_order(rt: HostRuntime) -> Result<(), Fail> {
 }
 
 #[test]
-fn nothing_is_read_after_a_failure(rt: HostRuntime) -> Result<(), Fail> {
+fn all_files_are_read_before_a_module_is_refused(rt: HostRuntime) -> Result<(), Fail> {
     let alloc = rt.alloc();
     let not_read = "error: read \"none.wasm\"\n";
     let no_module = "error: E3 Lower: P2 NotModule\n";
     let cut = "error: E3 Lower: P3 Section place=8\n";
     let conflict = "error: E3 Lower: P7 MergeConflict name=\"g\"\n";
-    let runs: [(&[&str], &str, &str); 8] = [
+    let data = "error: F15 ActiveData adapter=\"d\"\n";
+    let runs: [(&[&str], &str, &str); 9] = [
         (
             &[
                 "main.wasm",
@@ -172,7 +174,7 @@ fn nothing_is_read_after_a_failure(rt: HostRuntime) -> Result<(), Fail> {
                 "--adapt",
                 "b=b.wasm",
             ],
-            "main.wasm nothing.wasm",
+            "main.wasm nothing.wasm b.wasm",
             no_module,
         ),
         (
@@ -183,14 +185,29 @@ fn nothing_is_read_after_a_failure(rt: HostRuntime) -> Result<(), Fail> {
                 "--adapt",
                 "b=none.wasm",
             ],
-            "main.wasm cut.wasm",
+            "main.wasm cut.wasm !none.wasm",
+            not_read,
+        ),
+        (
+            &["cut.wasm", "--adapt", "a=nothing.wasm"],
+            "cut.wasm nothing.wasm",
             cut,
         ),
-        (&["cut.wasm", "--adapt", "a=nothing.wasm"], "cut.wasm", cut),
         (
             &["nothing.wasm", "--adapt", "a=cut.wasm"],
-            "nothing.wasm",
+            "nothing.wasm cut.wasm",
             no_module,
+        ),
+        (
+            &[
+                "nothing.wasm",
+                "--adapt",
+                "a=a.wasm",
+                "--adapt",
+                "d=data.wasm",
+            ],
+            "nothing.wasm a.wasm data.wasm",
+            data,
         ),
         (
             &[
@@ -200,7 +217,7 @@ fn nothing_is_read_after_a_failure(rt: HostRuntime) -> Result<(), Fail> {
                 "--adapt",
                 "b=nothing.wasm",
             ],
-            "main.wasm main.wasm",
+            "main.wasm main.wasm nothing.wasm",
             conflict,
         ),
     ];

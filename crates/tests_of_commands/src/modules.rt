@@ -103,3 +103,7 @@ pub(crate) const OPEN: &[u8] = b"\0asm\x01\0\0\0\0\x90\x80\x80\x80\0\x0ecomponen
 
 /// A module that ends in the middle of its record.
 pub(crate) const CUT: &[u8] = b"\0asm\x01\0\0\0\0\x17\x0ecomponent-type{\"ver";
+
+/// A module that imports a memory and has an active data segment for it.
+pub(crate) const DATA: &[u8] =
+    b"\0asm\x01\0\0\0\x02\x0f\x01\x03env\x06memory\x02\0\0\x0b\x07\x01\0A\0\x0b\x01a";

@@ -3,6 +3,7 @@ use Rattle.command_line.specs.Arguments.{request_of}
 use Rattle.command_line.specs.Messages.{help_text}
 use Rattle.command_line.specs.Running.{Performed}
 use Rattle.command_line.specs.declared.arguments.Request.TheVariants as requests
+use Rattle.command_line.proofs.Refusing.{without_memory}
 use Rattle.command_line.proofs.Steps.{nothing_happened, reported_text}
 use Rattle.command_line.proofs.Supplying.{reported_made}
 use Rattle.command_line.proofs.running.perform.Goals as goal
@@ -27,3 +28,8 @@ returns-in-Ok-Some-Help-clause-performed g c =
     let asked : request_of (map string_bytes c.args.words.now) ≡ Some requests.Help = search rules in
     subst (λ request. Performed g.L.Lower c.args.lower request events events before after c.print.result) (sym asked)
     (record { events = []; happened = nothing_happened events; did = (refl, c.print.ensures); counted = reported_text help_text before after c.print.result c.print.ensures })
+
+pub returns-in-Err-clause-performed : goal.returns-in-Err-clause-performed
+returns-in-Err-clause-performed g c =
+    without_memory g.L.Lower c.args.lower (request_of (map string_bytes c.args.words.now)) (g.S.Store.events c.args.store.now) (g.W.Write.contents c.args.out.now)
+    c.is_listing.result c.out_of_memory.result c.in-Err.ensures.err c.is_listing.ensures c.out_of_memory.ensures
