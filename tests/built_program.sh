@@ -210,11 +210,11 @@ usage: component_new new OUT MAIN [options] | defs FILE
   --no-names         new: don't name the functions of the core modules that are generated
   --validate         new: check the names of the component's imports and exports
   -h, --help         print this text
-  --version          print the version of the program, and the kit that it is proved with
+  --version          print the version of the program, and the logic that it is proved with
 HELP
-printf 'component_new 0.1.0, proved with %s\n' "$(rt version)" >version
+printf 'component_new 0.1.0, proved with %s\n' "$(rt version | sed 's/^.* logic/logic/')" >version
 for word in --help -h help; do prints "$word" 0 help '' "$word"; done
-prints 'the version, and the kit' 0 version '' --version
+prints 'the version, and the logic' 0 version '' --version
 expect 'help and another word' 2 "$usage" --help new
 
 not_text=$(printf 'a\377b')

@@ -21,7 +21,7 @@ it didn't come to keep no line of their old text, so they come first the next ti
 With --edits nothing is checked, and the edits of wrong/ are only read, in seconds: each has to change the bodies of functions.
 The last line is 'N passed, M failed', with ', K skipped' where the time was up before K wrong bodies, and the exit status is 1 where M is not 0.
 
-Written for the kit rattle-kit-13f: how a crate is checked is taken from its rtlib.py, and the form of the lines that a
+Written for the kits rattle-kit-13b and 13f: how a crate is checked is taken from its rtlib.py, and the form of the lines that a
 check prints from its rattle.
 """
 import argparse

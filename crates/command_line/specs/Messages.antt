@@ -20,14 +20,14 @@ option_lines =
     codes "  --adapt NAME=FILE  new: add the adapter in FILE under this name; any number of times\n"
     ++ codes "  --canonical        new: have the canonical part of versions in names, and the rest as suffixes\n" ++ codes "  --no-merge         new: don't merge imports of compatible versions\n"
     ++ codes "  --no-names         new: don't name the functions of the core modules that are generated\n" ++ codes "  --validate         new: check the names of the component's imports and exports\n"
-    ++ codes "  -h, --help         print this text\n" ++ codes "  --version          print the version of the program, and the kit that it is proved with\n"
+    ++ codes "  -h, --help         print this text\n" ++ codes "  --version          print the version of the program, and the logic that it is proved with\n"
 
 -- the usage line, and a line for each option
 abbrev pub help_text : List ℕ
 help_text = usage_line ++ option_lines
 
 abbrev pub version_line : List ℕ
-version_line = codes "component_new 0.1.0, proved with rattle-kit-13f logic dac8208d650f15bf\n"
+version_line = codes "component_new 0.1.0, proved with logic dac8208d650f15bf\n"
 
 abbrev pub memory_line : List ℕ
 memory_line = codes "error: E1 Memory\n"

@@ -23,11 +23,10 @@ pub(crate) const HELP: &[u8] = b"usage: component_new new OUT MAIN [options] | d
     \x20 --no-names         new: don't name the functions of the core modules that are generated\n\
     \x20 --validate         new: check the names of the component's imports and exports\n\
     \x20 -h, --help         print this text\n\
-    \x20 --version          print the version of the program, and the kit that it is proved with\n";
+    \x20 --version          print the version of the program, and the logic that it is proved with\n";
 
 /// The line for `--version`.
-pub(crate) const VERSION: &[u8] =
-    b"component_new 0.1.0, proved with rattle-kit-13f logic dac8208d650f15bf\n";
+pub(crate) const VERSION: &[u8] = b"component_new 0.1.0, proved with logic dac8208d650f15bf\n";
 
 /// The line where memory is refused.
 pub const MEMORY: &[u8] = b"error: E1 Memory\n";

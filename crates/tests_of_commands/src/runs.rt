@@ -277,8 +277,8 @@ fn help_and_version_are_printed(rt: HostRuntime) -> Result<(), Fail> {
         \x20 --no-names         new: don't name the functions of the core modules that are generated\n\
         \x20 --validate         new: check the names of the component's imports and exports\n\
         \x20 -h, --help         print this text\n\
-        \x20 --version          print the version of the program, and the kit that it is proved with\n";
-    let version = "component_new 0.1.0, proved with rattle-kit-13f logic dac8208d650f15bf\n";
+        \x20 --version          print the version of the program, and the logic that it is proved with\n";
+    let version = "component_new 0.1.0, proved with logic dac8208d650f15bf\n";
     for (word, text) in [
         ("--help", help),
         ("-h", help),
