@@ -62,7 +62,7 @@ one_import_refused w i own set place needed named none (faults.NoEncoding of) h 
 one_import_refused w i own set place needed named none (faults.NotYetMade adapter name) h = absurd h
 one_import_refused w i own set place needed named none (faults.LaterExport interface used) h = absurd h
 
-pub one_export_refused : (w : ComponentWorld) (r : RequiredFunction) (set : ℕ) (place : List ℕ) → set ≡ lift_needs w r.key r.function → place ≡ r.function → (e : StateFault) → IsOptionRefusal w set (lift_realloc w r.of) place e →
+pub one_export_refused : (w : ComponentWorld) (r : RequiredFunction) (set : ℕ) (place : List ℕ) → set ≡ lift_needs w r → place ≡ r.function → (e : StateFault) → IsOptionRefusal w set (lift_realloc w r.of) place e →
     IsCauseAmong w [] (r ∷ []) e
 one_export_refused w r set place needed named faults.Memory h = tt
 one_export_refused w r set place needed named (faults.TooMany excess) h = h

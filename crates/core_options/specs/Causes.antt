@@ -78,7 +78,7 @@ pub record NeedsLowering (w : ComponentWorld) (bit : ℕ) (imports : List UserIm
 pub record NeedsLift (w : ComponentWorld) (bit : ℕ) (functions : List RequiredFunction) (place : List ℕ) : Type 0 where
   pub required : RequiredFunction
   pub present : Contains functions required
-  pub needed : IsTrue (needs (lift_needs w required.key required.function) bit)
+  pub needed : IsTrue (needs (lift_needs w required) bit)
   pub at : place ≡ required.function
 
 -- one of these core imports is main's memory

@@ -150,7 +150,7 @@ is_world = record {
     imported = tt;
     export_roles = (record { present = omega arith; kind = refl }, (record { present = omega arith; kind = refl }, tt));
     exported = (record { type = externs.Func dtor_core; offered = refl; fits = refl }, (record { type = externs.Func dtor_core; offered = refl; fits = refl }, tt));
-    required = (record { exported = (0, omega arith, refl); present = tt }, tt);
+    required = (record { exported = (0, omega arith, refl); present = tt; formed = tt }, tt);
   };
   main_first = tt;
   adapters = tt;

@@ -146,7 +146,7 @@ is_world = record {
     );
     export_roles = tt;
     exported = tt;
-    required = (record { exported = (0, omega arith, refl); present = tt }, tt);
+    required = (record { exported = (0, omega arith, refl); present = tt; formed = tt }, tt);
   };
   main_first = ((tt, (tt, (tt, tt))), tt);
   adapters = tt;

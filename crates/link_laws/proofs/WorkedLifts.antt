@@ -139,9 +139,9 @@ is_world = record {
     import_roles = tt;
     own_keys = tt;
     imported = tt;
-    export_roles = (((0, omega arith, refl), refl, refl), (tt, (tt, ((0, omega arith, refl), tt))));
+    export_roles = (((0, omega arith, refl), refl, tt), (tt, (tt, ((0, omega arith, refl), tt))));
     exported = (record { type = externs.Func g_core; offered = refl; fits = refl }, (record { type = externs.Func r_core; offered = refl; fits = refl }, (record { type = externs.Memory memory_type; offered = refl; fits = refl }, (record { type = externs.Func p_core; offered = refl; fits = refl }, tt))));
-    required = (record { exported = (0, omega arith, refl); present = (refl, tt) }, tt);
+    required = (record { exported = (0, omega arith, refl); present = (refl, tt); formed = (tt, tt) }, tt);
   };
   main_first = tt;
   adapters = tt;

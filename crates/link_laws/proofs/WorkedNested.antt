@@ -129,9 +129,9 @@ is_world = record {
     import_roles = tt;
     own_keys = tt;
     imported = tt;
-    export_roles = ((record { exported = refl; has = (0, omega arith, refl) }, refl), ((record { exported = refl; has = (1, omega arith, refl) }, refl), tt));
+    export_roles = ((record { exported = refl; has = (0, omega arith, refl) }, tt), ((record { exported = refl; has = (1, omega arith, refl) }, tt), tt));
     exported = (record { type = externs.Func plain_core; offered = refl; fits = refl }, (record { type = externs.Func plain_core; offered = refl; fits = refl }, tt));
-    required = (record { exported = (0, omega arith, refl); present = (refl, (refl, tt)) }, tt);
+    required = (record { exported = (0, omega arith, refl); present = (refl, (refl, tt)); formed = (tt, (tt, tt)) }, tt);
   };
   main_first = tt;
   adapters = tt;

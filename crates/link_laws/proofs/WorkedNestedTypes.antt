@@ -115,7 +115,7 @@ is_world = record {
     imported = tt;
     export_roles = tt;
     exported = tt;
-    required = (record { exported = (0, omega arith, refl); present = tt }, tt);
+    required = (record { exported = (0, omega arith, refl); present = tt; formed = tt }, tt);
   };
   main_first = tt;
   adapters = tt;

@@ -11,7 +11,7 @@ use Rattle.comp_lists.specs.Found.{found}
 use Rattle.comp_lists.proofs.Lists.{AllByRecursion-front, AllByRecursion-back, AllByRecursion-at, AllByRecursion-contains, AllByRecursion-weaker}
 use Rattle.comp_lists.proofs.Lookups.{some_of}
 use Rattle.wit_data.specs.Keys.{is_same_key}
-use Rattle.wit_data.specs.declared.functions.AbiVariant.TheVariants.{GuestImport, GuestExport, GuestImportAsync}
+use Rattle.wit_data.specs.declared.functions.AbiVariant.TheVariants.{GuestImport, GuestExport, GuestImportAsync, GuestExportAsync, GuestExportAsyncStackful}
 use Rattle.wit_data.specs.declared.functions.Function.{Function}
 use Rattle.wit_data.specs.declared.ids.InterfaceId.{InterfaceId}
 use Rattle.wit_data.specs.declared.ids.TypeId.{TypeId}
@@ -36,6 +36,7 @@ use Rattle.comp_roles.specs.declared.libraries.MainOrAdapter.{MainOrAdapter}
 use Rattle.comp_roles.specs.declared.offered.ExternType.{ExternType}
 use Rattle.comp_roles.specs.declared.offered.ExternType.TheVariants as externs
 use Rattle.comp_roles.specs.declared.offered.ImportType.{ImportType}
+use Rattle.world_values.specs.ExportForms.{IsFormed}
 use Rattle.world_values.specs.Items.{no_items, functions_of, functions_in, function_in, function_of_item, root_function_at}
 use Rattle.world_values.specs.Mentions.{interface_in, interfaces_of, same_interface}
 use Rattle.comp_worlds.specs.Lookups.{found_module}
@@ -348,11 +349,18 @@ module _ (p : WorldParts) (present : HasSoundParts p) (linked : AreLinked p) (en
 
   export_role : (role : Export) → export_left_out p.resolve.types role ≡ None → IsLifted p.resolve p.world role → IsExportRole (whole_of p) role
   export_role (exports.WorldFunc (keys.Name text) name GuestExport) h lifted =
-      (name_there text (items_of p).exports (subst (λ (o : Option Function). IsSome o) (exported_is (keys.Name text)) lifted.1), lifted.0, refl)
-  export_role (exports.WorldFunc (keys.Interface id) name GuestExport) h lifted = nothing _ h
-  export_role (exports.InterfaceFunc key id name GuestExport) h lifted = (has_function key id name lifted.0 lifted.1, refl)
+      (name_there text (items_of p).exports (subst (λ (o : Option Function). IsSome o) (exported_is (keys.Name text)) lifted.1), lifted.0, tt)
+  export_role (exports.WorldFunc (keys.Name text) name GuestExportAsync) h lifted =
+      (name_there text (items_of p).exports (subst (λ (o : Option Function). IsSome o) (exported_is (keys.Name text)) lifted.1), lifted.0, tt)
+  export_role (exports.WorldFunc (keys.Name text) name GuestExportAsyncStackful) h lifted =
+      (name_there text (items_of p).exports (subst (λ (o : Option Function). IsSome o) (exported_is (keys.Name text)) lifted.1), lifted.0, tt)
+  export_role (exports.InterfaceFunc key id name GuestExport) h lifted = (has_function key id name lifted.0 lifted.1, tt)
+  export_role (exports.InterfaceFunc key id name GuestExportAsync) h lifted = (has_function key id name lifted.0 lifted.1, tt)
+  export_role (exports.InterfaceFunc key id name GuestExportAsyncStackful) h lifted = (has_function key id name lifted.0 lifted.1, tt)
   export_role (exports.InterfaceFuncPostReturn key name) h lifted = (lifted.0, has_function key lifted.0 name lifted.1 lifted.2)
   export_role (exports.WorldFuncPostReturn (keys.Name text)) h lifted = name_there text (items_of p).exports (subst (λ (o : Option Function). IsSome o) (exported_is (keys.Name text)) lifted)
+  export_role (exports.InterfaceFuncCallback key name) h lifted = (lifted.0, has_function key lifted.0 name lifted.1 lifted.2)
+  export_role (exports.WorldFuncCallback (keys.Name text)) h lifted = name_there text (items_of p).exports (subst (λ (o : Option Function). IsSome o) (exported_is (keys.Name text)) lifted)
   export_role (exports.ResourceDtor id) h lifted = dropped p.resolve.types id.index (passes (is_resource_at p.resolve.types id) (codes "dtor") h)
   export_role (exports.Memory type) h lifted = tt
   export_role exports.GeneralPurposeRealloc h lifted = tt
@@ -416,6 +424,8 @@ module _ (p : WorldParts) (present : HasSoundParts p) (linked : AreLinked p) (en
       (subst (λ (o : Option WorldItem). IsSome (function_of_item p.resolve function o)) (sym there.exported) (function_found key h.0 function there))
   export_typed (exports.WorldFuncPostReturn (keys.Name text)) h =
       mapped_there (post_return_type p.resolve) (root_function_at (items_of p).exports (keys.Name text)) (name_at text (items_of p).exports h.0 apart.items.exports h.1 h.2)
+  export_typed (exports.WorldFuncCallback (keys.Name text)) h = refl
+  export_typed (exports.InterfaceFuncCallback key function) h = refl
   export_typed (exports.ResourceDtor id) h = refl
   export_typed (exports.Memory type) h = refl
   export_typed exports.GeneralPurposeRealloc h = refl
@@ -437,6 +447,8 @@ module _ (p : WorldParts) (present : HasSoundParts p) (linked : AreLinked p) (en
     exported = kept.exported;
     present = subst (λ (names : List (List ℕ)). AllByRecursion (λ name. IsSome (core_name_in m.exports.exports key name)) names)
         (own_are p.resolve (exported_there p.resolve p.world key) present.listed ∙ ap (functions_in p.resolve) (item_is key)) kept.present;
+    formed = subst (λ (names : List (List ℕ)). AllByRecursion (IsFormed m.exports.exports key) names)
+        (own_are p.resolve (exported_there p.resolve p.world key) present.listed ∙ ap (functions_in p.resolve) (item_is key)) kept.formed;
   }
 
   keys_kept : (m : ValidatedModule) (ks : List WorldKey) → AllByRecursion (IsKept p.resolve p.world m.exports.exports) ks → AllByRecursion (IsRequired (whole_of p) m) ks

@@ -3,7 +3,7 @@ use Rattle.std.proofs.Common.{false, ◌≡◌, ℕ, List, [], ◌∷◌, ◌++�
 use Rattle.std.specs.Prelude.{codes, replicate}
 use Rattle.standard_kinds.specs.declared.kinds.Primitive.TheVariants as prims
 use Rattle.standard_kinds.specs.declared.kinds.ExportKind.TheVariants as given
-use Rattle.wit_data.specs.declared.functions.AbiVariant.TheVariants.{GuestImport, GuestExport, GuestImportAsync, GuestExportAsync}
+use Rattle.wit_data.specs.declared.functions.AbiVariant.TheVariants.{GuestImport, GuestExport, GuestImportAsync, GuestExportAsync, GuestExportAsyncStackful}
 use Rattle.wit_data.specs.declared.functions.Function.{Function}
 use Rattle.wit_data.specs.declared.functions.FunctionKind.{FunctionKind}
 use Rattle.wit_data.specs.declared.functions.FunctionKind.TheVariants.{Freestanding, AsyncFreestanding, Method, AsyncMethod, Static, AsyncStatic, Constructor}
@@ -433,15 +433,37 @@ drop_behind_the_root_is_reported = refl
 drop_of_nothing_is_reported : import_left_out false (of_world kinds.Resource ∷ []) (0 ∷ []) 0 (imports.ImportedResourceDrop f None another_type) ≡ Some (codes "imported-drop")
 drop_of_nothing_is_reported = refl
 
-async_lift_is_reported : export_left_out [] (exports.WorldFunc f (codes "f") GuestExportAsync) ≡ Some (codes "async")
-async_lift_is_reported = refl
+-- an exported function is implemented in one of three forms, and in none of those of imports
+async_lift_is_encoded : export_left_out [] (exports.WorldFunc f (codes "f") GuestExportAsync) ≡ None
+async_lift_is_encoded = refl
 
--- a function of an exported interface is called synchronously, and may have a post-return
+stackful_lift_is_encoded : export_left_out [] (exports.WorldFunc f (codes "f") GuestExportAsyncStackful) ≡ None
+stackful_lift_is_encoded = refl
+
+imported_form_is_reported : export_left_out [] (exports.WorldFunc f (codes "f") GuestImport) ≡ Some (codes "world-func")
+imported_form_is_reported = refl
+
+root_function_of_an_interface_is_reported : export_left_out [] (exports.WorldFunc (keys.Interface an_interface) (codes "f") GuestExportAsync) ≡ Some (codes "world-func")
+root_function_of_an_interface_is_reported = refl
+
+callback_is_encoded : export_left_out [] (exports.WorldFuncCallback f) ≡ None
+callback_is_encoded = refl
+
+-- so is a function of an exported interface, which may have a post-return or a callback
 interface_lift_is_encoded : export_left_out [] (exports.InterfaceFunc f an_interface (codes "f") GuestExport) ≡ None
 interface_lift_is_encoded = refl
 
-async_interface_lift_is_reported : export_left_out [] (exports.InterfaceFunc f an_interface (codes "f") GuestExportAsync) ≡ Some (codes "async")
-async_interface_lift_is_reported = refl
+async_interface_lift_is_encoded : export_left_out [] (exports.InterfaceFunc f an_interface (codes "f") GuestExportAsync) ≡ None
+async_interface_lift_is_encoded = refl
+
+stackful_interface_lift_is_encoded : export_left_out [] (exports.InterfaceFunc f an_interface (codes "f") GuestExportAsyncStackful) ≡ None
+stackful_interface_lift_is_encoded = refl
+
+imported_form_of_interface_is_reported : export_left_out [] (exports.InterfaceFunc f an_interface (codes "f") GuestImportAsync) ≡ Some (codes "interface-func")
+imported_form_of_interface_is_reported = refl
+
+interface_callback_is_encoded : export_left_out [] (exports.InterfaceFuncCallback f (codes "f")) ≡ None
+interface_callback_is_encoded = refl
 
 interface_post_return_is_encoded : export_left_out [] (exports.InterfaceFuncPostReturn f (codes "f")) ≡ None
 interface_post_return_is_encoded = refl

@@ -5,15 +5,15 @@
 -- exports with the role of such a function, core imports that drop a resource, or make or read a
 -- handle of one that their module has to export, or are main's memory, an export of main, a
 -- function that an adapter exports, an item of an argument of a library or a built-in function
--- without operands, and core exports that are a post-return, a destructor, a memory or a realloc;
--- of main, of adapters and of libraries. All else is left out, and reported by the name of its
+-- without operands, and core exports that are a post-return, a callback, a destructor, a memory or a
+-- realloc; of main, of adapters and of libraries. All else is left out, and reported by the name of its
 -- kind. (The names are those of this project's record.)
 use Rattle.std.specs.Prelude.{ℕ, Bool, ◌++◌, List, length, codes, Option, Some, None, Result, Ok, Err, get_or, is_some, if◌then◌else◌}
 use Rattle.std.specs.List.{flat_map}
 use Rattle.std.specs.Map.{lookup}
 use Rattle.std.specs.Option.{option_or}
 use Rattle.wit_data.specs.Keys.{is_same_key}
-use Rattle.wit_data.specs.declared.functions.AbiVariant.TheVariants.{GuestImport, GuestExport, GuestImportAsync}
+use Rattle.wit_data.specs.declared.functions.AbiVariant.TheVariants.{GuestImport, GuestExport, GuestImportAsync, GuestExportAsync, GuestExportAsyncStackful}
 use Rattle.wit_data.specs.declared.ids.InterfaceId.{InterfaceId}
 use Rattle.wit_data.specs.declared.resolve.Resolve.{Resolve}
 use Rattle.wit_data.specs.declared.types.TypeDef.{TypeDef}
@@ -131,16 +131,20 @@ own_role_left_out types es required (imports.ExportedResourceRep key id) = unles
 own_role_left_out types es required (imports.ExportedResourceNew key id) = unless (is_own_resource types es required key id) (codes "exported-new")
 own_role_left_out types es required role = None
 
--- an export of a module, unless it is a function at the root or of an interface that is called
--- synchronously, the post-return of one, the destructor of a resource, a memory, or a realloc
+-- an export of a module, unless it is a function at the root or of an interface in one of the forms
+-- of exports, the post-return or the callback of one, the destructor of a resource, a memory, or a
+-- realloc
 abbrev pub export_left_out : List TypeDef → Export → Option (List ℕ)
 export_left_out types (exports.WorldFunc (keys.Name text) name GuestExport) = None
-export_left_out types (exports.WorldFunc (keys.Interface id) name GuestExport) = Some (codes "world-func")
-export_left_out types (exports.WorldFunc key name abi) = Some (codes "async")
+export_left_out types (exports.WorldFunc (keys.Name text) name GuestExportAsync) = None
+export_left_out types (exports.WorldFunc (keys.Name text) name GuestExportAsyncStackful) = None
 export_left_out types (exports.InterfaceFunc key id name GuestExport) = None
-export_left_out types (exports.InterfaceFunc key id name abi) = Some (codes "async")
+export_left_out types (exports.InterfaceFunc key id name GuestExportAsync) = None
+export_left_out types (exports.InterfaceFunc key id name GuestExportAsyncStackful) = None
 export_left_out types (exports.WorldFuncPostReturn (keys.Name text)) = None
 export_left_out types (exports.InterfaceFuncPostReturn key name) = None
+export_left_out types (exports.WorldFuncCallback (keys.Name text)) = None
+export_left_out types (exports.InterfaceFuncCallback key name) = None
 export_left_out types (exports.ResourceDtor id) = unless (is_resource_at types id) (codes "dtor")
 export_left_out types (exports.Memory type) = None
 export_left_out types exports.GeneralPurposeRealloc = None

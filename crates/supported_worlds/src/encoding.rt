@@ -257,9 +257,8 @@ fn unless_left_out(alloc: Global, parts: WorldParts) -> Result<ComponentWorld, F
 
 /// The world of these parts, where all of it is encoded yet.
 ///
-/// It refuses with `LeftOut` and the kind of something of the world that is not encoded yet: `async`
-/// for a core export that implements a function asynchronously; `type` for an exported type;
-/// `interface` where an interface is imported or exported twice, or both, where one has to be exported
+/// It refuses with `LeftOut` and the kind of something of the world that is not encoded yet: `type`
+/// for an exported type; `interface` where an interface is imported or exported twice, or both, where one has to be exported
 /// twice, where an exported one has no name or that of another, or uses a named type of the world or a type
 /// of another interface that the world neither imports nor exports, where a type or a function is made of
 /// types that come later in the order of the imports, or where an interface and its types don't name each

@@ -87,13 +87,16 @@ fn export_left_out(types: &[TypeDef], role: &Export) -> Option<&'static str>
 {
     match role {
         Export::WorldFunc(WorldKey::Name(_), _, AbiVariant::GuestExport) => None,
-        Export::WorldFunc(_, _, AbiVariant::GuestExport) => Some("world-func"),
-        Export::WorldFunc(..) => Some("async"),
+        Export::WorldFunc(WorldKey::Name(_), _, AbiVariant::GuestExportAsync) => None,
+        Export::WorldFunc(WorldKey::Name(_), _, AbiVariant::GuestExportAsyncStackful) => None,
         Export::InterfaceFunc(_, _, _, AbiVariant::GuestExport) => None,
-        Export::InterfaceFunc(..) => Some("async"),
+        Export::InterfaceFunc(_, _, _, AbiVariant::GuestExportAsync) => None,
+        Export::InterfaceFunc(_, _, _, AbiVariant::GuestExportAsyncStackful) => None,
         Export::ResourceDtor(id) => destructor_left_out(types, *id),
         Export::WorldFuncPostReturn(WorldKey::Name(_))
         | Export::InterfaceFuncPostReturn(..)
+        | Export::WorldFuncCallback(WorldKey::Name(_))
+        | Export::InterfaceFuncCallback(..)
         | Export::Memory(_)
         | Export::GeneralPurposeRealloc
         | Export::GeneralPurposeImportRealloc
