@@ -56,3 +56,4 @@ mod OtherLists
 mod OtherRuns
 mod WorkedInitialize
 mod WorkedBuiltIns
+mod WorkedCallbacks
