@@ -92,7 +92,8 @@ impl ExportTables {
         self.entries.forms.get(function).copied()
     }
 
-    /// The form in which a function is implemented; one that no export implements counts as synchronous.
+    /// The form in which a function is implemented; one that no export implements counts as
+    /// synchronous.
     pub(crate) fn form(&self, function: &FunctionKey) -> AbiVariant
         ensures { result
             ≡ unwrap_or (lookup (is_same_function function.now) self.now.entries.forms)

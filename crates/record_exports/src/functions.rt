@@ -9,7 +9,8 @@ use std::alloc::{AllocError, Global};
 use wit_data::AbiVariant;
 use world_values::{callbacks, lifted_functions};
 
-/// The functions of core exports, each with the form in which it is called, and the callbacks of those that have one.
+/// The functions of core exports, each with the form in which it is called, and the callbacks of
+/// those that have one.
 #[derive(Drop)]
 pub(crate) struct Functions {
     abis: Keyed<FunctionKey, AbiVariant>,
