@@ -32,7 +32,8 @@ use Rattle.supported_worlds.specs.PlaceTables.{ArePlaces}
 use Rattle.supported_worlds.specs.declared.places.Places.{Places}
 use Rattle.supported_worlds.specs.Causes.{role_left_out, own_role_out, IsLeftOut, own_role, imported, exported, twice, names, order, resources, import_role, export_role}
 use Rattle.supported_worlds.proofs.ExportNames.{exports_named, names_pass}
-use Rattle.supported_worlds.proofs.Lists.{nothing, at_front, after, in_flat_map, neither, one_of, none_picked, one_picked}
+use Rattle.comp_roles.proofs.Firsts.{neither, one_of, none_picked, one_picked}
+use Rattle.supported_worlds.proofs.Lists.{nothing, at_front, after, in_flat_map}
 use Rattle.supported_worlds.specs.Lent.{InterfaceSet}
 use Rattle.supported_worlds.specs.Sets.{IsSetOf}
 use Rattle.supported_worlds.proofs.InPlace.{imports_resources, in_place}

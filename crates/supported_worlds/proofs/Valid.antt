@@ -62,7 +62,8 @@ use Rattle.supported_worlds.specs.Causes.{role_left_out, own_role_out}
 use Rattle.supported_worlds.specs.Placed.{places_of, is_resource, is_droppable, is_resource_at, is_own_resource}
 use Rattle.supported_worlds.specs.Guarantees.{HasFoundImport, IsUsed, OffersExport, IsSoundModule, HasSoundParts}
 use Rattle.supported_worlds.proofs.Interfaces.{named_interface, own_are, other_key, one_found, entry_there, name_there as function_there, found_there}
-use Rattle.supported_worlds.proofs.Lists.{nothing, at_front, after, none_picked}
+use Rattle.comp_roles.proofs.Firsts.{none_picked}
+use Rattle.supported_worlds.proofs.Lists.{nothing, at_front, after}
 use Rattle.supported_worlds.proofs.InPlace.{both, resource_kind}
 use Rattle.supported_worlds.proofs.Order.{passes}
 use Rattle.supported_worlds.proofs.OwnRoles.{owned_type, required_at, required_key}
