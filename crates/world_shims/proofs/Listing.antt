@@ -46,7 +46,7 @@ too_many all types functions s rest build.Memory before h = tt
 too_many all types functions s rest (build.TooMany n) before (inl h) = let counted = before.counted in inl (omega (arith, counted, h))
 too_many all types functions s rest (build.TooMany n) before (inr h) = inr (s, before.present s (Contains-append_left (s ∷ []) rest s (0, omega arith, refl)), h)
 
-count_of_functions : (types : List FuncType) (shims : List Shim) → length (functions_of types shims) ≡ length shims
+pub count_of_functions : (types : List FuncType) (shims : List Shim) → length (functions_of types shims) ≡ length shims
 count_of_functions types [] = refl
 count_of_functions types (s ∷ ss) = ap suc (count_of_functions (interned types (type_of_shim s)) ss)
 
