@@ -1,9 +1,10 @@
 -- The first value that a function gives for an element of a list: of which element it is, and over lists behind one another.
-use Rattle.std.proofs.Common.{arith, ◌≡◌, ◌⊎◌, inl, inr, ◌∙◌, suc, List, [], ◌∷◌, ◌++◌, map, Option, Some, None, refl, sym, ap}
+use Rattle.std.proofs.Common.{arith, ◌≡◌, ◌⊎◌, inl, inr, ◌∙◌, suc, List, [], ◌∷◌, ◌++◌, map, Option, Some, None, is_some, IsSome, refl, sym, ap}
 use Rattle.std.specs.Prelude.{Contains}
 use Rattle.std.specs.List.{AllByRecursion, flat_map}
 use Rattle.std.specs.Option.{option_or}
 use Rattle.std.proofs.lemmas.Option.{none-some}
+use Rattle.comp_lists.proofs.Lists.{AllByRecursion-contains}
 use Rattle.comp_roles.specs.Lookups.{first_some}
 
 -- ---- of which element
@@ -35,6 +36,14 @@ one_picked pick (x ∷ xs) answer h = by (one_of (pick x) (first_some pick xs) a
     by : (pick x ≡ Some answer) ⊎ (first_some pick xs ≡ Some answer) → (first_some pick xs ≡ Some answer → Picks pick xs answer) → Picks pick (x ∷ xs) answer
     by (inl e) more = record { element = x; there = (0, omega arith, refl); picks = e }
     by (inr e) more = let t = more e in let l = t.there.1 in record { element = t.element; there = (suc t.there.0, omega (arith, l), t.there.2); picks = t.picks }
+
+-- where there is one for an element, there is a first
+pub some_picked : {A B : Type 0} (pick : A → Option B) (xs : List A) (x : A) (y : B) → Contains xs x → pick x ≡ Some y → IsSome (first_some pick xs)
+some_picked {A} {B} pick xs x y there is = by (first_some pick xs) refl
+  where
+    by : (o : Option B) → first_some pick xs ≡ o → IsSome (first_some pick xs)
+    by (Some z) e = ap is_some e
+    by None e = absurd (none-some y (sym (AllByRecursion-contains (λ x. pick x ≡ None) xs x (none_picked pick xs e) there) ∙ is))
 
 -- ---- over several lists
 

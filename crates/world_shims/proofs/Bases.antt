@@ -84,7 +84,7 @@ same_first f g each (x ∷ xs) = ap (λ o. option_or o (first_some f xs)) (each 
 no_imports : (w : ComponentWorld) → w.can_use_context_slot_1 ≡ true → cell_imports w ≡ []
 no_imports w e = ap (λ b. if b then [] else all_imports w.main w.adapters) e
 
-all_there : (w : ComponentWorld) → w.can_use_context_slot_1 ≡ false → cell_imports w ≡ all_imports w.main w.adapters
+pub all_there : (w : ComponentWorld) → w.can_use_context_slot_1 ≡ false → cell_imports w ≡ all_imports w.main w.adapters
 all_there w e = ap (λ b. if b then [] else all_imports w.main w.adapters) e
 
 pub none_needed : (w : ComponentWorld) → w.can_use_context_slot_1 ≡ true → None ≡ cell_type w
