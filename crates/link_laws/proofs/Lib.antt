@@ -3,6 +3,8 @@ mod Stores
 mod BuiltIns
 mod Kept
 pub mod Plain
+mod BaseRoles
+mod BaseHeld
 mod ModuleMarks
 mod Given
 mod Offering

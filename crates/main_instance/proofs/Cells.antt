@@ -1,6 +1,7 @@
 -- Imports that are given a function of the cell of the thread-local base.
-use Rattle.std.proofs.Common.{◌≡◌, ◌∙◌, ℕ, Bool, true, false, true≢false, List, None, Some, is_some, IsSome, Contains, refl, sym, ap, subst, inl}
+use Rattle.std.proofs.Common.{◌≡◌, ◌∙◌, ℕ, true, List, None, Some, IsSome, Contains, sym, ap, subst, inl}
 use Rattle.core_types.specs.declared.types.ValType.{ValType}
+use Rattle.built_ins.proofs.Typed.{unusable}
 use Rattle.built_ins.specs.BuiltIns.{plain_intrinsic}
 use Rattle.comp_bytes.specs.declared.def.Def.{Def}
 use Rattle.comp_bytes.specs.declared.space.Space.TheVariants as spaces
@@ -16,12 +17,7 @@ use Rattle.comp_links.specs.Targets.{UserModule, TlsGet, TlsSet}
 use Rattle.comp_terms.specs.Planned.{IsItemFor, IsGivenFor}
 use Rattle.world_shims.proofs.Bases.{all_there}
 
--- where the base has no function of its own, slot 1 can't be used
-unusable : (slot_1 : Bool) (role : Import) → IsSome (plain_intrinsic true role) → plain_intrinsic slot_1 role ≡ None → slot_1 ≡ false
-unusable true role has none = absurd (true≢false (sym has ∙ ap is_some none))
-unusable false role has none = refl
-
--- so that there is a cell
+-- where the base has no function of its own, there is a cell
 pub cell_there : (w : ComponentWorld) (i : CoreImport) (type : ValType) → Contains (all_imports w.main w.adapters) i → base_of_role i.role ≡ Some type → IsSome (plain_intrinsic true i.role) → plain_intrinsic w.can_use_context_slot_1 i.role ≡ None → IsSome (cell_type w)
 cell_there w i type present base has none =
     let there : Contains (cell_imports w) i = subst (λ (is : List CoreImport). Contains is i) (sym (all_there w (unusable w.can_use_context_slot_1 i.role has none))) present in

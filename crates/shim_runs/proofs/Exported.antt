@@ -63,7 +63,7 @@ behind shims table memory cell first = table_exported shims table ++ (memory_exp
 
 -- ---- the memory
 
-no_memory_name : IsNumeral 10 memory_name → ⊥
+pub no_memory_name : IsNumeral 10 memory_name → ⊥
 no_memory_name h = let below : 36 < 10 = h.1.0 in absurd (omega (arith, below))
 
 memory_behind_table : (shims : List Shim) (table : ℕ) (memory : Option ℕ) (cell : Option ValType) (first : ℕ) → export_named memory_name (behind shims table memory cell first) ≡ option_map memory_at memory
@@ -99,10 +99,10 @@ memory_is_found shims address table memory cell =
 
 -- ---- the cell
 
-no_getter_name : IsNumeral 10 getter_name → ⊥
+pub no_getter_name : IsNumeral 10 getter_name → ⊥
 no_getter_name h = let below : 36 < 10 = h.1.0 in absurd (omega (arith, below))
 
-no_setter_name : IsNumeral 10 setter_name → ⊥
+pub no_setter_name : IsNumeral 10 setter_name → ⊥
 no_setter_name h = let below : 36 < 10 = h.1.0 in absurd (omega (arith, below))
 
 getter_behind : (shims : List Shim) (table : ℕ) (memory : Option ℕ) (type : ValType) (first : ℕ) → export_named getter_name (behind shims table memory (Some type) first) ≡ Some (exported_function getter_name first)

@@ -105,7 +105,7 @@ no_exports_of_names cell functions false = refl
 exports_last : (memory : Option MemoryType) (cell : Option ThreadCell) (functions : List ShimFunction) (debug_names : Bool) → exports_of memory cell functions ++ flat_map section_exports (names_of debug_names cell functions) ≡ exports_of memory cell functions
 exports_last memory cell functions debug_names = ap (λ l. exports_of memory cell functions ++ l) (no_exports_of_names cell functions debug_names) ∙ append-nil (exports_of memory cell functions)
 
-exports_alone : (memory : Option MemoryType) (cell : Option ThreadCell) (types : List FuncType) (functions : List ShimFunction) (debug_names : Bool) → flat_map section_exports (shim_sections memory cell types functions debug_names) ≡ exports_of memory cell functions
+pub exports_alone : (memory : Option MemoryType) (cell : Option ThreadCell) (types : List FuncType) (functions : List ShimFunction) (debug_names : Bool) → flat_map section_exports (shim_sections memory cell types functions debug_names) ≡ exports_of memory cell functions
 exports_alone None None types [] debug_names = exports_last None None [] debug_names
 exports_alone None None types (f ∷ fs) debug_names = exports_last None None (f ∷ fs) debug_names
 exports_alone None (Some c) types [] debug_names = exports_last None (Some c) [] debug_names
