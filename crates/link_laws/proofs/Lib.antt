@@ -58,3 +58,4 @@ mod OtherLists
 mod OtherRuns
 mod WorkedInitialize
 mod WorkedBuiltIns
+mod WorkedCells
