@@ -30,7 +30,7 @@ use Rattle.comp_roles.specs.declared.libraries.MainOrAdapter.TheVariants as modu
 use Rattle.comp_worlds.specs.declared.world.ComponentWorld.{ComponentWorld}
 use Rattle.comp_worlds.specs.declared.world.ValidatedModule.{ValidatedModule}
 use Rattle.comp_roles.specs.declared.exports.Export.{Export}
-use Rattle.comp_links.specs.Targets.{UserModule, Main, Adapter, ExportRef, TargetOption, Memory, Realloc, Encoding, Async, PostReturn, Callback, Target, OfRoot, OfInterface, Lowered, ExportOf, MainMemory, New, Rep, Drop, OfResource, BuiltIn, Lifted, Unlinked}
+use Rattle.comp_links.specs.Targets.{UserModule, Main, Adapter, ExportRef, TargetOption, Memory, Realloc, Encoding, Async, PostReturn, Callback, Target, OfRoot, OfInterface, Lowered, ExportOf, MainMemory, New, Rep, Drop, OfResource, BuiltIn, TlsGet, TlsSet, Lifted, Unlinked}
 use Rattle.comp_links.specs.Modules.{WorldModule, module_found}
 use Rattle.comp_links.specs.Lists.{RequiredFunction, ProvidedType}
 use Rattle.comp_links.specs.Roles.{import_encoding, export_encoding}
@@ -130,14 +130,20 @@ abbrev pub module_of : MainOrAdapter → UserModule
 module_of modules.Main = Main
 module_of (modules.Adapter name) = Adapter name
 
+-- a function of the cell of the thread-local base, which stands for slot 1 of a task's context where that can't be used
+abbrev pub link_of_cell : Import → Target
+link_of_cell (imports.TlsBaseGet type) = TlsGet
+link_of_cell (imports.TlsBaseSet type) = TlsSet
+link_of_cell role = Unlinked
+
 -- a built-in function without operands, where the role has one
-abbrev pub link_of_intrinsic : Option Intrinsic → Target
-link_of_intrinsic (Some i) = BuiltIn i
-link_of_intrinsic None = Unlinked
+abbrev pub link_of_intrinsic : Import → Option Intrinsic → Target
+link_of_intrinsic role (Some i) = BuiltIn i
+link_of_intrinsic role None = link_of_cell role
 
 -- what an import of a user module is to be given, by its role: a function of the world is lowered,
 -- a resource has functions for its handles, what another module exports is given as it is, and a
--- built-in function is that
+-- built-in function, or one of the cell, is that
 abbrev pub link_of : ComponentWorld → UserModule → Import → Target
 link_of w m (imports.WorldFunc (keys.Name text) function abi) = Lowered (OfRoot text) (lower_options w m (imports.WorldFunc (keys.Name text) function abi))
 link_of w m (imports.InterfaceFunc key id function abi) = Lowered (OfInterface id function) (lower_options w m (imports.InterfaceFunc key id function abi))
@@ -149,7 +155,7 @@ link_of w m (imports.MainModuleMemory type) = MainMemory
 link_of w m (imports.MainModuleExport name kind) = ExportOf (record { of = Main; name = name })
 link_of w m (imports.AdapterExport adapter name type) = ExportOf (record { of = Adapter adapter; name = name })
 link_of w m (imports.Item item) = ExportOf (record { of = module_of item.which; name = item.name })
-link_of w m role = link_of_intrinsic (plain_intrinsic w.can_use_context_slot_1 role)
+link_of w m role = link_of_intrinsic role (plain_intrinsic w.can_use_context_slot_1 role)
 
 -- the same by the names of its module and field: a module whose imports from one other are all
 -- given by a whole instance gets what that exports under these names

@@ -1,6 +1,6 @@
 -- What holds of a validated world (component model: the imports and exports of a world; core standard, binary format:
 -- the preamble of a module).
-use Rattle.std.specs.Prelude.{◌≡◌, ◌<◌, ◌==◌, ℕ, false, List, [], ◌∷◌, Some, map, length, Contains, IsSome}
+use Rattle.std.specs.Prelude.{◌≡◌, ◌<◌, ◌==◌, ℕ, true, false, List, [], ◌∷◌, Some, map, length, Contains, IsSome}
 use Rattle.std.specs.List.{IsDistinct, AllByRecursion, list_any, flat_map}
 use Rattle.std.specs.Map.{keys_of}
 use Rattle.std.specs.Str.{bytes_eq}
@@ -82,7 +82,7 @@ pub record IsOwnResource (w : ComponentWorld) (key : WorldKey) (id : TypeId) : T
 -- the role of an import is a function that the world imports, at its root or in an interface,
 -- called in either form, the drop of a resource, `resource.drop`, `resource.rep` or `resource.new`
 -- of a resource of an exported interface, main's memory, what main or an adapter offers, an item of
--- an argument of a library, or a built-in function without operands
+-- an argument of a library, a built-in function without operands, or a function of the thread-local base
 abbrev pub IsImportRole : ComponentWorld → Import → Type 0
 IsImportRole w (imports.WorldFunc (keys.Name text) function abi) = Contains (imported_functions w) text × (function ≡ text) × IsImportForm abi
 IsImportRole w (imports.InterfaceFunc key id function abi) = Contains (items_of w).imports (key, items.Interface id) × Contains (map (λ e. e.0) (functions_of w.resolve id)) function × IsImportForm abi
@@ -94,7 +94,7 @@ IsImportRole w (imports.MainModuleMemory type) = MemoryMatches w type
 IsImportRole w (imports.MainModuleExport name kind) = OffersItem w.main name kind
 IsImportRole w (imports.AdapterExport adapter name type) = AdapterOffers w adapter name type
 IsImportRole w (imports.Item item) = NamedOffers w item.which item.name item.kind
-IsImportRole w role = IsSome (plain_intrinsic w.can_use_context_slot_1 role)
+IsImportRole w role = IsSome (plain_intrinsic true role)
 
 -- a function of the handles of an exported resource is for the module that has to export its interface
 abbrev pub IsForOwnKey : List WorldKey → Import → Type 0

@@ -150,6 +150,7 @@ module _ (w : ComponentWorld) (ds : List Def) (set : ℕ) (memory realloc : Opti
   -- what is missing is the cause
   pub option_refused : (place : List ℕ) (e : StateFault) → IsListRefusal set memory realloc place e → IsOptionRefusal w set own place e
   option_refused place faults.Memory h = tt
+  option_refused place faults.TlsTypes h = absurd h
   option_refused place (faults.NotYetMade adapter name) h = absurd h
   option_refused place (faults.LaterExport interface used) h = absurd h
   option_refused place (faults.NoMemory of) h = by (needs set 1) memory refl m h.0

@@ -3,6 +3,8 @@ mod Stores
 mod BuiltIns
 mod Kept
 pub mod Plain
+mod BaseRoles
+mod BaseHeld
 mod ModuleMarks
 mod Given
 mod Offering
@@ -57,3 +59,4 @@ mod OtherRuns
 mod WorkedInitialize
 mod WorkedBuiltIns
 mod WorkedCallbacks
+mod WorkedCells

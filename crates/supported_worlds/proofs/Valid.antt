@@ -63,7 +63,8 @@ use Rattle.supported_worlds.specs.Causes.{role_left_out, own_role_out}
 use Rattle.supported_worlds.specs.Placed.{places_of, is_resource, is_droppable, is_resource_at, is_own_resource}
 use Rattle.supported_worlds.specs.Guarantees.{HasFoundImport, IsUsed, OffersExport, IsSoundModule, HasSoundParts}
 use Rattle.supported_worlds.proofs.Interfaces.{named_interface, own_are, other_key, one_found, entry_there, name_there as function_there, found_there}
-use Rattle.supported_worlds.proofs.Lists.{nothing, at_front, after, none_picked}
+use Rattle.comp_roles.proofs.Firsts.{none_picked}
+use Rattle.supported_worlds.proofs.Lists.{nothing, at_front, after}
 use Rattle.supported_worlds.proofs.InPlace.{both, resource_kind}
 use Rattle.supported_worlds.proofs.Order.{passes}
 use Rattle.supported_worlds.proofs.OwnRoles.{owned_type, required_at, required_key}
@@ -287,7 +288,7 @@ module _ (p : WorldParts) (present : HasSoundParts p) (linked : AreLinked p) (en
   import_role owed known (imports.Item item) h own called there = there
   import_role owed known (imports.WorldFunc (keys.Name text) name abi) h own called there = nothing _ h
   import_role owed known (imports.InterfaceFunc key id name abi) h own called there = nothing _ h
-  import_role owed known role h own called there = passes (is_some (plain_intrinsic p.can_use_context_slot_1 role)) (import_kind role) h
+  import_role owed known role h own called there = passes (is_some (plain_intrinsic true role)) (import_kind role) h
 
   for_own_key : (owed : List WorldKey) (role : Import) → own_role_out p owed role ≡ None → IsForOwnKey owed role
   for_own_key owed (imports.ExportedResourceDrop key id) h = own_key owed key id (codes "exported-drop") h
@@ -398,7 +399,7 @@ module _ (p : WorldParts) (present : HasSoundParts p) (linked : AreLinked p) (en
   fits_role (imports.AdapterExport adapter name function) type h fits there = of_type (type_of_import p.resolve (items_of p) (imports.AdapterExport adapter name function)) type refl fits
   fits_role (imports.Item item) type h fits there = there
   fits_role (imports.WorldFunc (keys.Interface other) function abi) type h fits there = absurd (true≢false (sym h))
-  fits_role role type h fits there = of_type (type_of_import p.resolve (items_of p) role) type (mapped_there externs.Func (plain_import_type role) (plain_typed p.can_use_context_slot_1 role h)) fits
+  fits_role role type h fits there = of_type (type_of_import p.resolve (items_of p) role) type (mapped_there externs.Func (plain_import_type role) (plain_typed true role h)) fits
 
   found_import : (m : ValidatedModule) → AllByRecursion (IsImportGroup (whole_of p)) m.imports.modules → (i : ImportType) → HasFoundImport p.resolve (items_of p) m i → IsImportLinked (whole_of p) m i → FitsImport (whole_of p) m i
   found_import m groups i (inl h) there =

@@ -69,26 +69,10 @@ fn placed_left_out(
     ensures apart { IfOk result (λ o. option_copied o ≡ None → ModulesApart parts.now) }
 {
     let types = parts.resolve.types.as_slice();
-    let slot_1 = parts.can_use_context_slot_1;
     let keys = parts.main_exports.as_slice();
-    match module_left_out(
-        alloc,
-        slot_1,
-        types,
-        &world.exports,
-        places,
-        keys,
-        &parts.main,
-    )? {
+    match module_left_out(alloc, types, &world.exports, places, keys, &parts.main)? {
         Some(what) => Ok(Some(what)),
-        None => adapters_left_out(
-            alloc,
-            slot_1,
-            types,
-            &world.exports,
-            places,
-            &parts.adapters,
-        ),
+        None => adapters_left_out(alloc, types, &world.exports, places, &parts.adapters),
     }
 }
 
