@@ -172,7 +172,7 @@ def call_of(step, room, commit, tries_all):
         "tools": ([*PYTHON, "tests/test_tools.py"], run_program),
         "edits": ([*PYTHON, "tests/wrong_bodies.py", "--edits"], run_program),
         "cases": ([*PYTHON, "tests/cases.py"], run_program),
-        "ci": (["rt", "ci"], run_program),
+        "ci": ([*PYTHON, "tests/prove.py"], run_program),
         "wrong": ([*PYTHON, "tests/wrong_bodies.py", "--after-ci", *due], run_program),
         "program": (["sh", "tests/built_program.sh"], run_script),
         "components": (["sh", "tests/run_components.sh"], run_script),

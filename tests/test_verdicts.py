@@ -83,8 +83,9 @@ class Choosing(unittest.TestCase):
         self.assertEqual(self.due()[0], {"low"})
         self.assertFalse(self.known().is_over_changed("high"))
 
-    def test_another_kit_changes_all(self):
-        self.assertEqual(self.due(kit="another")[0], {*self.below})
+    def test_another_kit_is_a_change_below_all(self):
+        self.assertEqual(self.due(kit="another")[0], set())
+        self.assertTrue(all(self.known("another").is_over_changed(name) for name in self.below))
 
     def test_a_line_that_was_changed_by_hand(self):
         write(f"{self.top}/low/src/lib.rt", "another")

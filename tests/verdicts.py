@@ -1,7 +1,7 @@
 """Which wrong bodies need not be tried: what is known of crates whose wrong bodies were all refused.
 
 The file tests/refused.txt has a line for each such crate. Its digests say what the verdicts rest on: the crate's own text with
-its wrong bodies and the toolchain, and the text of all crates below it. wrong_bodies.py alone writes it, behind a run in
+its wrong bodies, and what lies below, which is the text of all crates below it and the toolchain. wrong_bodies.py alone writes it, behind a run in
 which it saw the refusals; each line has a seal, so that one which was changed by hand counts as none.
 """
 import dataclasses
@@ -84,14 +84,14 @@ class Verdicts:
 
     def own_now(self, name):
         folder, below = self.crates[name]
-        return digest_of(folder, OWN, self.kit, *sorted(below))
+        return digest_of(folder, OWN, *sorted(below))
 
     def text_now(self, name):
         folder, below = self.crates[name]
-        return digest_of(folder, BELOW, self.kit, *sorted(below))
+        return digest_of(folder, BELOW, *sorted(below))
 
     def below_of(self, name, texts):
-        return sum_of(*(f"{it} {texts[it]}".encode() for it in sorted(self.crates[name][1]) if it in texts))
+        return sum_of(self.kit.encode(), *(f"{it} {texts[it]}".encode() for it in sorted(self.crates[name][1]) if it in texts))
 
     def is_as_it_was(self, name):
         """Whether the text of a crate, and of those below it, is now what it was when this was made."""
