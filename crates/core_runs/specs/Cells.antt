@@ -1,25 +1,15 @@
 -- A thread-local cell: a global, with functions that read it and set it.
 -- This project's own, over the core standard's execution of instructions.
-use Rattle.std.specs.Prelude.{◌≡◌, ℕ, true, List, [], ◌∷◌, Some, slice_get, slice_set}
+use Rattle.std.specs.Prelude.{◌≡◌, ℕ, true, List, [], ◌∷◌, Some, slice_get}
 use Rattle.std.specs.List.{AllByRecursion}
 use Rattle.core_types.specs.declared.types.ValType.{ValType}
 use Rattle.core_types.specs.declared.types.FuncType.{FuncType}
 use Rattle.core_runs.specs.Values.{Value, fits}
-use Rattle.core_runs.specs.Store.{Frame, Store, Kept, Now, Outcome, Returned}
+use Rattle.core_runs.specs.Store.{Frame, Store, Kept, Now, Outcome}
 use Rattle.core_runs.specs.Execution.{acts, and_then}
+use Rattle.core_runs.specs.Expected.{ReadsCell, WritesCell}
 use Rattle.core_runs.specs.Bodies.{tls_get, tls_set}
 use Rattle.core_runs.specs.Shims.{HasBody}
-
--- ---- what a call does
-
--- A call of the function reads the cell, which is the global at this address: it returns what the cell holds, with no
--- event, and changes nothing.
-pub record ReadsCell (store : Store) (type : ValType) (cell f : ℕ) : Type 0 where
-  pub same : (v : Value) (now : Now) → slice_get now.globals cell ≡ Some (Kept type v) → fits type v ≡ true → acts store f [] now ≡ Returned (v ∷ []) now
-
--- A call of the function sets the cell to its argument, with no event, and changes nothing else.
-pub record WritesCell (store : Store) (type : ValType) (cell f : ℕ) : Type 0 where
-  pub same : (old v : Value) (now : Now) → slice_get now.globals cell ≡ Some (Kept type old) → fits type v ≡ true → acts store f (v ∷ []) now ≡ Returned [] (record now { globals = slice_set now.globals cell (Kept type v) })
 
 -- ---- calls from whatever modules
 

@@ -181,6 +181,23 @@ base_alone (Some own) globals h other type value at number = by other (subst (λ
     by zero e = refl
     by (suc i) e = absurd (foreign_at h.1.rest i type value h.1.others e)
 
+-- where the base is zero, no other number is kept
+abbrev kept_value : Value → Option Cell → Value
+kept_value other (Some (Kept type value)) = value
+kept_value other cell = other
+
+abbrev kept_type : ValType → Option Cell → ValType
+kept_type other (Some (Kept type value)) = type
+kept_type other cell = other
+
+pub zero_held : (o : Option ValType) (globals : List Cell) → BaseIn o globals → ZeroIn o globals → (i : ℕ) (type : ValType) (value : Value) → slice_get globals i ≡ Some (Kept type value) → value ≡ zero_of type
+zero_held None globals h zero_in i type value at = absurd (foreign_at globals i type value h at)
+zero_held (Some own) globals h z i type value at = by i (subst (λ (l : List Cell). slice_get l i ≡ Some (Kept type value)) z.first at)
+  where
+    by : (i : ℕ) → slice_get (Kept own (zero_of own) ∷ z.rest) i ≡ Some (Kept type value) → value ≡ zero_of type
+    by zero e = sym (ap (kept_value value) e) ∙ ap zero_of (ap (kept_type type) e)
+    by (suc i) e = absurd (foreign_at z.rest i type value z.others e)
+
 -- it is the world's base
 pub is_base : (type : ValType) (value : Value) (globals : List Cell) → IsOfAddresses (Some type) → HoldsBase type value globals → IsBase globals 0 type value
 is_base type value globals addresses h = record {

@@ -9,7 +9,7 @@ use Rattle.comp_lists.proofs.Lists.{there, AllByRecursion-front, AllByRecursion-
 use Rattle.core_bytes.specs.Modules.{Encodes}
 use Rattle.shim_plan.specs.declared.shims.Shim.{Shim}
 use Rattle.world_shims.specs.WorldShims.{shims_of, type_of_shim, initialize_of}
-use Rattle.shim_runs.specs.ShimRuns.{IsShimAt, IsOfAddresses}
+use Rattle.shim_runs.specs.ShimRuns.{IsShimAt}
 use Rattle.shim_runs.proofs.Acting.{empty_shims_trap}
 use Rattle.shim_runs.proofs.Placed.{shim_at}
 use Rattle.comp_terms.specs.Generated.{shims_number, fixup_number, GeneratedBytes, IsFixup, has_tasks_in, has_fixup, number_behind, IsShimModule, AreGenerated}
@@ -24,7 +24,7 @@ use Rattle.comp_bytes.specs.declared.canon.Intrinsic.TheVariants as intrinsics
 use Rattle.comp_bytes.specs.declared.def.Item.TheVariants as items
 use Rattle.comp_bytes.specs.declared.def.Def.{Def}
 use Rattle.comp_bytes.specs.declared.def.Def.TheVariants as defs
-use Rattle.comp_worlds.specs.Bases.{cell_type, AreBasesAlike}
+use Rattle.comp_worlds.specs.Bases.{AreBasesAlike}
 use Rattle.comp_worlds.specs.Worlds.{IsWorld}
 use Rattle.comp_worlds.specs.declared.world.ComponentWorld.{ComponentWorld}
 use Rattle.comp_links.specs.Naming.{Naming}
@@ -36,7 +36,7 @@ use Rattle.comp_inventories.specs.Inventories.{Inventory, inventory}
 use Rattle.comp_inventories.proofs.Inventories.{inventory-empty}
 use Rattle.core_types.specs.declared.types.ValType.{ValType}
 use Rattle.core_runs.specs.Bodies.{table_shim}
-use Rattle.core_runs.specs.Values.{zero_of}
+use Rattle.core_runs.specs.Values.{Value, zero_of}
 use Rattle.core_runs.specs.Store.{Generated, Answer, Now, Cell, Event, Instantiated, Called}
 use Rattle.comp_runs.specs.Store.{ExportedBy, ModuleInstance, Store}
 use Rattle.comp_runs.specs.Machine.{Scope, Machine, Outcome, Done, Trapped, Open, Stuck}
@@ -47,8 +47,7 @@ use Rattle.link_laws.specs.Composition.{GeneratedModules, generated_sections, Is
 use Rattle.link_laws.specs.Linking.{module_meanings, outcome, EndsAt, StartCall, start_calls, initialization, questions, LetsRun, UsersServed, ShimsFilled, MakesCall, IsLinked, imported_among, TypesServed, IsShim, TrapsAtOnce, BeforeFixup, Links}
 use Rattle.link_laws.proofs.Stores.{ShimsAt, exports_of_shims, IsReady, IsFunctionExported, ExportsShims, MayHaveShims, IsTypeEntry, IsFunctionEntry, IsInstanceThing, Agrees, Expected, Made, Calls, expected_of, expects, IsSeen}
 use Rattle.link_laws.proofs.Zips.{contained}
-use Rattle.link_laws.proofs.BaseHeld.{HoldsBase, BaseIn, ZeroIn, cell_among, cell_made, made_with_shims, base_alone, is_base}
-use Rattle.link_laws.proofs.BaseRoles.{cell_addresses}
+use Rattle.link_laws.proofs.BaseHeld.{BaseIn, cell_made, base_alone, zero_held}
 use Rattle.link_laws.proofs.Given.{scope_there, fixup_behind}
 use Rattle.link_laws.proofs.Plain.{nothing_in}
 use Rattle.link_laws.proofs.ModuleMarks.{bytes_listed, user_range, numbers_listed, bytes_if, number_if}
@@ -558,12 +557,9 @@ links n w ds ok apart built = record {
         quiet_shims w m those a.shims a.instantiated a.with_shims (no_fixup_before w n.debug_names built.generated built.are_generated before unfixed)
 
     zero_first : (before after : List Def) → ds ≡ before ++ after → Contains (flat_map (at_root item_instantiates) before) (length (user_modules w)) → (answers : List Answer) (m : Machine) → outcome w gen before answers ≡ Done m → m.now.events ≡ [] →
-        (type : ValType) → cell_type w ≡ Some type → IsBase m.now.globals 0 type (zero_of type)
-    zero_first before after whole there answers m done unseen type named =
-        let those : List ℕ = flat_map (at_root item_instantiates) before in
+        (type : ValType) (value : Value) → IsBase m.now.globals 0 type value → value ≡ zero_of type
+    zero_first before after whole there answers m done unseen type value base =
         let to : Resolves w gen [] before (fresh_machine []).scope (fresh_machine []).store [] [] = up_to before after whole in
         let is : (m.scope ≡ to.0) × (m.store ≡ to.1) × IsNow w to.1.module_instances to.3 to.2 m.now =
         done_with w to.0 to.1 to.2 to.3 (asks to.3) answers (outcome w gen before answers) m (to.4 [] (fresh_machine answers).now (fresh answers)) done in
-        let made : cell_made w to.1.module_instances ≡ Some type = ap (cell_among w) to.5.agrees.instantiated ∙ (made_with_shims w those there ∙ named) in
-        let holds : HoldsBase type (zero_of type) m.now.globals = subst (λ o. ZeroIn o m.now.globals) made (is.2.zero_yet (sym is.2.events ∙ unseen)) in
-        is_base type (zero_of type) m.now.globals (subst IsOfAddresses named (cell_addresses w ok)) holds
+        zero_held (cell_made w to.1.module_instances) m.now.globals is.2.base (is.2.zero_yet (sym is.2.events ∙ unseen)) 0 type value base.held

@@ -24,7 +24,7 @@ use Rattle.core_runs.specs.Values.{Value, fit}
 use Rattle.core_runs.specs.Store.{Store as CodeStore, Func, Opaque, Now, Outcome as CoreOutcome, Returned}
 use Rattle.core_runs.specs.Store as core
 use Rattle.core_runs.specs.Execution.{and_then, asked, exec, acts}
-use Rattle.core_runs.specs.Expected.{expected}
+use Rattle.core_runs.specs.Expected.{expected, ReadsCell, WritesCell}
 use Rattle.wit_data.specs.declared.functions.Function.{Function as WitFunction}
 use Rattle.wit_data.specs.declared.ids.TypeId.{TypeId}
 use Rattle.wit_data.specs.declared.worlds.WorldKey.{WorldKey}
@@ -64,7 +64,7 @@ use Rattle.comp_runs.specs.Store.{Thing, Export, HeldOption, HeldEncoding, HeldM
 use Rattle.comp_runs.specs.Machine.{Machine, export_named, export_in, export_of}
 use Rattle.nested_laws.proofs.Kept.{is_function}
 use Rattle.nested_laws.proofs.Exports.{front, other_space}
-use Rattle.link_laws.specs.Meeting.{IsBase, ReadsBase, SetsBase, CoreMeets, CoreExportMeets, task_hook, hooks_round, IsExportedItem, ItemMeets, MemoryMeets, IsMainMemory, MeetsOption, ItemIsExport, ItemIsLowering, IsResourceHeld, ItemIsOfResource, ItemIsBuiltIn, Meets, MeetsIn, entry_kind}
+use Rattle.link_laws.specs.Meeting.{IsBase, IsOfBase, CoreMeets, CoreExportMeets, task_hook, hooks_round, IsExportedItem, ItemMeets, MemoryMeets, IsMainMemory, MeetsOption, ItemIsExport, ItemIsLowering, IsResourceHeld, ItemIsOfResource, ItemIsBuiltIn, Meets, MeetsIn, entry_kind}
 use Rattle.instance_laws.proofs.Held.{tree_of_held}
 use Rattle.link_laws.specs.Linking.{is_digit, IsShim, IsDirect, IsUntouched, AreTablesUntouched, ShimsFilled, IsServed, AreServed, UsersServed, IsProvided, IsTypeProvided, DestructorMeets, IsDefined, IsNumberDefined, exports_at}
 use Rattle.link_laws.proofs.Zips.{AllByRecursion-join, each_at}
@@ -442,7 +442,7 @@ module _ (w : ComponentWorld) (ok : IsWorld w) (m : Machine) (shims : Option Shi
         let held : BaseIn (Some type) m.now.globals = subst (λ o. BaseIn o m.now.globals) here base in
         (held.0, is_base type held.0 m.now.globals (subst IsOfAddresses named (cell_addresses w ok)) held.1)
 
-    getter_meets : (address : ℕ) → IsCellGetter w m.store address → ReadsBase m address
+    getter_meets : (address : ℕ) → IsCellGetter w m.store address → IsOfBase m address ReadsCell
     getter_meets address h =
         let held : (value : Value) × IsBase m.now.globals 0 h.type value = cell_there h.type h.named h.instance in
         record {
@@ -450,10 +450,10 @@ module _ (w : ComponentWorld) (ok : IsWorld w) (m : Machine) (shims : Option Shi
           type = h.type;
           value = held.0;
           is = held.1;
-          reads = λ store same. getters_read store h.type 0 address (record { frame = h.is.frame; local = h.is.local; has = same ∙ h.is.has; names = h.is.names });
+          does = λ store same. getters_read store h.type 0 address (record { frame = h.is.frame; local = h.is.local; has = same ∙ h.is.has; names = h.is.names });
         }
 
-    setter_meets : (address : ℕ) → IsCellSetter w m.store address → SetsBase m address
+    setter_meets : (address : ℕ) → IsCellSetter w m.store address → IsOfBase m address WritesCell
     setter_meets address h =
         let held : (value : Value) × IsBase m.now.globals 0 h.type value = cell_there h.type h.named h.instance in
         record {
@@ -461,7 +461,7 @@ module _ (w : ComponentWorld) (ok : IsWorld w) (m : Machine) (shims : Option Shi
           type = h.type;
           value = held.0;
           is = held.1;
-          sets = λ store same. setters_write store h.type 0 address (record { frame = h.is.frame; local = h.is.local; has = same ∙ h.is.has; names = h.is.names });
+          does = λ store same. setters_write store h.type 0 address (record { frame = h.is.frame; local = h.is.local; has = same ∙ h.is.has; names = h.is.names });
         }
 
     item_meets : (space : Space) (address : ℕ) (target : Target) → IsServedIn w m.store space address target → MeetsIn w m (resource_of w) space address target

@@ -2,9 +2,12 @@
 -- imports crossed it isn't linked, nor with main's function in the place of one that the adapter
 -- has to provide.
 use Rattle.comp_links.specs.Naming.{own_names}
-use Rattle.std.proofs.Common.{◌≡◌, ◌<◌, ◌∙◌, ◌≤◌, ℕ, zero, suc, true≢false, List, [], ◌∷◌, refl, sym, ap, subst, Option, Some, None, arith}
+use Rattle.std.proofs.Common.{◌≡◌, ◌<◌, ◌∙◌, ◌≤◌, ◌++◌, ℕ, zero, suc, true≢false, List, [], ◌∷◌, refl, sym, ap, subst, Option, Some, None, arith}
 use Rattle.std.proofs.lemmas.Option.{none-some, same_Some}
-use Rattle.std.specs.List.{slice_get, AllByRecursion}
+use Rattle.std.proofs.lemmas.Grind.{flat_map-append}
+use Rattle.std.proofs.lemmas.List.Elements.{Contains-append_left}
+use Rattle.std.specs.Prelude.{Contains}
+use Rattle.std.specs.List.{slice_get, flat_map, AllByRecursion}
 use Rattle.comp_lists.proofs.Lists.{AllByRecursion-contains}
 use Rattle.comp_bytes.proofs.Worked.{g}
 use Rattle.core_runs.specs.declared.bracket.Bracketed.{Bracketed}
@@ -30,7 +33,8 @@ use Rattle.link_laws.proofs.ImportedTypes.{none_imported}
 use Rattle.comp_bytes.specs.declared.space.Space.TheVariants as spaces
 use Rattle.comp_runs.specs.Store.{Export, ExportedBy, Function, Lifting, ModuleInstance}
 use Rattle.comp_runs.specs.Machine.{Machine, Outcome, Done, Trapped, Open, Stuck}
-use Rattle.link_laws.specs.Composition.{IsComposed}
+use Rattle.comp_bytes.specs.declared.def.Def.{Def}
+use Rattle.link_laws.specs.Composition.{IsComposed, at_root, item_instantiates}
 use Rattle.link_laws.specs.Meeting.{ItemIsExport, CoreExportMeets, hooks_round, IsMainMemory, Meets, entry_kind}
 use Rattle.link_laws.specs.Linking.{outcome, ShimsFilled, AreTablesUntouched, questions, LetsRun, EndsAt, AreServed, IsServed, LiftMeets, IsProvided, IsLinked, IsAlone, Links}
 use Rattle.link_laws.proofs.Worked.{plain_core}
@@ -297,6 +301,15 @@ no_third m zero globals h late e = absurd (omega (arith, late))
 no_third m (suc zero) globals h late e = absurd (omega (arith, late))
 no_third m (suc (suc n)) globals h late e = none-some globals (sym (h n) ∙ e)
 
+-- nor is there an instance of a third module
+no_third_module : (before after : List Def) → definitions ≡ before ++ after → Contains (flat_map (at_root item_instantiates) before) 2 → ⊥
+no_third_module before after split there =
+    let all : List ℕ = flat_map (at_root item_instantiates) definitions in
+    let whole : Contains all 2 =
+    subst (λ l. Contains l 2) (sym (ap (flat_map (at_root item_instantiates)) split ∙ flat_map-append (at_root item_instantiates) before after)) (Contains-append_left (flat_map (at_root item_instantiates) before) (flat_map (at_root item_instantiates) after) 2 there) in
+    let below : 2 < 2 = AllByRecursion-contains (λ n. n < 2) all 2 (omega arith, (omega arith, tt)) whole in
+    absurd (omega (arith, below))
+
 pub straight_links : Links own_names world no_modules definitions
 straight_links = record {
   never_stuck = λ answers e. subst (IsRightEnd answers) e (runs answers);
@@ -313,7 +326,7 @@ straight_links = record {
     throughout = λ answers m e event globals at.
         let all = (sees_two answers m (outcome world no_modules definitions answers) (runs answers) e).1.never in
         none_kept globals (AllByRecursion-contains (λ (g : List Cell). g ≡ []) m.now.moments globals all (contained m.now.moments event globals at));
-    zero_first = λ before after split there answers m e unseen type named. absurd (none-some type named);
+    zero_first = λ before after split there answers m e unseen type value base. absurd (no_third_module before after split there);
   };
 }
 

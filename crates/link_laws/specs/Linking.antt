@@ -28,7 +28,6 @@ use Rattle.wit_data.specs.declared.worlds.WorldItem.{WorldItem}
 use Rattle.wit_data.specs.declared.worlds.WorldItem.TheVariants as world_items
 use Rattle.comp_roles.specs.Lookups.{first_export, is_initialize}
 use Rattle.comp_roles.specs.declared.offered.ImportType.{ImportType}
-use Rattle.comp_worlds.specs.Bases.{cell_type}
 use Rattle.comp_worlds.specs.WorldContents.{exported_item, function_exported}
 use Rattle.comp_worlds.specs.declared.world.ComponentWorld.{ComponentWorld}
 use Rattle.comp_trees.specs.Trees.{Resource}
@@ -296,7 +295,7 @@ pub record HasOneBase (w : ComponentWorld) (g : GeneratedModules) (ds : List Def
   pub at_end : (answers : List Answer) (m : Machine) → outcome w g ds answers ≡ Done m → IsAlone m.now.globals cell
   pub throughout : (answers : List Answer) (m : Machine) → EndsAt m (outcome w g ds answers) → (event : ℕ) (globals : List Cell) → slice_get m.now.moments event ≡ Some globals → IsAlone globals cell
   pub zero_first : (before after : List Def) → ds ≡ before ++ after → Contains (flat_map (at_root item_instantiates) before) (length (user_modules w)) → (answers : List Answer) (m : Machine) → outcome w g before answers ≡ Done m → m.now.events ≡ [] →
-      (type : ValType) → cell_type w ≡ Some type → IsBase m.now.globals cell type (zero_of type)
+      (type : ValType) (value : Value) → IsBase m.now.globals cell type value → value ≡ zero_of type
 
 -- When it is run, whatever the outside returns: it is never stuck; it is done where the answers let
 -- it; where it is done it is linked, and the types that it imports are the world's; shims trap

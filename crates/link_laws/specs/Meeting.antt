@@ -14,9 +14,8 @@ use Rattle.core_runs.specs.declared.bracket.AfterHook.TheVariants.{Nothing}
 use Rattle.core_runs.specs.Hooks.{around, bracket_of}
 use Rattle.core_runs.specs.Values.{Value, fit, fits}
 use Rattle.core_runs.specs.Store.{Cell, Kept, Now, Store as CodeStore}
-use Rattle.core_runs.specs.Cells.{ReadsCell, WritesCell}
 use Rattle.core_runs.specs.Execution.{acts}
-use Rattle.core_runs.specs.Expected.{Known, Is, expected}
+use Rattle.core_runs.specs.Expected.{Known, Is, expected, ReadsCell, WritesCell}
 use Rattle.wit_data.specs.declared.ids.TypeId.{TypeId}
 use Rattle.wit_data.specs.declared.functions.Function.{Function as WitFunction}
 use Rattle.comp_roles.specs.Lookups.{first_export, is_task_hook, imported_memory, first_memory}
@@ -114,21 +113,14 @@ pub record IsBase (globals : List Cell) (cell : ℕ) (type : ValType) (value : V
   pub of_type : fits type value ≡ true
   pub number : IsNumber type
 
--- A call of the function at this address reads the base, or sets it. It does so by itself: in every store where this
--- function is at its address, and so from the moment that there is one.
-pub record ReadsBase (m : Machine) (address : ℕ) : Type 0 where
+-- A call of the function at this address does this with the base: it reads it, or sets it. It does so by itself: in every
+-- store where this function is at its address, and so from the moment that there is one.
+pub record IsOfBase (m : Machine) (address : ℕ) (Does : CodeStore → ValType → (cell function : ℕ) → Type 0) : Type 0 where
   pub cell : ℕ
   pub type : ValType
   pub value : Value
   pub is : IsBase m.now.globals cell type value
-  pub reads : (store : CodeStore) → slice_get store.functions address ≡ slice_get m.store.code.functions address → ReadsCell store type cell address
-
-pub record SetsBase (m : Machine) (address : ℕ) : Type 0 where
-  pub cell : ℕ
-  pub type : ValType
-  pub value : Value
-  pub is : IsBase m.now.globals cell type value
-  pub sets : (store : CodeStore) → slice_get store.functions address ≡ slice_get m.store.code.functions address → WritesCell store type cell address
+  pub does : (store : CodeStore) → slice_get store.functions address ≡ slice_get m.store.code.functions address → Does store type cell address
 
 -- ---- items that are no functions
 
@@ -235,8 +227,8 @@ abbrev pub MeetsIn : ComponentWorld → Machine → (TypeId → Resource) → Sp
 MeetsIn w m origins spaces.CoreFunc address (Lowered of options) = CoreMeets w m None address (ItemIsLowering w m origins of options)
 MeetsIn w m origins spaces.CoreFunc address (OfResource function id) = CoreMeets w m None address (ItemIsOfResource m function (origins id))
 MeetsIn w m origins spaces.CoreFunc address (BuiltIn intrinsic) = CoreMeets w m None address (ItemIsBuiltIn intrinsic)
-MeetsIn w m origins spaces.CoreFunc address TlsGet = ReadsBase m address
-MeetsIn w m origins spaces.CoreFunc address TlsSet = SetsBase m address
+MeetsIn w m origins spaces.CoreFunc address TlsGet = IsOfBase m address ReadsCell
+MeetsIn w m origins spaces.CoreFunc address TlsSet = IsOfBase m address WritesCell
 MeetsIn w m origins spaces.CoreFunc address (ExportOf export_ref) = CoreExportMeets w m None address export_ref
 MeetsIn w m origins spaces.CoreTable address (ExportOf export_ref) = ItemMeets w m spaces.CoreTable address export_ref
 MeetsIn w m origins spaces.CoreMemory address (ExportOf export_ref) = ItemMeets w m spaces.CoreMemory address export_ref
