@@ -30,7 +30,7 @@ use Rattle.comp_roles.specs.declared.libraries.MainOrAdapter.TheVariants as modu
 use Rattle.comp_worlds.specs.declared.world.ComponentWorld.{ComponentWorld}
 use Rattle.comp_worlds.specs.declared.world.ValidatedModule.{ValidatedModule}
 use Rattle.comp_roles.specs.declared.exports.Export.{Export}
-use Rattle.comp_links.specs.Targets.{UserModule, Main, Adapter, ExportRef, TargetOption, Memory, Realloc, Encoding, Async, PostReturn, Callback, Target, OfRoot, OfInterface, Lowered, ExportOf, MainMemory, New, Rep, Drop, OfResource, BuiltIn, TlsGet, TlsSet, Lifted, Unlinked}
+use Rattle.comp_links.specs.Targets.{UserModule, Main, Adapter, ExportRef, TargetOption, Memory, Realloc, Encoding, Async, PostReturn, Callback, Target, OfRoot, OfInterface, NoType, Lowered, ExportOf, MainMemory, New, Rep, Drop, OfResource, BuiltIn, TlsGet, TlsSet, Lifted, Unlinked}
 use Rattle.comp_links.specs.Modules.{WorldModule, module_found}
 use Rattle.comp_links.specs.Lists.{RequiredFunction, ProvidedType}
 use Rattle.comp_links.specs.Roles.{import_encoding, export_encoding}
@@ -138,7 +138,7 @@ link_of_cell role = Unlinked
 
 -- a built-in function without operands, where the role has one
 abbrev pub link_of_intrinsic : Import → Option Intrinsic → Target
-link_of_intrinsic role (Some i) = BuiltIn i
+link_of_intrinsic role (Some i) = BuiltIn i NoType []
 link_of_intrinsic role None = link_of_cell role
 
 -- what an import of a user module is to be given, by its role: a function of the world is lowered,

@@ -26,7 +26,7 @@ use Rattle.wit_data.specs.declared.functions.AbiVariant.{AbiVariant}
 use Rattle.wit_data.specs.declared.functions.Function.{Function}
 use Rattle.wit_data.specs.declared.ids.InterfaceId.{InterfaceId}
 use Rattle.wit_data.specs.Signatures.{signature}
-use Rattle.comp_trees.specs.Trees.{Resource}
+use Rattle.comp_trees.specs.Trees.{Resource, ResourceAt}
 use Rattle.world_values.specs.Items.{functions_of, root_function_at}
 use Rattle.comp_roles.specs.CoreImports.{fields_of}
 use Rattle.comp_roles.specs.CoreTypes.{called_type, core_type}
@@ -64,8 +64,9 @@ use Rattle.comp_terms.specs.Shimmed.{has_shim, has_shim_in, has_shim_at}
 use Rattle.comp_terms.specs.Planned.{IsItemFor, IsShimFor, IsOwnShim, IsGivenFor, IsEntryFor, IsArgumentFor}
 use Rattle.comp_runs.specs.Machine.{Scope, Machine, address_at, all_some, export_named}
 use Rattle.comp_runs.specs.Instances.{given_to, type_space}
-use Rattle.comp_runs.specs.Signatures.{form_of, core_signature}
+use Rattle.comp_runs.specs.Signatures.{form_of, core_signature, intrinsic_signature}
 use Rattle.comp_runs.specs.Running.{core_argument}
+use Rattle.link_laws.proofs.BuiltIns.{plain_signature}
 use Rattle.link_laws.proofs.Zips.{all_some-zip, found-zip, mapped_some}
 use Rattle.comp_worlds.proofs.Roles.{bound_some}
 use Rattle.link_laws.proofs.BaseRoles.{IsAgreed, IsAgreedGroup, NeedsCell, getter_fits, setter_fits, cell_of_role, cell_needed, no_cell}
@@ -82,22 +83,23 @@ use Rattle.link_laws.proofs.Stores.{IsOpaqueOf, IsLoweredFor, IsItemTyped, IsUse
 resource_opaque : (s : Store) (address : ℕ) (function : ResourceFunction) (resource : Resource) (type : FuncType) → Some (externs.Func (resource_core function)) ≡ Some (externs.Func type) → IsFunctionOf s address function resource →
     (item : CoreItem) × IsOpaqueOf s address type item
 resource_opaque s address function resource type fits h =
-    let item : CoreItem = IntrinsicOf (intrinsic_of function h.of) in
+    let item : CoreItem = IntrinsicOf (intrinsic_of function 0) (Some (ResourceAt resource)) [] in
     (item, subst (λ t. IsOpaqueOf s address t item) (ap (function_type_in type) (same_Some (externs.Func (resource_core function)) (externs.Func type) fits)) h.is)
 
 -- so is a built-in function without operands, where slot 1 can be used is given the same
-intrinsic_opaque : (s : Store) (address : ℕ) (i : Intrinsic) (usable : Option Intrinsic) (type : FuncType) → usable ≡ Some i → option_map externs.Func (option_and_then plain_type usable) ≡ Some (externs.Func type) → IsBuiltInAt s address i →
-    (item : CoreItem) × IsOpaqueOf s address type item
-intrinsic_opaque s address i usable type same fits h =
+intrinsic_opaque : (w : ComponentWorld) (s : Store) (address : ℕ) (i : Intrinsic) (usable : Option Intrinsic) (type : FuncType) → usable ≡ Some i → option_map externs.Func (option_and_then plain_type usable) ≡ Some (externs.Func type) →
+    IsBuiltInAt w s address i None [] → (item : CoreItem) × IsOpaqueOf s address type item
+intrinsic_opaque w s address i usable type same fits h =
     let asked : option_map externs.Func (plain_type i) ≡ Some (externs.Func type) = ap (λ o. option_map externs.Func (option_and_then plain_type o)) (sym same) ∙ fits in
-    let typed : externs.Func h.type ≡ externs.Func type = same_Some (externs.Func h.type) (externs.Func type) (sym (ap (option_map externs.Func) h.typed) ∙ asked) in
-    (IntrinsicOf i, subst (λ t. IsOpaqueOf s address t (IntrinsicOf i)) (ap (function_type_in type) typed) h.is)
+    let x : (t : FuncType) × (plain_type i ≡ Some t) × (externs.Func t ≡ externs.Func type) = mapped_some externs.Func (plain_type i) (externs.Func type) asked in
+    let typed : intrinsic_signature i None ≡ type = plain_signature i None x.0 x.1 ∙ ap (function_type_in type) x.2 in
+    (IntrinsicOf i None h.held, subst (λ t. IsOpaqueOf s address t (IntrinsicOf i None h.held)) typed h.is)
 
 -- where the role has one, and is none of a base
 built_in_opaque : (w : ComponentWorld) (s : Store) (address : ℕ) (role : Import) (o usable : Option Intrinsic) (type : FuncType) → base_of_role role ≡ None → ((i : Intrinsic) → o ≡ Some i → usable ≡ Some i) →
     option_map externs.Func (option_and_then plain_type usable) ≡ Some (externs.Func type) → IsServedAs w s address (link_of_intrinsic role o) → (item : CoreItem) × IsOpaqueOf s address type item
 built_in_opaque w s address role None usable type none same fits h = let no : IsServedAs w s address Unlinked = subst (IsServedAs w s address) (no_cell role none) h in absurd no
-built_in_opaque w s address role (Some i) usable type none same fits h = intrinsic_opaque s address i usable type (same i refl) fits h
+built_in_opaque w s address role (Some i) usable type none same fits h = intrinsic_opaque w s address i usable type (same i refl) fits h
 
 -- neither it nor a function of the cell is a table, a memory or a global
 no_table : (w : ComponentWorld) (s : Store) (address : ℕ) (role : Import) (o : Option Intrinsic) → IsServedIn w s spaces.CoreTable address (link_of_intrinsic role o) → ⊥
@@ -224,7 +226,7 @@ module _ (w : ComponentWorld) (ok : IsWorld w) (s : Store) (globals : List ValTy
   getter_typed : (address : ℕ) (t : ValType) (type : FuncType) (o : Option Intrinsic) → plain_intrinsic w.can_use_context_slot_1 (imports.TlsBaseGet t) ≡ o → IsImportRole w (imports.TlsBaseGet t) → IsAgreed w (imports.TlsBaseGet t) →
       option_map externs.Func (plain_import_type (imports.TlsBaseGet t)) ≡ Some (externs.Func type) → IsServedAs w s address (link_of_intrinsic (imports.TlsBaseGet t) o) → IsFunctionTyped s address type
   getter_typed address t type (Some i) given right agreed fits h =
-      opaque_typed address type (intrinsic_opaque s address i (plain_intrinsic true (imports.TlsBaseGet t)) type (usable_too w.can_use_context_slot_1 (imports.TlsBaseGet t) i given) fits h)
+      opaque_typed address type (intrinsic_opaque w s address i (plain_intrinsic true (imports.TlsBaseGet t)) type (usable_too w.can_use_context_slot_1 (imports.TlsBaseGet t) i given) fits h)
   getter_typed address t type None given right agreed fits h =
       let same : h.type ≡ t = same_Some h.type t (sym h.named ∙ cell_of_role w (imports.TlsBaseGet t) t refl right agreed given) in
       let typed : externs.Func (getter_type t) ≡ externs.Func type = same_Some (externs.Func (getter_type t)) (externs.Func type) (sym (ap (option_map externs.Func) (getter_fits t right)) ∙ fits) in
@@ -233,7 +235,7 @@ module _ (w : ComponentWorld) (ok : IsWorld w) (s : Store) (globals : List ValTy
   setter_typed : (address : ℕ) (t : ValType) (type : FuncType) (o : Option Intrinsic) → plain_intrinsic w.can_use_context_slot_1 (imports.TlsBaseSet t) ≡ o → IsImportRole w (imports.TlsBaseSet t) → IsAgreed w (imports.TlsBaseSet t) →
       option_map externs.Func (plain_import_type (imports.TlsBaseSet t)) ≡ Some (externs.Func type) → IsServedAs w s address (link_of_intrinsic (imports.TlsBaseSet t) o) → IsFunctionTyped s address type
   setter_typed address t type (Some i) given right agreed fits h =
-      opaque_typed address type (intrinsic_opaque s address i (plain_intrinsic true (imports.TlsBaseSet t)) type (usable_too w.can_use_context_slot_1 (imports.TlsBaseSet t) i given) fits h)
+      opaque_typed address type (intrinsic_opaque w s address i (plain_intrinsic true (imports.TlsBaseSet t)) type (usable_too w.can_use_context_slot_1 (imports.TlsBaseSet t) i given) fits h)
   setter_typed address t type None given right agreed fits h =
       let same : h.type ≡ t = same_Some h.type t (sym h.named ∙ cell_of_role w (imports.TlsBaseSet t) t refl right agreed given) in
       let typed : externs.Func (setter_type t) ≡ externs.Func type = same_Some (externs.Func (setter_type t)) (externs.Func type) (sym (ap (option_map externs.Func) (setter_fits t right)) ∙ fits) in

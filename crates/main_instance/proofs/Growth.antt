@@ -106,7 +106,7 @@ entries_in_range w of ds (e ∷ es) (f ∷ fs) h = (record { scoped = given e.ki
     term_in_range : (kind : ExportKind) (index : ℕ) (t : Term) → Is ds (kind_space kind) index t → index < items_in (kind_space kind) ds
     term_in_range kinds.Func index (terms.Lowering origin type written) is = in_range is.made
     term_in_range kinds.Func index (terms.OfResource function resource) is = in_range is.made
-    term_in_range kinds.Func index (terms.BuiltIn intrinsic) is = in_range is.made
+    term_in_range kinds.Func index (terms.BuiltIn name operand os) is = in_range is.made
     term_in_range kinds.Func index (terms.Exported e) is = subst (λ space. index < items_in space ds) (sym is.0) (in_range is.1.made)
     term_in_range kinds.Table index (terms.Exported e) is = subst (λ space. index < items_in space ds) (sym is.0) (in_range is.1.made)
     term_in_range kinds.Memory index (terms.Exported e) is = subst (λ space. index < items_in space ds) (sym is.0) (in_range is.1.made)
