@@ -14,7 +14,6 @@ ghost use Rattle.record_core_types.specs.Fitting.{are_same, is_same, is_asked, f
 use crate::finding::{exported_function, exported_interface, function_of, imported_function};
 use crate::intrinsics::{Shape, intrinsic, plain_export};
 use crate::offering::{extern_type, memory_type};
-use comp_lists::{Seq, Text};
 use comp_roles::{Export, ExternType, Import};
 use core_sections::{CoreModule, EntityType, ExportedItem, FuncType, ValType};
 use core_types::MemoryType;
