@@ -15,3 +15,4 @@ pub mod Defining
 pub mod Forgetting
 pub mod ListedTypes
 pub mod Keeping
+pub mod Results
