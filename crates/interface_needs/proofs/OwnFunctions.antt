@@ -31,7 +31,7 @@ pub own_sound : (w : ComponentWorld) → IsEncodable w → (key : WorldKey) (int
 own_sound w ok key interface f h = exported_sound w ok f (exported_there w (own_exported w key interface f h))
 
 -- the item is this interface
-item_of : (o : Option WorldItem) (id : InterfaceId) → option_and_then interface_in o ≡ Some id → o ≡ Some (items.Interface id)
+pub item_of : (o : Option WorldItem) (id : InterfaceId) → option_and_then interface_in o ≡ Some id → o ≡ Some (items.Interface id)
 item_of (Some (items.Interface other)) id h = ap (λ (x : Option InterfaceId). elim x [ None ↦ Some (items.Interface id) | Some i ↦ Some (items.Interface i) ]) h
 item_of (Some (items.Function f)) id h = absurd (none-some id h)
 item_of (Some (items.NamedType t)) id h = absurd (none-some id h)

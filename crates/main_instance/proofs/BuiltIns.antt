@@ -41,6 +41,7 @@ IsLinked (imports.MainModuleMemory type) = Unit {0}
 IsLinked (imports.MainModuleExport name kind) = Unit {0}
 IsLinked (imports.AdapterExport adapter name type) = Unit {0}
 IsLinked (imports.Item item) = Unit {0}
+IsLinked (imports.ExportedTaskReturn key interface function) = Unit {0}
 IsLinked (imports.TlsBaseGet type) = Unit {0}
 IsLinked (imports.TlsBaseSet type) = Unit {0}
 IsLinked role = ⊥
@@ -56,6 +57,7 @@ linked_role w (imports.MainModuleMemory type) h none = tt
 linked_role w (imports.MainModuleExport name kind) h none = tt
 linked_role w (imports.AdapterExport adapter name type) h none = tt
 linked_role w (imports.Item item) h none = tt
+linked_role w (imports.ExportedTaskReturn key interface function) h none = tt
 linked_role w (imports.TlsBaseGet type) h none = tt
 linked_role w (imports.TlsBaseSet type) h none = tt
 linked_role w role h none = absurd (true≢false (sym h ∙ ap is_some none))
@@ -105,6 +107,7 @@ built_in_linked w of (imports.MainModuleMemory type) intrinsic h = absurd (none-
 built_in_linked w of (imports.MainModuleExport name kind) intrinsic h = absurd (none-some intrinsic h)
 built_in_linked w of (imports.AdapterExport adapter name type) intrinsic h = absurd (none-some intrinsic h)
 built_in_linked w of (imports.Item item) intrinsic h = absurd (none-some intrinsic h)
+built_in_linked w of (imports.ExportedTaskReturn key interface function) intrinsic h = absurd (none-some intrinsic h)
 built_in_linked w of role intrinsic h = ap (link_of_intrinsic role) h
 
 -- such a function is given for it

@@ -45,7 +45,8 @@ use Rattle.shim_targets.proofs.Users.{of_module}
 use Rattle.world_shims.specs.WorldShims.{shims_of}
 use Rattle.core_options.proofs.OptionTerms.{AreListed, named_for, has_realloc, option_refused}
 use Rattle.core_options.proofs.Refusals.{one_import_refused}
-use Rattle.core_options.specs.Causes.{IsCauseAmong, IsListRefusal, indirect_name, lowering_place}
+use Rattle.comp_terms.specs.Shimmed.{shim_name}
+use Rattle.core_options.specs.Causes.{IsCauseAmong, IsListRefusal, lowering_place}
 use Rattle.core_options.specs.MainOptions.{user_of, IsFunctionOf, IsMemoryIf, IsReallocIf, NameOptions}
 use Rattle.core_options.specs.declared.fault.StateFault.{StateFault}
 use Rattle.core_options.specs.declared.fault.StateFault.TheVariants as faults
@@ -170,7 +171,7 @@ module _ (w : ComponentWorld) (ok : IsEncodable w) (of : User) (m : ValidatedMod
       by : (o : Option MemoryType) → shared_memory w ≡ o → IsCauseAmong w (record { of = of; core = i } ∷ []) [] e
       by None unshared = nothing e unshared h
       by (Some type) shared =
-          let named : place ≡ lowering_place w i = at ∙ ap (λ o. if is_some o then field_path i.module_name i.field else indirect_name i) (sym shared) in
+          let named : place ≡ lowering_place w i = at ∙ ap (λ o. if is_some o then field_path i.module_name i.field else shim_name i i.role) (sym shared) in
           one_import_refused w (record { of = of; core = i }) (lower_realloc w of) set place same named (λ none. none) e
           (option_refused w ds set memory realloc (lower_realloc w of) (direct_memory ds memory before) reallocs place e h)
 

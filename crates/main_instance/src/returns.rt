@@ -5,18 +5,15 @@
 
 ghost use Rattle.std.specs.Prelude.{◌≡◌, [], ◌∷◌, Some, IfOk, IfErr, OnOk, Contains};
 ghost use Rattle.comp_bytes.specs.declared.space.Space.TheVariants.{CoreFunc};
-ghost use Rattle.comp_links.specs.Links.{lower_options};
 ghost use Rattle.comp_links.specs.Roles.{field_path};
 ghost use Rattle.comp_links.specs.Supplied.{IsSuppliedImport};
-ghost use Rattle.comp_links.specs.Targets.{operand_if_any};
-ghost use Rattle.comp_options.specs.Options.{task_return_set};
 ghost use Rattle.comp_roles.specs.Functions.{of_function};
 ghost use Rattle.comp_roles.specs.declared.imports.Import.TheVariants as imports;
 ghost use Rattle.comp_terms.specs.Planned.{IsGivenFor};
 ghost use Rattle.comp_terms.specs.Rules.{Grows};
 ghost use Rattle.comp_worlds.specs.Uses.{imports_of};
 ghost use Rattle.core_options.specs.Causes.{IsCauseAmong};
-ghost use Rattle.core_options.specs.MainOptions.{user_of, IsReturn};
+ghost use Rattle.core_options.specs.MainOptions.{user_of};
 ghost use Rattle.main_instance.specs.Calls.{import_at, IsUnencoded};
 ghost use Rattle.main_instance.specs.Sources.{AreSources};
 ghost use Rattle.root_imports.specs.Keeping.{RootKept};

@@ -16,3 +16,4 @@ pub mod Forgetting
 pub mod ListedTypes
 pub mod Keeping
 pub mod Results
+pub mod Supplying
