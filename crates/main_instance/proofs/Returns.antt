@@ -10,14 +10,14 @@ use Rattle.comp_links.specs.Supplied.{IsSuppliedImport}
 use Rattle.comp_links.specs.Targets.{UserModule as User, Main, Adapter}
 use Rattle.comp_options.proofs.ImportSets.{no_realloc_returned}
 use Rattle.comp_options.specs.Options.{needs, task_return_set}
-use Rattle.comp_options.specs.Listed.{options_of, lacks_memory, lacks_realloc}
+use Rattle.comp_options.specs.OptionLists.{options_of, lacks_memory, lacks_realloc}
 use Rattle.comp_roles.specs.CoreImports.{CoreImport}
 use Rattle.comp_roles.specs.Functions.{of_function}
 use Rattle.comp_roles.specs.declared.imports.Import.{Import}
 use Rattle.comp_roles.specs.declared.imports.Import.TheVariants as imports
 use Rattle.comp_terms.specs.Planned.{IsGivenFor, main_memory, memory_from}
 use Rattle.comp_worlds.specs.Encodable.{IsEncodable}
-use Rattle.comp_worlds.specs.Lookups.{first_memory}
+use Rattle.comp_roles.specs.Lookups.{first_memory}
 use Rattle.comp_worlds.specs.Offered.{shared_memory}
 use Rattle.comp_worlds.specs.Uses.{imports_of}
 use Rattle.comp_worlds.specs.Worlds.{IsImportRole, IsOwnFunction}
@@ -32,7 +32,7 @@ use Rattle.main_instance.specs.Sources.{IsMemoryBefore, IsShimAlias, shared_expo
 use Rattle.shim_plan.specs.declared.kinds.ShimKind.{ShimKind}
 use Rattle.shim_plan.specs.declared.kinds.ShimKind.TheVariants as kinds
 use Rattle.shim_targets.specs.ShimTargets.{which_of}
-use Rattle.standard_kinds.specs.declared.memories.MemoryType.{MemoryType}
+use Rattle.core_types.specs.declared.types.MemoryType.{MemoryType}
 use Rattle.wit_data.specs.Sound.{HasFunction}
 use Rattle.wit_data.specs.declared.functions.Function.{Function}
 use Rattle.wit_data.specs.declared.ids.InterfaceId.{InterfaceId}

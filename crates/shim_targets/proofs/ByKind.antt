@@ -52,6 +52,10 @@ module _ (w : ComponentWorld) (s : Shim) where
       (i : UserImport) × StandsFor w s i
   for_lowering interface function which encoding is h = for_import (ap of_export is) h
 
+  -- so does one of the kind of returns
+  pub for_return : (interface : Option InterfaceId) (name : List ℕ) (result : Option Ty) (which : MainOrAdapter) (encoding : StringEncoding) → s.kind ≡ kinds.TaskReturn interface name result which encoding → StandsForOne w s → (i : UserImport) × StandsFor w s i
+  for_return interface name result which encoding is h = for_import (ap of_export is) h
+
   -- a shim of a kind of an export stands for that
   pub for_export : (e : ExportRef) → export_of_kind s.kind ≡ Some e → StandsForOne w s → StandsForExport w s e
   for_export e is (inl h) = absurd (true≢false (sym (export_kind s.kind e is) ∙ import_kind h.0.of h.0.core.role h.1.encoding s.kind h.1.kind))

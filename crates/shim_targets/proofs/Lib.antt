@@ -20,3 +20,4 @@ pub mod CallOptions
 pub mod DestructorShims
 pub mod AdapterShims
 pub mod Worked
+pub mod Returned
