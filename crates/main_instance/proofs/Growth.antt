@@ -41,7 +41,6 @@ use Rattle.core_options.proofs.OptionTerms.{memory_kept}
 use Rattle.comp_terms.specs.Planned.{main_memory}
 use Rattle.main_instance.specs.Sources.{shared_export, IsMemoryBefore, AreSources, IsShimInstance, IsBehindMain, IsMainInstance, IsMade}
 
-
 -- ---- what a module is given stays what it is, whatever is added
 
 module _ {w : ComponentWorld} {old new : List Def} (g : Longer old new) where
