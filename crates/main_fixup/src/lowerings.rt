@@ -105,8 +105,8 @@ fn return_behind(
     ensures offered { OnOk result (HasShimOptions root.old.world.now shim.now) }
     ensures cause { IfErr result (IsFillCause root.old) }
 {
-    let options = options_for(root, sources, &shim.debug_name, shim.options, encoding)?;
-    let index = return_from(root, interface, ty, options)?;
+    let listed = options_for(root, sources, &shim.debug_name, shim.options, encoding)?;
+    let index = return_from(root, interface, ty, listed)?;
     Ok(index)
 }
 

@@ -204,11 +204,14 @@ impl UserModule<'_> {
             return Ok(());
         }
         match encoding_of_return(alloc, self.found, returned)? {
+            None => {
+                let fault = no_encoding(alloc, import);
+                Err(fault)
+            }
             Some(encoding) => {
                 self.add_return(needs, alloc, returned, encoding)?;
                 Ok(())
             }
-            None => Err(no_encoding(alloc, import)),
         }
     }
 
