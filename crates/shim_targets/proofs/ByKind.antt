@@ -3,6 +3,8 @@
 use Rattle.std.proofs.Common.{◌≡◌, ◌∙◌, Bool, true, false, true≢false, ℕ, List, inl, inr, Option, Some, None, refl, sym, ap, subst}
 use Rattle.std.proofs.lemmas.Option.{none-some, same_Some}
 use Rattle.standard_kinds.specs.declared.kinds.StringEncoding.{StringEncoding}
+use Rattle.wit_data.specs.declared.ids.InterfaceId.{InterfaceId}
+use Rattle.wit_data.specs.declared.types.Type.{«Type» as Ty}
 use Rattle.wit_data.specs.declared.worlds.WorldKey.{WorldKey}
 use Rattle.comp_roles.specs.declared.imports.Import.{Import}
 use Rattle.comp_roles.specs.declared.imports.Import.TheVariants as imports
@@ -29,6 +31,7 @@ of_export kind = false
 import_kind : (of : UserModule) (role : Import) (encoding : StringEncoding) (kind : ShimKind) → kind_of_import of role encoding ≡ Some kind → of_export kind ≡ false
 import_kind of (imports.WorldFunc key name abi) encoding kind e = ap of_export (sym (same_Some (kinds.IndirectLowering None (record { name = name; abi = abi }) (which_of of) encoding) kind e))
 import_kind of (imports.InterfaceFunc key id name abi) encoding kind e = ap of_export (sym (same_Some (kinds.IndirectLowering (Some key) (record { name = name; abi = abi }) (which_of of) encoding) kind e))
+import_kind of (imports.ExportedTaskReturn key interface f) encoding kind e = ap of_export (sym (same_Some (kinds.TaskReturn interface f.name f.result (which_of of) encoding) kind e))
 import_kind of role encoding kind e = absurd (none-some kind e)
 
 -- that of a shim for an export is

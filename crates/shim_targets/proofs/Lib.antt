@@ -21,3 +21,5 @@ pub mod DestructorShims
 pub mod AdapterShims
 pub mod Worked
 pub mod Returned
+mod ExportKeys
+mod ReturnNeeds
