@@ -32,7 +32,7 @@ use Rattle.comp_terms.specs.Generated.{shims_number}
 use Rattle.comp_terms.specs.Planned.{memory_from, main_memory, shim_export, IsItemFor}
 use Rattle.comp_terms.specs.Terms.{IsExported, IsLowering}
 use Rattle.comp_terms.specs.Terms as terms
-use Rattle.shim_plan.specs.Needed.{module_of_name, name_of_module, realloc_shim, import_realloc}
+use Rattle.shim_plan.specs.Needed.{call_of, module_of_name, name_of_module, realloc_shim, import_realloc}
 use Rattle.shim_plan.specs.Plans.{shim_of}
 use Rattle.shim_plan.specs.declared.kinds.ShimKind.{ShimKind}
 use Rattle.shim_targets.specs.ShimTargets.{which_of}
@@ -115,9 +115,9 @@ realloc_none w of m there ds e = subst (λ o. IsReallocIf w ds o None) (sym (rea
 -- ---- a call
 
 -- the options that the world's table has for it are those that it needs
-pub needed_is : (w : ComponentWorld) → IsEncodable w → (of : User) (m : ValidatedModule) → module_found w of ≡ Some m → (i : CoreImport) → Contains (imports_of m) i → (options : RequiredOptions) → options ≡ options_of_lowering (lowering_of_import w i.role) →
+pub needed_is : (w : ComponentWorld) → IsEncodable w → (of : User) (m : ValidatedModule) → module_found w of ≡ Some m → (i : CoreImport) → Contains (imports_of m) i → IsSome (call_of i.role) → (options : RequiredOptions) → options ≡ options_of_lowering (lowering_of_import w i.role) →
     options.0 ≡ lower_needs w i.role
-needed_is w ok of m there i present options is = ap (λ (o : RequiredOptions). o.0) is ∙ options_needed w ok (record { of = of; core = i }) (of_module w of m i there present)
+needed_is w ok of m there i present called options is = ap (λ (o : RequiredOptions). o.0) is ∙ options_needed w ok (record { of = of; core = i }) (of_module w of m i there present) called
 
 module _ (w : ComponentWorld) (ok : IsEncodable w) (of : User) (m : ValidatedModule) (there : module_found w of ≡ Some m) (i : CoreImport) (present : Contains (imports_of m) i) (plain : shared_memory w ≡ None → NamesNoExport (lower_needs w i.role)) (set : ℕ) (same : set ≡ lower_needs w i.role) where
   -- where main imports no memory, the options name neither a memory nor a realloc
