@@ -43,6 +43,7 @@ from concurrent.futures import ThreadPoolExecutor, as_completed
 
 sys.dont_write_bytecode = True
 sys.path.insert(0, os.path.dirname(os.path.realpath(__file__)))
+from prove import each_once  # noqa: E402
 from rattle_text import functions_of, is_proof_of, names_of, path_of  # noqa: E402
 from verdicts import Verdicts  # noqa: E402
 
@@ -80,6 +81,8 @@ def kit():
     loader.exec_module(module)
     # rtlib's stamp reads a library's files once for each way that leads to it: 150,000 times for the highest crates.
     module.Crate.stamp = once(module.Crate.stamp)
+    # It goes to the crates below in the same way, too.
+    module.Crate.below = each_once(module.Crate.below)
     return module
 
 
