@@ -137,7 +137,7 @@ exports_at w m name item = option_and_then (λ (e : Export). slice_get m.store.i
 -- the function at this address is a lift of this function of the world as the target says
 abbrev pub LiftMeets : ComponentWorld → Machine → (TypeId → Resource) → ℕ → WitFunction → Target → Type 0
 LiftMeets w m origins address wit (Lifted entry options) = IsLift w m address (wit_function_tree origins w.resolve.types wit) entry options
-LiftMeets w m origins address wit target = ⊥
+LiftMeets w m origins address wit _ = ⊥
 
 -- a required function is found by its sort and name, and is what the link table says, with its type
 pub record IsProvided (n : Naming) (w : ComponentWorld) (m : Machine) (origins : TypeId → Resource) (r : RequiredFunction) : Type 0 where
