@@ -12,7 +12,7 @@ use Rattle.command_line.specs.declared.fault.RunFault.{RunFault}
 use Rattle.command_line.specs.declared.fault.RunFault.TheVariants.{Usage, Read, Write, Out, Closed, Fit, Encode, Check}
 
 abbrev pub usage_line : List ℕ
-usage_line = codes "usage: component_new new OUT MAIN [options] | defs FILE\n"
+usage_line = codes "usage: component_new new OUT MAIN [options] | defs FILE | explain CODE\n"
 
 -- a line for each option
 abbrev pub option_lines : List ℕ

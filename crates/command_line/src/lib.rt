@@ -2,9 +2,9 @@
 //!
 //! `new OUT MAIN [options]` reads the module from the file MAIN, and adapters from those that the
 //! options name, fits them (`fitted_modules`), and puts their component into the file OUT.
-//! `defs FILE` writes on standard output a line for each definition of the component in FILE. All
-//! that a run does with files, what it writes and what it prints of a failure is in the contract of
-//! [`run_with`].
+//! `defs FILE` writes on standard output a line for each definition of the component in FILE, and
+//! `explain CODE` what a code of a failure means (`explanations`). All that a run does with files,
+//! what it writes and what it prints of a failure is in the contract of [`run_with`].
 //!
 //! In reading order: `adapters`, `flags` and `arguments` (what is asked for), `store` (files by
 //! their names), `fault` (why a run fails), `reading` (the files that are read for a component),

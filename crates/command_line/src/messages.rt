@@ -13,10 +13,11 @@ use std::fmt::Display;
 use std::io::Write;
 
 /// The line for arguments that are not those of the program.
-const USAGE: &[u8] = b"usage: component_new new OUT MAIN [options] | defs FILE\n";
+const USAGE: &[u8] = b"usage: component_new new OUT MAIN [options] | defs FILE | explain CODE\n";
 
 /// The text for `--help`: the usage line, and a line for each option.
-pub(crate) const HELP: &[u8] = b"usage: component_new new OUT MAIN [options] | defs FILE\n\
+pub(crate) const HELP: &[u8] =
+    b"usage: component_new new OUT MAIN [options] | defs FILE | explain CODE\n\
     \x20 --adapt NAME=FILE  new: add the adapter in FILE under this name; any number of times\n\
     \x20 --canonical        new: have the canonical part of versions in names, and the rest as suffixes\n\
     \x20 --no-merge         new: don't merge imports of compatible versions\n\

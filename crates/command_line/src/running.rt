@@ -34,6 +34,7 @@ fn perform<L: Lower + Drop, S: Store, W: Write>(
     match Request::read(alloc, words) {
         Ok(Some(Request::New(arguments))) => make(alloc, lower, arguments, store),
         Ok(Some(Request::Defs { file })) => list(alloc, file, store, out),
+        Ok(Some(Request::Explain { text })) => print(out, text.as_str().as_bytes()),
         Ok(Some(Request::Help)) => print(out, HELP),
         Ok(Some(Request::Version)) => print(out, VERSION),
         Ok(None) => Err(RunFault::Usage),

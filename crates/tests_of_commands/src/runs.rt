@@ -45,7 +45,7 @@ fn refused(alloc: Global, calls: u32, fault: StoreFault) -> Result<Answer, Alloc
 #[test]
 fn wrong_arguments_are_reported_before_anything_is_read(rt: HostRuntime) {
     let alloc = rt.alloc();
-    let wrong: [&[&str]; 16] = [
+    let wrong: [&[&str]; 19] = [
         &[],
         &["--Help"],
         &["--help", "--version"],
@@ -62,6 +62,9 @@ fn wrong_arguments_are_reported_before_anything_is_read(rt: HostRuntime) {
         &["new", "out.wasm", "main.wasm", "--no-merge", "--names"],
         &["new", "out.wasm", "main.wasm", "--no-names", "--no-names"],
         &["defs", "main.wasm", "--canonical"],
+        &["explain"],
+        &["explain", "P99"],
+        &["explain", "P9", "P10"],
     ];
     for words in wrong {
         let mut store = Files::new(alloc, "main.wasm", EMPTY).expect(&rt, "memory");
@@ -69,7 +72,7 @@ fn wrong_arguments_are_reported_before_anything_is_read(rt: HostRuntime) {
         assert_eq!(rt; answer.status, 2);
         assert_eq!(rt;
             answer.err.as_slice(),
-            b"usage: component_new new OUT MAIN [options] | defs FILE\n".as_slice()
+            b"usage: component_new new OUT MAIN [options] | defs FILE | explain CODE\n".as_slice()
         );
         assert!(rt; answer.out.is_empty() && store.log.is_empty());
     }
@@ -246,7 +249,12 @@ fn refused_output(
 #[test]
 fn an_output_that_takes_nothing_is_reported(rt: HostRuntime) -> Result<(), Fail> {
     let alloc = rt.alloc();
-    let runs: [&[&str]; 3] = [&["defs", "main.wasm"], &["--help"], &["--version"]];
+    let runs: [&[&str]; 4] = [
+        &["defs", "main.wasm"],
+        &["explain", "P9"],
+        &["--help"],
+        &["--version"],
+    ];
     for words in runs {
         let (status, err) = refused_output(alloc, words, ErrorKind::StorageFull)?;
         assert_eq!(rt; status, 1);
@@ -258,7 +266,12 @@ fn an_output_that_takes_nothing_is_reported(rt: HostRuntime) -> Result<(), Fail>
 #[test]
 fn nothing_is_reported_where_nobody_reads_the_output(rt: HostRuntime) -> Result<(), Fail> {
     let alloc = rt.alloc();
-    let runs: [&[&str]; 3] = [&["defs", "main.wasm"], &["--help"], &["--version"]];
+    let runs: [&[&str]; 4] = [
+        &["defs", "main.wasm"],
+        &["explain", "P9"],
+        &["--help"],
+        &["--version"],
+    ];
     for words in runs {
         let (status, err) = refused_output(alloc, words, ErrorKind::BrokenPipe)?;
         assert_eq!(rt; status, 1);
@@ -270,7 +283,7 @@ fn nothing_is_reported_where_nobody_reads_the_output(rt: HostRuntime) -> Result<
 #[test]
 fn help_and_version_are_printed(rt: HostRuntime) -> Result<(), Fail> {
     let alloc = rt.alloc();
-    let help = "usage: component_new new OUT MAIN [options] | defs FILE\n\
+    let help = "usage: component_new new OUT MAIN [options] | defs FILE | explain CODE\n\
         \x20 --adapt NAME=FILE  new: add the adapter in FILE under this name; any number of times\n\
         \x20 --canonical        new: have the canonical part of versions in names, and the rest as suffixes\n\
         \x20 --no-merge         new: don't merge imports of compatible versions\n\
@@ -287,6 +300,18 @@ fn help_and_version_are_printed(rt: HostRuntime) -> Result<(), Fail> {
     ] {
         assert!(rt; ends(alloc, &[word], MAIN, 0, text, "")?);
     }
+    Ok(())
+}
+
+#[test]
+fn a_code_is_explained(rt: HostRuntime) -> Result<(), Fail> {
+    let alloc = rt.alloc();
+    let text =
+        "F13: a main module that is to get a realloc, for an adapter that has a stack, has no\n\
+        function of its own, or no exports.\n\
+        Example: `F13 NoFunctions`\n\
+        What to do: export a `cabi_realloc` from main.\n";
+    assert!(rt; ends(alloc, &["explain", "F13"], MAIN, 0, text, "")?);
     Ok(())
 }
 
@@ -330,7 +355,7 @@ fn an_argument_that_is_not_text_is_reported(rt: HostRuntime) -> Result<(), Fail>
         (&[b"\xed\xa0\x80"], "error: argument 1 is not UTF-8\n"),
         (
             &[b"new", b"\xc3\xa9"],
-            "usage: component_new new OUT MAIN [options] | defs FILE\n",
+            "usage: component_new new OUT MAIN [options] | defs FILE | explain CODE\n",
         ),
     ];
     for (arguments, line) in starts {
