@@ -30,6 +30,12 @@ module _ {L B F : Type 0} (l : lower.Ghosts L B F) where
     );
     counted = refl;
   }
+  none_performed layer (Some (requests.Record to file)) events out h = record {
+    events = [];
+    happened = nothing_happened events;
+    did = (record { reads = []; puts = []; in_order = refl; recorded = Err no_memory; made = refl; is_put = (refl, refl) }, refl);
+    counted = refl;
+  }
   none_performed layer (Some (requests.Defs file)) events out h =
       record { events = []; happened = nothing_happened events; did = (refl, refl); counted = refl }
   none_performed layer (Some (requests.Explain text)) events out h =

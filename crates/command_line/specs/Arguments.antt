@@ -32,19 +32,31 @@ of_two_words command word =
     if bytes_eq command (codes "defs") then Some (requests.Defs word)
     else (if bytes_eq command (codes "explain") then option_map requests.Explain (explanation word) else None)
 
+-- what `record` asks for with the file that is written, the module's, and no words behind them
+abbrev pub of_record : List ℕ → List ℕ → List (List ℕ) → Option Request
+of_record out file [] = Some (requests.Record out file)
+of_record out file _ = None
+
+-- what a command asks for with two files, and these words behind them
+abbrev pub of_files : List ℕ → List ℕ → List ℕ → List (List ℕ) → Option Request
+of_files command out file words =
+    if bytes_eq command (codes "new") then of_new out file words
+    else (if bytes_eq command (codes "record") then of_record out file words else None)
+
 -- what the words after the program's name ask for: help or the version; or `defs` with a file, or
 -- `explain` with a code; or `new` with the component's file and the module's, and then flags and
--- adapters
+-- adapters; or `record` with the file that is written and the module's
 abbrev pub request_of : List (List ℕ) → Option Request
 request_of (word ∷ []) = of_one_word word
 request_of (command ∷ word ∷ []) = of_two_words command word
-request_of (command ∷ out ∷ main ∷ words) = if bytes_eq command (codes "new") then of_new out main words else None
+request_of (command ∷ out ∷ file ∷ words) = of_files command out file words
 request_of _ = None
 
 -- files are named, or a text is asked for, so that memory is needed for the names or the text
 abbrev pub NeedsMemory : Option Request → Type 0
 NeedsMemory (Some (requests.New names)) = ⊤
 NeedsMemory (Some (requests.Defs file)) = ⊤
+NeedsMemory (Some (requests.Record out file)) = ⊤
 NeedsMemory (Some (requests.Explain text)) = ⊤
 NeedsMemory _ = ⊥
 

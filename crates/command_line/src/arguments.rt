@@ -3,7 +3,7 @@
 ghost use Rattle.std.specs.Prelude.{◌≡◌, map, filter_map, option_map, string_bytes, IfOk, IfErr};
 ghost use Rattle.explanations.specs.Codes.{explanation as text_of};
 ghost use Rattle.command_line.specs.Adapters.{adapter_of, adapter_words};
-ghost use Rattle.command_line.specs.Arguments.{NeedsMemory, request_of, of_new, of_one_word, making, is_listing};
+ghost use Rattle.command_line.specs.Arguments.{NeedsMemory, request_of, of_new, of_record, of_files, of_one_word, making, is_listing};
 ghost use Rattle.command_line.specs.declared.arguments.Request.TheVariants as requests;
 
 use crate::adapters::{Adapter, adapters, are_adapters};
@@ -29,6 +29,8 @@ pub(crate) enum Request {
     New(Arguments),
     /// The definitions of the component in a file.
     Defs { file: Text },
+    /// A module with its record in the place of its package.
+    Record { out: Text, file: Text },
     /// What a code means, and what to do: this text.
     Explain { text: Text },
     /// How the program is used.
@@ -88,6 +90,52 @@ impl Request {
         Ok(Request::Defs { file })
     }
 
+    fn recording(alloc: Global, out: &str, file: &str) -> Result<Request, AllocError>
+        ensures { IfOk result (λ r. r ≡ requests.Record out.now file.now) }
+    {
+        let out = Text::from_str(alloc, out)?;
+        let file = Text::from_str(alloc, file)?;
+        Ok(Request::Record { out, file })
+    }
+
+    /// What `record` asks for, with these words after the files: none.
+    fn of_record(
+        alloc: Global,
+        out: &str,
+        file: &str,
+        words: &[String],
+    ) -> Result<Option<Request>, AllocError>
+        ensures ok { IfOk result
+            (λ r. r ≡ of_record out.now file.now (map string_bytes words.now)) }
+        ensures err { IfErr result
+            (λ _. NeedsMemory (of_record out.now file.now (map string_bytes words.now))) }
+    {
+        match words {
+            [] => Ok(Some(Request::recording(alloc, out, file)?)),
+            _ => Ok(None),
+        }
+    }
+
+    /// What a command asks for with two files, and these words after them.
+    fn of_files(
+        alloc: Global,
+        command: &str,
+        out: &str,
+        file: &str,
+        words: &[String],
+    ) -> Result<Option<Request>, AllocError>
+        ensures ok { IfOk result
+            (λ r. r ≡ of_files command.now out.now file.now (map string_bytes words.now)) }
+        ensures err { IfErr result (λ _. NeedsMemory
+            (of_files command.now out.now file.now (map string_bytes words.now))) }
+    {
+        match command {
+            "new" => Request::of_new(alloc, out, file, words),
+            "record" => Request::of_record(alloc, out, file, words),
+            _ => Ok(None),
+        }
+    }
+
     fn explaining(alloc: Global, text: &str) -> Result<Request, AllocError>
         ensures { IfOk result (λ r. r ≡ requests.Explain text.now) }
     {
@@ -132,8 +180,8 @@ impl Request {
             [command, code] if command.as_str() == "explain" => {
                 Request::of_code(alloc, code.as_str())
             }
-            [command, out, main, words @ ..] if command.as_str() == "new" => {
-                Request::of_new(alloc, out, main, words)
+            [command, out, file, words @ ..] => {
+                Request::of_files(alloc, command.as_str(), out, file, words)
             }
             _ => Ok(None),
         }
