@@ -107,7 +107,7 @@ pub record IsOpaque (m : Machine) (address : ℕ) : Type 0 where
 abbrev pub IsDirect : Machine → ℕ → Target → Type 0
 IsDirect m address TlsGet = Unit {0}
 IsDirect m address TlsSet = Unit {0}
-IsDirect m address target = IsOpaque m address
+IsDirect m address _ = IsOpaque m address
 
 -- What an import was given is what the link table says of it. A function that is given to an import
 -- which has no shim works from the moment that it is given.
