@@ -1,5 +1,5 @@
 -- Arguments, as far as they were looked at, and what two of them ask for.
-use Rattle.std.proofs.Common.{◌≡◌, ℕ, ◌+◌, ◌<◌, true, false, List, ◌++◌, [], ◌∷◌, map, get_or, length, take, drop, Some, refl, ap, ap₂, ◌∙◌, sym}
+use Rattle.std.proofs.Common.{◌≡◌, ℕ, ◌+◌, ◌<◌, true, false, List, ◌++◌, [], ◌∷◌, map, get_or, length, take, drop, Some, refl, ap, ap₂, ◌∙◌, sym, ◌≤◌, arith}
 use Rattle.std.specs.Str.{IsUtf8, is_utf8}
 use Rattle.std.proofs.lemmas.List.{drop_more, take_more, map-append}
 use Rattle.std.proofs.lemmas.Bool.{false_from_ne_true}
@@ -7,7 +7,7 @@ use Rattle.std.proofs.lemmas.Str.{IsUtf8-from_is_utf8, is_utf8-from_IsUtf8}
 use Rattle.std.specs.Prelude.{Bool, codes, Option, None, option_map, if◌then◌else◌}
 use Rattle.std.specs.Str.{bytes_eq}
 use Rattle.explanations.specs.Codes.{explanation}
-use Rattle.command_line.specs.Arguments.{of_two_words, is_listing}
+use Rattle.command_line.specs.Arguments.{of_two_words, request_of, is_listing}
 use Rattle.command_line.specs.Starting.{first_not_text}
 use Rattle.command_line.specs.declared.arguments.Request.TheVariants as requests
 
@@ -24,8 +24,15 @@ first_decides true b word o = refl
 first_decides false b word o = other_is_none b o
 
 -- two words ask for the definitions of a component where the first one is `defs`
-pub listed : (command word : List ℕ) → is_listing (of_two_words command word) ≡ bytes_eq command (codes "defs")
+listed : (command word : List ℕ) → is_listing (of_two_words command word) ≡ bytes_eq command (codes "defs")
 listed command word = first_decides (bytes_eq command (codes "defs")) (bytes_eq command (codes "explain")) word (explanation word)
+
+pub both_listed : {X : Type 0} (f : X → List ℕ) (words : List X) (command : X) → 2 ≤ length words → length words < 3 → command ≡ get_or words 0 command
+    → is_listing (request_of (map f words)) ≡ bytes_eq (f command) (codes "defs")
+both_listed f [] command many few is = absurd (omega (arith, many))
+both_listed f (x ∷ []) command many few is = absurd (omega (arith, many))
+both_listed f (x ∷ y ∷ []) command many few is = listed (f x) (f y) ∙ ap (λ (c : _). bytes_eq (f c) (codes "defs")) (sym is)
+both_listed f (x ∷ y ∷ z ∷ rest) command many few is = absurd (omega (arith, few))
 
 module _ {X : Type 0} (f : X → List ℕ) (xs : List X) (i : ℕ) (x : X) (l : i < length xs) (e : x ≡ get_or xs i x) where
   next : drop i xs ≡ x ∷ drop (i + 1) xs
