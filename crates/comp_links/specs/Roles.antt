@@ -63,6 +63,7 @@ needs_encoding role = false
 abbrev pub encoding_in : Import → ValidatedModule → Option StringEncoding
 encoding_in (imports.WorldFunc key function abi) m = of_function key function m.metadata.import_encodings
 encoding_in (imports.InterfaceFunc key interface function abi) m = of_function key function m.metadata.import_encodings
+encoding_in (imports.ExportedTaskReturn key interface f) m = of_function key f.name m.metadata.export_encodings
 encoding_in role m = None
 
 abbrev pub import_encoding : ComponentWorld → UserModule → Import → Option StringEncoding

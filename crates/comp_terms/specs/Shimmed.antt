@@ -1,10 +1,11 @@
 -- Which imports of user modules are given a shim (this project's own; Canonical ABI: `memory`). All
 -- others are given what the link table names as it is, so that it works from the moment that it is
 -- given.
-use Rattle.std.specs.Prelude.{◌&&◌, ℕ, Bool, true, false, List, not, is_some}
+use Rattle.std.specs.Prelude.{◌&&◌, ◌++◌, ℕ, Bool, true, false, List, codes, not, is_some}
 use Rattle.std.specs.Option.{option_map_or}
 use Rattle.comp_lists.specs.Found.{found}
 use Rattle.comp_options.specs.Options.{needs, memory_bit}
+use Rattle.comp_roles.specs.CoreImports.{CoreImport}
 use Rattle.comp_roles.specs.declared.imports.Import.{Import}
 use Rattle.comp_roles.specs.declared.imports.Import.TheVariants as imports
 use Rattle.comp_roles.specs.declared.imports.ImportInstance.{ImportInstance}
@@ -14,8 +15,9 @@ use Rattle.comp_worlds.specs.declared.world.ComponentWorld.{ComponentWorld}
 use Rattle.comp_links.specs.Links.{lower_needs}
 use Rattle.comp_links.specs.Modules.{WorldModule}
 
--- a function that an adapter exports has one, and a lowering with main's memory, unless that is
--- there before main is instantiated, since main imports it
+-- a function that an adapter exports has one, and a lowering or a return with main's memory, unless
+-- that is there before main is instantiated, since main imports it. (A return of another module
+-- than main may be given as it is all the same.)
 abbrev pub has_shim : ComponentWorld → Import → Bool
 has_shim w (imports.AdapterExport adapter name type) = true
 has_shim w role = needs (lower_needs w role) memory_bit && not (is_some (imported_memory w.main.imports.modules))
@@ -27,3 +29,8 @@ has_shim_in w field (instances.Whole which) = false
 
 abbrev pub has_shim_at : ComponentWorld → WorldModule → List ℕ → List ℕ → Bool
 has_shim_at w m module_name field = option_map_or (has_shim_in w field) (found module_name m.found.imports.modules) false
+
+-- the name of the shim of a core import, by its role, in faults
+abbrev pub shim_name : CoreImport → Import → List ℕ
+shim_name i (imports.ExportedTaskReturn key interface f) = codes "task-return-" ++ f.name
+shim_name i role = codes "indirect-" ++ i.module_name ++ codes "-" ++ i.field

@@ -8,8 +8,8 @@ use Rattle.wit_data.specs.Keys.{is_same_key}
 use Rattle.wit_data.specs.declared.worlds.World.{World}
 use Rattle.wit_data.specs.declared.resolve.Resolve.{Resolve}
 use Rattle.wit_data.specs.declared.functions.Function.{Function}
-use Rattle.wit_data.specs.declared.functions.AbiVariant.TheVariants.{GuestExport}
-use Rattle.wit_data.specs.Signatures.{signature}
+use Rattle.wit_data.specs.declared.functions.AbiVariant.TheVariants.{GuestImport, GuestExport}
+use Rattle.wit_data.specs.Signatures.{signature, returning}
 use Rattle.built_ins.specs.BuiltIns.{plain_import_type}
 use Rattle.comp_roles.specs.CoreImports.{role_at}
 use Rattle.comp_roles.specs.CoreTypes.{function_type, value_type, called_type}
@@ -67,6 +67,7 @@ type_of_import r items (imports.ImportedResourceDrop key interface id) = Some dr
 type_of_import r items (imports.ExportedResourceDrop key id) = Some drop_type
 type_of_import r items (imports.ExportedResourceRep key id) = Some handle_type
 type_of_import r items (imports.ExportedResourceNew key id) = Some handle_type
+type_of_import r items (imports.ExportedTaskReturn key interface f) = Some (called_type r GuestImport (returning f))
 type_of_import r items (imports.MainModuleMemory type) = Some (externs.Memory type)
 type_of_import r items (imports.AdapterExport adapter name type) = Some (externs.Func type)
 type_of_import r items role = option_map externs.Func (plain_import_type role)

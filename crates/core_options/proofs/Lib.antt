@@ -4,3 +4,4 @@ pub mod OptionTerms
 pub mod Aliases
 pub mod Memories
 pub mod Reallocs
+pub mod Returning

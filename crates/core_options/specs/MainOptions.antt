@@ -7,6 +7,8 @@ use Rattle.standard_kinds.specs.declared.kinds.ExportKind.TheVariants as kinds
 use Rattle.comp_lists.specs.Found.{found}
 use Rattle.comp_bytes.specs.declared.canon.CanonicalOption.{CanonicalOption}
 use Rattle.comp_bytes.specs.declared.def.Def.{Def}
+use Rattle.comp_bytes.specs.declared.space.Space.TheVariants as spaces
+use Rattle.wit_data.specs.declared.types.Type.{«Type» as Ty}
 use Rattle.core_types.specs.declared.types.FuncType.{FuncType}
 use Rattle.core_types.specs.declared.types.MemoryType.{MemoryType}
 use Rattle.comp_options.specs.Options.{needs, memory_bit, realloc_bit}
@@ -18,13 +20,13 @@ use Rattle.comp_worlds.specs.Lookups.{module_name}
 use Rattle.comp_worlds.specs.Offered.{memory_of_main}
 use Rattle.comp_worlds.specs.declared.modules.CustomModule.{CustomModule}
 use Rattle.comp_worlds.specs.declared.modules.CustomModule.TheVariants as named
-use Rattle.comp_links.specs.Targets.{UserModule as User, Main, Adapter, ExportRef, WorldFunction, TargetOption}
+use Rattle.comp_links.specs.Targets.{UserModule as User, Main, Adapter, ExportRef, WorldFunction, TargetOption, operand_if_any, BuiltIn}
 use Rattle.comp_links.specs.Modules.{WorldModule, user_modules, module_found, UserImport}
 use Rattle.comp_links.specs.Lists.{IsOriginOf, RequiredFunction}
 use Rattle.comp_trees.specs.Trees.{Origin, FunctionTree}
-use Rattle.comp_links.specs.Links.{lower_needs, lower_realloc, lift_needs, lift_realloc}
+use Rattle.comp_links.specs.Links.{task_return, lower_needs, lower_realloc, lift_needs, lift_realloc}
 use Rattle.comp_terms.specs.Terms.{CoreExport, TermOption, IsImportedFunction, IsInstanceOf, IsExported, IsOption}
-use Rattle.comp_terms.specs.Planned.{IsTypeOf, IsExportFor, memory_from, main_memory, IsReallocFor, IsOptionFor}
+use Rattle.comp_terms.specs.Planned.{IsItemFor, IsTypeOf, IsExportFor, memory_from, main_memory, IsReallocFor, IsOptionFor}
 use Rattle.core_options.specs.declared.modules.UserModule.{UserModule}
 use Rattle.core_options.specs.declared.modules.InstanceExport.{InstanceExport}
 use Rattle.core_options.specs.declared.modules.UserInstances.{UserInstances}
@@ -160,3 +162,9 @@ pub record HasLiftOptions (w : ComponentWorld) (r : RequiredFunction) : Type 0 w
 pub record HasLowerOptions (w : ComponentWorld) (i : UserImport) : Type 0 where
   pub memory : IsTrue (needs (lower_needs w i.core.role) memory_bit) → IsSome (memory_of_main w.main)
   pub realloc : IsTrue (needs (lower_needs w i.core.role) realloc_bit) → IsSome (lower_realloc w i.of)
+
+-- ---- returns
+
+-- the core function of this index returns a result of this type, with these options
+abbrev pub IsReturn : ComponentWorld → List Def → Option Ty → List TargetOption → ℕ → Type 0
+IsReturn w ds result options index = IsItemFor w ds spaces.CoreFunc index (BuiltIn task_return (operand_if_any result) options)

@@ -7,13 +7,14 @@
 //!
 //! In reading order: `fault` (why a step is refused), `modules` (user modules, and aliases of what
 //! their instances export), `made` (which adapters have to be instantiated before another one),
-//! `options` (the options of a function).
+//! `options` (the options of a function), `returns` (`task.return`, with its options).
 #![tactic(auto)]
 
 mod fault;
 mod made;
 mod modules;
 mod options;
+mod returns;
 
 pub use fault::StateFault;
 pub use made::check_made;
@@ -22,3 +23,4 @@ pub use modules::{
     import_realloc_of,
 };
 pub use options::{OptionSources, encoding_of, exported_memory, list_options, options_for};
+pub use returns::return_from;

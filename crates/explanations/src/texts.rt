@@ -17,11 +17,20 @@ pub(crate) const E5: &str = "\
     Example: `E5 CanonicalNames first=\"a:b/i@0.2.0\" second=\"a:b/i@0.2.1\" name=\"a:b/i@0.2\"`\n\
     What to do: let imports of compatible versions be merged, or leave canonical names off.\n";
 
+pub(crate) const E6: &str = "\
+    E6: core imports have the roles `tls-get` or `tls-set` with `i32` and with `i64`, of one\n\
+    module or of several, and `context-slot-1` is not true: one cell holds the thread-local\n\
+    base of all modules, and has one type.\n\
+    Example: `E6 TlsTypes`\n\
+    What to do: compile all modules for one size of addresses; or, where the runtime keeps\n\
+    slot 1 for the base, say so by `context-slot-1`.\n";
+
 pub(crate) const E7: &str = "\
-    E7: a function is lowered or lifted with a memory, or an adapter or a library imports\n\
-    main's memory, and main neither imports nor exports one that has the role `memory`. For an\n\
-    imported function `place` is the name of its shim, `indirect-MODULE-FIELD` with the module\n\
-    and field of the core import; for an exported one it is the function's name; for an\n\
+    E7: a function is lowered or lifted with a memory, or its `task.return` needs one, or an\n\
+    adapter or a library imports main's memory, and main neither imports nor exports one that\n\
+    has the role `memory`. For an imported function `place` is the name of its shim,\n\
+    `indirect-MODULE-FIELD` with the module and field of the core import; for a `task.return`\n\
+    it is `task-return-FUNCTION`; for an exported one it is the function's name; for an\n\
     imported memory it is `MODULE::FIELD`. A function needs a memory where it has a string or\n\
     a list in a parameter or its result, more than 16 core values as parameters, or more than\n\
     one as the result.\n\
@@ -127,9 +136,9 @@ pub(crate) const P7: &str = "\
     What to do: make the records agree.\n";
 
 pub(crate) const P8: &str = "\
-    P8: something that can't be encoded yet, by its kind, or a type that passes a limit;\n\
-    docs/ERRORS.md lists the kinds.\n\
-    Example: `P8 LeftOut what=\"async\"`\n\
+    P8: something that can't be encoded yet, by its kind, or a type that passes a limit: see\n\
+    below.\n\
+    Example: `P8 LeftOut what=\"stream-new\"`\n\
     What to do: leave it out of the world, or wait.\n";
 
 pub(crate) const P9: &str = "\

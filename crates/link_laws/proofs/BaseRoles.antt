@@ -186,6 +186,7 @@ cell_needed w of role right agreed = by role right agreed
     by (imports.ExportedResourceDrop key id) right agreed = tt
     by (imports.ExportedResourceRep key id) right agreed = tt
     by (imports.ExportedResourceNew key id) right agreed = tt
+    by (imports.ExportedTaskReturn key interface f) right agreed = tt
     by (imports.MainModuleMemory type) right agreed = tt
     by (imports.MainModuleExport name kind) right agreed = tt
     by (imports.AdapterExport adapter name function) right agreed = tt

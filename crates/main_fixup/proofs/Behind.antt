@@ -6,34 +6,44 @@ use Rattle.standard_kinds.specs.declared.kinds.StringEncoding.{StringEncoding}
 use Rattle.standard_kinds.specs.declared.kinds.StringEncoding.TheVariants as encodings
 use Rattle.comp_bytes.specs.Spaces.{kind_space}
 use Rattle.comp_bytes.specs.declared.def.Def.{Def}
+use Rattle.wit_data.specs.declared.functions.Function.{Function}
 use Rattle.wit_data.specs.declared.ids.InterfaceId.{InterfaceId}
+use Rattle.wit_data.specs.declared.types.Type.{«Type» as Ty}
 use Rattle.wit_data.specs.declared.worlds.WorldKey.{WorldKey}
 use Rattle.wit_data.specs.declared.worlds.WorldKey.TheVariants as keys
 use Rattle.comp_roles.specs.declared.imports.Import.{Import}
 use Rattle.comp_roles.specs.declared.imports.Import.TheVariants as imports
 use Rattle.comp_roles.specs.declared.libraries.MainOrAdapter.{MainOrAdapter}
+use Rattle.comp_worlds.specs.Encodable.{IsEncodable}
+use Rattle.comp_worlds.specs.ExportOrder.{AreExportsInOrder}
 use Rattle.comp_worlds.specs.WorldContents.{imported_name}
+use Rattle.comp_worlds.specs.Worlds.{IsImportRole, IsOwnFunction}
 use Rattle.comp_worlds.specs.declared.lowerings.LoweringKey.{LoweringKey}
 use Rattle.comp_worlds.specs.declared.world.ComponentWorld.{ComponentWorld}
-use Rattle.comp_links.specs.Links.{link_of, lower_options, lower_realloc, module_of}
+use Rattle.comp_links.specs.Links.{link_of, lower_options, lower_realloc, module_of, task_return}
 use Rattle.comp_links.specs.Modules.{UserImport}
 use Rattle.comp_links.specs.Roles.{import_encoding}
-use Rattle.comp_links.specs.Targets.{UserModule as User, ExportRef, WorldFunction, OfRoot, OfInterface, Lowered}
+use Rattle.comp_links.specs.Targets.{UserModule as User, Main, Adapter, ExportRef, WorldFunction, OfRoot, OfInterface, Lowered, BuiltIn, operand_if_any}
 use Rattle.comp_terms.specs.Generated.{interface_imported, role_of_kind, export_of_kind, OfExport}
 use Rattle.comp_terms.specs.Terms as terms
 use Rattle.core_options.specs.MainOptions.{IsAliasOf, HasLowerOptions}
 use Rattle.shim_plan.specs.declared.kinds.ShimKind.{ShimKind}
 use Rattle.shim_plan.specs.declared.kinds.ShimKind.TheVariants as kinds
 use Rattle.shim_plan.specs.declared.shims.Shim.{Shim}
-use Rattle.shim_targets.specs.ShimTargets.{StandsFor, StandsForExport, StandsForOne, kind_of_import}
-use Rattle.shim_targets.proofs.ByKind.{for_lowering, for_export}
-use Rattle.main_fixup.specs.Filling.{HasShimOptions, IsUserNamed, OffersExport, IsUsed, IsUsedAt, IsFunctionAt, IsBehind, ServesShim, function_at}
+use Rattle.shim_targets.specs.ShimTargets.{StandsFor, StandsForExport, StandsForOne, kind_of_import, which_of}
+use Rattle.root_imports.proofs.Supplying.{return_result, return_supplied}
+use Rattle.root_imports.specs.Imports.{IsResult}
+use Rattle.root_imports.specs.Met.{AreExportsMet, IsSuppliedFor}
+use Rattle.root_imports.specs.declared.met_types.MetTypes.{MetTypes}
+use Rattle.shim_targets.proofs.ByKind.{for_lowering, for_return, for_export}
+use Rattle.main_fixup.specs.Filling.{HasShimOptions, IsUserNamed, OffersExport, IsUsed, IsUsedAt, IsFunctionAt, IsBehind, IsReturnBehind, ServesShim, function_at}
 use Rattle.main_fixup.proofs.Named.{import_named, shim_offered}
 use Rattle.main_fixup.proofs.Uses.{used_by_import, used_of_import}
 
--- the string encoding of the kind of a lowering
+-- the string encoding of the kind of a lowering or of a return
 abbrev encoding_in : ShimKind → StringEncoding
 encoding_in (kinds.IndirectLowering interface function which encoding) = encoding
+encoding_in (kinds.TaskReturn interface name result which encoding) = encoding
 encoding_in kind = encodings.UTF8
 
 -- the import that a shim of this kind stands for
@@ -49,6 +59,7 @@ record Called (w : ComponentWorld) (i : UserImport) (interface : Option WorldKey
 same_encoding : (of : User) (role : Import) (e : StringEncoding) (kind : ShimKind) → kind_of_import of role e ≡ Some kind → encoding_in kind ≡ e
 same_encoding of (imports.WorldFunc key name abi) e kind h = ap encoding_in (sym (same_Some _ kind h))
 same_encoding of (imports.InterfaceFunc key id name abi) e kind h = ap encoding_in (sym (same_Some _ kind h))
+same_encoding of (imports.ExportedTaskReturn key interface f) e kind h = ap encoding_in (sym (same_Some _ kind h))
 same_encoding of role e kind h = absurd (none-some kind h)
 
 root_linked : (w : ComponentWorld) (of : User) (role : Import) (function : LoweringKey) → role ≡ imports.WorldFunc (keys.Name function.name) function.name function.abi → link_of w of role ≡ Lowered (OfRoot function.name) (lower_options w of role)
@@ -116,6 +127,79 @@ module _ (w : ComponentWorld) (s : Shim) (h : StandsForOne w s) (interface : Opt
       let i = for_lowering w s interface function which encoding is h in
       let c = called_by w s i.0 i.1 interface function which encoding is in
       record { given = i.0; stands = i.1; encoded = c.encoded; reallocated = own ∙ ap (lower_realloc w) (sym c.of); function = c.called; linked = c.linked; is = found c.called c.at }
+
+-- ---- returns
+
+-- the kind of a return
+record ReturnKind : Type 0 where
+  interface : Option InterfaceId
+  result : Option Ty
+  which : MainOrAdapter
+  encoding : StringEncoding
+
+abbrev return_in : ShimKind → Option ReturnKind
+return_in (kinds.TaskReturn interface name result which encoding) = Some (record { interface = interface; result = result; which = which; encoding = encoding })
+return_in kind = None
+
+named_back : (of : User) → module_of (which_of of) ≡ of
+named_back Main = refl
+named_back (Adapter name) = refl
+
+-- an import with this kind returns from a function
+record Returning (of : User) (role : Import) (e : StringEncoding) (k : ReturnKind) : Type 0 where
+  key : WorldKey
+  function : Function
+  is : role ≡ imports.ExportedTaskReturn key k.interface function
+  returns : function.result ≡ k.result
+  from : of ≡ module_of k.which
+  encoded : e ≡ k.encoding
+
+returning : (of : User) (role : Import) (e : StringEncoding) (kind : ShimKind) → kind_of_import of role e ≡ Some kind → (k : ReturnKind) → return_in kind ≡ Some k → Returning of role e k
+returning of (imports.ExportedTaskReturn key interface f) e kind h k is =
+    let same : return_in kind ≡ Some (record { interface = interface; result = f.result; which = which_of of; encoding = e }) = ap return_in (sym (same_Some _ kind h)) in
+    let one : record { interface = interface; result = f.result; which = which_of of; encoding = e } ≡ k = same_Some (record { interface = interface; result = f.result; which = which_of of; encoding = e }) k (sym same ∙ is) in
+    record {
+      key = key;
+      function = f;
+      is = ap (λ (x : ReturnKind). imports.ExportedTaskReturn key x.interface f) one;
+      returns = ap (λ (x : ReturnKind). x.result) one;
+      from = sym (named_back of) ∙ ap (λ (x : ReturnKind). module_of x.which) one;
+      encoded = ap (λ (x : ReturnKind). x.encoding) one;
+    }
+returning of (imports.WorldFunc key name abi) e kind h k is = absurd (none-some k (ap return_in (same_Some _ kind h) ∙ is))
+returning of (imports.InterfaceFunc key id name abi) e kind h k is = absurd (none-some k (ap return_in (same_Some _ kind h) ∙ is))
+returning of role e kind h k is = absurd (none-some kind h)
+
+module _ (w : ComponentWorld) (ok : IsEncodable w) (s : Shim) (h : StandsForOne w s) (interface : Option InterfaceId) (name : List ℕ) (result : Option Ty) (which : MainOrAdapter) (encoding : StringEncoding) (is : s.kind ≡ kinds.TaskReturn interface name result which encoding) where
+  given_return : (i : UserImport) × StandsFor w s i
+  given_return = for_return w s interface name result which encoding is h
+
+  parts : Returning given_return.0.of given_return.0.core.role given_return.1.encoding (record { interface = interface; result = result; which = which; encoding = encoding })
+  parts = returning given_return.0.of given_return.0.core.role given_return.1.encoding s.kind given_return.1.kind (record { interface = interface; result = result; which = which; encoding = encoding }) (ap return_in is)
+
+  own_return : IsOwnFunction w parts.key interface parts.function
+  own_return = subst (λ (role : Import). IsImportRole w role) parts.is given_return.1.is.right
+
+  -- the module whose import it is
+  pub returning_named : IsUserNamed w (module_of which)
+  returning_named = subst (IsUserNamed w) parts.from (import_named w given_return.0 given_return.1.present)
+
+  -- the function's result, and what that is made of
+  pub returning_supplied : (met : MetTypes) → AreExportsMet w met → AreExportsInOrder w → IsSuppliedFor w met interface
+  returning_supplied met exports ordered = return_supplied w ok met exports ordered parts.key interface parts.function own_return
+
+  pub return_found : (realloc : Option ExportRef) → realloc ≡ lower_realloc w (module_of which) → IsReturnBehind w s encoding realloc interface result
+  return_found realloc own =
+      let i = given_return.0 in
+      let options = lower_options w i.of in
+      record {
+        given = i;
+        stands = given_return.1;
+        encoded = given_return.1.encoded ∙ ap Some parts.encoded;
+        reallocated = own ∙ ap (lower_realloc w) (sym parts.from);
+        linked = subst (λ (role : Import). link_of w i.of role ≡ BuiltIn task_return (operand_if_any result) (options role)) (sym parts.is) (ap (λ r. BuiltIn task_return (operand_if_any r) (options (imports.ExportedTaskReturn parts.key interface parts.function))) parts.returns);
+        is = subst (λ r. IsResult w interface r) parts.returns (return_result w ok parts.key interface parts.function own_return);
+      }
 
 -- ---- exports
 

@@ -1,20 +1,24 @@
 -- The lowering behind a shim: its options are those of the link table, and what is missing is a cause.
-use Rattle.std.proofs.Common.{◌≡◌, ◌∙◌, ℕ, List, [], ◌∷◌, ◌++◌, sym, ap, subst, Some, None, Option, Bool, true, false, is_some, if◌then◌else◌, IsTrue, IsSome, Contains, codes, append_assoc}
+use Rattle.std.proofs.Common.{◌≡◌, ◌∙◌, ℕ, List, [], ◌∷◌, sym, ap, subst, Some, None, Option, Bool, true, false, is_some, if◌then◌else◌, IsTrue, IsSome, Contains}
 use Rattle.std.specs.Option.{option_map}
 use Rattle.std.proofs.lemmas.Option.{same_Some}
 use Rattle.comp_bytes.specs.declared.canon.CanonicalOption.{CanonicalOption}
 use Rattle.comp_bytes.specs.declared.def.Def.{Def}
+use Rattle.comp_bytes.specs.declared.space.Space.TheVariants as spaces
+use Rattle.wit_data.specs.declared.ids.InterfaceId.{InterfaceId}
+use Rattle.wit_data.specs.declared.types.Type.{«Type» as Ty}
 use Rattle.standard_kinds.specs.declared.kinds.StringEncoding.{StringEncoding}
 use Rattle.comp_options.specs.Options.{needs}
 use Rattle.comp_roles.specs.declared.imports.Import.{Import}
 use Rattle.comp_worlds.specs.Offered.{memory_of_main}
 use Rattle.comp_worlds.specs.declared.world.ComponentWorld.{ComponentWorld}
-use Rattle.comp_links.specs.Links.{options_in, link_of, lower_needs, lower_options, lower_realloc}
+use Rattle.comp_links.specs.Links.{options_in, link_of, lower_needs, lower_options, lower_realloc, task_return}
 use Rattle.comp_links.specs.Modules.{UserImport, user_imports}
 use Rattle.comp_links.specs.Roles.{import_encoding, field_path}
-use Rattle.comp_links.specs.Targets.{UserModule as User, ExportRef, TargetOption, Lowered}
+use Rattle.comp_links.specs.Targets.{UserModule as User, ExportRef, Target, TargetOption, Lowered, BuiltIn, operand_if_any}
 use Rattle.comp_terms.specs.Generated.{OfImport}
-use Rattle.comp_terms.specs.Planned.{IsTermFor}
+use Rattle.comp_terms.specs.Planned.{IsItemFor, IsTermFor}
+use Rattle.comp_terms.specs.Shimmed.{shim_name}
 use Rattle.comp_terms.specs.Terms.{IsLowering}
 use Rattle.comp_terms.specs.Terms as terms
 use Rattle.comp_items.proofs.Kept.{Longer, imported_function-kept}
@@ -22,10 +26,10 @@ use Rattle.interface_needs.proofs.Lists.{contains_one}
 use Rattle.shim_plan.specs.declared.shims.Shim.{Shim}
 use Rattle.shim_targets.specs.ShimTargets.{StandsFor}
 use Rattle.core_options.proofs.Refusals.{among_more, one_import_refused}
-use Rattle.core_options.specs.Causes.{indirect_name, lowering_place, IsCauseAmong, IsOptionRefusal}
-use Rattle.core_options.specs.MainOptions.{NameOptions}
+use Rattle.core_options.specs.Causes.{lowering_place, IsCauseAmong, IsOptionRefusal}
+use Rattle.core_options.specs.MainOptions.{IsReturn, NameOptions}
 use Rattle.core_options.specs.declared.fault.StateFault.{StateFault}
-use Rattle.main_fixup.specs.Filling.{HasShimOptions, IsBehind, ServesShim}
+use Rattle.main_fixup.specs.Filling.{HasShimOptions, IsBehind, IsReturnBehind, ServesShim}
 
 -- ---- what is there
 
@@ -77,6 +81,13 @@ module _ (w : ComponentWorld) (s : Shim) (encoding : StringEncoding) (own : Opti
         serves = record { term = terms.Lowering b.is.origin b.is.type named.terms; is = made; asked = subst (λ t. IsTermFor w t (terms.Lowering b.is.origin b.is.type named.terms)) linked asked };
       }
 
+  -- so is a return
+  pub return_for : (new : List Def) (interface : Option InterfaceId) (result : Option Ty) (index : ℕ) → IsReturnBehind w s encoding own interface result → IsReturn w new result wanted index → ServesShim w new s index
+  return_for new interface result index b h =
+      let returned : List TargetOption → Target = λ options. BuiltIn task_return (operand_if_any result) options in
+      let linked : returned wanted ≡ link_of w b.given.of b.given.core.role = ap returned (options_linked w s b.given encoding own b.stands b.encoded b.reallocated) ∙ sym b.linked in
+      record { purpose = OfImport b.given.of b.given.core.role; stands_for = b.stands.is; serves = subst (λ t. IsItemFor w new spaces.CoreFunc index t) linked h }
+
 -- what is behind a shim stays there
 pub behind-kept : (w : ComponentWorld) (old new : List Def) → Longer old new → (s : Shim) (encoding : StringEncoding) (own : Option ExportRef) (index : ℕ) → IsBehind w old s encoding own index → IsBehind w new s encoding own index
 behind-kept w old new g s encoding own index b = record {
@@ -92,7 +103,6 @@ behind-kept w old new g s encoding own index b = record {
 -- what is missing is a cause
 pub shim_refused : (w : ComponentWorld) (s : Shim) (i : UserImport) → StandsFor w s i → (own : Option ExportRef) → own ≡ lower_realloc w i.of → (e : StateFault) → IsOptionRefusal w s.options.0 own s.debug_name e → IsCauseAmong w (user_imports w) [] e
 shim_refused w s i h own is e refused =
-    let as_shim : s.debug_name ≡ indirect_name i.core = h.named ∙ (append_assoc (codes "indirect-" ++ i.core.module_name) (codes "-") i.core.field ∙ append_assoc (codes "indirect-") i.core.module_name (codes "-" ++ i.core.field)) in
-    let named : s.debug_name ≡ lowering_place w i.core = as_shim ∙ ap (λ o. if is_some o then field_path i.core.module_name i.core.field else indirect_name i.core) (sym h.unshared) in
+    let named : s.debug_name ≡ lowering_place w i.core = h.named ∙ ap (λ o. if is_some o then field_path i.core.module_name i.core.field else shim_name i.core i.core.role) (sym h.unshared) in
     among_more w (i ∷ []) (user_imports w) [] [] (λ x c. subst (λ (y : UserImport). Contains (user_imports w) y) (contains_one i x c) h.present) (λ k c. c) e
     (one_import_refused w i own s.options.0 s.debug_name h.options named (λ none. sym is ∙ none) e refused)

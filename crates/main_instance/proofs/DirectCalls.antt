@@ -32,7 +32,7 @@ use Rattle.comp_terms.specs.Generated.{shims_number}
 use Rattle.comp_terms.specs.Planned.{memory_from, main_memory, shim_export, IsItemFor}
 use Rattle.comp_terms.specs.Terms.{IsExported, IsLowering}
 use Rattle.comp_terms.specs.Terms as terms
-use Rattle.shim_plan.specs.Needed.{module_of_name, name_of_module, realloc_shim, import_realloc}
+use Rattle.shim_plan.specs.Needed.{call_of, module_of_name, name_of_module, realloc_shim, import_realloc}
 use Rattle.shim_plan.specs.Plans.{shim_of}
 use Rattle.shim_plan.specs.declared.kinds.ShimKind.{ShimKind}
 use Rattle.shim_targets.specs.ShimTargets.{which_of}
@@ -45,7 +45,8 @@ use Rattle.shim_targets.proofs.Users.{of_module}
 use Rattle.world_shims.specs.WorldShims.{shims_of}
 use Rattle.core_options.proofs.OptionTerms.{AreListed, named_for, has_realloc, option_refused}
 use Rattle.core_options.proofs.Refusals.{one_import_refused}
-use Rattle.core_options.specs.Causes.{IsCauseAmong, IsListRefusal, indirect_name, lowering_place}
+use Rattle.comp_terms.specs.Shimmed.{shim_name}
+use Rattle.core_options.specs.Causes.{IsCauseAmong, IsListRefusal, lowering_place}
 use Rattle.core_options.specs.MainOptions.{user_of, IsFunctionOf, IsMemoryIf, IsReallocIf, NameOptions}
 use Rattle.core_options.specs.declared.fault.StateFault.{StateFault}
 use Rattle.core_options.specs.declared.fault.StateFault.TheVariants as faults
@@ -114,9 +115,9 @@ realloc_none w of m there ds e = subst (λ o. IsReallocIf w ds o None) (sym (rea
 -- ---- a call
 
 -- the options that the world's table has for it are those that it needs
-pub needed_is : (w : ComponentWorld) → IsEncodable w → (of : User) (m : ValidatedModule) → module_found w of ≡ Some m → (i : CoreImport) → Contains (imports_of m) i → (options : RequiredOptions) → options ≡ options_of_lowering (lowering_of_import w i.role) →
+pub needed_is : (w : ComponentWorld) → IsEncodable w → (of : User) (m : ValidatedModule) → module_found w of ≡ Some m → (i : CoreImport) → Contains (imports_of m) i → IsSome (call_of i.role) → (options : RequiredOptions) → options ≡ options_of_lowering (lowering_of_import w i.role) →
     options.0 ≡ lower_needs w i.role
-needed_is w ok of m there i present options is = ap (λ (o : RequiredOptions). o.0) is ∙ options_needed w ok (record { of = of; core = i }) (of_module w of m i there present)
+needed_is w ok of m there i present called options is = ap (λ (o : RequiredOptions). o.0) is ∙ options_needed w ok (record { of = of; core = i }) (of_module w of m i there present) called
 
 module _ (w : ComponentWorld) (ok : IsEncodable w) (of : User) (m : ValidatedModule) (there : module_found w of ≡ Some m) (i : CoreImport) (present : Contains (imports_of m) i) (plain : shared_memory w ≡ None → NamesNoExport (lower_needs w i.role)) (set : ℕ) (same : set ≡ lower_needs w i.role) where
   -- where main imports no memory, the options name neither a memory nor a realloc
@@ -170,7 +171,7 @@ module _ (w : ComponentWorld) (ok : IsEncodable w) (of : User) (m : ValidatedMod
       by : (o : Option MemoryType) → shared_memory w ≡ o → IsCauseAmong w (record { of = of; core = i } ∷ []) [] e
       by None unshared = nothing e unshared h
       by (Some type) shared =
-          let named : place ≡ lowering_place w i = at ∙ ap (λ o. if is_some o then field_path i.module_name i.field else indirect_name i) (sym shared) in
+          let named : place ≡ lowering_place w i = at ∙ ap (λ o. if is_some o then field_path i.module_name i.field else shim_name i i.role) (sym shared) in
           one_import_refused w (record { of = of; core = i }) (lower_realloc w of) set place same named (λ none. none) e
           (option_refused w ds set memory realloc (lower_realloc w of) (direct_memory ds memory before) reallocs place e h)
 

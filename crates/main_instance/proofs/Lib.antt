@@ -9,3 +9,4 @@ mod OwnHandles
 pub mod BuiltIns
 pub mod OfMain
 pub mod Cells
+pub mod Returns

@@ -1,16 +1,22 @@
 -- The shims that a module of a world needs, in order: one for each import that is called through a
--- table, followed by one for the realloc of that call, or that an adapter exports; and one for each
--- destructor that the module exports (Canonical ABI: `canon lower`, `realloc`; component model,
--- explainer: the destructor of a resource type). Streams and futures, asynchronous functions and
--- error contexts have no rows here.
-use Rattle.std.specs.Prelude.{ℕ, Bool, true, false, ◌&&◌, List, [], ◌∷◌, ◌++◌, Option, Some, None, unwrap_or, is_some, if◌then◌else◌, codes}
-use Rattle.std.specs.List.{flat_map}
+-- table, followed by one for the realloc of that call, that returns from a function with a memory,
+-- or that an adapter exports; and one for each destructor that the module exports (Canonical ABI:
+-- `canon lower`, `canon task.return`, `realloc`; component model, explainer: the destructor of a
+-- resource type). Streams and futures, waits and error contexts have no rows here.
+use Rattle.std.specs.Prelude.{ℕ, Bool, true, false, ◌&&◌, not, List, [], ◌∷◌, ◌++◌, Option, Some, None, unwrap_or, is_some, if◌then◌else◌, codes}
+use Rattle.std.specs.List.{flat_map, AllByRecursion}
 use Rattle.std.specs.Map.{lookup}
 use Rattle.std.specs.Option.{option_and_then}
 use Rattle.standard_kinds.specs.declared.kinds.StringEncoding.{StringEncoding}
+use Rattle.wit_data.specs.Signatures.{signature, returning}
+use Rattle.wit_data.specs.declared.functions.AbiVariant.TheVariants.{GuestImport}
+use Rattle.wit_data.specs.declared.functions.Function.{Function}
+use Rattle.wit_data.specs.declared.ids.InterfaceId.{InterfaceId}
 use Rattle.wit_data.specs.declared.ids.TypeId.{TypeId}
 use Rattle.wit_data.specs.declared.signatures.WasmSignature.{WasmSignature}
 use Rattle.wit_data.specs.declared.signatures.WasmType.TheVariants.{I32}
+use Rattle.wit_data.specs.declared.worlds.WorldKey.{WorldKey}
+use Rattle.world_values.specs.Mentions.{HasReturned}
 use Rattle.comp_roles.specs.CoreImports.{CoreImport}
 use Rattle.comp_roles.specs.Functions.{of_function}
 use Rattle.comp_roles.specs.Lookups.{first_export, is_task_hook}
@@ -21,11 +27,12 @@ use Rattle.comp_roles.specs.declared.imports.Import.{Import}
 use Rattle.comp_roles.specs.declared.imports.Import.TheVariants as imports
 use Rattle.comp_roles.specs.declared.libraries.MainOrAdapter.{MainOrAdapter}
 use Rattle.comp_roles.specs.declared.libraries.MainOrAdapter.TheVariants as users
-use Rattle.comp_options.specs.Options.{needs, realloc_bit}
+use Rattle.comp_options.specs.Options.{needs, memory_bit, realloc_bit, task_return_set}
 use Rattle.comp_options.specs.declared.required.RequiredOptions.{RequiredOptions}
 use Rattle.comp_worlds.specs.Imported.{is_same_import_key}
 use Rattle.comp_worlds.specs.Lookups.{found_module, resolved_realloc}
 use Rattle.comp_worlds.specs.Lowerings.{is_same_lowering}
+use Rattle.comp_worlds.specs.Offered.{shared_memory}
 use Rattle.comp_worlds.specs.Uses.{imports_of}
 use Rattle.comp_worlds.specs.WorldContents.{name_at}
 use Rattle.comp_worlds.specs.declared.lowerings.ImportedInterface.{ImportedInterface}
@@ -37,6 +44,7 @@ use Rattle.shim_plan.specs.Adapted.{Adapted, adapted_of, adapted_needs}
 use Rattle.shim_plan.specs.declared.calls.FunctionCall.{FunctionCall}
 use Rattle.shim_plan.specs.declared.kinds.ShimKind.TheVariants as kinds
 use Rattle.shim_plan.specs.declared.needs.NeededShim.{NeededShim}
+use Rattle.shim_plan.specs.declared.returns.ReturnedFunction.{ReturnedFunction}
 use Rattle.shim_plan.specs.declared.reallocs.ReallocSite.{ReallocSite}
 use Rattle.shim_plan.specs.declared.reallocs.ReallocSite.TheVariants as sites
 
@@ -137,9 +145,57 @@ abbrev pub call_needs : ComponentWorld → MainOrAdapter → ValidatedModule →
 call_needs w which m i None = []
 call_needs w which m i (Some call) = lowering_needs w which m i call (lowering_of_call w call)
 
+-- ---- `task.return`
+
+-- a function that the world exports at a key, at the root or in an interface, and whose result an import returns
+pub record Returned : Type 0 where
+  pub key : WorldKey
+  pub interface : Option InterfaceId
+  pub function : Function
+
+abbrev pub returned_function : ReturnedFunction → Returned
+returned_function r = record { key = r.key.now; interface = r.interface; function = r.function.now }
+
+abbrev pub returned_of : Import → Option Returned
+returned_of (imports.ExportedTaskReturn key interface f) = Some (record { key = key; interface = interface; function = f })
+returned_of role = None
+
+-- its string encoding
+abbrev pub encoding_of_return : ValidatedModule → Returned → Option StringEncoding
+encoding_of_return m r = of_function r.key r.function.name m.metadata.export_encodings
+
+abbrev pub return_name : Returned → List ℕ
+return_name r = codes "task-return-" ++ r.function.name
+
+abbrev pub return_options : ComponentWorld → Returned → RequiredOptions
+return_options w r = record { 0 = task_return_set w.resolve.types r.function }
+
+abbrev pub return_shim : ComponentWorld → MainOrAdapter → Returned → StringEncoding → NeededShim
+return_shim w which r encoding = record {
+  options = return_options w r;
+  debug_name = return_name r;
+  kind = kinds.TaskReturn r.interface r.function.name r.function.result which encoding;
+  sig = signature GuestImport w.resolve.types (returning r.function);
+}
+
+abbrev pub return_shims : ComponentWorld → MainOrAdapter → Returned → Option StringEncoding → List NeededShim
+return_shims w which r None = []
+return_shims w which r (Some encoding) = return_shim w which r encoding ∷ []
+
+-- it needs a shim where it needs a memory, as its other options do too, unless main imports its memory
+abbrev pub returns_through : ComponentWorld → Returned → Bool
+returns_through w r = needs (return_options w r).0 memory_bit && not (is_some (shared_memory w))
+
+abbrev pub return_needs : ComponentWorld → MainOrAdapter → ValidatedModule → Returned → List NeededShim
+return_needs w which m r = if returns_through w r then return_shims w which r (encoding_of_return m r) else []
+
 -- what another module is to give is there later; a call needs what its lowering does
+abbrev pub own_needs : ComponentWorld → MainOrAdapter → ValidatedModule → CoreImport → Option Returned → List NeededShim
+own_needs w which m i None = call_needs w which m i (call_of i.role)
+own_needs w which m i (Some r) = return_needs w which m r
+
 abbrev pub role_needs : ComponentWorld → MainOrAdapter → ValidatedModule → CoreImport → Option Adapted → List NeededShim
-role_needs w which m i None = call_needs w which m i (call_of i.role)
+role_needs w which m i None = own_needs w which m i (returned_of i.role)
 role_needs w which m i (Some a) = adapted_needs i a
 
 abbrev pub import_needs : ComponentWorld → MainOrAdapter → ValidatedModule → CoreImport → List NeededShim
@@ -175,6 +231,15 @@ export_needs w which entry = []
 abbrev pub needs_of : ComponentWorld → MainOrAdapter → Option ValidatedModule → List NeededShim
 needs_of w which None = []
 needs_of w which (Some m) = flat_map (import_needs w which m) (imports_of m) ++ flat_map (export_needs w which) m.exports.exports
+
+-- the functions of a module's `task.return` are in the resolve
+abbrev pub AreReturned : ComponentWorld → Option ValidatedModule → Type 0
+AreReturned w None = Unit {0}
+AreReturned w (Some m) = AllByRecursion (λ i. HasReturned w.resolve i.role) (imports_of m)
+
+-- so it is in every module
+abbrev pub AreAllReturned : ComponentWorld → Type 0
+AreAllReturned w = (which : MainOrAdapter) → AreReturned w (found_module w which)
 
 -- what a module of the world needs; there is nothing that an unknown one needs
 abbrev pub needed : ComponentWorld → MainOrAdapter → List NeededShim

@@ -117,7 +117,8 @@ fn copy_payload_func(
     })
 }
 
-fn copy_task_return(
+/// The kind of a return from a function that the world exports.
+pub(crate) fn copy_task_return(
     alloc: Global,
     interface: Option<InterfaceId>,
     func: &Text,

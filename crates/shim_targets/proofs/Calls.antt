@@ -51,6 +51,7 @@ use Rattle.comp_worlds.specs.Offered.{shared_memory}
 use Rattle.shim_targets.specs.ShimTargets.{which_of, kind_of_import}
 use Rattle.shim_targets.proofs.Keys.{key_laws, call_laws, one_import_key, one_lowering}
 use Rattle.shim_targets.proofs.Lists.{contains_none, contains_cons, contains_first, contains_flat, IsInOne, flat_contains}
+use Rattle.shim_targets.proofs.ExportKeys.{return_back}
 use Rattle.shim_targets.proofs.Lowered.{is_call_of, root_found, interface_found, entry_found}
 use Rattle.shim_targets.proofs.Tables.{made_finds}
 use Rattle.shim_targets.proofs.Users.{back, among_all}
@@ -193,5 +194,7 @@ role_back w ok of (imports.MainModuleMemory type) h encoding kind e = absurd (no
 role_back w ok of (imports.MainModuleExport name export) h encoding kind e = absurd (none-some kind e)
 role_back w ok of (imports.AdapterExport adapter name type) h encoding kind e = absurd (none-some kind e)
 role_back w ok of (imports.Item item) h encoding kind e = absurd (none-some kind e)
+role_back w ok of (imports.ExportedTaskReturn key interface f) h encoding kind e =
+    subst (λ k. role_of_kind w k ≡ Some (of, imports.ExportedTaskReturn key interface f)) (same_Some (kinds.TaskReturn interface f.name f.result (which_of of) encoding) kind e) (return_back w ok of key interface f h)
 role_back w ok of (imports.WorldFunc (keys.Interface other) function abi) h encoding kind e = absurd (true≢false (sym h))
 role_back w ok of role h encoding kind e = absurd (none-some kind e)

@@ -31,6 +31,7 @@ use Rattle.comp_links.specs.Links.{module_of}
 use Rattle.comp_links.specs.Modules.{WorldModule, module_found, user_modules, user_imports}
 use Rattle.comp_links.specs.Targets.{UserModule, Adapter}
 use Rattle.shim_targets.specs.ShimTargets.{which_of, StandsForOne, StandsForExport}
+use Rattle.shim_targets.proofs.ReturnNeeds.{return_needs_stand}
 use Rattle.shim_targets.proofs.AdapterNeeds.{adapter_shim, adapter_needed, numbers_back}
 use Rattle.shim_targets.proofs.CallNeeds.{Stands, call_needs_stand}
 use Rattle.shim_targets.proofs.Calls.{world_call, interface_call}
@@ -90,6 +91,7 @@ module _ (w : ComponentWorld) (ok : IsEncodable w) (of : UserModule) (m : Valida
   import_stands name field (imports.AdapterExport adapter function type) there h =
       subst (AllByRecursion (Stands w)) (sym (adapter_needed (record { module_name = name; field = field; role = imports.AdapterExport adapter function type }) adapter function type h.numbers))
       (λ place. inr (record { of = Adapter adapter; name = function }, adapter_stands w adapter function type h (record { module_name = name; field = field; role = imports.AdapterExport adapter function type }) place), tt)
+  import_stands name field (imports.ExportedTaskReturn key interface f) there h = return_needs_stand w ok of m found (record { module_name = name; field = field; role = imports.ExportedTaskReturn key interface f }) key interface f refl there h
   import_stands name field (imports.WorldFunc (keys.Interface other) function abi) there h = absurd (true≢false (sym h))
   import_stands name field role there h = tt
 

@@ -20,3 +20,6 @@ pub mod CallOptions
 pub mod DestructorShims
 pub mod AdapterShims
 pub mod Worked
+pub mod Returned
+mod ExportKeys
+mod ReturnNeeds

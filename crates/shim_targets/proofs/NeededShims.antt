@@ -38,6 +38,9 @@ use Rattle.shim_targets.proofs.NoOptions.{role_without}
 use Rattle.shim_targets.proofs.ReallocShims.{Pair}
 use Rattle.shim_targets.proofs.Roles.{import_role}
 use Rattle.comp_links.proofs.Named.{listed_found}
+use Rattle.comp_options.proofs.ImportSets.{no_realloc_returned}
+use Rattle.shim_plan.specs.Needed.{Returned, return_shim}
+use Rattle.shim_targets.proofs.ReturnNeeds.{return_needed}
 use Rattle.shim_targets.proofs.Users.{IsImportOf, import_of, of_module, needed_in}
 
 -- ---- each kind that is needed has a shim
@@ -113,6 +116,9 @@ import_needed w ok unshared of m name field (imports.MainModuleMemory type) ther
 import_needed w ok unshared of m name field (imports.MainModuleExport export sort) there h encoding encoded memory kind is = absurd (none-some kind is)
 import_needed w ok unshared of m name field (imports.AdapterExport adapter function type) there h encoding encoded memory kind is = absurd (none-some kind is)
 import_needed w ok unshared of m name field (imports.Item item) there h encoding encoded memory kind is = absurd (none-some kind is)
+import_needed w ok unshared of m name field (imports.ExportedTaskReturn key interface f) there h encoding encoded memory kind is =
+    let r : Returned = record { key = key; interface = interface; function = f } in
+    record { shim = return_shim w (which_of of) r encoding; there = return_needed w of m r unshared memory encoding encoded; same = same_Some (return_shim w (which_of of) r encoding).kind kind is }
 import_needed w ok unshared of m name field (imports.WorldFunc (keys.Interface other) function abi) there h encoding encoded memory kind is = absurd (true≢false (sym h))
 import_needed w ok unshared of m name field role there h encoding encoded memory kind is = absurd (none-some kind is)
 
@@ -135,6 +141,7 @@ realloc_needed_by w ok shared of m name field (imports.MainModuleMemory type) th
 realloc_needed_by w ok shared of m name field (imports.MainModuleExport export sort) there h realloc r found = absurd (true≢false (sym realloc))
 realloc_needed_by w ok shared of m name field (imports.AdapterExport adapter function type) there h realloc r found = absurd (true≢false (sym realloc))
 realloc_needed_by w ok shared of m name field (imports.Item item) there h realloc r found = absurd (true≢false (sym realloc))
+realloc_needed_by w ok shared of m name field (imports.ExportedTaskReturn key interface f) there h realloc r found = absurd (true≢false (sym realloc ∙ no_realloc_returned w.resolve.types f))
 realloc_needed_by w ok shared of m name field (imports.WorldFunc (keys.Interface other) function abi) there h realloc r found = absurd (true≢false (sym h))
 realloc_needed_by w ok shared of m name field role there h realloc r found = absurd (true≢false (sym realloc))
 

@@ -9,7 +9,7 @@ use Rattle.comp_worlds.specs.declared.world.ComponentWorld.{ComponentWorld}
 use Rattle.root_imports.specs.Growing.{Grows-then}
 use Rattle.root_imports.specs.declared.root_scope.RootScope.{RootScope}
 use Rattle.main_fixup.specs.Filling.{AreFillSources, IsBehind, IsUserNamed}
-use Rattle.main_fixup.proofs.Behind.{called_used, calling_named, found_behind, export_offered, export_serves, export_options}
+use Rattle.main_fixup.proofs.Behind.{called_used, calling_named, found_behind, return_found, returning_named, returning_supplied, export_offered, export_serves, export_options}
 use Rattle.main_fixup.proofs.Filled.{sources-kept}
 use Rattle.main_fixup.proofs.lowerings.function_behind.Goals as goal
 
@@ -49,6 +49,21 @@ returns-in_ok-lowered-in-IndirectLowering-clause-grows c =
     let new = c.lower_function.new.root.items.defs in
     let second : Grows c.args.root.now.world.now mid new [] = subst (λ (r : Root). Grows r.world.now mid new []) of.ensures.same c.in_ok-lowered-in-IndirectLowering.ensures.grows in
     Grows-then of.ensures.grows second
+
+pub options_of_calls-given-requires-clause-named : goal.options_of_calls-given-requires-clause-named
+options_of_calls-given-requires-clause-named c =
+    let k = c.in-TaskReturn in returning_named c.args.root.now.world.now c.requires.sources.valid c.args.shim.now c.requires.stands k.interface k.func k.result k.for_module k.encoding k.is
+
+pub return_behind-requires-clause-behind : goal.return_behind-requires-clause-behind
+return_behind-requires-clause-behind c =
+    let k = c.in-TaskReturn in
+    return_found c.args.root.now.world.now c.requires.sources.valid c.args.shim.now c.requires.stands k.interface k.func k.result k.for_module k.encoding k.is (option_map export_ref_of c.options_of_calls-given.result.realloc) c.options_of_calls-given.ensures.realloc
+
+pub return_behind-requires-clause-supplied : goal.return_behind-requires-clause-supplied
+return_behind-requires-clause-supplied c =
+    let k = c.in-TaskReturn in
+    let s = c.requires.sources in
+    returning_supplied c.args.root.now.world.now s.valid c.args.shim.now c.requires.stands k.interface k.func k.result k.for_module k.encoding k.is c.args.root.now.met s.exports s.ordered
 
 pub export_of_adapter-requires-clause-offered : goal.export_of_adapter-requires-clause-offered
 export_of_adapter-requires-clause-offered c =
