@@ -76,6 +76,10 @@ module _ (w : ComponentWorld) (ok : IsEncodable w) (has : AllByRecursion (HasShi
       let i : UserImport = record { of = of; core = record { module_name = name; field = field; role = imports.InterfaceFunc key id function abi } } in
       let n = known (import_encoding w of i.core.role) (encoded.encoding refl) in
       through unshared i there e n.0 n.1 _ refl
+  unshared_one unshared of name field (imports.ExportedTaskReturn key interface f) there encoded true e =
+      let i : UserImport = record { of = of; core = record { module_name = name; field = field; role = imports.ExportedTaskReturn key interface f } } in
+      let n = known (import_encoding w of i.core.role) (encoded.encoding refl) in
+      through unshared i there e n.0 n.1 _ refl
   unshared_one unshared of name field role there encoded true e = absurd (true≢false (sym e))
 
   -- where main imports its memory, that is there, and so is the realloc with which the function was lowered
