@@ -61,7 +61,7 @@ use Rattle.supported_worlds.specs.LeftOut.{items_of, import_item_left_out, expor
 use Rattle.supported_worlds.specs.Links.{IsRoleLinked, IsTypeLinked, IsFromInstance, IsImportLinked, IsModuleLinked, AreLinked}
 use Rattle.supported_worlds.specs.Modules.{UserModule, main_of, module_of}
 use Rattle.supported_worlds.specs.Causes.{role_left_out, own_role_out}
-use Rattle.supported_worlds.specs.Placed.{places_of, is_resource, is_droppable, is_resource_at, is_own_resource, is_same_function, is_own_function}
+use Rattle.supported_worlds.specs.Placed.{places_of, is_resource, is_droppable, is_resource_at, is_required_at, is_own_resource, is_same_function, is_own_function}
 use Rattle.supported_worlds.specs.Guarantees.{HasFoundImport, IsUsed, OffersExport, IsSoundModule, HasSoundParts}
 use Rattle.supported_worlds.proofs.Interfaces.{named_interface, own_are, other_key, one_found, entry_there, name_there as function_there, found_there}
 use Rattle.comp_roles.proofs.Firsts.{none_picked}
