@@ -17,7 +17,8 @@ use Rattle.comp_worlds.specs.Worlds.{IsImportRole}
 use Rattle.comp_worlds.specs.declared.world.ComponentWorld.{ComponentWorld}
 use Rattle.comp_worlds.specs.declared.world.ValidatedModule.{ValidatedModule}
 use Rattle.core_types.specs.declared.types.MemoryType.{MemoryType}
-use Rattle.shim_plan.specs.Needed.{NeededShim, Returned, return_needs, return_shim, return_shims, returns_through}
+use Rattle.shim_plan.specs.Needed.{Returned, return_needs, return_shim, return_shims, returns_through}
+use Rattle.shim_plan.specs.declared.needs.NeededShim.{NeededShim}
 use Rattle.shim_targets.proofs.CallNeeds.{Stands}
 use Rattle.shim_targets.proofs.Calls.{role_back}
 use Rattle.shim_targets.proofs.Lists.{contains_first}
