@@ -11,9 +11,9 @@ use Rattle.comp_worlds.specs.declared.world.ComponentWorld.{ComponentWorld}
 use Rattle.interface_needs.proofs.Lending.{among}
 use Rattle.interface_needs.proofs.Lists.{IsInOne, contains_cons, contains_first, contains_flat, contains_later, contains_none, flat_contains}
 use Rattle.interface_needs.proofs.OwnFunctions.{item_of, own_exported, own_sound}
-use Rattle.interface_needs.specs.RootNeeds.{IsExportedFunction, IsNeededFunction}
+use Rattle.interface_needs.specs.RootNeeds.{IsExportedFunction}
 use Rattle.root_imports.proofs.Meeting.{all_types_met, named_whole, or_left, some_is}
-use Rattle.root_imports.specs.Imports.{IsResult}
+use Rattle.root_imports.specs.Imports.{IsNeededFunction, IsResult}
 use Rattle.root_imports.specs.Met.{has_instance, has_types, AreExportsMet, IsSupplied, IsSuppliedFor}
 use Rattle.root_imports.specs.declared.met_types.MetTypes.{MetTypes}
 use Rattle.wit_data.specs.Values.{kind_at}
