@@ -10,7 +10,7 @@ use Rattle.main_instance.specs.Sources.{IsShimAlias}
 use Rattle.root_imports.proofs.Supplying.{return_result, return_supplied}
 use Rattle.shim_plan.specs.declared.kinds.ShimKind.TheVariants as kinds
 use Rattle.shim_targets.specs.ShimTargets.{which_of}
-use Rattle.main_instance.proofs.returns.ImportSources.give_return.Goals as goal
+use Rattle.main_instance.proofs.instances.ImportSources.give_return.Goals as goal
 
 pub for_task_return-needed-requires-clause-present : goal.for_task_return-needed-requires-clause-present
 for_task_return-needed-requires-clause-present c =
