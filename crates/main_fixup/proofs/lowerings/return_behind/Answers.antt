@@ -87,5 +87,5 @@ returns-in_err-listed-clause-cause c =
     let w = c.args.root.now.world.now in
     let b = c.requires.behind in
     let e = c.in_err-listed.field-0.0 in
-    refused_with c.from_residual-in_err-listed.result e (IsCauseAmong w (user_imports w) []) c.from_residual-in_err-listed.ensures.1
+    refused_with c.from_residual.result e (IsCauseAmong w (user_imports w) []) c.from_residual.ensures.1
     (shim_refused w c.args.shim.now b.given b.stands (option_map export_ref_of c.args.sources.now.realloc) b.reallocated e c.in_err-listed.ensures.cause)
