@@ -24,7 +24,7 @@ use Rattle.comp_worlds.specs.Worlds.{IsImportRole}
 use Rattle.comp_worlds.specs.declared.world.ComponentWorld.{ComponentWorld}
 use Rattle.comp_links.specs.Links.{link_of, module_of}
 use Rattle.comp_links.specs.Modules.{WorldModule, user_modules}
-use Rattle.comp_links.specs.Targets.{UserModule, Adapter, ExportRef, Target, ExportOf}
+use Rattle.comp_links.specs.Targets.{UserModule, Main, Adapter, ExportRef, Target, ExportOf}
 use Rattle.shim_plan.specs.declared.kinds.ShimKind.{ShimKind}
 use Rattle.shim_plan.specs.declared.kinds.ShimKind.TheVariants as kinds
 use Rattle.shim_plan.specs.declared.shims.Shim.{Shim}
@@ -107,11 +107,15 @@ export_key w (Some id) name = key_of_export id (items_of w).exports
 abbrev pub returning_at : ComponentWorld → UserModule → Option InterfaceId → List ℕ → WorldKey → Option (UserModule × Import)
 returning_at w of interface name key = option_map (λ f. (of, imports.ExportedTaskReturn key interface f)) (function_exported w key name)
 
--- the module and the role of the imports that are given a shim of this kind
+-- the module and the role of the imports that are given a shim of this kind: main, where those of all modules are
 abbrev pub role_of_kind : ComponentWorld → ShimKind → Option (UserModule × Import)
 role_of_kind w (kinds.IndirectLowering None function which encoding) = Some (module_of which, imports.WorldFunc (keys.Name function.name) function.name function.abi)
 role_of_kind w (kinds.IndirectLowering (Some key) function which encoding) = option_map (λ id. (module_of which, imports.InterfaceFunc key id function.name function.abi)) (interface_imported w key)
 role_of_kind w (kinds.TaskReturn interface name result which encoding) = option_and_then (returning_at w (module_of which) interface name) (export_key w interface name)
+role_of_kind w kinds.WaitableSetWait = Some (Main, imports.WaitableSetWait)
+role_of_kind w kinds.WaitableSetPoll = Some (Main, imports.WaitableSetPoll)
+role_of_kind w (kinds.ErrorContextNew encoding) = Some (Main, imports.ErrorContextNew encoding)
+role_of_kind w (kinds.ErrorContextDebugMessage which encoding) = Some (module_of which, imports.ErrorContextDebugMessage encoding)
 role_of_kind w kind = None
 
 -- the shim stands for what imports of this role in a module are to be given, and has their core type

@@ -37,7 +37,7 @@ use Rattle.shim_plan.specs.declared.kinds.ShimKind.TheVariants as shim_kinds
 use Rattle.shim_plan.specs.declared.shims.Shim.{Shim}
 use Rattle.world_shims.specs.WorldShims.{shims_of}
 use Rattle.comp_terms.specs.Generated.{shims_number, role_of_kind, Purpose, target_of, HasPurpose}
-use Rattle.comp_terms.specs.Shimmed.{has_shim}
+use Rattle.comp_terms.specs.Shimmed.{has_shim, shim_owner}
 use Rattle.comp_worlds.specs.Offered.{shared_memory}
 use Rattle.comp_terms.specs.Terms.{CoreExport, TermOption, Term, IsInstanceOf, IsExported, IsLifting, Is}
 use Rattle.comp_terms.specs.Terms as terms
@@ -143,7 +143,7 @@ pub record IsShimOfKind (w : ComponentWorld) (ds : List Def) (space : Space) (in
 -- a shim of the kind of an import's role, which has one
 pub record IsCallShim (w : ComponentWorld) (of : UserModule) (ds : List Def) (space : Space) (index : ℕ) (role : Import) : Type 0 where
   pub shim : IsShimFor w ds space index (link_of w of role)
-  pub of_kind : role_of_kind w shim.stands.shim.kind ≡ Some (of, role)
+  pub of_kind : role_of_kind w shim.stands.shim.kind ≡ Some (shim_owner of role, role)
   pub shimmed : IsTrue (has_shim w role)
 
 -- the item of this index is the shim of an import: that of the function which an adapter exports,

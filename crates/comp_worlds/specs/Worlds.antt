@@ -90,8 +90,8 @@ pub record IsOwnFunction (w : ComponentWorld) (key : WorldKey) (interface : Opti
 
 -- the role of an import is a function that the world imports, at its root or in an interface,
 -- called in either form, the drop of a resource, `resource.drop`, `resource.rep` or `resource.new`
--- of a resource of an exported interface, `task.return` of an exported function, main's memory, what main or an adapter offers, an item of
--- an argument of a library, a built-in function without operands, or a function of the thread-local base
+-- of a resource of an exported interface, `task.return` of an exported function, a wait, a function of error contexts, main's memory, what main
+-- or an adapter offers, an item of an argument of a library, a built-in function without operands, or a function of the thread-local base
 abbrev pub IsImportRole : ComponentWorld → Import → Type 0
 IsImportRole w (imports.WorldFunc (keys.Name text) function abi) = Contains (imported_functions w) text × (function ≡ text) × IsImportForm abi
 IsImportRole w (imports.InterfaceFunc key id function abi) = Contains (items_of w).imports (key, items.Interface id) × Contains (map (λ e. e.0) (functions_of w.resolve id)) function × IsImportForm abi
@@ -100,6 +100,10 @@ IsImportRole w (imports.ExportedResourceDrop key id) = IsOwnResource w key id
 IsImportRole w (imports.ExportedResourceRep key id) = IsOwnResource w key id
 IsImportRole w (imports.ExportedResourceNew key id) = IsOwnResource w key id
 IsImportRole w (imports.ExportedTaskReturn key interface f) = IsOwnFunction w key interface f
+IsImportRole w imports.WaitableSetWait = Unit {0}
+IsImportRole w imports.WaitableSetPoll = Unit {0}
+IsImportRole w (imports.ErrorContextNew encoding) = Unit {0}
+IsImportRole w (imports.ErrorContextDebugMessage encoding) = Unit {0}
 IsImportRole w (imports.MainModuleMemory type) = MemoryMatches w type
 IsImportRole w (imports.MainModuleExport name kind) = OffersItem w.main name kind
 IsImportRole w (imports.AdapterExport adapter name type) = AdapterOffers w adapter name type

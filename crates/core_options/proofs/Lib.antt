@@ -5,3 +5,4 @@ pub mod Aliases
 pub mod Memories
 pub mod Reallocs
 pub mod Returning
+pub mod MemoryFunctions

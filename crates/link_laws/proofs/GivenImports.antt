@@ -39,7 +39,7 @@ use Rattle.comp_worlds.proofs.Matched.{matched_function}
 use Rattle.comp_options.specs.Options.{import_set}
 use Rattle.comp_worlds.specs.Bases.{base_of_role}
 use Rattle.comp_worlds.specs.Lowerings.{IsImportForm}
-use Rattle.comp_worlds.specs.Typed.{drop_type, handle_type, type_of_import, FitsRole, FitsInstance}
+use Rattle.comp_worlds.specs.Typed.{drop_type, handle_type, wait_type, message_type, type_of_import, FitsRole, FitsInstance}
 use Rattle.comp_worlds.specs.WorldContents.{function_exported, items_of}
 use Rattle.comp_worlds.specs.Worlds.{IsWorld, IsImportRole, IsImportGroup}
 use Rattle.comp_roles.specs.declared.imports.Import.{Import}
@@ -53,11 +53,11 @@ use Rattle.comp_runs.specs.Store.{Thing, Export, CoreItem, Lowering, IntrinsicOf
 use Rattle.comp_roles.specs.declared.offered.ExternType.{ExternType}
 use Rattle.comp_roles.specs.declared.offered.ExternType.TheVariants as externs
 use Rattle.comp_roles.specs.declared.offered.ImportType.{ImportType}
-use Rattle.comp_links.specs.Targets.{UserModule, Main, Adapter, ExportRef, WorldFunction, TargetOption, Target, OfRoot, OfInterface, Lowered, BuiltIn, Operand, operand_if_any, operand_tree, ResourceFunction, New, Rep, Drop, ExportOf, Unlinked}
+use Rattle.comp_links.specs.Targets.{UserModule, Main, Adapter, ExportRef, WorldFunction, TargetOption, Target, OfRoot, OfInterface, Lowered, BuiltIn, Operand, NoType, operand_if_any, operand_tree, ResourceFunction, New, Rep, Drop, ExportOf, Unlinked}
 use Rattle.comp_links.specs.Modules.{WorldModule, user_modules, IsModule, function_imported}
 use Rattle.comp_links.specs.Roles.{import_encoding}
 use Rattle.comp_links.specs.Lists.{resource_of}
-use Rattle.comp_links.specs.Links.{options_in, lower_realloc, lower_options, link_of_intrinsic, link_of, link_in, link_at, module_of, task_return}
+use Rattle.comp_links.specs.Links.{options_in, lower_realloc, lower_options, link_of_intrinsic, link_of, link_in, link_at, module_of, task_return, set_wait, set_poll, error_new, error_message}
 use Rattle.shim_plan.specs.declared.kinds.ShimKind.{ShimKind}
 use Rattle.shim_plan.specs.declared.kinds.ShimKind.TheVariants as shim_kinds
 use Rattle.shim_plan.specs.declared.shims.Shim.{Shim}
@@ -162,16 +162,33 @@ return_opaque w s address f options type fits h =
     let typed : externs.Func (intrinsic_signature task_return tree) ≡ externs.Func type = returned_type w f ∙ same_Some (called_type w.resolve GuestImport (returning f)) (externs.Func type) fits in
     (IntrinsicOf task_return tree h.held, subst (λ t. IsOpaqueOf s address t (IntrinsicOf task_return tree h.held)) (ap (function_type_in type) typed) h.is)
 
+-- so is a built-in function of no type, with options
+abbrev wait_core : FuncType
+wait_core = intrinsic_signature set_wait None
+
+abbrev message_core : FuncType
+message_core = intrinsic_signature error_message None
+
+memory_opaque : (w : ComponentWorld) (s : Store) (address : ℕ) (name : Intrinsic) (options : List TargetOption) (type : FuncType) → Some (externs.Func (intrinsic_signature name None)) ≡ Some (externs.Func type) → IsBuiltInAt w s address name None options →
+    (item : CoreItem) × IsOpaqueOf s address type item
+memory_opaque w s address name options type fits h =
+    let typed : externs.Func (intrinsic_signature name None) ≡ externs.Func type = same_Some (externs.Func (intrinsic_signature name None)) (externs.Func type) fits in
+    (IntrinsicOf name None h.held, subst (λ t. IsOpaqueOf s address t (IntrinsicOf name None h.held)) (ap (function_type_in type) typed) h.is)
+
 -- ---- what a shim stands for as an import
 
--- the role of a call of a function of the world, or of a return from one
+-- the role of a call of a function of the world, or of a built-in function with options
 abbrev IsThrough : Import → Type 0
 IsThrough (imports.WorldFunc (keys.Name text) function abi) = Unit {0}
 IsThrough (imports.InterfaceFunc key id function abi) = Unit {0}
 IsThrough (imports.ExportedTaskReturn key interface f) = Unit {0}
+IsThrough imports.WaitableSetWait = Unit {0}
+IsThrough imports.WaitableSetPoll = Unit {0}
+IsThrough (imports.ErrorContextNew encoding) = Unit {0}
+IsThrough (imports.ErrorContextDebugMessage encoding) = Unit {0}
 IsThrough role = ⊥
 
--- a shim stands for calls and returns alone, as an import
+-- a shim stands for these alone, as an import
 shim_through : (w : ComponentWorld) (shim : Shim) (from : UserModule) (other : Import) → IsShimOf w shim from other → IsThrough other
 shim_through w shim from other h = by shim.kind h.of_kind
   where
@@ -192,32 +209,44 @@ shim_through w shim from other h = by shim.kind h.of_kind
         keyed : (o : Option WorldKey) → option_and_then (returning_at w (module_of which) interface name) o ≡ Some (from, other) → IsThrough other
         keyed None k = absurd (none-some (from, other) k)
         keyed (Some key) k = held key (function_exported w key name) k
+    by shim_kinds.WaitableSetWait k = subst IsThrough (ap (λ (x : UserModule × Import). x.1) (same_Some (Main, imports.WaitableSetWait) (from, other) k)) tt
+    by shim_kinds.WaitableSetPoll k = subst IsThrough (ap (λ (x : UserModule × Import). x.1) (same_Some (Main, imports.WaitableSetPoll) (from, other) k)) tt
+    by (shim_kinds.ErrorContextNew encoding) k = subst IsThrough (ap (λ (x : UserModule × Import). x.1) (same_Some (Main, imports.ErrorContextNew encoding) (from, other) k)) tt
+    by (shim_kinds.ErrorContextDebugMessage which encoding) k = subst IsThrough (ap (λ (x : UserModule × Import). x.1) (same_Some (module_of which, imports.ErrorContextDebugMessage encoding) (from, other) k)) tt
     by kind k = absurd (none-some (from, other) k)
 
--- a call is lowered, and a return is the built-in function
-through_target : (P : Target → Type 0) → ((function : WorldFunction) (options : List TargetOption) → P (Lowered function options)) → ((result : Option Ty) (options : List TargetOption) → P (BuiltIn task_return (operand_if_any result) options)) →
+-- a call is lowered, and a function with options is the built-in function
+through_target : (P : Target → Type 0) → ((function : WorldFunction) (options : List TargetOption) → P (Lowered function options)) → ((name : Intrinsic) → plain_type name ≡ None → (operand : Operand) (options : List TargetOption) → P (BuiltIn name operand options)) →
     (w : ComponentWorld) (from : UserModule) (other : Import) → IsThrough other → P (link_of w from other)
-through_target P of_lowered of_return w from (imports.WorldFunc (keys.Name text) function abi) h = of_lowered (OfRoot text) (lower_options w from (imports.WorldFunc (keys.Name text) function abi))
-through_target P of_lowered of_return w from (imports.InterfaceFunc key id function abi) h = of_lowered (OfInterface id function) (lower_options w from (imports.InterfaceFunc key id function abi))
-through_target P of_lowered of_return w from (imports.ExportedTaskReturn key interface f) h = of_return f.result (lower_options w from (imports.ExportedTaskReturn key interface f))
-through_target P of_lowered of_return w from other h = absurd h
+through_target P of_lowered of_built_in w from (imports.WorldFunc (keys.Name text) function abi) h = of_lowered (OfRoot text) (lower_options w from (imports.WorldFunc (keys.Name text) function abi))
+through_target P of_lowered of_built_in w from (imports.InterfaceFunc key id function abi) h = of_lowered (OfInterface id function) (lower_options w from (imports.InterfaceFunc key id function abi))
+through_target P of_lowered of_built_in w from (imports.ExportedTaskReturn key interface f) h = of_built_in task_return refl (operand_if_any f.result) (lower_options w from (imports.ExportedTaskReturn key interface f))
+through_target P of_lowered of_built_in w from imports.WaitableSetWait h = of_built_in set_wait refl NoType (lower_options w from imports.WaitableSetWait)
+through_target P of_lowered of_built_in w from imports.WaitableSetPoll h = of_built_in set_poll refl NoType (lower_options w from imports.WaitableSetPoll)
+through_target P of_lowered of_built_in w from (imports.ErrorContextNew encoding) h = of_built_in error_new refl NoType (lower_options w from (imports.ErrorContextNew encoding))
+through_target P of_lowered of_built_in w from (imports.ErrorContextDebugMessage encoding) h = of_built_in error_message refl NoType (lower_options w from (imports.ErrorContextDebugMessage encoding))
+through_target P of_lowered of_built_in w from other h = absurd h
 
 -- and has no base
 through_no_base : (role : Import) → IsThrough role → base_of_role role ≡ None
 through_no_base (imports.WorldFunc (keys.Name text) function abi) h = refl
 through_no_base (imports.InterfaceFunc key id function abi) h = refl
 through_no_base (imports.ExportedTaskReturn key interface f) h = refl
+through_no_base imports.WaitableSetWait h = refl
+through_no_base imports.WaitableSetPoll h = refl
+through_no_base (imports.ErrorContextNew encoding) h = refl
+through_no_base (imports.ErrorContextDebugMessage encoding) h = refl
 through_no_base role h = absurd h
 
--- so a shim stands for a lowering, for a return, or for an export
-pub of_purpose : (P : Target → Type 0) → ((function : WorldFunction) (options : List TargetOption) → P (Lowered function options)) → ((result : Option Ty) (options : List TargetOption) → P (BuiltIn task_return (operand_if_any result) options)) → ((e : ExportRef) → P (ExportOf e)) →
+-- so a shim stands for a lowering, for a built-in function, or for an export
+pub of_purpose : (P : Target → Type 0) → ((function : WorldFunction) (options : List TargetOption) → P (Lowered function options)) → ((name : Intrinsic) → plain_type name ≡ None → (operand : Operand) (options : List TargetOption) → P (BuiltIn name operand options)) → ((e : ExportRef) → P (ExportOf e)) →
     (w : ComponentWorld) (shim : Shim) (p : Purpose) → HasPurpose w shim p → P (target_of w p)
-of_purpose P of_lowered of_return of_export w shim (OfImport of role) stands = through_target P of_lowered of_return w of role (shim_through w shim of role stands)
-of_purpose P of_lowered of_return of_export w shim (OfExport e) stands = of_export e
+of_purpose P of_lowered of_built_in of_export w shim (OfImport of role) stands = through_target P of_lowered of_built_in w of role (shim_through w shim of role stands)
+of_purpose P of_lowered of_built_in of_export w shim (OfExport e) stands = of_export e
 
 -- which needs no cell
 pub needs_none : (w : ComponentWorld) (shim : Shim) (p : Purpose) → HasPurpose w shim p → NeedsCell w (target_of w p)
-needs_none w shim p stands = of_purpose (NeedsCell w) (λ function options. tt) (λ result options. tt) (λ e. tt) w shim p stands
+needs_none w shim p stands = of_purpose (NeedsCell w) (λ function options. tt) (λ name with_options operand options. tt) (λ e. tt) w shim p stands
 
 -- ---- what serves a role
 
@@ -234,6 +263,10 @@ module _ (w : ComponentWorld) (ok : IsWorld w) (s : Store) (of : UserModule) whe
   served_opaque address (imports.ExportedResourceRep key id) type right none fits h = resource_opaque s address Rep (resource_of w id) type fits h
   served_opaque address (imports.ExportedResourceNew key id) type right none fits h = resource_opaque s address New (resource_of w id) type fits h
   served_opaque address (imports.ExportedTaskReturn key interface f) type right none fits h = return_opaque w s address f (lower_options w of (imports.ExportedTaskReturn key interface f)) type fits h
+  served_opaque address imports.WaitableSetWait type right none fits h = memory_opaque w s address set_wait (lower_options w of imports.WaitableSetWait) type fits h
+  served_opaque address imports.WaitableSetPoll type right none fits h = memory_opaque w s address set_poll (lower_options w of imports.WaitableSetPoll) type fits h
+  served_opaque address (imports.ErrorContextNew encoding) type right none fits h = memory_opaque w s address error_new (lower_options w of (imports.ErrorContextNew encoding)) type fits h
+  served_opaque address (imports.ErrorContextDebugMessage encoding) type right none fits h = memory_opaque w s address error_message (lower_options w of (imports.ErrorContextDebugMessage encoding)) type fits h
   served_opaque address (imports.MainModuleMemory memory) type right none fits h = absurd h
   served_opaque address (imports.MainModuleExport name kind) type right none fits h = absurd (none-some (externs.Func type) fits)
   served_opaque address (imports.Item item) type right none fits h = absurd (none-some (externs.Func type) fits)
@@ -312,6 +345,14 @@ module _ (w : ComponentWorld) (ok : IsWorld w) (s : Store) (globals : List ValTy
       subst (HasType s globals space address) (same_Some handle_type type fits) (function_typed space address (imports.ExportedResourceNew key id) (resource_core New) right agreed refl (λ no. no) (λ no. no) (λ no. no) h)
   role_typed space address (imports.ExportedTaskReturn key interface f) type right agreed fits h =
       subst (HasType s globals space address) (same_Some (called_type w.resolve GuestImport (returning f)) type fits) (function_typed space address (imports.ExportedTaskReturn key interface f) (core_type (signature GuestImport w.resolve.types (returning f))) right agreed refl (λ no. no) (λ no. no) (λ no. no) h)
+  role_typed space address imports.WaitableSetWait type right agreed fits h =
+      subst (HasType s globals space address) (same_Some wait_type type fits) (function_typed space address imports.WaitableSetWait wait_core right agreed refl (λ no. no) (λ no. no) (λ no. no) h)
+  role_typed space address imports.WaitableSetPoll type right agreed fits h =
+      subst (HasType s globals space address) (same_Some wait_type type fits) (function_typed space address imports.WaitableSetPoll wait_core right agreed refl (λ no. no) (λ no. no) (λ no. no) h)
+  role_typed space address (imports.ErrorContextNew encoding) type right agreed fits h =
+      subst (HasType s globals space address) (same_Some wait_type type fits) (function_typed space address (imports.ErrorContextNew encoding) wait_core right agreed refl (λ no. no) (λ no. no) (λ no. no) h)
+  role_typed space address (imports.ErrorContextDebugMessage encoding) type right agreed fits h =
+      subst (HasType s globals space address) (same_Some message_type type fits) (function_typed space address (imports.ErrorContextDebugMessage encoding) message_core right agreed refl (λ no. no) (λ no. no) (λ no. no) h)
   role_typed space address (imports.MainModuleMemory memory) type right agreed fits h =
       subst (HasType s globals space address) (same_Some (externs.Memory memory) type fits) (main_memory_typed w ok s globals typed space address memory right h)
   role_typed space address (imports.MainModuleExport name kind) type right agreed fits h =
@@ -354,11 +395,15 @@ one_purpose w shim (OfExport e) (OfExport other) h k = ap OfExport (same_Some e 
 
 -- ---- shims for what imports are given
 
--- what is given the same as a call is called too, and what is given the same as a return returns
+-- what is given the same as a call is called too, and what is given the same as a built-in function with options is one
 lowered_through : (w : ComponentWorld) (of : UserModule) (role : Import) → IsImportRole w role → (function : WorldFunction) (options : List TargetOption) → link_of w of role ≡ Lowered function options → IsThrough role
 lowered_through w of (imports.WorldFunc (keys.Name text) function abi) right f options is = tt
 lowered_through w of (imports.InterfaceFunc key id function abi) right f options is = tt
 lowered_through w of (imports.ExportedTaskReturn key interface g) right f options is = tt
+lowered_through w of imports.WaitableSetWait right f options is = tt
+lowered_through w of imports.WaitableSetPoll right f options is = tt
+lowered_through w of (imports.ErrorContextNew encoding) right f options is = tt
+lowered_through w of (imports.ErrorContextDebugMessage encoding) right f options is = tt
 lowered_through w of (imports.ImportedResourceDrop key interface id) right f options is = cc
 lowered_through w of (imports.ExportedResourceDrop key id) right f options is = cc
 lowered_through w of (imports.ExportedResourceRep key id) right f options is = cc
@@ -369,32 +414,36 @@ lowered_through w of (imports.AdapterExport adapter name function) right f optio
 lowered_through w of (imports.Item item) right f options is = cc
 lowered_through w of role right f options is = absurd (not_lowered role (plain_intrinsic w.can_use_context_slot_1 role) f options is)
 
--- no built-in function without operands is a return
+-- no built-in function without operands has options
 abbrev name_in : Target → Intrinsic
 name_in (BuiltIn name operand options) = name
 name_in target = intrinsics.TaskCancel
 
-not_return : (w : ComponentWorld) (role : Import) (o : Option Intrinsic) → plain_intrinsic w.can_use_context_slot_1 role ≡ o → (operand : Operand) (options : List TargetOption) → link_of_intrinsic role o ≡ BuiltIn task_return operand options → ⊥
-not_return w (imports.TlsBaseGet type) None e operand options is = cc
-not_return w (imports.TlsBaseSet type) None e operand options is = cc
-not_return w role None e operand options is = cc
-not_return w role (Some i) e operand options is =
+not_optional : (w : ComponentWorld) (role : Import) (o : Option Intrinsic) → plain_intrinsic w.can_use_context_slot_1 role ≡ o → (name : Intrinsic) → plain_type name ≡ None → (operand : Operand) (options : List TargetOption) → link_of_intrinsic role o ≡ BuiltIn name operand options → ⊥
+not_optional w (imports.TlsBaseGet type) None e name with_options operand options is = cc
+not_optional w (imports.TlsBaseSet type) None e name with_options operand options is = cc
+not_optional w role None e name with_options operand options is = cc
+not_optional w role (Some i) e name with_options operand options is =
     let typed : IsSome (plain_type i) = ap is_some (ap (option_and_then plain_type) (sym (usable_too w.can_use_context_slot_1 role i e))) ∙ plain_typed w.can_use_context_slot_1 role (ap is_some e) in
-    true≢false (sym typed ∙ ap (λ (t : Target). is_some (plain_type (name_in t))) is)
+    true≢false (sym typed ∙ ap (λ (t : Target). is_some (plain_type (name_in t))) is ∙ ap is_some with_options)
 
-return_through : (w : ComponentWorld) (of : UserModule) (role : Import) → IsImportRole w role → (operand : Operand) (options : List TargetOption) → link_of w of role ≡ BuiltIn task_return operand options → IsThrough role
-return_through w of (imports.WorldFunc (keys.Name text) function abi) right operand options is = tt
-return_through w of (imports.InterfaceFunc key id function abi) right operand options is = tt
-return_through w of (imports.ExportedTaskReturn key interface g) right operand options is = tt
-return_through w of (imports.ImportedResourceDrop key interface id) right operand options is = cc
-return_through w of (imports.ExportedResourceDrop key id) right operand options is = cc
-return_through w of (imports.ExportedResourceRep key id) right operand options is = cc
-return_through w of (imports.ExportedResourceNew key id) right operand options is = cc
-return_through w of (imports.MainModuleMemory memory) right operand options is = cc
-return_through w of (imports.MainModuleExport name kind) right operand options is = cc
-return_through w of (imports.AdapterExport adapter name function) right operand options is = cc
-return_through w of (imports.Item item) right operand options is = cc
-return_through w of role right operand options is = absurd (not_return w role (plain_intrinsic w.can_use_context_slot_1 role) refl operand options is)
+built_in_through : (w : ComponentWorld) (of : UserModule) (role : Import) → IsImportRole w role → (name : Intrinsic) → plain_type name ≡ None → (operand : Operand) (options : List TargetOption) → link_of w of role ≡ BuiltIn name operand options → IsThrough role
+built_in_through w of (imports.WorldFunc (keys.Name text) function abi) right name with_options operand options is = tt
+built_in_through w of (imports.InterfaceFunc key id function abi) right name with_options operand options is = tt
+built_in_through w of (imports.ExportedTaskReturn key interface g) right name with_options operand options is = tt
+built_in_through w of imports.WaitableSetWait right name with_options operand options is = tt
+built_in_through w of imports.WaitableSetPoll right name with_options operand options is = tt
+built_in_through w of (imports.ErrorContextNew encoding) right name with_options operand options is = tt
+built_in_through w of (imports.ErrorContextDebugMessage encoding) right name with_options operand options is = tt
+built_in_through w of (imports.ImportedResourceDrop key interface id) right name with_options operand options is = cc
+built_in_through w of (imports.ExportedResourceDrop key id) right name with_options operand options is = cc
+built_in_through w of (imports.ExportedResourceRep key id) right name with_options operand options is = cc
+built_in_through w of (imports.ExportedResourceNew key id) right name with_options operand options is = cc
+built_in_through w of (imports.MainModuleMemory memory) right name with_options operand options is = cc
+built_in_through w of (imports.MainModuleExport name kind) right name with_options operand options is = cc
+built_in_through w of (imports.AdapterExport adapter name function) right name with_options operand options is = cc
+built_in_through w of (imports.Item item) right name with_options operand options is = cc
+built_in_through w of role right name with_options operand options is = absurd (not_optional w role (plain_intrinsic w.can_use_context_slot_1 role) refl name with_options operand options is)
 
 -- the core type of what a target names
 abbrev type_of_target : ComponentWorld → Target → Option ExternType
@@ -408,12 +457,20 @@ through_typed w of (imports.WorldFunc (keys.Name text) function abi) right h =
 through_typed w of (imports.InterfaceFunc key id function abi) right h =
     own_type w abi right.2 (function_imported w (OfInterface id function)) (lower_realloc w of) (import_encoding w of (imports.InterfaceFunc key id function abi))
 through_typed w of (imports.ExportedTaskReturn key interface f) right h = ap Some (sym (returned_type w f))
+through_typed w of imports.WaitableSetWait right h = refl
+through_typed w of imports.WaitableSetPoll right h = refl
+through_typed w of (imports.ErrorContextNew encoding) right h = refl
+through_typed w of (imports.ErrorContextDebugMessage encoding) right h = refl
 through_typed w of role right h = absurd h
 
 through_fits : (w : ComponentWorld) (role : Import) → IsThrough role → (type : ExternType) → FitsRole w role type → type_of_import w.resolve (items_of w) role ≡ Some type
 through_fits w (imports.WorldFunc (keys.Name text) function abi) h type fits = fits
 through_fits w (imports.InterfaceFunc key id function abi) h type fits = fits
 through_fits w (imports.ExportedTaskReturn key interface f) h type fits = fits
+through_fits w imports.WaitableSetWait h type fits = fits
+through_fits w imports.WaitableSetPoll h type fits = fits
+through_fits w (imports.ErrorContextNew encoding) h type fits = fits
+through_fits w (imports.ErrorContextDebugMessage encoding) h type fits = fits
 through_fits w role h type fits = absurd h
 
 -- a shim for what an import of a role is to be given has the core type of each import that fits the role
@@ -421,7 +478,7 @@ shim_fits : (w : ComponentWorld) → IsWorld w → (shim : Shim) (p : Purpose) �
     type ≡ externs.Func (type_of_shim shim)
 shim_fits w ok shim (OfImport from other) stands of role right same type fits =
     let through : IsThrough other = shim_through w shim from other stands in
-    let given : IsThrough role = through_target (λ t. link_of w of role ≡ t → IsThrough role) (lowered_through w of role right) (λ result. return_through w of role right (operand_if_any result)) w from other through (sym same) in
+    let given : IsThrough role = through_target (λ t. link_of w of role ≡ t → IsThrough role) (lowered_through w of role right) (built_in_through w of role right) w from other through (sym same) in
     let shim_type : type_of_target w (link_of w from other) ≡ Some (externs.Func (type_of_shim shim)) = sym (through_typed w from other stands.right through) ∙ stands.typed in
     let own_type : type_of_target w (link_of w of role) ≡ Some type = sym (through_typed w of role right given) ∙ through_fits w role given type fits in
     same_Some type (externs.Func (type_of_shim shim)) (sym own_type ∙ (ap (type_of_target w) (sym same) ∙ shim_type))

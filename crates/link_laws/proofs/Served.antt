@@ -322,7 +322,7 @@ IsNoCell target = Unit {0}
 
 no_cell_given : (w : ComponentWorld) (shims : Option ShimsAt) (address : ℕ) (target : Target) → IsShimGiven w shims address target → IsNoCell target
 no_cell_given w None address target h = absurd h
-no_cell_given w (Some at) address target h = subst IsNoCell h.stands.same (of_purpose IsNoCell (λ function options. tt) (λ result options. tt) (λ e. tt) w h.stands.shim h.stands.purpose h.stands.stands_for)
+no_cell_given w (Some at) address target h = subst IsNoCell h.stands.same (of_purpose IsNoCell (λ function options. tt) (λ name with_options operand options. tt) (λ e. tt) w h.stands.shim h.stands.purpose h.stands.stands_for)
 
 module _ (w : ComponentWorld) (ok : IsWorld w) (m : Machine) (shims : Option ShimsAt) (filled : FilledAtEnd w ok m shims) where
   import_meets : (address at : ℕ) (function : WorldFunction) (options : List TargetOption) (h : IsLoweredFor w m.store at function options) → Forwards w ok m address at (core_signature h.type h.held) → CoreMeets w m None address (ItemIsLowering w m (resource_of w) function options)

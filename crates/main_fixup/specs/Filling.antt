@@ -17,11 +17,14 @@ use Rattle.comp_worlds.specs.Encodable.{IsEncodable}
 use Rattle.comp_worlds.specs.ExportOrder.{AreExportsInOrder}
 use Rattle.comp_worlds.specs.WorldContents.{items_of}
 use Rattle.comp_worlds.specs.declared.world.ComponentWorld.{ComponentWorld}
-use Rattle.comp_links.specs.Links.{link_of, lower_options, lower_realloc, task_return}
+use Rattle.comp_links.specs.Links.{link_of, lower_needs, lower_options, lower_realloc, task_return}
 use Rattle.comp_links.specs.Lists.{IsOriginOf}
 use Rattle.comp_links.specs.Roles.{is_used, is_used_of, import_encoding}
 use Rattle.comp_links.specs.Modules.{IsModule, UserImport, user_imports}
-use Rattle.comp_links.specs.Targets.{UserModule as User, ExportRef, WorldFunction, OfRoot, OfInterface, Lowered, BuiltIn, operand_if_any}
+use Rattle.comp_links.specs.Targets.{UserModule as User, ExportRef, WorldFunction, OfRoot, OfInterface, Lowered, BuiltIn, NoType, operand_if_any}
+use Rattle.comp_options.specs.Options.{needs, realloc_bit}
+use Rattle.shim_plan.specs.Needed.{function_options}
+use Rattle.shim_plan.specs.declared.memory_functions.MemoryFunction.{MemoryFunction}
 use Rattle.shim_plan.specs.declared.shims.Shim.{Shim}
 use Rattle.fixup_modules.specs.declared.instances.ImportedInstance.{ImportedInstance}
 use Rattle.fixup_modules.specs.declared.instances.ImportedInstance.TheVariants as from
@@ -29,6 +32,7 @@ use Rattle.world_shims.specs.WorldShims.{shims_of}
 use Rattle.comp_terms.specs.Generated.{shims_number, interface_imported, Purpose, target_of, HasPurpose}
 use Rattle.comp_terms.specs.Planned.{IsTypeOf, IsItemFor}
 use Rattle.comp_terms.specs.Rules.{Grows}
+use Rattle.comp_terms.specs.Shimmed.{shim_owner}
 use Rattle.comp_terms.specs.Terms.{IsImportedFunction, IsInstanceOf}
 use Rattle.wit_types.specs.declared.maps.TypeEncodingMaps.{TypeEncodingMaps}
 use Rattle.root_imports.specs.declared.root_scope.RootScope.{RootScope}
@@ -37,7 +41,7 @@ use Rattle.root_imports.specs.Imports.{FindsImports, FindsUsed, IsResult}
 use Rattle.root_imports.specs.Met.{AreExportsMet}
 use Rattle.core_options.specs.declared.fault.StateFault.{StateFault}
 use Rattle.core_options.specs.Causes.{IsCauseAmong}
-use Rattle.core_options.specs.MainOptions.{IsFunctionOf, AreUserInstances, OffersFunction, HasLowerOptions}
+use Rattle.core_options.specs.MainOptions.{IsFunctionOf, AreUserInstances, OffersFunction, HasLowerOptions, function_name, function_wanted}
 use Rattle.shim_targets.specs.ShimTargets.{StandsFor}
 use Rattle.main_fixup.specs.declared.sources.FillSources.{FillSources}
 
@@ -138,6 +142,14 @@ pub record IsReturnBehind (w : ComponentWorld) (s : Shim) (encoding : StringEnco
   pub reallocated : realloc ≡ lower_realloc w given.of
   pub linked : link_of w given.of given.core.role ≡ BuiltIn task_return (operand_if_any result) (lower_options w given.of given.core.role)
   pub is : IsResult w interface result
+
+-- the shim stands for imports of a wait, or of a function of error contexts, with this realloc
+pub record IsFunctionBehind (w : ComponentWorld) (s : Shim) (function : MemoryFunction) (realloc : Option ExportRef) : Type 0 where
+  pub given : UserImport
+  pub stands : StandsFor w s given
+  pub needed : lower_needs w given.core.role ≡ (function_options function).0
+  pub reallocated : IsTrue (needs (function_options function).0 realloc_bit) → realloc ≡ lower_realloc w given.of
+  pub linked : link_of w (shim_owner given.of given.core.role) given.core.role ≡ BuiltIn (function_name function) NoType (function_wanted function realloc)
 
 -- the core function of this index is what the shim stands for
 pub record ServesShim (w : ComponentWorld) (ds : List Def) (s : Shim) (index : ℕ) : Type 0 where

@@ -16,6 +16,7 @@ ghost use Rattle.shim_targets.specs.ShimTargets.{StandsForOne};
 
 use crate::exports::{export_of_adapter, export_of_module};
 use crate::functions::imported_function;
+use crate::functions_of_memory::{function_of_all, message_behind};
 use crate::modules::options_of_calls;
 use crate::sources::FillSources;
 use comp_lists::Text;
@@ -23,7 +24,7 @@ use comp_roles::MainOrAdapter;
 use comp_worlds::ComponentWorld;
 use core_options::{OptionSources, StateFault, options_for, return_from};
 use root_imports::RootScope;
-use shim_plan::{Shim, ShimKind};
+use shim_plan::{MemoryFunction, Shim, ShimKind};
 use standard_kinds::StringEncoding;
 use wit_data::{InterfaceId, Type};
 
@@ -111,11 +112,11 @@ fn return_behind(
 }
 
 /// The core function that a shim stands for: the lowering of the function at the root, or of an
-/// alias of that of an imported interface; the return from a function that the world exports; or an
-/// alias of what a user module exports.
+/// alias of that of an imported interface; the return from a function that the world exports; a
+/// wait, or a function of error contexts; or an alias of what a user module exports.
 ///
-/// `E7` where a lowering or a return needs a memory and main has none, `E8` where it needs a realloc and there
-/// is none for the imports of the module.
+/// `E7` where it needs a memory and main has none, `E8` where it needs a realloc and there is none
+/// for the imports of the module.
 pub(crate) fn function_behind(
     root: &mut RootScope<'_, ComponentWorld>,
     sources: &FillSources<'_>,
@@ -152,6 +153,18 @@ pub(crate) fn function_behind(
             let returned = return_behind(root, &given, shim, *interface, *result, *encoding)?;
             Ok(returned)
         }
+        ShimKind::WaitableSetWait => { function_of_all(root, sources, shim, MemoryFunction::Wait) }
+        ShimKind::WaitableSetPoll => { function_of_all(root, sources, shim, MemoryFunction::Poll) }
+        ShimKind::ErrorContextNew { encoding } => {
+            let function = MemoryFunction::NewError {
+                encoding: *encoding,
+            };
+            function_of_all(root, sources, shim, function)
+        }
+        ShimKind::ErrorContextDebugMessage {
+            for_module,
+            encoding,
+        } => message_behind(root, sources, shim, for_module, *encoding),
         ShimKind::ResourceDtor { module, export } => {
             export_behind(root, sources, shim, module, export)
         }

@@ -42,6 +42,10 @@ IsLinked (imports.MainModuleExport name kind) = Unit {0}
 IsLinked (imports.AdapterExport adapter name type) = Unit {0}
 IsLinked (imports.Item item) = Unit {0}
 IsLinked (imports.ExportedTaskReturn key interface function) = Unit {0}
+IsLinked imports.WaitableSetWait = Unit {0}
+IsLinked imports.WaitableSetPoll = Unit {0}
+IsLinked (imports.ErrorContextNew encoding) = Unit {0}
+IsLinked (imports.ErrorContextDebugMessage encoding) = Unit {0}
 IsLinked (imports.TlsBaseGet type) = Unit {0}
 IsLinked (imports.TlsBaseSet type) = Unit {0}
 IsLinked role = ⊥
@@ -58,6 +62,10 @@ linked_role w (imports.MainModuleExport name kind) h none = tt
 linked_role w (imports.AdapterExport adapter name type) h none = tt
 linked_role w (imports.Item item) h none = tt
 linked_role w (imports.ExportedTaskReturn key interface function) h none = tt
+linked_role w imports.WaitableSetWait h none = tt
+linked_role w imports.WaitableSetPoll h none = tt
+linked_role w (imports.ErrorContextNew encoding) h none = tt
+linked_role w (imports.ErrorContextDebugMessage encoding) h none = tt
 linked_role w (imports.TlsBaseGet type) h none = tt
 linked_role w (imports.TlsBaseSet type) h none = tt
 linked_role w role h none = absurd (true≢false (sym h ∙ ap is_some none))
@@ -108,6 +116,10 @@ built_in_linked w of (imports.MainModuleExport name kind) intrinsic h = absurd (
 built_in_linked w of (imports.AdapterExport adapter name type) intrinsic h = absurd (none-some intrinsic h)
 built_in_linked w of (imports.Item item) intrinsic h = absurd (none-some intrinsic h)
 built_in_linked w of (imports.ExportedTaskReturn key interface function) intrinsic h = absurd (none-some intrinsic h)
+built_in_linked w of imports.WaitableSetWait intrinsic h = absurd (none-some intrinsic h)
+built_in_linked w of imports.WaitableSetPoll intrinsic h = absurd (none-some intrinsic h)
+built_in_linked w of (imports.ErrorContextNew own) intrinsic h = absurd (none-some intrinsic h)
+built_in_linked w of (imports.ErrorContextDebugMessage own) intrinsic h = absurd (none-some intrinsic h)
 built_in_linked w of role intrinsic h = ap (link_of_intrinsic role) h
 
 -- such a function is given for it
@@ -138,6 +150,10 @@ needs_nothing w (imports.WorldFunc key function abi) intrinsic h = absurd (none-
 needs_nothing w (imports.InterfaceFunc key id function abi) intrinsic h = absurd (none-some intrinsic h)
 needs_nothing w (imports.ExportedTaskReturn key interface function) intrinsic h = absurd (none-some intrinsic h)
 needs_nothing w (imports.MainModuleMemory type) intrinsic h = absurd (none-some intrinsic h)
+needs_nothing w imports.WaitableSetWait intrinsic h = absurd (none-some intrinsic h)
+needs_nothing w imports.WaitableSetPoll intrinsic h = absurd (none-some intrinsic h)
+needs_nothing w (imports.ErrorContextNew own) intrinsic h = absurd (none-some intrinsic h)
+needs_nothing w (imports.ErrorContextDebugMessage own) intrinsic h = absurd (none-some intrinsic h)
 needs_nothing w role intrinsic h = record { encoding = refl; memory = refl; options = refl }
 
 pub built_in_supplied : (w : ComponentWorld) (of : UserModule) (role : Import) (intrinsic : Intrinsic) → plain_intrinsic w.can_use_context_slot_1 role ≡ Some intrinsic → IsSuppliedImport w of role
@@ -146,5 +162,5 @@ built_in_supplied w of role intrinsic h =
     record {
       encoding = λ needed. absurd (true≢false (sym needed ∙ n.encoding));
       memory = λ needed. absurd (true≢false (sym needed ∙ n.memory));
-      realloc = λ shared needed. absurd (true≢false (sym needed ∙ ap (λ set. needs set 2) n.options));
+      realloc = λ shared apart needed. absurd (true≢false (sym needed ∙ ap (λ set. needs set 2) n.options));
     }

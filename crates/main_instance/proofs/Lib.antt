@@ -10,3 +10,4 @@ pub mod BuiltIns
 pub mod OfMain
 pub mod Cells
 pub mod Returns
+pub mod Functions

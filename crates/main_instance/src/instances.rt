@@ -42,7 +42,7 @@ use comp_lists::{Keyed, Seq, Text};
 use comp_worlds::{ComponentWorld, Import, ImportInstance};
 use core_options::{StateFault, UserModule};
 use root_imports::RootScope;
-use shim_plan::{ShimKind, Shims};
+use shim_plan::{MemoryFunction, ShimKind, Shims};
 use standard_kinds::{ExportKind, StringEncoding};
 use wit_data::{AbiVariant, InterfaceId, TypeId, WorldKey};
 
@@ -429,6 +429,28 @@ impl ImportSources<'_> {
                     function,
                 };
                 let index = self.give_return(root, place, import, returned)?;
+                Ok((ExportKind::Func, index))
+            }
+            Import::WaitableSetWait => {
+                let index = self.give_function(root, place, import, MemoryFunction::Wait)?;
+                Ok((ExportKind::Func, index))
+            }
+            Import::WaitableSetPoll => {
+                let index = self.give_function(root, place, import, MemoryFunction::Poll)?;
+                Ok((ExportKind::Func, index))
+            }
+            Import::ErrorContextNew { encoding } => {
+                let function = MemoryFunction::NewError {
+                    encoding: *encoding,
+                };
+                let index = self.give_function(root, place, import, function)?;
+                Ok((ExportKind::Func, index))
+            }
+            Import::ErrorContextDebugMessage { encoding } => {
+                let function = MemoryFunction::ErrorMessage {
+                    encoding: *encoding,
+                };
+                let index = self.shim_of_function(root, place, import, function)?;
                 Ok((ExportKind::Func, index))
             }
             Import::TlsBaseGet { .. } => {

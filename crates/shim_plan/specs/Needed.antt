@@ -1,19 +1,23 @@
 -- The shims that a module of a world needs, in order: one for each import that is called through a
 -- table, followed by one for the realloc of that call, that returns from a function with a memory,
--- or that an adapter exports; and one for each destructor that the module exports (Canonical ABI:
--- `canon lower`, `canon task.return`, `realloc`; component model, explainer: the destructor of a
--- resource type). Streams and futures, waits and error contexts have no rows here.
+-- that waits or makes an error context in one, that reads the debug message of one, followed by one
+-- for its realloc, or that an adapter exports; and one for each destructor that the module exports
+-- (Canonical ABI: `canon lower`, `canon task.return`, `canon waitable-set.{wait,poll}`, `canon
+-- error-context.{new,debug-message}`, `realloc`; component model, explainer: the destructor of a
+-- resource type). Streams and futures have no rows here.
 use Rattle.std.specs.Prelude.{ℕ, Bool, true, false, ◌&&◌, not, List, [], ◌∷◌, ◌++◌, Option, Some, None, unwrap_or, is_some, if◌then◌else◌, codes}
 use Rattle.std.specs.List.{flat_map, AllByRecursion}
 use Rattle.std.specs.Map.{lookup}
 use Rattle.std.specs.Option.{option_and_then}
 use Rattle.standard_kinds.specs.declared.kinds.StringEncoding.{StringEncoding}
+use Rattle.standard_kinds.specs.declared.kinds.StringEncoding.TheVariants.{UTF8}
 use Rattle.wit_data.specs.Signatures.{signature, returning}
 use Rattle.wit_data.specs.declared.functions.AbiVariant.TheVariants.{GuestImport}
 use Rattle.wit_data.specs.declared.functions.Function.{Function}
 use Rattle.wit_data.specs.declared.ids.InterfaceId.{InterfaceId}
 use Rattle.wit_data.specs.declared.ids.TypeId.{TypeId}
 use Rattle.wit_data.specs.declared.signatures.WasmSignature.{WasmSignature}
+use Rattle.wit_data.specs.declared.signatures.WasmType.{WasmType}
 use Rattle.wit_data.specs.declared.signatures.WasmType.TheVariants.{I32}
 use Rattle.wit_data.specs.declared.worlds.WorldKey.{WorldKey}
 use Rattle.world_values.specs.Mentions.{HasReturned}
@@ -27,7 +31,7 @@ use Rattle.comp_roles.specs.declared.imports.Import.{Import}
 use Rattle.comp_roles.specs.declared.imports.Import.TheVariants as imports
 use Rattle.comp_roles.specs.declared.libraries.MainOrAdapter.{MainOrAdapter}
 use Rattle.comp_roles.specs.declared.libraries.MainOrAdapter.TheVariants as users
-use Rattle.comp_options.specs.Options.{needs, memory_bit, realloc_bit, task_return_set}
+use Rattle.comp_options.specs.Options.{needs, memory_bit, realloc_bit, task_return_set, wait_set, error_new_set, error_message_set}
 use Rattle.comp_options.specs.declared.required.RequiredOptions.{RequiredOptions}
 use Rattle.comp_worlds.specs.Imported.{is_same_import_key}
 use Rattle.comp_worlds.specs.Lookups.{found_module, resolved_realloc}
@@ -42,6 +46,9 @@ use Rattle.comp_worlds.specs.declared.world.ComponentWorld.{ComponentWorld}
 use Rattle.comp_worlds.specs.declared.world.ValidatedModule.{ValidatedModule}
 use Rattle.shim_plan.specs.Adapted.{Adapted, adapted_of, adapted_needs}
 use Rattle.shim_plan.specs.declared.calls.FunctionCall.{FunctionCall}
+use Rattle.shim_plan.specs.declared.memory_functions.MemoryFunction.{MemoryFunction}
+use Rattle.shim_plan.specs.declared.memory_functions.MemoryFunction.TheVariants as functions
+use Rattle.shim_plan.specs.declared.kinds.ShimKind.{ShimKind}
 use Rattle.shim_plan.specs.declared.kinds.ShimKind.TheVariants as kinds
 use Rattle.shim_plan.specs.declared.needs.NeededShim.{NeededShim}
 use Rattle.shim_plan.specs.declared.returns.ReturnedFunction.{ReturnedFunction}
@@ -189,11 +196,75 @@ returns_through w r = needs (return_options w r).0 memory_bit && not (is_some (s
 abbrev pub return_needs : ComponentWorld → MainOrAdapter → ValidatedModule → Returned → List NeededShim
 return_needs w which m r = if returns_through w r then return_shims w which r (encoding_of_return m r) else []
 
--- what another module is to give is there later; a call needs what its lowering does
+-- ---- waits and error contexts
+
+abbrev pub memory_function : Import → Option MemoryFunction
+memory_function imports.WaitableSetWait = Some functions.Wait
+memory_function imports.WaitableSetPoll = Some functions.Poll
+memory_function (imports.ErrorContextNew encoding) = Some (functions.NewError encoding)
+memory_function (imports.ErrorContextDebugMessage encoding) = Some (functions.ErrorMessage encoding)
+memory_function role = None
+
+abbrev pub function_options : MemoryFunction → RequiredOptions
+function_options functions.Wait = record { 0 = wait_set }
+function_options functions.Poll = record { 0 = wait_set }
+function_options (functions.NewError encoding) = record { 0 = error_new_set }
+function_options (functions.ErrorMessage encoding) = record { 0 = error_message_set }
+
+-- the encoding of its text; a wait passes none
+abbrev pub function_encoding : MemoryFunction → StringEncoding
+function_encoding functions.Wait = UTF8
+function_encoding functions.Poll = UTF8
+function_encoding (functions.NewError encoding) = encoding
+function_encoding (functions.ErrorMessage encoding) = encoding
+
+abbrev pub function_text : MemoryFunction → List ℕ
+function_text functions.Wait = codes "waitable-set.wait"
+function_text functions.Poll = codes "waitable-set.poll"
+function_text (functions.NewError encoding) = codes "error-new"
+function_text (functions.ErrorMessage encoding) = codes "error-debug-message"
+
+-- waits, and making an error context, are of no module
+abbrev pub function_kind : MainOrAdapter → MemoryFunction → ShimKind
+function_kind which functions.Wait = kinds.WaitableSetWait
+function_kind which functions.Poll = kinds.WaitableSetPoll
+function_kind which (functions.NewError encoding) = kinds.ErrorContextNew encoding
+function_kind which (functions.ErrorMessage encoding) = kinds.ErrorContextDebugMessage which encoding
+
+-- a set of waitables and an address, or a text, and a number for it; an error context and an address, where its message is put
+abbrev pub function_results : MemoryFunction → List WasmType
+function_results (functions.ErrorMessage encoding) = []
+function_results function = I32 ∷ []
+
+abbrev pub function_sig : MemoryFunction → WasmSignature
+function_sig function = record { params = I32 ∷ I32 ∷ []; results = function_results function; indirect_params = false; retptr = false }
+
+abbrev pub function_shim : MainOrAdapter → MemoryFunction → NeededShim
+function_shim which function = record { options = function_options function; debug_name = function_text function; kind = function_kind which function; sig = function_sig function }
+
+-- a message is read behind the module alone, into memory that its realloc gives; the others need a
+-- shim unless main imports its memory
+abbrev pub has_own_shim : ComponentWorld → MemoryFunction → Bool
+has_own_shim w (functions.ErrorMessage encoding) = true
+has_own_shim w function = not (is_some (shared_memory w))
+
+abbrev pub through_needs : ComponentWorld → MainOrAdapter → ValidatedModule → MemoryFunction → List NeededShim
+through_needs w which m function = function_shim which function ∷ realloc_needs w which m sites.AfterInstantiation (function_options function)
+
+abbrev pub function_needs : ComponentWorld → MainOrAdapter → ValidatedModule → MemoryFunction → List NeededShim
+function_needs w which m function =
+    if has_own_shim w function then through_needs w which m function else []
+
+-- a call needs what its lowering does
+abbrev pub called_needs : ComponentWorld → MainOrAdapter → ValidatedModule → CoreImport → Option MemoryFunction → List NeededShim
+called_needs w which m i None = call_needs w which m i (call_of i.role)
+called_needs w which m i (Some function) = function_needs w which m function
+
 abbrev pub own_needs : ComponentWorld → MainOrAdapter → ValidatedModule → CoreImport → Option Returned → List NeededShim
-own_needs w which m i None = call_needs w which m i (call_of i.role)
+own_needs w which m i None = called_needs w which m i (memory_function i.role)
 own_needs w which m i (Some r) = return_needs w which m r
 
+-- what another module is to give is there later
 abbrev pub role_needs : ComponentWorld → MainOrAdapter → ValidatedModule → CoreImport → Option Adapted → List NeededShim
 role_needs w which m i None = own_needs w which m i (returned_of i.role)
 role_needs w which m i (Some a) = adapted_needs i a

@@ -140,7 +140,8 @@ pub(crate) fn copy_task_return(
     })
 }
 
-fn copy_debug_message(
+/// The kind of the debug message of an error context.
+pub(crate) fn copy_debug_message(
     alloc: Global,
     for_module: &MainOrAdapter,
     encoding: StringEncoding,

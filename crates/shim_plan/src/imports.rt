@@ -13,6 +13,7 @@ use crate::adapted::{adapted_of, add_adapted};
 use crate::calls::{FunctionCall, call_of, encoding_of, lowering_of};
 use crate::copies::copy_lowering;
 use crate::fault::ShimFault;
+use crate::memory_functions::memory_function;
 use crate::modules::UserModule;
 use crate::needs::{NeededShim, append, copy_sig};
 use crate::reallocs::ReallocSite;
@@ -215,8 +216,32 @@ impl UserModule<'_> {
         }
     }
 
-    /// Adds the shims of a call, if the import is one.
+    /// Adds the shims of a call of a function of the world, if the import is one.
     fn add_called(
+        &self,
+        needs: &mut Vec<NeededShim>,
+        alloc: Global,
+        import: &NamedImport<'_>,
+    ) -> Result<(), ShimFault>
+        ensures ok { OnOk result (needs.new.items
+            ≡ needs.old.items
+            ++ specs.called_needs self.now.world.now self.now.which.now self.now.found.now
+            (core_import import.now) None) }
+        ensures encoded { OnOk result (unencoded_role self.now.world.now self.now.found.now
+            (core_import import.now) None
+            ≡ []) }
+        ensures cause { IfErr result (Explains (unencoded_role self.now.world.now self.now.found.now
+            (core_import import.now) None)) }
+    {
+        match call_of(alloc, import.role)? {
+            Some(call) => self.add_call(needs, alloc, import, &call),
+            None => Ok(()),
+        }
+    }
+
+    /// Adds the shims of a function that works on a memory, or of a call, if the import is one.
+    #[tactic(auto, using(crate::proofs::Adapting::uncalled))]
+    fn add_unreturned(
         &self,
         needs: &mut Vec<NeededShim>,
         alloc: Global,
@@ -232,13 +257,16 @@ impl UserModule<'_> {
         ensures cause { IfErr result (Explains (unencoded_role self.now.world.now self.now.found.now
             (core_import import.now) None)) }
     {
-        match call_of(alloc, import.role)? {
-            Some(call) => self.add_call(needs, alloc, import, &call),
-            None => Ok(()),
+        match memory_function(import.role) {
+            Some(function) => {
+                self.add_function(needs, alloc, function)?;
+                Ok(())
+            }
+            None => self.add_called(needs, alloc, import),
         }
     }
 
-    /// Adds the shims of a return or a call, if the import is one.
+    /// Adds the shims of a return, a function that works on a memory, or a call, if the import is one.
     #[tactic(auto, using(crate::proofs::Returning::function_there))]
     fn add_role(
         &self,
@@ -259,7 +287,7 @@ impl UserModule<'_> {
     {
         match returned_of(import.role) {
             Some(returned) => self.add_returned(needs, alloc, import, &returned),
-            None => self.add_called(needs, alloc, import),
+            None => self.add_unreturned(needs, alloc, import),
         }
     }
 

@@ -21,7 +21,7 @@ use Rattle.comp_terms.specs.Generated.{export_of_kind}
 use Rattle.shim_targets.specs.ShimTargets.{which_of, kind_of_import, StandsFor, StandsForExport, StandsForOne}
 
 -- whether a kind is that of a shim for an export
-abbrev of_export : ShimKind → Bool
+abbrev pub of_export : ShimKind → Bool
 of_export (kinds.Adapter adapter name) = true
 of_export (kinds.ResourceDtor which name) = true
 of_export (kinds.Realloc which name) = true
@@ -32,6 +32,10 @@ import_kind : (of : UserModule) (role : Import) (encoding : StringEncoding) (kin
 import_kind of (imports.WorldFunc key name abi) encoding kind e = ap of_export (sym (same_Some (kinds.IndirectLowering None (record { name = name; abi = abi }) (which_of of) encoding) kind e))
 import_kind of (imports.InterfaceFunc key id name abi) encoding kind e = ap of_export (sym (same_Some (kinds.IndirectLowering (Some key) (record { name = name; abi = abi }) (which_of of) encoding) kind e))
 import_kind of (imports.ExportedTaskReturn key interface f) encoding kind e = ap of_export (sym (same_Some (kinds.TaskReturn interface f.name f.result (which_of of) encoding) kind e))
+import_kind of imports.WaitableSetWait encoding kind e = ap of_export (sym (same_Some kinds.WaitableSetWait kind e))
+import_kind of imports.WaitableSetPoll encoding kind e = ap of_export (sym (same_Some kinds.WaitableSetPoll kind e))
+import_kind of (imports.ErrorContextNew own) encoding kind e = ap of_export (sym (same_Some (kinds.ErrorContextNew own) kind e))
+import_kind of (imports.ErrorContextDebugMessage own) encoding kind e = ap of_export (sym (same_Some (kinds.ErrorContextDebugMessage (which_of of) own) kind e))
 import_kind of role encoding kind e = absurd (none-some kind e)
 
 -- that of a shim for an export is
@@ -43,7 +47,7 @@ export_kind kind e is = absurd (none-some e is)
 
 module _ (w : ComponentWorld) (s : Shim) where
   -- a shim of another kind stands for an import
-  for_import : of_export s.kind ≡ false → StandsForOne w s → (i : UserImport) × StandsFor w s i
+  pub for_import : of_export s.kind ≡ false → StandsForOne w s → (i : UserImport) × StandsFor w s i
   for_import other (inl h) = h
   for_import other (inr h) = absurd (true≢false (sym (export_kind s.kind h.0 h.1.is.of_kind) ∙ other))
 

@@ -51,7 +51,7 @@ Stands w n = (place : ℕ) → StandsForOne w (shim_at place n)
 -- ---- reallocs
 
 -- none after instantiation, as main has no task hook
-no_realloc_after : (w : ComponentWorld) → IsEncodable w → (which : MainOrAdapter) (m : ValidatedModule) (options : RequiredOptions) → realloc_needs w which m sites.AfterInstantiation options ≡ []
+pub no_realloc_after : (w : ComponentWorld) → IsEncodable w → (which : MainOrAdapter) (m : ValidatedModule) (options : RequiredOptions) → realloc_needs w which m sites.AfterInstantiation options ≡ []
 no_realloc_after w ok which m options =
     ap (λ b. if needs options.0 2 && b then realloc_shims (import_realloc w which m) else []) (no_hook w ok)
     ∙ ap (λ b. if b then realloc_shims (import_realloc w which m) else []) (and-false (needs options.0 2))
@@ -65,6 +65,10 @@ no_realloc_before w which m options e = ap (λ (b : Bool). if b && true then rea
 -- the shim of a call is named by its import
 call_named : (of : UserModule) (i : CoreImport) (role : Import) (encoding : StringEncoding) (interface : Option WorldKey) (function : LoweringKey) (which : MainOrAdapter) → kind_of_import of role encoding ≡ Some (kinds.IndirectLowering interface function which encoding) → indirect_name i ≡ shim_name i role
 call_named of i (imports.ExportedTaskReturn key back f) encoding interface function which is = cc
+call_named of i imports.WaitableSetWait encoding interface function which is = cc
+call_named of i imports.WaitableSetPoll encoding interface function which is = cc
+call_named of i (imports.ErrorContextNew own) encoding interface function which is = cc
+call_named of i (imports.ErrorContextDebugMessage own) encoding interface function which is = cc
 call_named of i role encoding interface function which is = refl
 
 module _ (w : ComponentWorld) (of : UserModule) (m : ValidatedModule) (i : CoreImport) (interface : Option WorldKey) (key : WorldKey) (name : List ℕ) (abi : AbiVariant) (h : IsLowered w i.role interface key name abi) where
@@ -129,7 +133,7 @@ module _ (w : ComponentWorld) (of : UserModule) (m : ValidatedModule) (i : CoreI
         };
         options = sym h.needs;
         memory = ap (λ (n : ℕ). needs n 1) h.needs ∙ memory;
-        unshared = unshared;
+        unshared = λ own. unshared;
         encoding = encoding;
         encoded = ap (option_and_then (encoding_in i.role)) found ∙ h.encoding m ∙ encoded;
         kind = h.kind of encoding;

@@ -41,6 +41,10 @@ options_needed w ok i there called = by i.core.role refl (import_role w ok i the
         let l = interface_call w ok i there key id function abi is h in
         ap (λ o. (options_of_lowering o).0) l.lowered ∙ same_options _ abi w.resolve.types l.function ∙ sym l.needs
     by (imports.ExportedTaskReturn key interface f) is h = absurd (true≢false (sym called ∙ ap (λ (r : Import). is_some (call_of r)) is))
+    by imports.WaitableSetWait is h = absurd (true≢false (sym called ∙ ap (λ (r : Import). is_some (call_of r)) is))
+    by imports.WaitableSetPoll is h = absurd (true≢false (sym called ∙ ap (λ (r : Import). is_some (call_of r)) is))
+    by (imports.ErrorContextNew own) is h = absurd (true≢false (sym called ∙ ap (λ (r : Import). is_some (call_of r)) is))
+    by (imports.ErrorContextDebugMessage own) is h = absurd (true≢false (sym called ∙ ap (λ (r : Import). is_some (call_of r)) is))
     by (imports.ImportedResourceDrop key interface id) is h = refl
     by (imports.ExportedResourceDrop key id) is h = refl
     by (imports.ExportedResourceRep key id) is h = refl

@@ -23,3 +23,5 @@ pub mod Worked
 pub mod Returned
 mod ExportKeys
 mod ReturnNeeds
+mod FunctionNeeds
+pub mod Owners

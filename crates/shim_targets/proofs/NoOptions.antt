@@ -1,5 +1,5 @@
 -- The options of a call that needs no memory name nothing that a module exports.
-use Rattle.std.proofs.Common.{◌≡◌, ℕ, false, List, Option, Some, None, refl}
+use Rattle.std.proofs.Common.{◌≡◌, ℕ, false, List, Option, Some, None, refl, true≢false}
 use Rattle.std.specs.Option.{option_map_or}
 use Rattle.wit_data.specs.declared.functions.AbiVariant.{AbiVariant}
 use Rattle.wit_data.specs.declared.functions.Function.{Function}
@@ -23,4 +23,8 @@ pub role_without : (w : ComponentWorld) (role : Import) → needs (lower_needs w
 role_without w (imports.WorldFunc key function abi) e = function_without abi w.resolve.types (root_function_at (items_of w).imports key) e
 role_without w (imports.InterfaceFunc key id function abi) e = function_without abi w.resolve.types (found function (functions_of w.resolve id)) e
 role_without w (imports.ExportedTaskReturn key interface f) e = record { memory = e; realloc = no_realloc_returned w.resolve.types f }
+role_without w imports.WaitableSetWait e = absurd (true≢false e)
+role_without w imports.WaitableSetPoll e = absurd (true≢false e)
+role_without w (imports.ErrorContextNew own) e = absurd (true≢false e)
+role_without w (imports.ErrorContextDebugMessage own) e = absurd (true≢false e)
 role_without w role e = record { memory = refl; realloc = refl }

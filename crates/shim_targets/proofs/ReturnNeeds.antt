@@ -54,7 +54,7 @@ module _ (w : ComponentWorld) (ok : IsEncodable w) (of : UserModule) (m : Valida
       };
       options = refl;
       memory = memory;
-      unshared = unshared;
+      unshared = λ own. unshared;
       encoding = encoding;
       encoded = ap (option_and_then (encoding_in (imports.ExportedTaskReturn key interface f))) found ∙ encoded;
       kind = refl;

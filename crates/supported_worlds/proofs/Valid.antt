@@ -316,6 +316,10 @@ module _ (p : WorldParts) (present : HasSoundParts p) (linked : AreLinked p) (en
   import_role owed known (imports.ExportedResourceRep key id) h own called there = own_resource owed known key id (codes "exported-rep") own
   import_role owed known (imports.ExportedResourceNew key id) h own called there = own_resource owed known key id (codes "exported-new") own
   import_role owed known (imports.ExportedTaskReturn key interface f) h own called there = own_function owed known key interface f own
+  import_role owed known imports.WaitableSetWait h own called there = tt
+  import_role owed known imports.WaitableSetPoll h own called there = tt
+  import_role owed known (imports.ErrorContextNew encoding) h own called there = tt
+  import_role owed known (imports.ErrorContextDebugMessage encoding) h own called there = tt
   import_role owed known (imports.MainModuleMemory type) h own called there = there
   import_role owed known (imports.MainModuleExport name kind) h own called there = there
   import_role owed known (imports.AdapterExport adapter name type) h own called there = there
@@ -429,6 +433,10 @@ module _ (p : WorldParts) (present : HasSoundParts p) (linked : AreLinked p) (en
   fits_role (imports.ExportedResourceRep key id) type h fits there = of_type (type_of_import p.resolve (items_of p) (imports.ExportedResourceRep key id)) type refl fits
   fits_role (imports.ExportedResourceNew key id) type h fits there = of_type (type_of_import p.resolve (items_of p) (imports.ExportedResourceNew key id)) type refl fits
   fits_role (imports.ExportedTaskReturn key interface f) type h fits there = of_type (type_of_import p.resolve (items_of p) (imports.ExportedTaskReturn key interface f)) type refl fits
+  fits_role imports.WaitableSetWait type h fits there = of_type (type_of_import p.resolve (items_of p) imports.WaitableSetWait) type refl fits
+  fits_role imports.WaitableSetPoll type h fits there = of_type (type_of_import p.resolve (items_of p) imports.WaitableSetPoll) type refl fits
+  fits_role (imports.ErrorContextNew encoding) type h fits there = of_type (type_of_import p.resolve (items_of p) (imports.ErrorContextNew encoding)) type refl fits
+  fits_role (imports.ErrorContextDebugMessage encoding) type h fits there = of_type (type_of_import p.resolve (items_of p) (imports.ErrorContextDebugMessage encoding)) type refl fits
   fits_role (imports.MainModuleMemory memory) type h fits there = of_type (type_of_import p.resolve (items_of p) (imports.MainModuleMemory memory)) type refl fits
   fits_role (imports.MainModuleExport name kind) type h fits there = there
   fits_role (imports.AdapterExport adapter name function) type h fits there = of_type (type_of_import p.resolve (items_of p) (imports.AdapterExport adapter name function)) type refl fits

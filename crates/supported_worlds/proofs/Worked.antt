@@ -27,6 +27,7 @@ use Rattle.wit_data.specs.declared.worlds.WorldKey.TheVariants as keys
 use Rattle.wit_data.specs.Values.{values_from}
 use Rattle.comp_roles.specs.declared.exports.Export.TheVariants as exports
 use Rattle.comp_roles.specs.declared.imports.Import.TheVariants as imports
+use Rattle.comp_roles.specs.declared.payloads.PayloadInfo.{PayloadInfo}
 use Rattle.comp_roles.specs.declared.imports.ImportInstance.TheVariants as instances
 use Rattle.comp_roles.specs.declared.libraries.Item.{Item}
 use Rattle.comp_roles.specs.declared.libraries.MainOrAdapter.TheVariants as modules
@@ -532,8 +533,8 @@ task_return_of_none_is_reported : own_role_left_out (resolve_of []) one_exported
 task_return_of_none_is_reported = refl
 
 -- of the imports from one module the first that is left out is reported
-first_field_is_reported : group_left_out [] [] 0 (codes "$root", instances.Names ((codes "f", imports.WorldFunc f (codes "f") GuestImport) ∷ (codes "i", imports.BackpressureInc) ∷ (codes "s", imports.WaitableSetWait) ∷ (codes "p", imports.WaitableSetPoll) ∷ [])) ≡ Some (codes "waitable-set-wait")
-first_field_is_reported = refl
+first_field_is_reported : (p : PayloadInfo) → group_left_out [] [] 0 (codes "$root", instances.Names ((codes "f", imports.WorldFunc f (codes "f") GuestImport) ∷ (codes "w", imports.WaitableSetWait) ∷ (codes "s", imports.StreamNew p) ∷ (codes "n", imports.FutureNew p) ∷ [])) ≡ Some (codes "stream-new")
+first_field_is_reported p = refl
 
 whole_is_encoded : group_left_out [] [] 0 (codes "m", instances.Whole modules.Main) ≡ None
 whole_is_encoded = refl

@@ -3,7 +3,7 @@
 -- functions made of these and of named types of interfaces that are imported or exported, types
 -- that it imports, in their order and with all resources of the root among them, core imports and
 -- exports with the role of such a function, core imports that drop a resource, or make or read a
--- handle of one that their module has to export, or return from a function that is exported, or are main's memory, an export of main, a
+-- handle of one that their module has to export, or return from a function that is exported, or are a wait, a function of error contexts, main's memory, an export of main, a
 -- function that an adapter exports, an item of an argument of a library, a built-in function
 -- without operands or a function of the thread-local base, and core exports that are a post-return,
 -- a callback, a destructor, a memory or a realloc; of main, of adapters and of libraries. All else
@@ -106,7 +106,7 @@ resources_left_out types entries = unless (are_in_place types 0 (imported_number
 
 -- an import of a module, unless it is a function at the root or of an interface, or drops a
 -- resource, by the places of the types, and that of the root; or has a role that an exported
--- resource or an exported function may have; or is main's memory, an export of main, a function that an adapter exports, an
+-- resource or an exported function may have; or is a wait, a function of error contexts, main's memory, an export of main, a function that an adapter exports, an
 -- item of an argument, a built-in function without operands, or a function of the thread-local base
 abbrev pub import_left_out : List TypeDef → List ℕ → ℕ → Import → Option (List ℕ)
 import_left_out types places root (imports.WorldFunc (keys.Name text) name GuestImport) = None
@@ -118,6 +118,10 @@ import_left_out types places root (imports.ExportedResourceDrop key id) = None
 import_left_out types places root (imports.ExportedResourceRep key id) = None
 import_left_out types places root (imports.ExportedResourceNew key id) = None
 import_left_out types places root (imports.ExportedTaskReturn key interface f) = None
+import_left_out types places root imports.WaitableSetWait = None
+import_left_out types places root imports.WaitableSetPoll = None
+import_left_out types places root (imports.ErrorContextNew encoding) = None
+import_left_out types places root (imports.ErrorContextDebugMessage encoding) = None
 import_left_out types places root (imports.MainModuleMemory type) = None
 import_left_out types places root (imports.MainModuleExport name kind) = None
 import_left_out types places root (imports.AdapterExport adapter name type) = None
