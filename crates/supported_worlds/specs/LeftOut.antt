@@ -3,11 +3,12 @@
 -- functions made of these and of named types of interfaces that are imported or exported, types
 -- that it imports, in their order and with all resources of the root among them, core imports and
 -- exports with the role of such a function, core imports that drop a resource, or make or read a
--- handle of one that their module has to export, or return from a function that is exported, or are a wait, a function of error contexts, main's memory, an export of main, a
--- function that an adapter exports, an item of an argument of a library, a built-in function
--- without operands or a function of the thread-local base, and core exports that are a post-return,
--- a callback, a destructor, a memory or a realloc; of main, of adapters and of libraries. All else
--- is left out, and reported by the name of its kind. (The names are those of this project's record.)
+-- handle of one that their module has to export, or return from a function that is exported, or are
+-- a wait, a function of error contexts, main's memory, an export of main, a function that an adapter
+-- exports, an item of an argument of a library, a built-in function without operands or a function of
+-- the thread-local base, and core exports that are a post-return, a callback, a destructor, a memory or
+-- a realloc; of main, of adapters and of libraries. All else is left out, and reported by the name of
+-- its kind. (The names are those of this project's record.)
 use Rattle.std.specs.Prelude.{ℕ, Bool, true, ◌++◌, List, length, codes, Option, Some, None, Result, Ok, Err, get_or, is_some, if◌then◌else◌}
 use Rattle.std.specs.List.{flat_map}
 use Rattle.std.specs.Map.{lookup}
@@ -106,8 +107,9 @@ resources_left_out types entries = unless (are_in_place types 0 (imported_number
 
 -- an import of a module, unless it is a function at the root or of an interface, or drops a
 -- resource, by the places of the types, and that of the root; or has a role that an exported
--- resource or an exported function may have; or is a wait, a function of error contexts, main's memory, an export of main, a function that an adapter exports, an
--- item of an argument, a built-in function without operands, or a function of the thread-local base
+-- resource or an exported function may have; or is a wait, a function of error contexts, main's
+-- memory, an export of main, a function that an adapter exports, an item of an argument, a built-in
+-- function without operands, or a function of the thread-local base
 abbrev pub import_left_out : List TypeDef → List ℕ → ℕ → Import → Option (List ℕ)
 import_left_out types places root (imports.WorldFunc (keys.Name text) name GuestImport) = None
 import_left_out types places root (imports.WorldFunc (keys.Name text) name GuestImportAsync) = None
