@@ -41,7 +41,7 @@ use Rattle.shim_targets.specs.ShimTargets.{which_of}
 use Rattle.world_shims.specs.WorldShims.{shims_of}
 
 -- what the link table names for a function that needs no realloc
-named : MemoryFunction → Target
+abbrev named : MemoryFunction → Target
 named f = BuiltIn (function_name f) NoType (function_wanted f None)
 
 function_linked : (w : ComponentWorld) (of : User) (m : ValidatedModule) → module_found w of ≡ Some m → (role : Import) (function : MemoryFunction) → memory_function role ≡ Some function → needs (function_options function).0 realloc_bit ≡ false → link_of w of role ≡ named function
