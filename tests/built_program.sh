@@ -51,7 +51,7 @@ holds() {
     if cmp -s "$2" "$3"; then echo "ok: $1"; else echo "FAILED: $1"; failed=1; fi
 }
 
-usage='usage: component_new new OUT MAIN [options] | defs FILE'
+usage='usage: component_new new OUT MAIN [options] | record OUT MODULE | defs FILE | explain CODE'
 expect 'a module with its record' 0 '' new made.wasm main.wasm
 holds 'its component' made.wasm "$top/examples/component.wasm"
 expect 'the empty module' 0 '' new empty_made.wasm empty.wasm
@@ -203,7 +203,7 @@ if [ "$got" -eq 1 ] && cmp -s err line; then echo 'ok: a full output'; else echo
 if [ "$(cat status)" -eq 1 ] && [ ! -s err ]; then echo 'ok: an output that nobody reads'; else echo 'FAILED: an output that nobody reads'; failed=1; fi
 
 cat >help <<'HELP'
-usage: component_new new OUT MAIN [options] | defs FILE
+usage: component_new new OUT MAIN [options] | record OUT MODULE | defs FILE | explain CODE
   --adapt NAME=FILE  new: add the adapter in FILE under this name; any number of times
   --canonical        new: have the canonical part of versions in names, and the rest as suffixes
   --no-merge         new: don't merge imports of compatible versions
@@ -216,6 +216,40 @@ printf 'component_new 0.1.0, proved with %s\n' "$(rt version | sed 's/^.* logic/
 for word in --help -h help; do prints "$word" 0 help '' "$word"; done
 prints 'the version, and the logic' 0 version '' --version
 expect 'help and another word' 2 "$usage" --help new
+
+# The rows of docs/ERRORS.md.
+cat >row <<'ROW'
+F13: a main module that is to get a realloc, for an adapter that has a stack, has no
+function of its own, or no exports.
+Example: `F13 NoFunctions`
+What to do: export a `cabi_realloc` from main.
+ROW
+prints 'what a code means' 0 row '' explain F13
+expect 'a code that is not there' 2 "$usage" explain P99
+expect 'a code of the libraries' 2 "$usage" explain B1
+expect 'two codes' 2 "$usage" explain F13 F14
+
+# A module with its record in the place of its package has the same component.
+recorded() {
+    example=$1
+    shift
+    expect "$example" 0 '' record recorded.wasm "$top/examples/$example"
+    expect "$example: its component" 0 '' new made.wasm "$top/examples/$example" "$@"
+    expect "$example: that of the module with its record" 0 '' new again.wasm recorded.wasm "$@"
+    holds "$example: they are the same" made.wasm again.wasm
+}
+for example in main counters/main log/main people/main search/main squares/main store/main strings/main; do
+    recorded "$example.wasm"
+done
+expect 'an adapter with its record' 0 '' record adapter.wasm "$top/examples/lines/adapter.wasm"
+recorded lines/main.wasm --adapt lines=adapter.wasm
+holds 'and the component of both' again.wasm "$top/examples/lines/component.wasm"
+if grep -qa '"version":1' recorded.wasm; then echo 'ok: it has a record'; else echo 'FAILED: it has no record'; failed=1; fi
+expect 'a package that lacks its sections has no record' 1 'error: E3 Lower: P4 PackageBinary section=0 reason=Encoding' record kept.wasm cut_package.wasm
+expect 'no such MODULE' 1 'error: read "none.wasm"' record kept.wasm none.wasm
+expect 'no such folder of OUT for a record' 1 'error: write "none/made.wasm"' record none/made.wasm main.wasm
+expect 'no MODULE' 2 "$usage" record kept.wasm
+expect 'a flag of another command behind MODULE' 2 "$usage" record kept.wasm main.wasm --validate
 
 not_text=$(printf 'a\377b')
 expect 'a FILE that is not UTF-8' 2 'error: argument 2 is not UTF-8' defs "$not_text"

@@ -53,7 +53,7 @@ module _ {V F : Type 0} where
   not_read file name Next store_faults.Memory r e h = ap (λ x. Err x) h
 
   -- each refusal of the device is reported
-  reported_read : (file : List ℕ) (Next : List ℕ → List Event → Result V (RunFault F) → Type 0) (es : List Event) (r : Result V (RunFault F)) →
+  pub reported_read : (file : List ℕ) (Next : List ℕ → List Event → Result V (RunFault F) → Type 0) (es : List Event) (r : Result V (RunFault F)) →
       ((bytes : List ℕ) (more : List Event) (ended : Result V (RunFault F)) → Next bytes more ended → device_faults more ≡ reported_faults ended) →
       AfterRead file Next es r → device_faults es ≡ reported_faults r
   reported_read file Next [] r next h = rw h refl

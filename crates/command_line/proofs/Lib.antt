@@ -4,3 +4,4 @@ mod Supplying
 mod Lines
 mod Words
 mod Refusing
+mod Recorded

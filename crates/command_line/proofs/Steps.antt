@@ -24,6 +24,7 @@ module _ {F : Type 0} where
   reported_text text before after (Err faults.Closed) h = refl
   reported_text text before after (Err (faults.Check f)) h = absurd h
   reported_text text before after (Err (faults.Fit f)) h = absurd h
+  reported_text text before after (Err (faults.Record f)) h = absurd h
   reported_text text before after (Err (faults.Encode f)) h = absurd h
 
   -- each refusal of the device is reported
@@ -43,6 +44,7 @@ module _ {F : Type 0} where
       reported (Err faults.Closed) h = refl
       reported (Err (faults.Check f)) h = refl
       reported (Err (faults.Fit f)) h = absurd h
+      reported (Err (faults.Record f)) h = absurd h
       reported (Err (faults.Encode f)) h = absurd h
   reported_listed file (Put to component ∷ es) before after r h = absurd h
   reported_listed file (NotPut to component ∷ es) before after r h = absurd h

@@ -134,12 +134,12 @@ module _ {L B F : Type 0} (l : lower.Ghosts L B F) where
 
 -- ---- refusals of the device
 
-faults_both : (a b : List Event) → device_faults (a ++ b) ≡ device_faults a + device_faults b
+pub faults_both : (a b : List Event) → device_faults (a ++ b) ≡ device_faults a + device_faults b
 faults_both [] b = omega arith
 faults_both (e ∷ a) b = omega (arith, faults_both a b)
 
 module _ {F : Type 0} where
-  reported_put : (out : List ℕ) (component : Result (List ℕ) (RunFault F)) (es : List Event) (r : Result ⊤ (RunFault F)) → IsPut out component es r →
+  pub reported_put : (out : List ℕ) (component : Result (List ℕ) (RunFault F)) (es : List Event) (r : Result ⊤ (RunFault F)) → IsPut out component es r →
       reported_faults component + device_faults es ≡ reported_faults r
   reported_put out (Ok c) [] r h = rw h refl
   reported_put out (Ok c) (Put to bytes ∷ []) r h = rw h.2 refl
@@ -152,6 +152,7 @@ module _ {F : Type 0} where
 
   none_of_fitting : (m : Modules) (f : RunFault F) → IsFitFault m f → 0 ≡ reported_fault f
   none_of_fitting m (faults.Fit f) h = refl
+  none_of_fitting m (faults.Record f) h = refl
   none_of_fitting m (faults.Encode f) h = refl
   none_of_fitting m faults.Usage h = refl
   none_of_fitting m (faults.Read name) h = absurd (cc)
@@ -170,6 +171,7 @@ module _ {L B F : Type 0} (l : lower.Ghosts L B F) where
   none_of_encoding e m (Err faults.Out) h = absurd h
   none_of_encoding e m (Err faults.Closed) h = absurd h
   none_of_encoding e m (Err (faults.Fit f)) h = absurd h
+  none_of_encoding e m (Err (faults.Record f)) h = absurd h
   none_of_encoding e m (Err (faults.Check f)) h = absurd h
 
   reported_later : (e : Encoder L B) (read fitted : Result Modules (RunFault F)) (r : Result (List ℕ) (RunFault F)) → Then AreFitted read fitted → Then (Encoded l e) fitted r →

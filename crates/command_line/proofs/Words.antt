@@ -1,10 +1,31 @@
--- Arguments, as far as they were looked at.
+-- Arguments, as far as they were looked at, and what two of them ask for.
 use Rattle.std.proofs.Common.{◌≡◌, ℕ, ◌+◌, ◌<◌, true, false, List, ◌++◌, [], ◌∷◌, map, get_or, length, take, drop, Some, refl, ap, ap₂, ◌∙◌, sym}
 use Rattle.std.specs.Str.{IsUtf8, is_utf8}
 use Rattle.std.proofs.lemmas.List.{drop_more, take_more, map-append}
 use Rattle.std.proofs.lemmas.Bool.{false_from_ne_true}
 use Rattle.std.proofs.lemmas.Str.{IsUtf8-from_is_utf8, is_utf8-from_IsUtf8}
+use Rattle.std.specs.Prelude.{Bool, codes, Option, None, option_map, if◌then◌else◌}
+use Rattle.std.specs.Str.{bytes_eq}
+use Rattle.explanations.specs.Codes.{explanation}
+use Rattle.command_line.specs.Arguments.{of_two_words, is_listing}
 use Rattle.command_line.specs.Starting.{first_not_text}
+use Rattle.command_line.specs.declared.arguments.Request.TheVariants as requests
+
+explained_is_none : (o : Option (List ℕ)) → is_listing (option_map requests.Explain o) ≡ false
+explained_is_none (Some text) = refl
+explained_is_none None = refl
+
+other_is_none : (b : Bool) (o : Option (List ℕ)) → is_listing (if b then option_map requests.Explain o else None) ≡ false
+other_is_none true o = explained_is_none o
+other_is_none false o = refl
+
+first_decides : (a b : Bool) (word : List ℕ) (o : Option (List ℕ)) → is_listing (if a then Some (requests.Defs word) else (if b then option_map requests.Explain o else None)) ≡ a
+first_decides true b word o = refl
+first_decides false b word o = other_is_none b o
+
+-- two words ask for the definitions of a component where the first one is `defs`
+pub listed : (command word : List ℕ) → is_listing (of_two_words command word) ≡ bytes_eq command (codes "defs")
+listed command word = first_decides (bytes_eq command (codes "defs")) (bytes_eq command (codes "explain")) word (explanation word)
 
 module _ {X : Type 0} (f : X → List ℕ) (xs : List X) (i : ℕ) (x : X) (l : i < length xs) (e : x ≡ get_or xs i x) where
   next : drop i xs ≡ x ∷ drop (i + 1) xs

@@ -1,6 +1,7 @@
 -- What the program's arguments ask for. (The program's own: its command line.)
 use Rattle.std.specs.Prelude.{ℕ, Bool, true, false, List, [], ◌∷◌, codes, ⊤, Option, Some, None, option_map, option_and_then, if◌then◌else◌}
 use Rattle.std.specs.Str.{bytes_eq}
+use Rattle.explanations.specs.Codes.{explanation}
 use Rattle.command_line.specs.Adapters.{adapter_words, flag_words, adapters_of}
 use Rattle.command_line.specs.Flags.{flags_of}
 use Rattle.command_line.specs.declared.adapters.Adapter.{Adapter}
@@ -25,19 +26,39 @@ of_one_word word =
     else (if bytes_eq word (codes "help") then Some requests.Help
     else (if bytes_eq word (codes "--version") then Some requests.Version else None)))
 
--- what the words after the program's name ask for: help or the version; or `defs` with a file; or
--- `new` with the component's file and the module's, and then flags and adapters
+-- what `defs` asks for with a file, and `explain` with a code that has a text
+abbrev pub of_two_words : List ℕ → List ℕ → Option Request
+of_two_words command word =
+    if bytes_eq command (codes "defs") then Some (requests.Defs word)
+    else (if bytes_eq command (codes "explain") then option_map requests.Explain (explanation word) else None)
+
+-- what `record` asks for with the file that is written, the module's, and no words behind them
+abbrev pub of_record : List ℕ → List ℕ → List (List ℕ) → Option Request
+of_record out file [] = Some (requests.Record out file)
+of_record out file _ = None
+
+-- what a command asks for with two files, and these words behind them
+abbrev pub of_files : List ℕ → List ℕ → List ℕ → List (List ℕ) → Option Request
+of_files command out file words =
+    if bytes_eq command (codes "new") then of_new out file words
+    else (if bytes_eq command (codes "record") then of_record out file words else None)
+
+-- what the words after the program's name ask for: help or the version; or `defs` with a file, or
+-- `explain` with a code; or `new` with the component's file and the module's, and then flags and
+-- adapters; or `record` with the file that is written and the module's
 abbrev pub request_of : List (List ℕ) → Option Request
 request_of (word ∷ []) = of_one_word word
-request_of (command ∷ file ∷ []) = if bytes_eq command (codes "defs") then Some (requests.Defs file) else None
-request_of (command ∷ out ∷ main ∷ words) = if bytes_eq command (codes "new") then of_new out main words else None
+request_of (command ∷ word ∷ []) = of_two_words command word
+request_of (command ∷ out ∷ file ∷ words) = of_files command out file words
 request_of _ = None
 
--- files are named, so that memory is needed for their names
-abbrev pub NamesFiles : Option Request → Type 0
-NamesFiles (Some (requests.New names)) = ⊤
-NamesFiles (Some (requests.Defs file)) = ⊤
-NamesFiles _ = ⊥
+-- files are named, or a text is asked for, so that memory is needed for the names or the text
+abbrev pub NeedsMemory : Option Request → Type 0
+NeedsMemory (Some (requests.New names)) = ⊤
+NeedsMemory (Some (requests.Defs file)) = ⊤
+NeedsMemory (Some (requests.Record out file)) = ⊤
+NeedsMemory (Some (requests.Explain text)) = ⊤
+NeedsMemory _ = ⊥
 
 -- whether the definitions of a component are asked for
 abbrev pub is_listing : Option Request → Bool

@@ -4,16 +4,18 @@ use Rattle.comp_check.specs.declared.fault.CheckFault.TheVariants as checks
 use Rattle.comp_encoder.specs.declared.fault.EncodeFault.TheVariants as encode_faults
 use Rattle.fitted_modules.specs.declared.fault.ModulesFault.{ModulesFault}
 use Rattle.fitted_modules.specs.declared.fault.ModulesFault.TheVariants as fits
+use Rattle.recorded_modules.specs.declared.fault.RecordingFault.{RecordingFault}
+use Rattle.recorded_modules.specs.declared.fault.RecordingFault.TheVariants as recordings
 use Rattle.command_line.specs.declared.store.StoreFault.{StoreFault}
 use Rattle.command_line.specs.declared.store.StoreFault.TheVariants as store_faults
 use Rattle.command_line.specs.declared.fault.RunFault.{RunFault}
-use Rattle.command_line.specs.declared.fault.RunFault.TheVariants.{Usage, Read, Write, Out, Closed, Fit, Encode, Check}
+use Rattle.command_line.specs.declared.fault.RunFault.TheVariants.{Usage, Read, Write, Out, Closed, Fit, Record, Encode, Check}
 use Rattle.command_line.specs.declared.fault.Written.{Written}
 use Rattle.command_line.specs.declared.fault.Written.TheVariants as written
 use Rattle.std.specs.declared.io.ErrorKind.{ErrorKind}
 use Rattle.std.specs.declared.io.ErrorKind.TheVariants as kinds
 
--- out of memory where a component is made
+-- out of memory where a file is made, or a code is explained
 abbrev pub no_memory : {F : Type 0} → RunFault F
 no_memory = Encode encode_faults.Memory
 
@@ -29,6 +31,11 @@ of_read listing name store_faults.Memory = out_of_memory listing
 abbrev pub of_fit : {F : Type 0} → ModulesFault → RunFault F
 of_fit fits.Memory = no_memory
 of_fit f = Fit f
+
+-- out of memory, or why a module with its record can't be made
+abbrev pub of_recording : {F : Type 0} → RecordingFault → RunFault F
+of_recording recordings.Memory = no_memory
+of_recording f = Record f
 
 abbrev pub of_put : {F : Type 0} → List ℕ → StoreFault → RunFault F
 of_put name store_faults.Device = Write name

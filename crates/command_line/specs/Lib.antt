@@ -5,6 +5,7 @@ pub mod Events
 pub mod Faults
 pub mod Files
 pub mod Making
+pub mod Recording
 pub mod Messages
 pub mod Listing
 pub mod Running

@@ -1,6 +1,6 @@
 -- The lines that report a failure. (The program's own. Of what a line says of a file's name, of
--- modules that can't be fitted, of an encoder's fault or of a component that can't be read only the
--- beginning is specified here.)
+-- modules that can't be fitted, of a module whose record can't be written, of an encoder's fault or of
+-- a component that can't be read only the beginning is specified here.)
 use Rattle.std.specs.Prelude.{◌≡◌, ℕ, Bool, List, [], ◌++◌, ◌⊎◌, Option, Result, Ok, Err, ⊤, true, false, codes, if◌then◌else◌, IsTrue}
 use Rattle.std.specs.Fmt.{decimal}
 use Rattle.std.specs.Io.KnownBytes.{Appends}
@@ -9,10 +9,10 @@ use Rattle.comp_check.specs.declared.fault.CheckFault.TheVariants as checks
 use Rattle.comp_encoder.specs.declared.fault.EncodeFault.{EncodeFault}
 use Rattle.comp_encoder.specs.declared.fault.EncodeFault.TheVariants as encode_faults
 use Rattle.command_line.specs.declared.fault.RunFault.{RunFault}
-use Rattle.command_line.specs.declared.fault.RunFault.TheVariants.{Usage, Read, Write, Out, Closed, Fit, Encode, Check}
+use Rattle.command_line.specs.declared.fault.RunFault.TheVariants.{Usage, Read, Write, Out, Closed, Fit, Record, Encode, Check}
 
 abbrev pub usage_line : List ℕ
-usage_line = codes "usage: component_new new OUT MAIN [options] | defs FILE\n"
+usage_line = codes "usage: component_new new OUT MAIN [options] | record OUT MODULE | defs FILE | explain CODE\n"
 
 -- a line for each option
 abbrev pub option_lines : List ℕ
@@ -72,6 +72,7 @@ IsLineOf memory (Write name) line = IsTextOr memory (codes "error: write ") line
 IsLineOf memory Out line = line ≡ codes "error: write \"-\"\n"
 IsLineOf memory Closed line = ⊥
 IsLineOf memory (Fit _) line = IsTextOr memory (codes "error: ") line
+IsLineOf memory (Record _) line = IsTextOr memory (codes "error: ") line
 IsLineOf memory (Encode f) line = IsEncodeLine memory f line
 IsLineOf memory (Check f) line = IsCheckLine memory f line
 

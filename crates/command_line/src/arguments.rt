@@ -1,13 +1,15 @@
 //! What the program is asked for.
 
-ghost use Rattle.std.specs.Prelude.{◌≡◌, map, filter_map, string_bytes, IfOk, IfErr};
+ghost use Rattle.std.specs.Prelude.{◌≡◌, map, filter_map, option_map, string_bytes, IfOk, IfErr};
+ghost use Rattle.explanations.specs.Codes.{explanation as text_of};
 ghost use Rattle.command_line.specs.Adapters.{adapter_of, adapter_words};
-ghost use Rattle.command_line.specs.Arguments.{NamesFiles, request_of, of_new, of_one_word, making, is_listing};
+ghost use Rattle.command_line.specs.Arguments.{NeedsMemory, request_of, of_new, of_record, of_files, of_one_word, making, is_listing};
 ghost use Rattle.command_line.specs.declared.arguments.Request.TheVariants as requests;
 
 use crate::adapters::{Adapter, adapters, are_adapters};
 use crate::flags::Flags;
 use comp_lists::{Seq, Text};
+use explanations::explanation;
 use std::alloc::{AllocError, Global};
 
 /// The names of the files of a run of `new`: the file for the component, the module's, and those of
@@ -27,6 +29,10 @@ pub(crate) enum Request {
     New(Arguments),
     /// The definitions of the component in a file.
     Defs { file: Text },
+    /// A module with its record in the place of its package.
+    Record { out: Text, file: Text },
+    /// What a code means, and what to do: this text.
+    Explain { text: Text },
     /// How the program is used.
     Help,
     /// Which version of the program this is.
@@ -66,7 +72,7 @@ impl Request {
     ) -> Result<Option<Request>, AllocError>
         ensures ok { IfOk result (λ r. r ≡ of_new out.now main.now (map string_bytes words.now)) }
         ensures err { IfErr result
-            (λ _. NamesFiles (of_new out.now main.now (map string_bytes words.now))) }
+            (λ _. NeedsMemory (of_new out.now main.now (map string_bytes words.now))) }
     {
         if !are_adapters(words) {
             return Ok(None);
@@ -84,6 +90,71 @@ impl Request {
         Ok(Request::Defs { file })
     }
 
+    fn recording(alloc: Global, out: &str, file: &str) -> Result<Request, AllocError>
+        ensures { IfOk result (λ r. r ≡ requests.Record out.now file.now) }
+    {
+        let out = Text::from_str(alloc, out)?;
+        let file = Text::from_str(alloc, file)?;
+        Ok(Request::Record { out, file })
+    }
+
+    /// What `record` asks for, with these words after the files: none.
+    fn of_record(
+        alloc: Global,
+        out: &str,
+        file: &str,
+        words: &[String],
+    ) -> Result<Option<Request>, AllocError>
+        ensures ok { IfOk result
+            (λ r. r ≡ of_record out.now file.now (map string_bytes words.now)) }
+        ensures err { IfErr result
+            (λ _. NeedsMemory (of_record out.now file.now (map string_bytes words.now))) }
+    {
+        match words {
+            [] => Ok(Some(Request::recording(alloc, out, file)?)),
+            _ => Ok(None),
+        }
+    }
+
+    /// What a command asks for with two files, and these words after them.
+    fn of_files(
+        alloc: Global,
+        command: &str,
+        out: &str,
+        file: &str,
+        words: &[String],
+    ) -> Result<Option<Request>, AllocError>
+        ensures ok { IfOk result
+            (λ r. r ≡ of_files command.now out.now file.now (map string_bytes words.now)) }
+        ensures err { IfErr result (λ _. NeedsMemory
+            (of_files command.now out.now file.now (map string_bytes words.now))) }
+    {
+        match command {
+            "new" => Request::of_new(alloc, out, file, words),
+            "record" => Request::of_record(alloc, out, file, words),
+            _ => Ok(None),
+        }
+    }
+
+    fn explaining(alloc: Global, text: &str) -> Result<Request, AllocError>
+        ensures { IfOk result (λ r. r ≡ requests.Explain text.now) }
+    {
+        let text = Text::from_str(alloc, text)?;
+        Ok(Request::Explain { text })
+    }
+
+    /// What `explain` asks for, with this word.
+    fn of_code(alloc: Global, code: &str) -> Result<Option<Request>, AllocError>
+        ensures ok { IfOk result (λ r. r ≡ option_map requests.Explain (text_of code.now)) }
+        ensures err { IfErr result
+            (λ _. NeedsMemory (option_map requests.Explain (text_of code.now))) }
+    {
+        match explanation(code) {
+            Some(text) => Ok(Some(Request::explaining(alloc, text)?)),
+            None => Ok(None),
+        }
+    }
+
     fn of_one_word(word: &str) -> Option<Request>
         ensures { result ≡ of_one_word word.now }
     {
@@ -99,15 +170,18 @@ impl Request {
     /// What the words after the program's name ask for, where they ask for anything.
     pub(crate) fn read(alloc: Global, words: &[String]) -> Result<Option<Request>, AllocError>
         ensures ok { IfOk result (λ r. r ≡ request_of (map string_bytes words.now)) }
-        ensures err { IfErr result (λ _. NamesFiles (request_of (map string_bytes words.now))) }
+        ensures err { IfErr result (λ _. NeedsMemory (request_of (map string_bytes words.now))) }
     {
         match words {
             [word] => Ok(Request::of_one_word(word.as_str())),
             [command, file] if command.as_str() == "defs" => {
                 Ok(Some(Request::listing(alloc, file.as_str())?))
             }
-            [command, out, main, words @ ..] if command.as_str() == "new" => {
-                Request::of_new(alloc, out, main, words)
+            [command, code] if command.as_str() == "explain" => {
+                Request::of_code(alloc, code.as_str())
+            }
+            [command, out, file, words @ ..] => {
+                Request::of_files(alloc, command.as_str(), out, file, words)
             }
             _ => Ok(None),
         }
@@ -115,6 +189,7 @@ impl Request {
 }
 
 /// Whether the words ask for the definitions of a component.
+#[tactic(auto, using(crate::proofs::Words::listed))]
 pub(crate) fn is_listing(words: &[String]) -> bool
     ensures { result ≡ is_listing (request_of (map string_bytes words.now)) }
 {

@@ -2,13 +2,14 @@
 
 ghost use Rattle.std.specs.Prelude.{◌≡◌, false};
 ghost use Rattle.std.specs.IoError.{error_kind};
-ghost use Rattle.command_line.specs.Faults.{is_whole, of_read, of_fit, of_put, out_of_memory, run_written, written_of};
+ghost use Rattle.command_line.specs.Faults.{is_whole, of_read, of_fit, of_recording, of_put, out_of_memory, run_written, written_of};
 
 use crate::store::StoreFault;
 use comp_check::CheckFault;
 use comp_encoder::EncodeFault;
 use comp_lists::Text;
 use fitted_modules::ModulesFault;
+use recorded_modules::RecordingFault;
 use std::io::{self, ErrorKind};
 
 /// Why a run fails; `F` are the faults of the lower layer.
@@ -26,7 +27,10 @@ pub(crate) enum RunFault<F> {
     Closed,
     /// The main module or an adapter can't be fitted.
     Fit(ModulesFault),
-    /// There is no component. Out of memory is reported in this way wherever it occurs in `new`.
+    /// The module with its record can't be made.
+    Record(RecordingFault),
+    /// There is no component. Out of memory is reported in this way wherever it occurs, but in
+    /// `defs`.
     Encode(EncodeFault<F>),
     /// The bytes of a file are no component. Out of memory is reported in this way wherever it occurs in
     /// `defs`.
@@ -103,6 +107,16 @@ pub(crate) fn fit_fault<F>(fault: ModulesFault) -> RunFault<F>
     match fault {
         ModulesFault::Memory => out_of_memory(false),
         fault => RunFault::Fit(fault),
+    }
+}
+
+/// The fault of the run where a module with its record can't be made.
+pub(crate) fn recording_fault<F>(fault: RecordingFault) -> RunFault<F>
+    ensures { result ≡ of_recording fault }
+{
+    match fault {
+        RecordingFault::Memory => out_of_memory(false),
+        fault => RunFault::Record(fault),
     }
 }
 

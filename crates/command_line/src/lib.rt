@@ -2,14 +2,17 @@
 //!
 //! `new OUT MAIN [options]` reads the module from the file MAIN, and adapters from those that the
 //! options name, fits them (`fitted_modules`), and puts their component into the file OUT.
-//! `defs FILE` writes on standard output a line for each definition of the component in FILE. All
-//! that a run does with files, what it writes and what it prints of a failure is in the contract of
-//! [`run_with`].
+//! `record OUT MODULE` puts the module with its record in the place of its package
+//! (`recorded_modules`), as the lower layer by packages and records reads it, into the file OUT.
+//! `defs FILE` writes on standard output a line for each definition of the component in FILE, and
+//! `explain CODE` what a code of a failure means (`explanations`). All that a run does with files,
+//! what it writes and what it prints of a failure is in the contract of [`run_with`].
 //!
 //! In reading order: `adapters`, `flags` and `arguments` (what is asked for), `store` (files by
 //! their names), `fault` (why a run fails), `reading` (the files that are read for a component),
-//! `making` (from files to a file), `messages` (the line that reports a failure), `listing` (a
-//! component on standard output), `running` (a run).
+//! `making` (from files to a component's), `recording` (from a module's file to that of the module with
+//! its record), `messages` (the line that reports a failure), `listing` (a component on standard
+//! output), `running` (a run).
 #![tactic(auto)]
 
 mod adapters;
@@ -20,6 +23,7 @@ mod listing;
 mod making;
 mod messages;
 mod reading;
+mod recording;
 mod running;
 mod starting;
 mod store;

@@ -13,10 +13,12 @@ use std::fmt::Display;
 use std::io::Write;
 
 /// The line for arguments that are not those of the program.
-const USAGE: &[u8] = b"usage: component_new new OUT MAIN [options] | defs FILE\n";
+const USAGE: &[u8] =
+    b"usage: component_new new OUT MAIN [options] | record OUT MODULE | defs FILE | explain CODE\n";
 
 /// The text for `--help`: the usage line, and a line for each option.
-pub(crate) const HELP: &[u8] = b"usage: component_new new OUT MAIN [options] | defs FILE\n\
+pub(crate) const HELP: &[u8] =
+    b"usage: component_new new OUT MAIN [options] | record OUT MODULE | defs FILE | explain CODE\n\
     \x20 --adapt NAME=FILE  new: add the adapter in FILE under this name; any number of times\n\
     \x20 --canonical        new: have the canonical part of versions in names, and the rest as suffixes\n\
     \x20 --no-merge         new: don't merge imports of compatible versions\n\
@@ -165,6 +167,7 @@ pub(crate) fn print_fault<W: Write, F: Display>(
         RunFault::Out => say(writer, OUT),
         RunFault::Closed => {}
         RunFault::Fit(fault) => say_value(alloc, writer, memory, "error: ", fault),
+        RunFault::Record(fault) => say_value(alloc, writer, memory, "error: ", fault),
         RunFault::Encode(fault) => say_encode_fault(alloc, writer, memory, fault),
         RunFault::Check(fault) => say_check_fault(alloc, writer, memory, fault),
     }

@@ -13,6 +13,7 @@ use crate::fault::{RunFault, out_of_memory};
 use crate::listing::list;
 use crate::making::make;
 use crate::messages::{HELP, VERSION, print, print_fault};
+use crate::recording::put_recorded;
 use crate::store::Store;
 use comp_worlds::Lower;
 use std::alloc::Global;
@@ -33,7 +34,9 @@ fn perform<L: Lower + Drop, S: Store, W: Write>(
 {
     match Request::read(alloc, words) {
         Ok(Some(Request::New(arguments))) => make(alloc, lower, arguments, store),
+        Ok(Some(Request::Record { out, file })) => put_recorded(alloc, out, file, store),
         Ok(Some(Request::Defs { file })) => list(alloc, file, store, out),
+        Ok(Some(Request::Explain { text })) => print(out, text.as_str().as_bytes()),
         Ok(Some(Request::Help)) => print(out, HELP),
         Ok(Some(Request::Version)) => print(out, VERSION),
         Ok(None) => Err(RunFault::Usage),

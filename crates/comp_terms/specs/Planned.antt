@@ -120,7 +120,7 @@ IsTermFor w (targets.BuiltIn name operand options) (terms.BuiltIn same tree writ
 IsTermFor w targets.TlsGet (terms.Exported e) = e ≡ cell_export w getter_name
 IsTermFor w targets.TlsSet (terms.Exported e) = e ≡ cell_export w setter_name
 IsTermFor w (targets.Lifted entry options) (terms.Lifting e written type) = IsExportFor w e entry × AllZip (IsOptionFor w) written options
-IsTermFor w target term = ⊥
+IsTermFor w _ term = ⊥
 
 -- the item of this index in a space is a term that the target names
 pub record IsItemFor (w : ComponentWorld) (ds : List Def) (space : Space) (index : ℕ) (target : Target) : Type 0 where

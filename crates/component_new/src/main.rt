@@ -3,9 +3,9 @@
 //!
 //! `component_new new OUT MAIN [options]` reads the module from the file MAIN, and adapters from
 //! those that the options name, and puts their component into the file OUT. `component_new defs
-//! FILE` writes on standard output a line for each definition of the component in FILE. All of that
-//! is in the contract of `run`; `main` only passes it the system's arguments, streams and, in
-//! `files`, files.
+//! FILE` writes on standard output a line for each definition of the component in FILE, and
+//! `component_new explain CODE` what a code of a failure means. All of that is in the contract of
+//! `run`; `main` only passes it the system's arguments, streams and, in `files`, files.
 #![tactic(auto)]
 
 mod files;

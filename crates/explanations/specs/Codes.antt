@@ -2,7 +2,7 @@
 -- own.)
 use Rattle.std.specs.Prelude.{ℕ, List, codes, Option, Some, None, if◌then◌else◌}
 use Rattle.std.specs.Str.{bytes_eq}
-use Rattle.explanations.specs.declared.texts.TheConstants.{E1, E3, E5, E6, E7, E8, E11, E15, E16, C1, C2, C4, C5, P2, P3, P4, P5, P6, P7, P8, P9, P10, P11, P12, P14, F2, F5, F6, F7, F8, F9, F10, F11, F12, F13, F14, F15}
+use Rattle.explanations.specs.declared.texts.TheConstants.{E1, E3, E5, E6, E7, E8, E11, E15, E16, C1, C2, C4, C5, P2, P3, P4, P5, P6, P7, P8, P9, P10, P11, P12, P14, R1, F2, F5, F6, F7, F8, F9, F10, F11, F12, F13, F14, F15}
 
 abbrev pub or_else : {A : Type 0} → Option A → Option A → Option A
 or_else (Some x) other = Some x
@@ -41,7 +41,8 @@ of_lowering code =
     else (if bytes_eq code (codes "P11") then Some P11.now
     else (if bytes_eq code (codes "P12") then Some P12.now
     else (if bytes_eq code (codes "P14") then Some P14.now
-    else None)))))))))))
+    else (if bytes_eq code (codes "R1") then Some R1.now
+    else None))))))))))))
 
 -- the codes of modules that are fitted
 abbrev pub of_fitting : List ℕ → Option (List ℕ)

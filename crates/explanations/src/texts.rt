@@ -1,7 +1,8 @@
 //! What codes mean, and what to do. `tests/docs.py --write` writes this file, after docs/ERRORS.md.
 
 pub(crate) const E1: &str = "\
-    E1: out of memory, wherever in `new`; or before the program's own arguments were read.\n\
+    E1: out of memory, wherever in `new`, `record` or `explain`; or before the program's own\n\
+    arguments were read.\n\
     Example: `E1 Memory`\n\
     What to do: about two copies of the module have to fit in memory.\n";
 
@@ -139,8 +140,8 @@ pub(crate) const P7: &str = "\
     What to do: make the records agree.\n";
 
 pub(crate) const P8: &str = "\
-    P8: something that can't be encoded yet, by its kind, or a type that passes a limit: see\n\
-    below.\n\
+    P8: something that can't be encoded yet, by its kind, or a type that passes a limit;\n\
+    docs/ERRORS.md lists the kinds.\n\
     Example: `P8 LeftOut what=\"stream-new\"`\n\
     What to do: leave it out of the world, or wait.\n";
 
@@ -250,3 +251,9 @@ pub(crate) const F15: &str = "\
     over what main has there.\n\
     Example: `F15 ActiveData`\n\
     What to do: take texts and initialized variables out of the adapter's source.\n";
+
+pub(crate) const R1: &str = "\
+    R1: the functions of the module have several string encodings, by several packages or\n\
+    records, and a record has one.\n\
+    Example: `R1 SeveralEncodings`\n\
+    What to do: write a record for each of them by hand.\n";

@@ -56,6 +56,7 @@ use Rattle.comp_terms.specs.Rules.{IsBuilt}
 use Rattle.comp_terms.specs.Exports.{ExportsFunction}
 use Rattle.comp_runs.specs.Store.{Export, Function, Lifting, ExportedBy, HeldOption, HeldAsync, HeldCallback}
 use Rattle.comp_runs.specs.Machine.{Machine, export_of}
+use Rattle.link_laws.proofs.BaseRoles.{no_bases}
 use Rattle.link_laws.specs.Meeting.{CoreMeets, ItemIsExport, MeetOptions}
 use Rattle.link_laws.specs.Linking.{outcome, exports_at, LiftMeets, IsProvided, IsLinked, Links}
 use Rattle.link_laws.proofs.Stores.{main_module}
@@ -339,7 +340,7 @@ h_required = record {
 keeps_the_rules : IsBuilt own_names world straight
 keeps_the_rules = record {
   generated = record { shims = None; fixup = None };
-  are_generated = record { shims = refl; fixup = refl; room = omega arith };
+  are_generated = record { shims = refl; fixup = refl; room = omega arith; alike = no_bases world refl };
   front = straight;
   names = [];
   whole = refl;

@@ -1,7 +1,7 @@
 -- A worked example: a world whose main reads the thread-local base, and whose adapter sets it. A list that gives them
 -- the two functions of one cell. With a module of shims whose functions have a cell each the list runs too, but doesn't
 -- link.
-use Rattle.std.proofs.Common.{inl, inr, ◌≡◌, ◌∙◌, ℕ, zero, suc, pos, true, false, List, [], ◌∷◌, refl, sym, ap, Some, None, map, take, arith, Contains}
+use Rattle.std.proofs.Common.{inl, inr, ◌≡◌, ◌<◌, ◌∙◌, ℕ, zero, suc, pos, true, false, List, [], ◌∷◌, refl, sym, ap, Some, None, map, take, arith, Contains}
 use Rattle.std.specs.Fmt.{digits}
 use Rattle.std.specs.List.{slice_get, flat_map}
 use Rattle.standard_kinds.specs.declared.kinds.ExportKind.TheVariants as kinds

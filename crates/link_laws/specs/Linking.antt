@@ -107,7 +107,7 @@ pub record IsOpaque (m : Machine) (address : ℕ) : Type 0 where
 abbrev pub IsDirect : Machine → ℕ → Target → Type 0
 IsDirect m address TlsGet = Unit {0}
 IsDirect m address TlsSet = Unit {0}
-IsDirect m address target = IsOpaque m address
+IsDirect m address _ = IsOpaque m address
 
 -- What an import was given is what the link table says of it. A function that is given to an import
 -- which has no shim works from the moment that it is given.
@@ -137,7 +137,7 @@ exports_at w m name item = option_and_then (λ (e : Export). slice_get m.store.i
 -- the function at this address is a lift of this function of the world as the target says
 abbrev pub LiftMeets : ComponentWorld → Machine → (TypeId → Resource) → ℕ → WitFunction → Target → Type 0
 LiftMeets w m origins address wit (Lifted entry options) = IsLift w m address (wit_function_tree origins w.resolve.types wit) entry options
-LiftMeets w m origins address wit target = ⊥
+LiftMeets w m origins address wit _ = ⊥
 
 -- a required function is found by its sort and name, and is what the link table says, with its type
 pub record IsProvided (n : Naming) (w : ComponentWorld) (m : Machine) (origins : TypeId → Resource) (r : RequiredFunction) : Type 0 where

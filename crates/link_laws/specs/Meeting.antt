@@ -230,7 +230,7 @@ MeetsIn w m origins spaces.CoreTable address (ExportOf export_ref) = ItemMeets w
 MeetsIn w m origins spaces.CoreMemory address (ExportOf export_ref) = ItemMeets w m spaces.CoreMemory address export_ref
 MeetsIn w m origins spaces.CoreGlobal address (ExportOf export_ref) = ItemMeets w m spaces.CoreGlobal address export_ref
 MeetsIn w m origins spaces.CoreMemory address MainMemory = IsMainMemory w m address
-MeetsIn w m origins space address target = ⊥
+MeetsIn w m origins space address _ = ⊥
 
 abbrev pub Meets : ComponentWorld → Machine → (TypeId → Resource) → Thing → Target → Type 0
 Meets w m origins thing target = MeetsIn w m origins thing.space thing.address target

@@ -8,7 +8,8 @@ use std::alloc::{AllocError, Global};
 use std::test::Fail;
 
 /// The line for arguments that are not those of the program.
-const USAGE: &str = "usage: component_new new OUT MAIN [options] | defs FILE\n";
+const USAGE: &str =
+    "usage: component_new new OUT MAIN [options] | record OUT MODULE | defs FILE | explain CODE\n";
 
 /// The store of these runs.
 fn store_of(alloc: Global) -> Result<Files, AllocError> {

@@ -4,7 +4,8 @@
 //!
 //! In reading order: `modules` (modules, and their components), `store` (a store in memory, and
 //! writers that fail), `rows` (modules through the encoder's calls), `canonical` (canonical names
-//! of worlds), `runs` (runs of the commands), `adapting` (runs with adapters).
+//! of worlds), `runs` (runs of the commands), `adapting` (runs with adapters), `recording` (runs that
+//! put a module with its record).
 #![tactic(auto)]
 
 #[cfg(test)]
@@ -13,6 +14,8 @@ mod adapting;
 mod canonical;
 #[cfg(test)]
 mod modules;
+#[cfg(test)]
+mod recording;
 #[cfg(test)]
 mod rows;
 #[cfg(test)]

@@ -13,10 +13,10 @@ use std::test::Fail;
 
 /// The status of a run, and what it wrote to its two writers.
 #[derive(Drop)]
-struct Answer {
-    status: u8,
-    out: Vec<u8>,
-    err: Vec<u8>,
+pub(crate) struct Answer {
+    pub(crate) status: u8,
+    pub(crate) out: Vec<u8>,
+    pub(crate) err: Vec<u8>,
 }
 
 fn texts(alloc: Global, words: &[&str]) -> Result<Vec<String>, AllocError> {
@@ -27,7 +27,11 @@ fn texts(alloc: Global, words: &[&str]) -> Result<Vec<String>, AllocError> {
     Ok(texts)
 }
 
-fn run_on(alloc: Global, words: &[&str], store: &mut Files) -> Result<Answer, AllocError> {
+pub(crate) fn run_on(
+    alloc: Global,
+    words: &[&str],
+    store: &mut Files,
+) -> Result<Answer, AllocError> {
     let words = texts(alloc, words)?;
     let mut out = Vec::new(alloc);
     let mut err = Vec::new(alloc);
@@ -45,7 +49,7 @@ fn refused(alloc: Global, calls: u32, fault: StoreFault) -> Result<Answer, Alloc
 #[test]
 fn wrong_arguments_are_reported_before_anything_is_read(rt: HostRuntime) {
     let alloc = rt.alloc();
-    let wrong: [&[&str]; 16] = [
+    let wrong: [&[&str]; 22] = [
         &[],
         &["--Help"],
         &["--help", "--version"],
@@ -62,6 +66,12 @@ fn wrong_arguments_are_reported_before_anything_is_read(rt: HostRuntime) {
         &["new", "out.wasm", "main.wasm", "--no-merge", "--names"],
         &["new", "out.wasm", "main.wasm", "--no-names", "--no-names"],
         &["defs", "main.wasm", "--canonical"],
+        &["record", "out.wasm"],
+        &["record", "out.wasm", "main.wasm", "--no-names"],
+        &["records", "out.wasm", "main.wasm"],
+        &["explain"],
+        &["explain", "P99"],
+        &["explain", "P9", "P10"],
     ];
     for words in wrong {
         let mut store = Files::new(alloc, "main.wasm", EMPTY).expect(&rt, "memory");
@@ -69,7 +79,7 @@ fn wrong_arguments_are_reported_before_anything_is_read(rt: HostRuntime) {
         assert_eq!(rt; answer.status, 2);
         assert_eq!(rt;
             answer.err.as_slice(),
-            b"usage: component_new new OUT MAIN [options] | defs FILE\n".as_slice()
+            b"usage: component_new new OUT MAIN [options] | record OUT MODULE | defs FILE | explain CODE\n".as_slice()
         );
         assert!(rt; answer.out.is_empty() && store.log.is_empty());
     }
@@ -152,7 +162,12 @@ fn refusals_of_the_encoder_are_reported(rt: HostRuntime) -> Result<(), Fail> {
 }
 
 /// Whether a run on this module says nothing, and puts this component after it read the module.
-fn puts(alloc: Global, words: &[&str], main: &[u8], component: &[u8]) -> Result<bool, Fail> {
+pub(crate) fn puts(
+    alloc: Global,
+    words: &[&str],
+    main: &[u8],
+    component: &[u8],
+) -> Result<bool, Fail> {
     let mut store = Files::new(alloc, "main.wasm", main)?;
     let answer = run_on(alloc, words, &mut store)?;
     match store.log.as_slice() {
@@ -189,7 +204,7 @@ fn generated_modules_have_names_unless_they_are_left_out(rt: HostRuntime) -> Res
 }
 
 /// Whether a run on the file `main.wasm` ends so: with this status, and these texts on the two streams.
-fn ends(
+pub(crate) fn ends(
     alloc: Global,
     words: &[&str],
     main: &[u8],
@@ -246,7 +261,12 @@ fn refused_output(
 #[test]
 fn an_output_that_takes_nothing_is_reported(rt: HostRuntime) -> Result<(), Fail> {
     let alloc = rt.alloc();
-    let runs: [&[&str]; 3] = [&["defs", "main.wasm"], &["--help"], &["--version"]];
+    let runs: [&[&str]; 4] = [
+        &["defs", "main.wasm"],
+        &["explain", "P9"],
+        &["--help"],
+        &["--version"],
+    ];
     for words in runs {
         let (status, err) = refused_output(alloc, words, ErrorKind::StorageFull)?;
         assert_eq!(rt; status, 1);
@@ -258,7 +278,12 @@ fn an_output_that_takes_nothing_is_reported(rt: HostRuntime) -> Result<(), Fail>
 #[test]
 fn nothing_is_reported_where_nobody_reads_the_output(rt: HostRuntime) -> Result<(), Fail> {
     let alloc = rt.alloc();
-    let runs: [&[&str]; 3] = [&["defs", "main.wasm"], &["--help"], &["--version"]];
+    let runs: [&[&str]; 4] = [
+        &["defs", "main.wasm"],
+        &["explain", "P9"],
+        &["--help"],
+        &["--version"],
+    ];
     for words in runs {
         let (status, err) = refused_output(alloc, words, ErrorKind::BrokenPipe)?;
         assert_eq!(rt; status, 1);
@@ -270,7 +295,8 @@ fn nothing_is_reported_where_nobody_reads_the_output(rt: HostRuntime) -> Result<
 #[test]
 fn help_and_version_are_printed(rt: HostRuntime) -> Result<(), Fail> {
     let alloc = rt.alloc();
-    let help = "usage: component_new new OUT MAIN [options] | defs FILE\n\
+    let help =
+        "usage: component_new new OUT MAIN [options] | record OUT MODULE | defs FILE | explain CODE\n\
         \x20 --adapt NAME=FILE  new: add the adapter in FILE under this name; any number of times\n\
         \x20 --canonical        new: have the canonical part of versions in names, and the rest as suffixes\n\
         \x20 --no-merge         new: don't merge imports of compatible versions\n\
@@ -287,6 +313,18 @@ fn help_and_version_are_printed(rt: HostRuntime) -> Result<(), Fail> {
     ] {
         assert!(rt; ends(alloc, &[word], MAIN, 0, text, "")?);
     }
+    Ok(())
+}
+
+#[test]
+fn a_code_is_explained(rt: HostRuntime) -> Result<(), Fail> {
+    let alloc = rt.alloc();
+    let text =
+        "F13: a main module that is to get a realloc, for an adapter that has a stack, has no\n\
+        function of its own, or no exports.\n\
+        Example: `F13 NoFunctions`\n\
+        What to do: export a `cabi_realloc` from main.\n";
+    assert!(rt; ends(alloc, &["explain", "F13"], MAIN, 0, text, "")?);
     Ok(())
 }
 
@@ -330,7 +368,7 @@ fn an_argument_that_is_not_text_is_reported(rt: HostRuntime) -> Result<(), Fail>
         (&[b"\xed\xa0\x80"], "error: argument 1 is not UTF-8\n"),
         (
             &[b"new", b"\xc3\xa9"],
-            "usage: component_new new OUT MAIN [options] | defs FILE\n",
+            "usage: component_new new OUT MAIN [options] | record OUT MODULE | defs FILE | explain CODE\n",
         ),
     ];
     for (arguments, line) in starts {

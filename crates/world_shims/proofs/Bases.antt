@@ -56,7 +56,7 @@ apart_base known type other h = by (same.eq-value.it known type) refl h
 -- ---- among the imports of all modules
 
 -- the imports of all modules, one after the other
-base_among : Option ValType → ComponentWorld → Option ValType
+abbrev base_among : Option ValType → ComponentWorld → Option ValType
 base_among known w = first_some (λ i. other_base known i.role) (all_imports w.main w.adapters)
 
 module _ (known : Option ValType) where

@@ -1,8 +1,9 @@
-use Rattle.std.proofs.Common.{◌≡◌, [], Some, map, string_bytes, refl, rules, sym, subst}
+use Rattle.std.proofs.Common.{◌≡◌, ◌∙◌, ℕ, List, [], Some, map, string_bytes, refl, rules, sym, subst, inl}
 use Rattle.command_line.specs.Arguments.{request_of}
-use Rattle.command_line.specs.Messages.{help_text}
+use Rattle.command_line.specs.Messages.{PrintsText, help_text}
 use Rattle.command_line.specs.Running.{Performed}
 use Rattle.command_line.specs.declared.arguments.Request.TheVariants as requests
+use Rattle.command_line.proofs.Recorded.{reported_recorded}
 use Rattle.command_line.proofs.Refusing.{without_memory}
 use Rattle.command_line.proofs.Steps.{nothing_happened, reported_text}
 use Rattle.command_line.proofs.Supplying.{reported_made}
@@ -19,6 +20,29 @@ returns-in-Ok-Some-New-clause-performed g c =
       did = (made.2, refl);
       counted = reported_made g.L.Lower c.args.lower c.in-Ok-Some-New.arguments made.0 c.make.result made.2;
     })
+
+pub returns-in-Ok-Some-Record-clause-performed : goal.returns-in-Ok-Some-Record-clause-performed
+returns-in-Ok-Some-Record-clause-performed g c =
+    let recorded = c.put_recorded.ensures.recorded in
+    let before = g.W.Write.contents c.args.out.now in
+    let asked : request_of (map string_bytes c.args.words.now) ≡ Some (requests.Record c.in-Ok-Some-Record.out c.in-Ok-Some-Record.file) = search rules in
+    subst (λ request. Performed g.L.Lower c.args.lower request (g.S.Store.events c.args.store.now) (g.S.Store.events c.put_recorded.new.store) before before c.put_recorded.result) (sym asked) (record {
+      events = recorded.0;
+      happened = recorded.1;
+      did = (recorded.2, refl);
+      counted = reported_recorded c.in-Ok-Some-Record.out c.in-Ok-Some-Record.file recorded.0 c.put_recorded.result recorded.2;
+    })
+
+pub returns-in-Ok-Some-Explain-clause-performed : goal.returns-in-Ok-Some-Explain-clause-performed
+returns-in-Ok-Some-Explain-clause-performed g c =
+    let text = c.in-Ok-Some-Explain.text in
+    let before = g.W.Write.contents c.args.out.now in
+    let after = g.W.Write.contents c.print.new.out in
+    let events = g.S.Store.events c.args.store.now in
+    let asked : request_of (map string_bytes c.args.words.now) ≡ Some (requests.Explain text) = search rules in
+    let printed : PrintsText text before after c.print.result = subst (λ (t : List ℕ). PrintsText t before after c.print.result) (c.as_bytes.ensures.value ∙ c.as_str.ensures) c.print.ensures in
+    subst (λ request. Performed g.L.Lower c.args.lower request events events before after c.print.result) (sym asked)
+    (record { events = []; happened = nothing_happened events; did = (refl, inl printed); counted = reported_text text before after c.print.result printed })
 
 pub returns-in-Ok-Some-Help-clause-performed : goal.returns-in-Ok-Some-Help-clause-performed
 returns-in-Ok-Some-Help-clause-performed g c =
