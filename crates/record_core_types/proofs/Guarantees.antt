@@ -5,7 +5,7 @@ use Rattle.std.specs.Option.{unwrap_or, option_and_then}
 use Rattle.std.specs.List.{AllByRecursion}
 use Rattle.std.specs.Map.{lookup}
 use Rattle.std.specs.Str.{bytes_eq}
-use Rattle.wit_data.proofs.Returning.{returning_present}
+use Rattle.wit_data.proofs.ReturnTypes.{returning_present}
 use Rattle.wit_data.specs.Keys.{is_same_key}
 use Rattle.wit_data.specs.Signatures.{returning}
 use Rattle.wit_data.specs.Sound.{IsSound, HasAll, HasFunction, HasItem, HasEntry, HasWorld}

@@ -140,7 +140,7 @@ impl Resolve {
     }
 
     /// The core signature of `task.return` of a function, which takes the core values of its result.
-    #[tactic(auto, using(crate::proofs::Returning::returning_present))]
+    #[tactic(auto, using(crate::proofs::ReturnTypes::returning_present))]
     pub fn task_return_signature(
         &self,
         alloc: Global,

@@ -1,4 +1,4 @@
-use Rattle.main_instance.proofs.Returns.{none_shared}
+use Rattle.main_instance.proofs.ReturnCalls.{none_shared}
 use Rattle.std.proofs.Common.{None, subst}
 use Rattle.core_options.specs.MainOptions.{user_of}
 use Rattle.main_instance.specs.Sources.{IsMemoryBefore}

@@ -4,7 +4,7 @@ use Rattle.comp_roles.specs.declared.imports.Import.TheVariants as imports
 use Rattle.core_options.specs.Causes.{IsCauseAmong}
 use Rattle.core_options.specs.MainOptions.{user_of}
 use Rattle.main_instance.proofs.GivenCalls.{call_given, shim_supplied}
-use Rattle.main_instance.proofs.Returns.{return_given, return_has_all, return_named, return_shim_there, returned_own, returned_sound}
+use Rattle.main_instance.proofs.ReturnCalls.{return_given, return_has_all, return_named, return_shim_there, returned_own, returned_sound}
 use Rattle.main_instance.specs.Calls.{import_at}
 use Rattle.main_instance.specs.Sources.{IsShimAlias}
 use Rattle.root_imports.proofs.Supplying.{return_result, return_supplied}

@@ -6,7 +6,7 @@ use Rattle.core_options.proofs.OptionTerms.{options_right}
 use Rattle.core_options.specs.Causes.{IsCauseAmong, IsListRefusal}
 use Rattle.core_options.specs.MainOptions.{IsMemoryIf, NameOptions, function_wanted, user_of}
 use Rattle.main_instance.proofs.Functions.{list_refused, made_given, made_named, made_supplied}
-use Rattle.main_instance.proofs.Returns.{memory_there}
+use Rattle.main_instance.proofs.ReturnCalls.{memory_there}
 use Rattle.main_instance.proofs.Serving.{handed_on}
 use Rattle.main_instance.specs.Calls.{import_at}
 use Rattle.main_instance.specs.Sources.{IsMemoryBefore}
