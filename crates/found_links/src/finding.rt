@@ -1,7 +1,7 @@
 //! The links of a component.
 
 ghost use Rattle.std.specs.Prelude.{◌≡◌, ◌++◌, ◌∷◌, [], Some, IfOk, OnOk, map, string_bytes};
-ghost use Rattle.comp_bytes.specs.Spaces.{sort_space};
+ghost use Rattle.comp_bytes.specs.Spaces.{kind_space, sort_space};
 ghost use Rattle.comp_bytes.specs.declared.space.Sort.TheVariants as sorts;
 ghost use Rattle.std.specs.List.{flat_map};
 ghost use Rattle.found_links.specs.Ends.{numbered, exported, instance, core_source, core_how, func_source, func_how};
@@ -20,6 +20,12 @@ use comp_lists::{Seq, Text};
 use std::alloc::{AllocError, Global};
 
 // ---- texts
+
+fn no_text(alloc: Global) -> Text
+    ensures { result ≡ [] }
+{
+    Text::from_string(String::new(alloc))
+}
 
 fn module_name(alloc: Global, number: u32) -> Result<Text, AllocError>
     ensures { IfOk result (λ t. t ≡ module_text number) }
@@ -115,6 +121,40 @@ fn core_link(
     })
 }
 
+/// The link of a shim: what is behind it.
+fn shim_link(
+    alloc: Global,
+    items: &Items,
+    shims: u32,
+    entry: &CoreInlineExport,
+) -> Result<Link, AllocError>
+    ensures { IfOk result (λ l. l
+        ≡ core_link_of items.now (exported items.now shims entry.now.name) []
+        (kind_space entry.now.kind) entry.now.index) }
+{
+    let user = shim_name(alloc, items, shims, &entry.name)?;
+    let space = space_of_kind(entry.kind);
+    core_link(alloc, items, user, no_text(alloc), space, entry.index)
+}
+
+/// The link of an import, by the names of an argument and an entry.
+fn import_link(
+    alloc: Global,
+    items: &Items,
+    user: u32,
+    argument: &Text,
+    entry: &CoreInlineExport,
+) -> Result<Link, AllocError>
+    ensures { IfOk result (λ l. l
+        ≡ core_link_of items.now (module_text user) (named argument.now ++ named entry.now.name)
+        (kind_space entry.now.kind) entry.now.index) }
+{
+    let user = module_name(alloc, user)?;
+    let name = names_text(alloc, argument, &entry.name)?;
+    let space = space_of_kind(entry.kind);
+    core_link(alloc, items, user, name, space, entry.index)
+}
+
 /// The link of an entry of an argument.
 fn entry_link(
     alloc: Global,
@@ -124,27 +164,12 @@ fn entry_link(
     argument: &Text,
     entry: &CoreInlineExport,
 ) -> Result<Link, AllocError>
-    ensures { IfOk result
-        (λ l. l ≡ entry_link_of items.now shims user argument.now entry.now) }
+    ensures { IfOk result (λ l. l ≡ entry_link_of items.now shims user argument.now entry.now) }
 {
-    let (user, name) = match shims {
-        Some(shims) => (
-            shim_name(alloc, items, shims, &entry.name)?,
-            Text::new(alloc),
-        ),
-        None => (
-            module_name(alloc, user)?,
-            names_text(alloc, argument, &entry.name)?,
-        ),
-    };
-    core_link(
-        alloc,
-        items,
-        user,
-        name,
-        space_of_kind(entry.kind),
-        entry.index,
-    )
+    match shims {
+        Some(shims) => shim_link(alloc, items, shims, entry),
+        None => import_link(alloc, items, user, argument, entry),
+    }
 }
 
 fn add_entries(
@@ -183,7 +208,7 @@ fn whole_link(
         user,
         name,
         source: Text::from_string(source),
-        how: Text::new(alloc),
+        how: no_text(alloc),
     })
 }
 
@@ -375,7 +400,7 @@ fn add_other(
         user,
         name,
         source: Text::from_string(source),
-        how: Text::new(alloc),
+        how: no_text(alloc),
     })?;
     Ok(())
 }

@@ -80,6 +80,7 @@ fn item_of(definition: &Def) -> Option<&Item>
 }
 
 /// What is at an index of these definitions.
+#[tactic(auto, using(crate::proofs::Getting::get_mapped))]
 fn item_in<'a>(definitions: &[&'a Def], index: u32) -> Option<&'a Item>
     ensures { option_map (λ i. i.now) result
         ≡ option_and_then as_item (slice_get (map (λ d. d.now) definitions.now) index) }

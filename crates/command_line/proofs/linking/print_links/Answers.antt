@@ -5,19 +5,19 @@ pub returns-in-Err-clause-linked : goal.returns-in-Err-clause-linked
 returns-in-Err-clause-linked g c =
     (_, c.in-Err.ensures.event, not_linked c.args.file _ c.args.form (g.W.Write.contents c.args.out.now) c.in-Err.fault c.read_fault.result c.as_str.ensures c.read_fault.ensures)
 
-pub returns-in-Ok-in-Ok-clause-linked : goal.returns-in-Ok-in-Ok-clause-linked
-returns-in-Ok-in-Ok-clause-linked g c = (
+pub returns-in-Ok-links_text-clause-linked : goal.returns-in-Ok-links_text-clause-linked
+returns-in-Ok-links_text-clause-linked g c = (
   _,
   c.in-Ok.ensures.event,
   (
     c.as_str.ensures,
-    links_shown _ c.args.form _ _ (g.W.Write.contents c.args.out.now) (g.W.Write.contents c.print.new.out) c.print.result c.as_bytes.ensures c.in-Ok-in-Ok.ensures.ok c.print.ensures,
+    links_shown _ c.args.form _ _ (g.W.Write.contents c.args.out.now) (g.W.Write.contents c.print.new.out) c.print.result c.as_bytes.ensures c.in-Ok-links_text.ensures.ok c.print.ensures,
   ),
 )
 
-pub returns-in-Ok-in-Err-clause-linked : goal.returns-in-Ok-in-Err-clause-linked
-returns-in-Ok-in-Err-clause-linked g c = (
+pub returns-clause-linked : goal.returns-clause-linked
+returns-clause-linked g c = (
   _,
   c.in-Ok.ensures.event,
-  (c.as_str.ensures, none_shown _ c.args.form (g.W.Write.contents c.args.out.now) c.in-Ok-in-Err.fault c.unread_fault.result c.unread_fault.ensures c.in-Ok-in-Err.ensures.cause),
+  (c.as_str.ensures, none_shown _ c.args.form (g.W.Write.contents c.args.out.now) c.in-Err-links_text.fault c.unread_fault.result c.unread_fault.ensures c.in-Err-links_text.ensures.cause),
 )
