@@ -245,7 +245,7 @@ done
 expect 'an adapter with its record' 0 '' record adapter.wasm "$top/examples/lines/adapter.wasm"
 recorded lines/main.wasm --adapt lines=adapter.wasm
 holds 'and the component of both' again.wasm "$top/examples/lines/component.wasm"
-if grep -qa '"version":1' recorded.wasm; then echo 'ok: it has a record'; else echo 'FAILED: it has no record'; failed=1; fi
+if grep -qa '"version": 1' recorded.wasm; then echo 'ok: it has a record'; else echo 'FAILED: it has no record'; failed=1; fi
 expect 'a package that lacks its sections has no record' 1 'error: E3 Lower: P4 PackageBinary section=0 reason=Encoding' record kept.wasm cut_package.wasm
 expect 'no such MODULE' 1 'error: read "none.wasm"' record kept.wasm none.wasm
 expect 'no such folder of OUT for a record' 1 'error: write "none/made.wasm"' record none/made.wasm main.wasm

@@ -1,5 +1,5 @@
 -- Each of the built-in functions has a core type.
-use Rattle.std.proofs.Common.{◌≡◌, Bool, Option, Some, None, is_some, refl, true, false, sym, true≢false}
+use Rattle.std.proofs.Common.{◌≡◌, ◌∙◌, Bool, Option, Some, None, is_some, refl, ap, true, false, sym, true≢false}
 use Rattle.std.proofs.lemmas.Option.{none-some}
 use Rattle.std.specs.Prelude.{option_map}
 use Rattle.std.specs.Option.{option_and_then}
@@ -16,6 +16,11 @@ usable_too true role intrinsic h = h
 usable_too false (imports.TlsBaseGet type) intrinsic h = absurd (none-some intrinsic h)
 usable_too false (imports.TlsBaseSet type) intrinsic h = absurd (none-some intrinsic h)
 usable_too false role intrinsic h = h
+
+-- where an import of these roles isn't given one, slot 1 can't be used
+pub unusable : (slot_1 : Bool) (role : Import) → is_some (plain_intrinsic true role) ≡ true → plain_intrinsic slot_1 role ≡ None → slot_1 ≡ false
+unusable true role has none = absurd (true≢false (sym has ∙ ap is_some none))
+unusable false role has none = refl
 
 -- an import that is given one of these functions has its core type
 pub plain_typed : (slot_1 : Bool) (role : Import) → is_some (plain_intrinsic slot_1 role) ≡ true → is_some (plain_import_type role) ≡ true

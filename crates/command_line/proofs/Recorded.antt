@@ -25,28 +25,28 @@ fresh = record { reject_legacy_names = false }
 abbrev rejects : PackageLower → Bool
 rejects lower = lower.reject_legacy_names
 
+-- the module has one with its record
+pub one_recorded : (lower : PackageLower) (given made recorded : List ℕ) → lower ≡ fresh → recorded ≡ made → IsRecorded lower.reject_legacy_names given made →
+    ((f : LowerFault) → ¬ DecodeCause lower.reject_legacy_names given f) → has_one_encoding (decoded lower.reject_legacy_names given).1.roles ≡ true →
+    IsRecordedWhole given recorded
+one_recorded lower given made recorded new e h k n = record {
+  is = subst (λ (x : List ℕ). IsRecorded false given x) (sym e) (subst (λ (b : Bool). IsRecorded b given made) (ap rejects new) h);
+  clear = subst (λ (b : Bool). (f : LowerFault) → ¬ DecodeCause b given f) (ap rejects new) k;
+  one_encoding = subst (λ (b : Bool). has_one_encoding (decoded b given).1.roles ≡ true) (ap rejects new) n;
+}
+
+cause_of : (F : Type 0) (given : List ℕ) (f : RecordingFault) → RecordingCause false given f → IsRecordingFault {F = F} given (of_recording f)
+cause_of F given recordings.Memory h = refl
+cause_of F given (recordings.Decode f) h = h
+cause_of F given recordings.SeveralEncodings h = h
+cause_of F given (recordings.TooMany n) h = h
+
 module _ {F : Type 0} where
-  -- the module has one with its record
-  pub one_recorded : (lower : PackageLower) (given made recorded : List ℕ) → lower ≡ fresh → recorded ≡ made → IsRecorded lower.reject_legacy_names given made →
-      ((f : LowerFault) → ¬ DecodeCause lower.reject_legacy_names given f) → has_one_encoding (decoded lower.reject_legacy_names given).1.roles ≡ true →
-      IsRecordOf {F = F} given (Ok recorded)
-  one_recorded lower given made recorded new e h k n = record {
-    is = subst (λ (x : List ℕ). IsRecorded false given x) (sym e) (subst (λ (b : Bool). IsRecorded b given made) (ap rejects new) h);
-    clear = subst (λ (b : Bool). (f : LowerFault) → ¬ DecodeCause b given f) (ap rejects new) k;
-    one_encoding = subst (λ (b : Bool). has_one_encoding (decoded b given).1.roles ≡ true) (ap rejects new) n;
-  }
-
-  cause_of : (given : List ℕ) (f : RecordingFault) → RecordingCause false given f → IsRecordingFault {F = F} given (of_recording f)
-  cause_of given recordings.Memory h = refl
-  cause_of given (recordings.Decode f) h = h
-  cause_of given recordings.SeveralEncodings h = h
-  cause_of given (recordings.TooMany n) h = h
-
   -- it has none
   pub none_recorded : (lower : PackageLower) (given : List ℕ) (f : RecordingFault) (r : RunFault F) → lower ≡ fresh → r ≡ of_recording f → RecordingCause lower.reject_legacy_names given f →
       IsRecordOf {F = F} given (Err r)
   none_recorded lower given f r new e h =
-      subst (λ (x : RunFault F). IsRecordingFault given x) (sym e) (cause_of given f (subst (λ (b : Bool). RecordingCause b given f) (ap rejects new) h))
+      subst (λ (x : RunFault F). IsRecordingFault given x) (sym e) (cause_of F given f (subst (λ (b : Bool). RecordingCause b given f) (ap rejects new) h))
 
   -- nothing is put
   pub none_put : (out file : List ℕ) (es : List Event) (f : RunFault F) (r : Result ⊤ (RunFault F)) → IsErrAnd r (λ y. y ≡ f) → RecordedFrom file es (Err f) → Recorded out file es r

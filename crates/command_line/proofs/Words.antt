@@ -1,5 +1,5 @@
 -- Arguments, as far as they were looked at, and what two of them ask for.
-use Rattle.std.proofs.Common.{◌≡◌, ℕ, ◌+◌, ◌<◌, true, false, List, ◌++◌, [], ◌∷◌, map, get_or, length, take, drop, Some, refl, ap, ap₂, ◌∙◌, sym}
+use Rattle.std.proofs.Common.{◌≡◌, ℕ, ◌+◌, ◌<◌, true, false, List, ◌++◌, [], ◌∷◌, map, get_or, length, take, drop, Some, refl, ap, ap₂, ◌∙◌, sym, ◌≤◌, arith}
 use Rattle.std.specs.Str.{IsUtf8, is_utf8}
 use Rattle.std.proofs.lemmas.List.{drop_more, take_more, map-append}
 use Rattle.std.proofs.lemmas.Bool.{false_from_ne_true}
@@ -10,7 +10,7 @@ use Rattle.explanations.specs.Codes.{explanation}
 use Rattle.found_links.specs.declared.forms.Form.{Form}
 use Rattle.found_links.specs.declared.forms.Form.TheVariants as forms
 use Rattle.command_line.specs.Adapters.{adapter_words, flag_words, adapters_of}
-use Rattle.command_line.specs.Arguments.{of_two_words, making, form_of, of_new, of_record, of_links, of_files, is_listing}
+use Rattle.command_line.specs.Arguments.{of_two_words, request_of, making, form_of, of_new, of_record, of_links, of_files, is_listing}
 use Rattle.command_line.specs.Flags.{flags_of}
 use Rattle.command_line.specs.declared.adapters.Adapter.{Adapter}
 use Rattle.command_line.specs.declared.arguments.Request.{Request}
@@ -36,7 +36,7 @@ first_decides true l b word o = refl
 first_decides false l b word o = other_is_none l b word o
 
 -- two words ask for the definitions of a component where the first one is `defs`
-pub listed : (command word : List ℕ) → is_listing (of_two_words command word) ≡ bytes_eq command (codes "defs")
+listed : (command word : List ℕ) → is_listing (of_two_words command word) ≡ bytes_eq command (codes "defs")
 listed command word = first_decides (bytes_eq command (codes "defs")) (bytes_eq command (codes "links")) (bytes_eq command (codes "explain")) word (explanation word)
 
 new_is_none : (out main : List ℕ) (flags : Option Flags) (adapters : Option (List Adapter)) → is_listing (option_and_then (λ a. option_map (making out main a) flags) adapters) ≡ false
@@ -67,6 +67,13 @@ pub not_listed : (command first second : List ℕ) (words : List (List ℕ)) →
 not_listed command first second words =
     one_of_three (bytes_eq command (codes "new")) (bytes_eq command (codes "record")) (bytes_eq command (codes "links")) (of_new first second words) (of_record first second words) (of_links first second words)
     (new_is_none first second (flags_of (flag_words words)) (adapters_of (adapter_words words))) (record_is_none first second words) (links_is_none first second words)
+
+pub both_listed : {X : Type 0} (f : X → List ℕ) (words : List X) (command : X) → 2 ≤ length words → length words < 3 → command ≡ get_or words 0 command
+    → is_listing (request_of (map f words)) ≡ bytes_eq (f command) (codes "defs")
+both_listed f [] command many few is = absurd (omega (arith, many))
+both_listed f (x ∷ []) command many few is = absurd (omega (arith, many))
+both_listed f (x ∷ y ∷ []) command many few is = listed (f x) (f y) ∙ ap (λ (c : _). bytes_eq (f c) (codes "defs")) (sym is)
+both_listed f (x ∷ y ∷ z ∷ rest) command many few is = absurd (omega (arith, few))
 
 module _ {X : Type 0} (f : X → List ℕ) (xs : List X) (i : ℕ) (x : X) (l : i < length xs) (e : x ≡ get_or xs i x) where
   next : drop i xs ≡ x ∷ drop (i + 1) xs

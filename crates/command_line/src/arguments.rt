@@ -243,7 +243,7 @@ impl Request {
 }
 
 /// Whether the words ask for the definitions of a component.
-#[tactic(auto, using(crate::proofs::Words::listed, crate::proofs::Words::not_listed))]
+#[tactic(auto, using(crate::proofs::Words::not_listed))]
 pub(crate) fn is_listing(words: &[String]) -> bool
     ensures { result ≡ is_listing (request_of (map string_bytes words.now)) }
 {

@@ -2,6 +2,7 @@
 use Rattle.std.proofs.Common.{◌≡◌, ℕ, List, inl, inr, subst, sym, Result, Ok, Err}
 use Rattle.std.specs.Prelude.{IfErr}
 use Rattle.std.specs.Result.{IsErrAnd}
+use Rattle.comp_worlds.specs.Bases.{HasUnlikeBases}
 use Rattle.comp_worlds.specs.Made.{IsNotYetMade}
 use Rattle.comp_worlds.specs.declared.world.ComponentWorld.{ComponentWorld}
 use Rattle.comp_worlds.specs.declared.lower.Lower as lower
@@ -27,6 +28,7 @@ module _ {L B F : Type 0} (l : lower.Ghosts L B F) where
 
   pub from_state : (e : Encoder L B) (w : ComponentWorld) (s : StateFault) → IsWorldOf l e w → IsCause w s → IsEncodeRefusal l e (of_state s)
   from_state e w state.Memory is h = tt
+  from_state e w state.TlsTypes is h = subst HasUnlikeBases is.prepared h
   from_state e w (state.NoMemory place) is h = subst (λ (x : ComponentWorld). LacksMemory x (user_imports x) (required_functions x) place) is.prepared h
   from_state e w (state.NoRealloc place) is h = subst (λ (x : ComponentWorld). LacksRealloc x (user_imports x) (required_functions x) place) is.prepared h
   from_state e w (state.NoEncoding place) is h = subst (λ x. LacksEncoding x place) is.prepared h

@@ -10,6 +10,7 @@ use Rattle.comp_names.specs.NameForm.{IsFormed}
 use Rattle.comp_names.specs.Names.{OccursTwice}
 use Rattle.comp_links.specs.Modules.{user_imports}
 use Rattle.comp_worlds.specs.WorldContents.{exported_item}
+use Rattle.comp_worlds.specs.Bases.{HasUnlikeBases}
 use Rattle.comp_worlds.specs.Made.{IsNotYetMade}
 use Rattle.comp_worlds.specs.declared.world.ComponentWorld.{ComponentWorld}
 use Rattle.wit_data.specs.declared.ids.InterfaceId.{InterfaceId}
@@ -80,6 +81,7 @@ pub record NoOutputCause (n : Naming) (w : ComponentWorld) (validate : Bool) : T
   pub memory : (place : List ℕ) → LacksMemory w (user_imports w) (required_functions w) place → ⊥
   pub realloc : (place : List ℕ) → LacksRealloc w (user_imports w) (required_functions w) place → ⊥
   pub encodings : (place : List ℕ) → LacksEncoding w place → ⊥
+  pub bases : HasUnlikeBases w → ⊥
   pub made : (adapter name : List ℕ) → IsNotYetMade w adapter name → ⊥
   pub order : (interface used : List ℕ) → ExportsLater w interface used → ⊥
   pub names : IsTrue validate → (fault : CheckFault) → IsNameCause n w fault → ⊥

@@ -3,6 +3,7 @@
 use Rattle.std.specs.Prelude.{◌≡◌, ◌≢◌, ◌≤◌, ◌^◌, ℕ, List, [], ⊤, false, ◌⊎◌, IsTrue}
 use Rattle.wit_data.specs.declared.ids.WorldId.{WorldId}
 use Rattle.wit_data.specs.declared.resolve.Resolve.{Resolve}
+use Rattle.comp_worlds.specs.Bases.{HasUnlikeBases}
 use Rattle.comp_worlds.specs.Made.{IsNotYetMade}
 use Rattle.comp_worlds.specs.declared.lower.Lower as lower
 use Rattle.comp_encoder.specs.Encoder.{Encoder, main_bytes, naming}
@@ -18,7 +19,7 @@ use Rattle.comp_encoder.specs.declared.output.OutputFault.TheVariants as outputs
 use Rattle.core_options.specs.declared.fault.StateFault.{StateFault}
 use Rattle.core_options.specs.declared.fault.StateFault.TheVariants as state
 use Rattle.comp_encoder.specs.declared.fault.EncodeFault.{EncodeFault}
-use Rattle.comp_encoder.specs.declared.fault.EncodeFault.TheVariants.{Memory, NoModule, Lower, UnknownAdapter, CanonicalNames, NoMemory, NoRealloc, NoEncoding, NotYetMade, LaterExport, Output, TooMany}
+use Rattle.comp_encoder.specs.declared.fault.EncodeFault.TheVariants.{Memory, NoModule, Lower, UnknownAdapter, CanonicalNames, TlsTypes, NoMemory, NoRealloc, NoEncoding, NotYetMade, LaterExport, Output, TooMany}
 
 -- a canonical name that is shared as a fault of the encoder
 abbrev pub of_shared : {F : Type 0} → SharedName → EncodeFault F
@@ -27,6 +28,7 @@ of_shared s = CanonicalNames s.first s.second s.name
 -- a fault of the encoding state as one of the encoder
 abbrev pub of_state : {F : Type 0} → StateFault → EncodeFault F
 of_state state.Memory = Memory
+of_state state.TlsTypes = TlsTypes
 of_state (state.NoMemory place) = NoMemory place
 of_state (state.NoRealloc place) = NoRealloc place
 of_state (state.NoEncoding place) = NoEncoding place
@@ -59,6 +61,7 @@ module _ {L B F : Type 0} (l : lower.Ghosts L B F) where
   IsModuleRefusal e bytes NoModule = ⊥
   IsModuleRefusal e bytes (UnknownAdapter library name) = ⊥
   IsModuleRefusal e bytes (CanonicalNames first second name) = ⊥
+  IsModuleRefusal e bytes TlsTypes = ⊥
   IsModuleRefusal e bytes (NoMemory place) = ⊥
   IsModuleRefusal e bytes (NoRealloc place) = ⊥
   IsModuleRefusal e bytes (NoEncoding place) = ⊥
@@ -74,6 +77,7 @@ module _ {L B F : Type 0} (l : lower.Ghosts L B F) where
   IsEncodeRefusal e (Lower f) = (l.memory_fault e.lower f ≡ false) × l.prepare_cause e.lower e.gathered f
   IsEncodeRefusal e (CanonicalNames first second name) =
       let w = l.prepared e.lower e.gathered in IsTrue e.gathered.options.emit_canonical_names × IsShared w.resolve w.world first second name
+  IsEncodeRefusal e TlsTypes = HasUnlikeBases (l.prepared e.lower e.gathered)
   IsEncodeRefusal e (NoMemory place) = let w = l.prepared e.lower e.gathered in LacksMemory w (user_imports w) (required_functions w) place
   IsEncodeRefusal e (NoRealloc place) = let w = l.prepared e.lower e.gathered in LacksRealloc w (user_imports w) (required_functions w) place
   IsEncodeRefusal e (NoEncoding place) = LacksEncoding (l.prepared e.lower e.gathered) place

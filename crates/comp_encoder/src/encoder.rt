@@ -386,6 +386,7 @@ impl<L: Lower> ComponentEncoder<L> {
     /// - `E2` where there is no main module, or its bytes are empty,
     /// - `E3` where the lower layer can't prepare the world,
     /// - `E5` where canonical names are on, and two imports or two exports have one,
+    /// - `E6` where two modules use one cell for thread-local bases of different types,
     /// - `E7`, `E8`, `E9` where a call needs a memory, a realloc or a string encoding that its module lacks,
     /// - `E10` where a library names a module that is instantiated after it,
     /// - `E11` where an exported interface uses types of one that is exported after it,

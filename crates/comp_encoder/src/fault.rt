@@ -41,6 +41,10 @@ pub enum EncodeFault<F> {
         second: Text,
         name: Text,
     },
+    /// Two core imports read or set the base of thread-local data as numbers of different types,
+    /// where slot 1 of a task's context can't be used for it, and so one cell has to hold it for all.
+    #[error("E6 TlsTypes")]
+    TlsTypes,
     /// A function is lowered or lifted with a memory, or a module imports main's, and main has
     /// none. `place` is `indirect-module-field` for a function that is imported, `module::field`
     /// for a memory, and the function's name for an export (Canonical ABI, `memory`).
@@ -131,6 +135,7 @@ impl<F> From<StateFault> for EncodeFault<F> {
     fn from(fault: StateFault) -> EncodeFault<F> {
         match fault {
             StateFault::Memory => EncodeFault::Memory,
+            StateFault::TlsTypes => EncodeFault::TlsTypes,
             StateFault::NoMemory { place } => EncodeFault::NoMemory { place },
             StateFault::NoRealloc { place } => EncodeFault::NoRealloc { place },
             StateFault::NoEncoding { place } => EncodeFault::NoEncoding { place },

@@ -1,15 +1,17 @@
 -- The link table of a world: what each import of a user module is to be given, and what each required
 -- export is to be lifted from (Canonical ABI: `canon lower`, `canon lift`). It depends on the role of an import or
 -- an export, and on nothing else.
-use Rattle.std.specs.Prelude.{ℕ, Bool, true, List, [], ◌∷◌, ◌++◌, Option, Some, None}
+use Rattle.std.specs.Prelude.{ℕ, Bool, true, List, [], ◌∷◌, ◌++◌, Option, Some, None, unwrap_or}
 use Rattle.std.specs.Option.{option_map, option_map_or, option_and_then}
 use Rattle.comp_lists.specs.Found.{found}
 use Rattle.standard_kinds.specs.declared.kinds.StringEncoding.{StringEncoding}
 use Rattle.world_values.specs.CoreExports.{post_returns}
+use Rattle.world_values.specs.ExportForms.{form_in, callback_in}
 use Rattle.world_values.specs.Items.{functions_of, root_function_at}
 use Rattle.comp_worlds.specs.Lookups.{resolved_realloc}
 use Rattle.comp_worlds.specs.WorldContents.{items_of, function_exported, core_name_in}
-use Rattle.wit_data.specs.declared.functions.AbiVariant.TheVariants.{GuestExport}
+use Rattle.wit_data.specs.declared.functions.AbiVariant.{AbiVariant}
+use Rattle.wit_data.specs.declared.functions.AbiVariant.TheVariants.{GuestExport, GuestExportAsync}
 use Rattle.wit_data.specs.declared.worlds.WorldKey.{WorldKey}
 use Rattle.wit_data.specs.declared.worlds.WorldKey.TheVariants as keys
 use Rattle.comp_bytes.specs.declared.canon.Intrinsic.{Intrinsic}
@@ -28,7 +30,7 @@ use Rattle.comp_roles.specs.declared.libraries.MainOrAdapter.TheVariants as modu
 use Rattle.comp_worlds.specs.declared.world.ComponentWorld.{ComponentWorld}
 use Rattle.comp_worlds.specs.declared.world.ValidatedModule.{ValidatedModule}
 use Rattle.comp_roles.specs.declared.exports.Export.{Export}
-use Rattle.comp_links.specs.Targets.{UserModule, Main, Adapter, ExportRef, TargetOption, Memory, Realloc, Encoding, Async, PostReturn, Target, OfRoot, OfInterface, Lowered, ExportOf, MainMemory, New, Rep, Drop, OfResource, BuiltIn, Lifted, Unlinked}
+use Rattle.comp_links.specs.Targets.{UserModule, Main, Adapter, ExportRef, TargetOption, Memory, Realloc, Encoding, Async, PostReturn, Callback, Target, OfRoot, OfInterface, Lowered, ExportOf, MainMemory, New, Rep, Drop, OfResource, BuiltIn, TlsGet, TlsSet, Lifted, Unlinked}
 use Rattle.comp_links.specs.Modules.{WorldModule, module_found}
 use Rattle.comp_links.specs.Lists.{RequiredFunction, ProvidedType}
 use Rattle.comp_links.specs.Roles.{import_encoding, export_encoding}
@@ -75,9 +77,14 @@ lower_options w m role = options_in (lower_needs w role) (lower_realloc w m) (im
 
 -- ---- lifts
 
--- the set of options that a lift of the function of this name at a key needs
-abbrev pub lift_needs : ComponentWorld → WorldKey → List ℕ → ℕ
-lift_needs w key name = option_map_or (export_set GuestExport w.resolve.types) (function_exported w key name) 0
+-- the form in which core code implements a required function; one without a core export, for which
+-- the table has nothing, counts as synchronous
+abbrev pub form_of : ComponentWorld → RequiredFunction → AbiVariant
+form_of w r = unwrap_or (option_and_then (λ (m : ValidatedModule). form_in m.exports.exports r.key r.function) (module_found w r.of)) GuestExport
+
+-- the set of options that a lift of a required function needs
+abbrev pub lift_needs : ComponentWorld → RequiredFunction → ℕ
+lift_needs w r = option_map_or (export_set (form_of w r) w.resolve.types) (function_exported w r.key r.function) 0
 
 -- the realloc of calls of a module's exports
 abbrev pub lift_realloc : ComponentWorld → UserModule → Option ExportRef
@@ -86,23 +93,35 @@ lift_realloc w of = realloc_of w of is_export_realloc
 abbrev pub export_of : UserModule → List ℕ → ExportRef
 export_of m name = record { of = m; name = name }
 
--- the core export that implements a required function, its post-return, and the destructor of a
--- resource, among the exports of the module that has to export it: the first export with that role
+-- the core export that implements a required function, its post-return, its callback, and the
+-- destructor of a resource, among the exports of the module that has to export it: the first export
+-- with that role
 abbrev pub core_name : ComponentWorld → RequiredFunction → Option (List ℕ)
 core_name w r = option_and_then (λ (m : ValidatedModule). core_name_in m.exports.exports r.key r.function) (module_found w r.of)
 
 abbrev pub post_return_of : ComponentWorld → RequiredFunction → Option (List ℕ)
 post_return_of w r = option_and_then (λ (m : ValidatedModule). of_function r.key r.function (post_returns m.exports.exports)) (module_found w r.of)
 
+abbrev pub callback_of : ComponentWorld → RequiredFunction → Option (List ℕ)
+callback_of w r = option_and_then (λ (m : ValidatedModule). callback_in m.exports.exports r.key r.function) (module_found w r.of)
+
 abbrev pub destructor_of : ComponentWorld → ProvidedType → Option ExportRef
 destructor_of w p = option_map (export_of p.of) (option_and_then (λ (m : ValidatedModule). first_export (is_dtor p.id) m.exports.exports) (module_found w p.of))
 
--- the options with which a required function is lifted: those that its type needs, and its post-return
+-- the option that a lift has by its form alone, with this post-return and this callback: a
+-- synchronous one has its post-return, if there is one; one with a callback has that; and one that
+-- keeps its stack while it waits has neither
+abbrev pub form_option : AbiVariant → Option ExportRef → Option ExportRef → List TargetOption
+form_option GuestExport post_return callback = if_needed true (option_map PostReturn post_return)
+form_option GuestExportAsync post_return callback = if_needed true (option_map Callback callback)
+form_option form post_return callback = []
+
+-- the options with which a required function is lifted: those that its type needs in its form, and that of its form
 abbrev pub needed_options : ComponentWorld → RequiredFunction → List TargetOption
-needed_options w r = options_in (lift_needs w r.key r.function) (lift_realloc w r.of) (export_encoding w r.of r.key r.function)
+needed_options w r = options_in (lift_needs w r) (lift_realloc w r.of) (export_encoding w r.of r.key r.function)
 
 abbrev pub lift_options : ComponentWorld → RequiredFunction → List TargetOption
-lift_options w r = needed_options w r ++ if_needed true (option_map PostReturn (option_map (export_of r.of) (post_return_of w r)))
+lift_options w r = needed_options w r ++ form_option (form_of w r) (option_map (export_of r.of) (post_return_of w r)) (option_map (export_of r.of) (callback_of w r))
 
 -- ---- the link table
 
@@ -111,14 +130,20 @@ abbrev pub module_of : MainOrAdapter → UserModule
 module_of modules.Main = Main
 module_of (modules.Adapter name) = Adapter name
 
+-- a function of the cell of the thread-local base, which stands for slot 1 of a task's context where that can't be used
+abbrev pub link_of_cell : Import → Target
+link_of_cell (imports.TlsBaseGet type) = TlsGet
+link_of_cell (imports.TlsBaseSet type) = TlsSet
+link_of_cell role = Unlinked
+
 -- a built-in function without operands, where the role has one
-abbrev pub link_of_intrinsic : Option Intrinsic → Target
-link_of_intrinsic (Some i) = BuiltIn i
-link_of_intrinsic None = Unlinked
+abbrev pub link_of_intrinsic : Import → Option Intrinsic → Target
+link_of_intrinsic role (Some i) = BuiltIn i
+link_of_intrinsic role None = link_of_cell role
 
 -- what an import of a user module is to be given, by its role: a function of the world is lowered,
 -- a resource has functions for its handles, what another module exports is given as it is, and a
--- built-in function is that
+-- built-in function, or one of the cell, is that
 abbrev pub link_of : ComponentWorld → UserModule → Import → Target
 link_of w m (imports.WorldFunc (keys.Name text) function abi) = Lowered (OfRoot text) (lower_options w m (imports.WorldFunc (keys.Name text) function abi))
 link_of w m (imports.InterfaceFunc key id function abi) = Lowered (OfInterface id function) (lower_options w m (imports.InterfaceFunc key id function abi))
@@ -130,7 +155,7 @@ link_of w m (imports.MainModuleMemory type) = MainMemory
 link_of w m (imports.MainModuleExport name kind) = ExportOf (record { of = Main; name = name })
 link_of w m (imports.AdapterExport adapter name type) = ExportOf (record { of = Adapter adapter; name = name })
 link_of w m (imports.Item item) = ExportOf (record { of = module_of item.which; name = item.name })
-link_of w m role = link_of_intrinsic (plain_intrinsic w.can_use_context_slot_1 role)
+link_of w m role = link_of_intrinsic role (plain_intrinsic w.can_use_context_slot_1 role)
 
 -- the same by the names of its module and field: a module whose imports from one other are all
 -- given by a whole instance gets what that exports under these names

@@ -47,6 +47,9 @@ pub data Target : Type 0 where
   OfResource : (function : ResourceFunction) (resource : TypeId) → Target
   -- a built-in function without operands and options
   BuiltIn : (intrinsic : Intrinsic) → Target
+  -- the function that reads the cell of the thread-local base, and the one that sets it
+  TlsGet : Target
+  TlsSet : Target
   Lifted : (entry : ExportRef) (options : List TargetOption) → Target
   -- of a role that no world has so far: no item meets it
   Unlinked : Target

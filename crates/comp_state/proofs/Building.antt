@@ -15,6 +15,7 @@ use Rattle.core_instances.specs.Instances.{instances_marked, AddsInstances}
 use Rattle.core_options.specs.Causes.{IsEncoded, IsEncodedExport, LacksEncoding, LacksMemory, LacksRealloc, NeedsLowering, NeedsLift, ImportsMemory, ExportsLater}
 use Rattle.comp_roles.specs.declared.libraries.MainOrAdapter.TheVariants as modules
 use Rattle.comp_worlds.specs.Offered.{memory_of_main}
+use Rattle.comp_worlds.specs.Bases.{HasUnlikeBases}
 use Rattle.comp_worlds.specs.Made.{modules_named, IsMadeBefore, AreMadeAfter, IsNotYetMade}
 use Rattle.comp_worlds.specs.declared.world.WorldAdapter.{WorldAdapter}
 use Rattle.comp_worlds.specs.ExportOrder.{exported_before, used_exports}
@@ -99,6 +100,10 @@ pub encoded_realloc : (w : ComponentWorld) → IsEncoded w → (place : List ℕ
 encoded_realloc w h place (inl l) =
     let has = AllByRecursion-contains (HasLowerOptions w) (user_imports w) l.needed.given h.lowered l.needed.present in lacks_none (lower_realloc w l.needed.given.of) (has.realloc l.needed.needed) l.none
 encoded_realloc w h place (inr l) = let has = AllByRecursion-contains (HasLiftOptions w) (required_functions w) l.needed.required h.lifted l.needed.present in lacks_none (lift_realloc w l.needed.required.of) (has.realloc l.needed.needed) l.none
+
+-- where all modules agree on the type of the thread-local base, no two differ
+pub encoded_bases : (w : ComponentWorld) → IsEncoded w → HasUnlikeBases w → ⊥
+encoded_bases w h l = l.apart (same_Some l.one l.other (sym (h.alike l.one l.has_one) ∙ h.alike l.other l.has_other))
 
 -- where interfaces are exported behind those that they use, none is exported too early
 pub encoded_order : (w : ComponentWorld) → IsEncoded w → (interface used : List ℕ) → ExportsLater w interface used → ⊥

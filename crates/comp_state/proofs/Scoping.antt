@@ -168,7 +168,8 @@ within w earlier (defs.Item (items.Alias (aliases.Export exports.Component insta
 within w earlier (defs.Item (items.Alias (aliases.Export exports.Instance instance name))) h = absurd h
 within w earlier (defs.Item (items.Alias (aliases.CoreExport kind instance name))) (inl h) = ((in_range h.is.made, tt), tt)
 within w earlier (defs.Item (items.Alias (aliases.CoreExport kind instance name))) (inr (inl h)) = ((in_range h.is.made, tt), tt)
-within w earlier (defs.Item (items.Alias (aliases.CoreExport kind instance name))) (inr (inr h)) = ((in_range h.is.made, tt), tt)
+within w earlier (defs.Item (items.Alias (aliases.CoreExport kind instance name))) (inr (inr (inl h))) = ((in_range h.is.made, tt), tt)
+within w earlier (defs.Item (items.Alias (aliases.CoreExport kind instance name))) (inr (inr (inr h))) = ((in_range h.is.made, tt), tt)
 within w earlier (defs.Item (items.Alias (aliases.Outer count index))) h = absurd h
 within w earlier (defs.Item (items.Type (types.Func f))) h = (type_within earlier (types.Func f) h, tt)
 within w earlier (defs.Item (items.Type (types.Defined t))) h = (type_within earlier (types.Defined t) h, tt)

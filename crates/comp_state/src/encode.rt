@@ -6,6 +6,7 @@ ghost use Rattle.comp_builder.specs.Naming.{with_names};
 ghost use Rattle.comp_bytes.specs.Scopes.{Scoped};
 ghost use Rattle.comp_links.specs.Lists.{required_functions};
 ghost use Rattle.comp_worlds.specs.Encodable.{IsEncodable};
+ghost use Rattle.comp_worlds.specs.Bases.{HasUnlikeBases};
 ghost use Rattle.comp_worlds.specs.Made.{IsNotYetMade};
 ghost use Rattle.comp_imports.specs.Names.{naming_of};
 ghost use Rattle.root_imports.specs.RootScopes.{IsRefusal};
@@ -64,14 +65,15 @@ impl EncodingState<'_> {
 /// Interfaces are imported under the names that `names` makes; core modules have names for
 /// debuggers if it says so.
 ///
-/// Refused when out of memory, where a function is lowered or lifted with a memory and main has
-/// none, or a realloc that there isn't for the module (`E7`, `E8`, with the name of the import's
-/// shim, the import itself where main imports its memory, or the function that is lifted), where a
-/// function that is imported or exported has no string encoding (`E9`, with the import, or the
-/// function), where an adapter names another that is not instantiated before it (`E10`, with both),
-/// where an interface uses types of another exported one that isn't exported before it (`E11`, with
-/// both), and where a space would have more than 2^32 - 1 items, or a count or a size among the
-/// names, or in a module that is generated or given a name, would pass that (`E16`).
+/// Refused when out of memory, where two modules use a cell for thread-local bases of different
+/// types (`E6`), where a function is lowered or lifted with a memory and main has none, or a
+/// realloc that there isn't for the module (`E7`, `E8`, with the name of the import's shim, the
+/// import itself where main imports its memory, or the function that is lifted), where a function
+/// that is imported or exported has no string encoding (`E9`, with the import, or the function),
+/// where an adapter names another that is not instantiated before it (`E10`, with both), where an
+/// interface uses types of another exported one that isn't exported before it (`E11`, with both),
+/// and where a space would have more than 2^32 - 1 items, or a count or a size among the names, or
+/// in a module that is generated or given a name, would pass that (`E16`).
 pub fn encode_world(
     alloc: Global,
     world: &ComponentWorld,
@@ -89,6 +91,7 @@ pub fn encode_world(
         → (place : List ℕ)
         → LacksRealloc world.now (user_imports world.now) (required_functions world.now) place
         → ⊥ }
+    ensures bases { IsOk result → HasUnlikeBases world.now → ⊥ }
     ensures made { IsOk result → (adapter name : List ℕ) → IsNotYetMade world.now adapter name → ⊥ }
     ensures order { IsOk result → (interface used : List ℕ) → ExportsLater world.now interface used → ⊥ }
     ensures cause { IfErr result (IsCause world.now) }

@@ -9,6 +9,7 @@ ghost use Rattle.comp_links.specs.Lists.{required_functions};
 ghost use Rattle.comp_links.specs.Modules.{UserImport, user_imports};
 ghost use Rattle.comp_links.specs.Supplied.{IsSuppliedImport};
 ghost use Rattle.comp_state.specs.Encoding.{naming_in};
+ghost use Rattle.comp_worlds.specs.Bases.{AreBasesAlike};
 ghost use Rattle.comp_worlds.specs.ExportOrder.{AreExportsInOrder};
 ghost use Rattle.comp_worlds.specs.Made.{AreMadeInOrder};
 ghost use Rattle.comp_state.specs.declared.state.Step.TheVariants.{Started, Imported, Instantiated};
@@ -159,13 +160,14 @@ impl EncodingState<'_> {
     }
 
     /// Makes the instances of the user modules; before them that of the module of shims, where a
-    /// module needs shims or main imports its memory, and after them that of the fixup, where a
-    /// module needs shims.
+    /// module needs shims or a cell for the thread-local base, or main imports its memory, and after
+    /// them that of the fixup, where a module needs shims.
     ///
-    /// `E9` where an import of a function has no string encoding, `E7` where a function is lowered
-    /// with a memory and main has none, `E8` where it is lowered with a realloc and there is none
-    /// for the module, `E10` where an adapter names one that is not instantiated before it, and
-    /// `E11` where an exported interface uses types of another one that isn't exported before it.
+    /// `E9` where an import of a function has no string encoding, `E6` where two modules use a cell
+    /// for bases of different types, `E7` where a function is lowered with a memory and main has
+    /// none, `E8` where it is lowered with a realloc and there is none for the module, `E10` where
+    /// an adapter names one that is not instantiated before it, and `E11` where an exported
+    /// interface uses types of another one that isn't exported before it.
     pub fn encode_core_instantiation(&mut self) -> Result<(), StateFault>
         requires users { AreUserModules self.old.world self.old.built.defs }
         requires imported { self.old.step ≡ Imported }
@@ -174,6 +176,7 @@ impl EncodingState<'_> {
         ensures step { OnOk result (self.new.step ≡ Instantiated) }
         ensures extends { Extends self.old.built self.new.built }
         ensures ordered { OnOk result (AreExportsInOrder self.old.world) }
+        ensures alike { OnOk result (AreBasesAlike self.old.world) }
         ensures in_order { OnOk result (AreMadeInOrder self.old.world) }
         ensures added { OnOk result (AddsInstances self.old.world self.old.debug_names
             self.old.built.defs self.new.built.defs) }

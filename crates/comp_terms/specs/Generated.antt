@@ -6,6 +6,7 @@ use Rattle.std.specs.Option.{option_map, option_and_then}
 use Rattle.comp_lists.specs.Found.{found}
 use Rattle.core_bytes.specs.Modules.{Encodes}
 use Rattle.core_types.specs.declared.types.MemoryType.{MemoryType}
+use Rattle.core_types.specs.declared.types.ValType.{ValType}
 use Rattle.wit_data.specs.Keys.{is_same_key}
 use Rattle.wit_data.specs.declared.ids.InterfaceId.{InterfaceId}
 use Rattle.wit_data.specs.declared.worlds.WorldItem.{WorldItem}
@@ -15,6 +16,7 @@ use Rattle.wit_data.specs.declared.worlds.WorldKey.TheVariants as keys
 use Rattle.comp_roles.specs.declared.imports.Import.{Import}
 use Rattle.comp_roles.specs.declared.imports.Import.TheVariants as imports
 use Rattle.comp_roles.specs.declared.offered.ExternType.TheVariants as externs
+use Rattle.comp_worlds.specs.Bases.{cell_type, AreBasesAlike}
 use Rattle.comp_worlds.specs.Offered.{shared_memory}
 use Rattle.comp_worlds.specs.Typed.{type_of_import}
 use Rattle.comp_worlds.specs.WorldContents.{items_of}
@@ -30,14 +32,15 @@ use Rattle.world_shims.specs.WorldShims.{shims_of, initialize_of, type_of_shim, 
 
 -- ---- the modules
 
--- there is a module of shims where there are shims, or main imports its memory
-abbrev pub has_shims_in : List Shim → Option MemoryType → Bool
-has_shims_in [] None = false
-has_shims_in [] (Some memory) = true
-has_shims_in (s ∷ ss) memory = true
+-- there is a module of shims where there are shims, main imports its memory, or a cell holds the thread-local base
+abbrev pub has_shims_in : List Shim → Option MemoryType → Option ValType → Bool
+has_shims_in [] None None = false
+has_shims_in [] None (Some type) = true
+has_shims_in [] (Some memory) cell = true
+has_shims_in (s ∷ ss) memory cell = true
 
 abbrev pub has_shim_module : ComponentWorld → Bool
-has_shim_module w = has_shims_in (shims_of w) (shared_memory w)
+has_shim_module w = has_shims_in (shims_of w) (shared_memory w) (cell_type w)
 
 -- and a fixup where there is a shim to fill, or main is to be initialized
 abbrev pub has_tasks_in : List Shim → Option (List ℕ) → Bool
@@ -66,17 +69,19 @@ pub record GeneratedBytes : Type 0 where
 
 abbrev pub IsShimModule : ComponentWorld → Bool → Option (List ℕ) → Type 0
 IsShimModule w debug_names None = has_shim_module w ≡ false
-IsShimModule w debug_names (Some bytes) = Encodes bytes (sections_of_shims (shared_memory w) (shims_of w) debug_names) × (has_shim_module w ≡ true)
+IsShimModule w debug_names (Some bytes) = Encodes bytes (sections_of_shims (shared_memory w) (cell_type w) (shims_of w) debug_names) × (has_shim_module w ≡ true)
 
 abbrev pub IsFixup : ComponentWorld → Bool → Option (List ℕ) → Type 0
 IsFixup w debug_names None = has_fixup w ≡ false
 IsFixup w debug_names (Some bytes) = Encodes bytes (sections_of_fixup (shims_of w) (initialize_of w) debug_names) × (has_fixup w ≡ true)
 
--- they encode the modules that are generated for the world, with debug names or without
+-- They encode the modules that are generated for the world, with debug names or without; and all user modules agree on
+-- the type of what the cell holds.
 pub record AreGenerated (w : ComponentWorld) (debug_names : Bool) (g : GeneratedBytes) : Type 0 where
   pub shims : IsShimModule w debug_names g.shims
   pub fixup : IsFixup w debug_names g.fixup
   pub room : length (shims_of w) < 2 ^ 32
+  pub alike : AreBasesAlike w
 
 -- ---- what shims stand for
 

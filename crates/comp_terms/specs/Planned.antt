@@ -30,6 +30,7 @@ use Rattle.comp_links.specs.Modules.{IsModule, function_imported}
 use Rattle.comp_links.specs.Lists.{IsOriginOf, resource_of}
 use Rattle.comp_links.specs.Links.{link_of, module_of}
 use Rattle.comp_links.specs.Supplied.{IsSuppliedImport}
+use Rattle.shim_modules.specs.Shims.{getter_name, setter_name}
 use Rattle.shim_plan.specs.declared.kinds.ShimKind.{ShimKind}
 use Rattle.shim_plan.specs.declared.kinds.ShimKind.TheVariants as shim_kinds
 use Rattle.shim_plan.specs.declared.shims.Shim.{Shim}
@@ -70,6 +71,10 @@ pub record IsShimPlace (w : ComponentWorld) (place : ℕ) (target : Target) : Ty
 abbrev pub shim_export : ComponentWorld → ℕ → CoreExport
 shim_export w place = record { of = shims_number w; kind = kinds.Func; name = decimal place }
 
+-- what it exports for the cell under this name
+abbrev pub cell_export : ComponentWorld → List ℕ → CoreExport
+cell_export w name = record { of = shims_number w; kind = kinds.Func; name = name }
+
 -- an export of the module of shims that stands for what the target names
 pub record IsShimExport (w : ComponentWorld) (e : CoreExport) (target : Target) : Type 0 where
   pub place : ℕ
@@ -107,8 +112,10 @@ IsTermFor w (targets.ExportOf export_ref) (terms.Exported e) = IsExportFor w e e
 IsTermFor w targets.MainMemory (terms.Exported e) = IsMemoryFor w e × (e.kind ≡ kinds.Memory)
 IsTermFor w (targets.OfResource function id) (terms.OfResource same resource) = (same ≡ function) × (resource ≡ resource_of w id)
 IsTermFor w (targets.BuiltIn intrinsic) (terms.BuiltIn same) = same ≡ intrinsic
+IsTermFor w targets.TlsGet (terms.Exported e) = e ≡ cell_export w getter_name
+IsTermFor w targets.TlsSet (terms.Exported e) = e ≡ cell_export w setter_name
 IsTermFor w (targets.Lifted entry options) (terms.Lifting e written type) = IsExportFor w e entry × AllZip (IsOptionFor w) written options
-IsTermFor w target term = ⊥
+IsTermFor w _ term = ⊥
 
 -- the item of this index in a space is a term that the target names
 pub record IsItemFor (w : ComponentWorld) (ds : List Def) (space : Space) (index : ℕ) (target : Target) : Type 0 where

@@ -55,9 +55,11 @@ use Rattle.comp_links.specs.Links.{destructor_of}
 use Rattle.comp_terms.specs.Terms.{InstanceOf as InstanceTerm, imports_in, IsFunctionType, IsResource, IsImportedFunction, Is}
 use Rattle.fixup_modules.specs.declared.instances.ImportedInstance.{ImportedInstance as FixupInstance}
 use Rattle.fixup_modules.specs.declared.instances.ImportedInstance.TheVariants as sources
+use Rattle.shim_modules.specs.Shims.{getter_name, setter_name}
 use Rattle.world_shims.specs.WorldShims.{shims_of, initialize_of, fixup_instances}
 use Rattle.comp_terms.specs.UserBytes.{user_bytes}
 use Rattle.comp_terms.specs.Generated.{has_shim_module, has_fixup, shims_number, fixup_number, GeneratedBytes, AreGenerated}
+use Rattle.comp_worlds.specs.Bases.{cell_type}
 use Rattle.comp_worlds.specs.Offered.{shared_memory}
 use Rattle.comp_terms.specs.Planned.{IsArgumentFor, AreFillsFor, IsShimFor}
 use Rattle.comp_terms.specs.Instances.{ImportsInterface, IsNestedRight, InstantiatesNested}
@@ -178,6 +180,13 @@ pub record AliasesMemory (w : ComponentWorld) (earlier : List Def) (kind : Expor
   pub named : name ≡ codes "$memory"
   pub memory : kind ≡ kinds.Memory
 
+-- an alias of a function of the cell of the thread-local base, which the module of shims exports for all user modules
+pub record AliasesCell (w : ComponentWorld) (earlier : List Def) (kind : ExportKind) (instance : ℕ) (name : List ℕ) : Type 0 where
+  pub is : Is earlier spaces.CoreInstance instance (InstanceTerm (shims_number w))
+  pub there : IsSome (cell_type w)
+  pub named : (name ≡ getter_name) ⊎ (name ≡ setter_name)
+  pub function : kind ≡ kinds.Func
+
 -- an entry of an inline instance names an earlier item
 pub record IsEntry (earlier : List Def) (e : CoreInlineExport) : Type 0 where
   pub scoped : e.index < items_in (kind_space e.kind) earlier
@@ -208,7 +217,8 @@ AliasesType earlier instance name = AliasesImported earlier spaces.Type instance
 abbrev pub IsAliasRight : ComponentWorld → List Def → Alias → Type 0
 IsAliasRight w earlier (aliases.Export exports.Func instance name) = AliasesImported earlier spaces.Func instance name
 IsAliasRight w earlier (aliases.Export exports.Type instance name) = AliasesType earlier instance name
-IsAliasRight w earlier (aliases.CoreExport kind instance name) = AliasesUser w earlier kind instance name ⊎ AliasesShim w earlier kind instance name ⊎ AliasesMemory w earlier kind instance name
+IsAliasRight w earlier (aliases.CoreExport kind instance name) =
+    AliasesUser w earlier kind instance name ⊎ AliasesShim w earlier kind instance name ⊎ AliasesMemory w earlier kind instance name ⊎ AliasesCell w earlier kind instance name
 IsAliasRight w earlier _ = ⊥
 
 -- a type of functions

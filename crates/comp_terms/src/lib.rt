@@ -6,4 +6,5 @@
 //! table of a world asks for), `specs/Exports.antt` (the instances of nested components, and what
 //! is exported), `specs/Rules.antt` (the rule of each definition, and the landmarks of the whole
 //! list). They are no part of a promise: `link_laws` proves from them that the list links.
+//! `proofs/HasShims.antt` says where there is a module of shims.
 #![tactic(auto)]

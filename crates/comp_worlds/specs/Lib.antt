@@ -1,6 +1,7 @@
 pub mod Lookups
 pub mod Lowerings
 pub mod Uses
+pub mod Bases
 pub mod Imported
 pub mod WorldContents
 pub mod Offered

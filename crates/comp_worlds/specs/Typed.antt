@@ -53,6 +53,10 @@ initialize_type = externs.Func (function_type [] [])
 abbrev pub post_return_type : Resolve → Function → ExternType
 post_return_type r f = externs.Func (function_type (map value_type (signature GuestExport r.types f).results) [])
 
+-- the type of a callback: the code of an event, and two numbers with it; the code of what the task does next
+abbrev pub callback_type : ExternType
+callback_type = externs.Func (function_type (I32 ∷ I32 ∷ I32 ∷ []) (I32 ∷ []))
+
 -- the type that the role of an import, or of an export, requires, as far as such roles are encoded:
 -- of a built-in function without operands too; an export of main and an item of an argument are
 -- given where they match the import
@@ -72,6 +76,8 @@ type_of_export r items (exports.WorldFunc key function abi) = option_map (called
 type_of_export r items (exports.InterfaceFunc key id function abi) = option_map (called_type r abi) (found function (functions_of r id))
 type_of_export r items (exports.WorldFuncPostReturn key) = option_map (post_return_type r) (root_function_at items.exports key)
 type_of_export r items (exports.InterfaceFuncPostReturn key function) = option_map (post_return_type r) (function_of_item r function (lookup (is_same_key key) items.exports))
+type_of_export r items (exports.WorldFuncCallback key) = Some callback_type
+type_of_export r items (exports.InterfaceFuncCallback key function) = Some callback_type
 type_of_export r items (exports.ResourceDtor id) = Some destructor_type
 type_of_export r items (exports.Memory type) = Some (externs.Memory type)
 type_of_export r items exports.GeneralPurposeRealloc = Some realloc_type

@@ -1,12 +1,11 @@
 -- What holds of a validated world (component model: the imports and exports of a world; core standard, binary format:
 -- the preamble of a module).
-use Rattle.std.specs.Prelude.{◌≡◌, ◌<◌, ◌==◌, ℕ, false, List, [], ◌∷◌, Some, map, length, Contains, IsSome}
+use Rattle.std.specs.Prelude.{◌≡◌, ◌<◌, ◌==◌, ℕ, true, false, List, [], ◌∷◌, Some, map, length, Contains, IsSome}
 use Rattle.std.specs.List.{IsDistinct, AllByRecursion, list_any, flat_map}
 use Rattle.std.specs.Map.{keys_of}
 use Rattle.std.specs.Str.{bytes_eq}
 use Rattle.core_types.specs.Core.{IsCoreModule}
 use Rattle.wit_data.specs.declared.functions.Function.{Function}
-use Rattle.wit_data.specs.declared.functions.AbiVariant.TheVariants.{GuestExport}
 use Rattle.wit_data.specs.declared.ids.InterfaceId.{InterfaceId}
 use Rattle.wit_data.specs.declared.ids.TypeId.{TypeId}
 use Rattle.wit_data.specs.declared.types.TypeDef.{TypeDef}
@@ -28,6 +27,7 @@ use Rattle.comp_roles.specs.declared.exports.Export.{Export}
 use Rattle.comp_roles.specs.declared.exports.Export.TheVariants as exports
 use Rattle.comp_worlds.specs.declared.world.ComponentWorld.{ComponentWorld}
 use Rattle.comp_worlds.specs.declared.world.ValidatedModule.{ValidatedModule}
+use Rattle.world_values.specs.ExportForms.{IsExportForm, IsFormed}
 use Rattle.world_values.specs.Items.{functions_of, functions_in}
 use Rattle.comp_worlds.specs.Lookups.{found_module}
 use Rattle.comp_worlds.specs.Lowerings.{IsImportForm}
@@ -82,7 +82,7 @@ pub record IsOwnResource (w : ComponentWorld) (key : WorldKey) (id : TypeId) : T
 -- the role of an import is a function that the world imports, at its root or in an interface,
 -- called in either form, the drop of a resource, `resource.drop`, `resource.rep` or `resource.new`
 -- of a resource of an exported interface, main's memory, what main or an adapter offers, an item of
--- an argument of a library, or a built-in function without operands
+-- an argument of a library, a built-in function without operands, or a function of the thread-local base
 abbrev pub IsImportRole : ComponentWorld → Import → Type 0
 IsImportRole w (imports.WorldFunc (keys.Name text) function abi) = Contains (imported_functions w) text × (function ≡ text) × IsImportForm abi
 IsImportRole w (imports.InterfaceFunc key id function abi) = Contains (items_of w).imports (key, items.Interface id) × Contains (map (λ e. e.0) (functions_of w.resolve id)) function × IsImportForm abi
@@ -94,7 +94,7 @@ IsImportRole w (imports.MainModuleMemory type) = MemoryMatches w type
 IsImportRole w (imports.MainModuleExport name kind) = OffersItem w.main name kind
 IsImportRole w (imports.AdapterExport adapter name type) = AdapterOffers w adapter name type
 IsImportRole w (imports.Item item) = NamedOffers w item.which item.name item.kind
-IsImportRole w role = IsSome (plain_intrinsic w.can_use_context_slot_1 role)
+IsImportRole w role = IsSome (plain_intrinsic true role)
 
 -- a function of the handles of an exported resource is for the module that has to export its interface
 abbrev pub IsForOwnKey : List WorldKey → Import → Type 0
@@ -124,13 +124,15 @@ pub record ExportsFunctionOf (w : ComponentWorld) (key : WorldKey) (id : Interfa
   pub has : Contains (map (λ e. e.0) (functions_of w.resolve id)) name
 
 -- the role of an export is a function that the world exports, at its root or in an interface,
--- called in the right form, the post-return of one, the destructor of a resource, the memory, or a
--- realloc
+-- called in one of the forms of exports, the post-return or the callback of one, the destructor of a
+-- resource, the memory, or a realloc
 abbrev pub IsExportRole : ComponentWorld → Export → Type 0
-IsExportRole w (exports.WorldFunc (keys.Name text) function abi) = Contains (exported_functions w) text × (function ≡ text) × (abi ≡ GuestExport)
-IsExportRole w (exports.InterfaceFunc key id function abi) = ExportsFunctionOf w key id function × (abi ≡ GuestExport)
+IsExportRole w (exports.WorldFunc (keys.Name text) function abi) = Contains (exported_functions w) text × (function ≡ text) × IsExportForm abi
+IsExportRole w (exports.InterfaceFunc key id function abi) = ExportsFunctionOf w key id function × IsExportForm abi
 IsExportRole w (exports.WorldFuncPostReturn (keys.Name text)) = Contains (exported_functions w) text
 IsExportRole w (exports.InterfaceFuncPostReturn key function) = (id : InterfaceId) × ExportsFunctionOf w key id function
+IsExportRole w (exports.WorldFuncCallback (keys.Name text)) = Contains (exported_functions w) text
+IsExportRole w (exports.InterfaceFuncCallback key function) = (id : InterfaceId) × ExportsFunctionOf w key id function
 IsExportRole w (exports.ResourceDtor id) = IsResource w.resolve.types id.index
 IsExportRole w (exports.Memory type) = Unit {0}
 IsExportRole w exports.GeneralPurposeRealloc = Unit {0}
@@ -140,10 +142,12 @@ IsExportRole w exports.ReallocForAdapter = Unit {0}
 IsExportRole w exports.Initialize = Unit {0}
 IsExportRole w role = ⊥
 
--- a required export is one of the world's, and the module has a core export for each of its functions
+-- a required export is one of the world's, and the module has a core export for each of its
+-- functions, with a callback where its form asks for one
 pub record IsRequired (w : ComponentWorld) (m : ValidatedModule) (key : WorldKey) : Type 0 where
   pub exported : Contains (map (λ e. e.0) (items_of w).exports) key
   pub present : AllByRecursion (λ name. IsSome (core_name_in m.exports.exports key name)) (functions_in w.resolve (exported_item w key))
+  pub formed : AllByRecursion (IsFormed m.exports.exports key) (functions_in w.resolve (exported_item w key))
 
 -- What holds of each user module, main and adapters alike: its imports and exports have the roles
 -- and the types that are said of them, and these exports are required of it.

@@ -16,7 +16,8 @@
 //! module's realloc), `named` (which adapters a module names), `lower` (the trait). The tables that
 //! follow from a world are defined here (`specs/Uses.antt`, `specs/Imported.antt`) and in
 //! `specs/Mentions.antt` of `world_values`, and made by `world_tables`. The look-ups across modules
-//! are defined in `specs/Lookups.antt`.
+//! are defined in `specs/Lookups.antt`, and in `specs/Bases.antt` the type of the base of
+//! thread-local data, on which they have to agree where a cell of the component holds it.
 #![tactic(auto)]
 
 mod calls;

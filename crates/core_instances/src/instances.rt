@@ -6,6 +6,7 @@ ghost use Rattle.std.specs.List.{AllByRecursion};
 ghost use Rattle.root_imports.specs.Keeping.{RootMoved};
 ghost use Rattle.comp_links.specs.Supplied.{IsSuppliedImport};
 ghost use Rattle.comp_links.specs.Modules.{UserImport, user_imports};
+ghost use Rattle.comp_worlds.specs.Bases.{AreBasesAlike};
 ghost use Rattle.comp_worlds.specs.ExportOrder.{AreExportsInOrder};
 ghost use Rattle.comp_worlds.specs.Made.{AreMadeInOrder};
 ghost use Rattle.root_imports.specs.Met.{AreExportsMet};
@@ -14,7 +15,7 @@ ghost use Rattle.core_options.specs.Causes.{IsCause};
 ghost use Rattle.core_options.specs.MainOptions.{AreUserInstances, HasLowerOptions};
 
 use crate::fixup::encode_indirect_lowerings;
-use crate::plan::plan_shims;
+use crate::plan::{plan_cell, plan_shims};
 use crate::users::{instantiate_users, main_user, sources_of};
 use comp_lists::{Keyed, Text};
 use comp_worlds::ComponentWorld;
@@ -40,15 +41,16 @@ fn fill_sources<'a>(
 
 /// Adds the module of shims and its instance, the types of exported interfaces, the instances of
 /// the user modules, and the fixup's module and its instance; without the fixup where no module
-/// needs shims, and then also without the module of shims, unless main imports its memory. It
-/// returns the instances of the user modules. `functions` has the root functions that were
-/// imported, by their names. After a refusal the definitions that were made until then stay.
+/// needs shims, and then also without the module of shims, unless main imports its memory or a
+/// module uses a cell for the thread-local base. It returns the instances of the user modules.
+/// `functions` has the root functions that were imported, by their names. After a refusal the
+/// definitions that were made until then stay.
 ///
-/// `E9` where an import of a function has no string encoding, `E7` where a function is lowered with
-/// a memory, or an import is main's memory, and main has none, `E8` where it is lowered with a
-/// realloc and there is none for the module, `E10` where an adapter names one that is not
-/// instantiated before it, and `E11` where an exported interface uses types of another one that
-/// isn't exported before it.
+/// `E9` where an import of a function has no string encoding, `E6` where two modules use a cell for
+/// bases of different types, `E7` where a function is lowered with a memory, or an import is main's
+/// memory, and main has none, `E8` where it is lowered with a realloc and there is none for the
+/// module, `E10` where an adapter names one that is not instantiated before it, and `E11` where an
+/// exported interface uses types of another one that isn't exported before it.
 pub fn encode_core_instantiation(
     root: &mut RootScope<'_, ComponentWorld>,
     functions: &Keyed<Text, u32>,
@@ -68,11 +70,13 @@ pub fn encode_core_instantiation(
         (user_imports root.old.world.now)) }
     ensures lowered { OnOk result
         (AllByRecursion (HasLowerOptions root.old.world.now) (user_imports root.old.world.now)) }
+    ensures alike { OnOk result (AreBasesAlike root.old.world.now) }
     ensures in_order { OnOk result (AreMadeInOrder root.old.world.now) }
     ensures cause { IfErr result (IsCause root.old.world.now) }
 {
     let shims = plan_shims(root.items.allocator(), root.world)?;
-    let generated = encode_shim_instantiation(root, &shims, debug_names)?;
+    let cell = plan_cell(root.world)?;
+    let generated = encode_shim_instantiation(root, cell, &shims, debug_names)?;
     let shims_made = ShimSources {
         shims: &shims,
         instance: generated.instance,

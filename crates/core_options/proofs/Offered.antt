@@ -15,7 +15,8 @@ use Rattle.wit_data.specs.declared.worlds.WorldKey.{WorldKey}
 use Rattle.wit_data.specs.declared.worlds.WorldKey.TheVariants as keys
 use Rattle.wit_data.specs.Keys.{is_same_key}
 use Rattle.wit_data.specs.Signatures.{signature}
-use Rattle.world_values.specs.CoreExports.{function_key, implemented_by, returned_by, post_returns}
+use Rattle.world_values.specs.CoreExports.{function_key, implemented_by, returned_by, post_returns, called_back_by}
+use Rattle.world_values.specs.ExportForms.{callback_in}
 use Rattle.world_values.specs.Items.{functions_of, function_of_item, root_function_at}
 use Rattle.comp_roles.specs.CoreTypes.{function_type, value_type, core_type}
 use Rattle.comp_roles.specs.FunctionExports.{is_dtor}
@@ -81,6 +82,10 @@ typed_by m name f (Some x) type e offered = (f x, offered ∙ sym e)
 abbrev realloc_core : FuncType
 realloc_core = function_type (I32 ∷ I32 ∷ I32 ∷ I32 ∷ []) (I32 ∷ [])
 
+-- that of a callback
+abbrev callback_core : FuncType
+callback_core = function_type (I32 ∷ I32 ∷ I32 ∷ []) (I32 ∷ [])
+
 -- that of a destructor
 abbrev destructor_core : FuncType
 destructor_core = function_type (I32 ∷ []) []
@@ -98,6 +103,8 @@ role_offered w m name (exports.InterfaceFuncPostReturn key function) none r h =
     typed_by m name (λ f. function_type (map value_type (signature GuestExport w.resolve.types f).results) []) (function_of_item w.resolve function (lookup (is_same_key key) (items_of w).exports)) h.type h.fits h.offered
 role_offered w m name (exports.WorldFuncPostReturn (keys.Name text)) none r h =
     typed_by m name (λ f. function_type (map value_type (signature GuestExport w.resolve.types f).results) []) (root_function_at (items_of w).exports (keys.Name text)) h.type h.fits h.offered
+role_offered w m name (exports.WorldFuncCallback (keys.Name text)) none r h = (callback_core, h.offered ∙ sym h.fits)
+role_offered w m name (exports.InterfaceFuncCallback key function) none r h = (callback_core, h.offered ∙ sym h.fits)
 role_offered w m name (exports.ResourceDtor id) none r h = (destructor_core, h.offered ∙ sym h.fits)
 role_offered w m name exports.GeneralPurposeRealloc none r h = (realloc_core, h.offered ∙ sym h.fits)
 role_offered w m name exports.GeneralPurposeImportRealloc none r h = (realloc_core, h.offered ∙ sym h.fits)
@@ -210,6 +217,23 @@ module _ (w : ComponentWorld) (m : ValidatedModule) (ok : IsUserOf w m) where
       by : (o : Option (List ℕ)) → of_function key function (post_returns m.exports.exports) ≡ o → IfSome o (OffersFunction m)
       by None e = tt
       by (Some name) e = post_return_offered key function name e
+
+  called_back : (n : List ℕ) (role : WorldExport) (key : FunctionKey) (name : List ℕ) → lookup (is_same_function key) (called_back_by (n, role)) ≡ Some name → IsExportRole w role → FitsExport w.resolve (items_of w) m (n, role) → OffersFunction m name
+  called_back n (exports.WorldFuncCallback (keys.Name text)) key name h r fits = subst (OffersFunction m) (one_entry key (function_key (keys.Name text) text) n name h) (role_offered w m n (exports.WorldFuncCallback (keys.Name text)) refl r fits)
+  called_back n (exports.InterfaceFuncCallback k f) key name h r fits = subst (OffersFunction m) (one_entry key (function_key k f) n name h) (role_offered w m n (exports.InterfaceFuncCallback k f) refl r fits)
+  called_back n (exports.WorldFuncCallback (keys.Interface id)) key name h r fits = absurd (none-some name h)
+  called_back n role key name h r fits = absurd (none-some name h)
+
+  -- so is a callback
+  pub callback_offered : (key : WorldKey) (function name : List ℕ) → callback_in m.exports.exports key function ≡ Some name → OffersFunction m name
+  callback_offered key function name h = tabled_offered w m called_back_by called_back (function_key key function) name m.exports.exports ok.is.export_roles ok.is.exported h
+
+  pub callback_if_offered : (key : WorldKey) (function : List ℕ) → IfSome (callback_in m.exports.exports key function) (OffersFunction m)
+  callback_if_offered key function = by (callback_in m.exports.exports key function) refl
+    where
+      by : (o : Option (List ℕ)) → callback_in m.exports.exports key function ≡ o → IfSome o (OffersFunction m)
+      by None e = tt
+      by (Some name) e = callback_offered key function name e
 
   memory_found : (name : List ℕ) (type : MemoryType) (es : List (List ℕ × WorldExport)) → Fits w m es → first_memory es ≡ Some (name, type) → OffersMemory m name
   memory_found name type [] f h = absurd (none-some (name, type) h)

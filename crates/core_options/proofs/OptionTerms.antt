@@ -98,6 +98,13 @@ module _ (w : ComponentWorld) (ds : List Def) where
   fit_post_return (Some index) None alias = absurd alias
   fit_post_return None (Some e) alias = absurd alias
 
+  -- a callback
+  pub fit_callback : (index : Option ℕ) (e : Option targets.ExportRef) → IsAliasIf w ds e index → Fit (one_if canonical.Callback index) (if_needed true (option_map targets.Callback e))
+  fit_callback (Some index) (Some e) alias = fit_one (canonical.Callback index) (terms.Callback alias.exported) (targets.Callback e) (alias.function, alias.is) alias.named
+  fit_callback None None alias = fit_none
+  fit_callback (Some index) None alias = absurd alias
+  fit_callback None (Some e) alias = absurd alias
+
   -- an option that names an item names an earlier one
   option_right : (o : CanonicalOption) (t : TermOption) → IsOption ds o t → IsOptionRight ds o
   option_right (canonical.Memory index) (terms.Memory e) h = subst (λ k. index < items_in (kind_space k) ds) h.0 (in_range h.1.made)
@@ -143,6 +150,7 @@ module _ (w : ComponentWorld) (ds : List Def) (set : ℕ) (memory realloc : Opti
   -- what is missing is the cause
   pub option_refused : (place : List ℕ) (e : StateFault) → IsListRefusal set memory realloc place e → IsOptionRefusal w set own place e
   option_refused place faults.Memory h = tt
+  option_refused place faults.TlsTypes h = absurd h
   option_refused place (faults.NotYetMade adapter name) h = absurd h
   option_refused place (faults.LaterExport interface used) h = absurd h
   option_refused place (faults.NoMemory of) h = by (needs set 1) memory refl m h.0

@@ -27,6 +27,7 @@ pub among_more : (w : ComponentWorld) (some all : List UserImport) (few more : L
     ((r : RequiredFunction) → Contains few r → Contains more r) → (e : StateFault) → IsCauseAmong w some few e → IsCauseAmong w all more e
 unfolding lowering_more lift_more
 among_more w some all few more imports exports faults.Memory h = tt
+among_more w some all few more imports exports faults.TlsTypes h = h
 among_more w some all few more imports exports (faults.TooMany excess) h = h
 among_more w some all few more imports exports (faults.NotYetMade adapter name) h = h
 among_more w some all few more imports exports (faults.LaterExport interface used) h = h
@@ -51,6 +52,7 @@ one_export_lacks w r place none at = inr (record { required = r; present = (0, o
 pub one_import_refused : (w : ComponentWorld) (i : UserImport) (own : Option ExportRef) (set : ℕ) (place : List ℕ) → set ≡ lower_needs w i.core.role → place ≡ lowering_place w i.core → (own ≡ None → lower_realloc w i.of ≡ None) → (e : StateFault) →
     IsOptionRefusal w set own place e → IsCauseAmong w (i ∷ []) [] e
 one_import_refused w i own set place needed named none faults.Memory h = tt
+one_import_refused w i own set place needed named none faults.TlsTypes h = absurd h
 one_import_refused w i own set place needed named none (faults.TooMany excess) h = h
 one_import_refused w i own set place needed named none (faults.NoMemory of) h = record {
   needed = inl (record { given = i; present = (0, omega arith, refl); needed = subst (λ n. IsTrue (needs n 1)) needed h.0; at = h.2 ∙ named });
@@ -62,9 +64,10 @@ one_import_refused w i own set place needed named none (faults.NoEncoding of) h 
 one_import_refused w i own set place needed named none (faults.NotYetMade adapter name) h = absurd h
 one_import_refused w i own set place needed named none (faults.LaterExport interface used) h = absurd h
 
-pub one_export_refused : (w : ComponentWorld) (r : RequiredFunction) (set : ℕ) (place : List ℕ) → set ≡ lift_needs w r.key r.function → place ≡ r.function → (e : StateFault) → IsOptionRefusal w set (lift_realloc w r.of) place e →
+pub one_export_refused : (w : ComponentWorld) (r : RequiredFunction) (set : ℕ) (place : List ℕ) → set ≡ lift_needs w r → place ≡ r.function → (e : StateFault) → IsOptionRefusal w set (lift_realloc w r.of) place e →
     IsCauseAmong w [] (r ∷ []) e
 one_export_refused w r set place needed named faults.Memory h = tt
+one_export_refused w r set place needed named faults.TlsTypes h = absurd h
 one_export_refused w r set place needed named (faults.TooMany excess) h = h
 one_export_refused w r set place needed named (faults.NoMemory of) h = record {
   needed = inr (inl (record { required = r; present = (0, omega arith, refl); needed = subst (λ n. IsTrue (needs n 1)) needed h.0; at = h.2 ∙ named }));
@@ -79,6 +82,7 @@ one_export_refused w r set place needed named (faults.LaterExport interface used
 -- an import of main's memory that is refused
 pub memory_import_refused : (w : ComponentWorld) (i : UserImport) (path : List ℕ) → is_main_memory i.core.role ≡ true → path ≡ field_path i.core.module_name i.core.field → (e : StateFault) → IsMemoryRefusal w path e → IsCauseAmong w (i ∷ []) [] e
 memory_import_refused w i path is named faults.Memory h = tt
+memory_import_refused w i path is named faults.TlsTypes h = absurd h
 memory_import_refused w i path is named (faults.TooMany excess) h = h
 memory_import_refused w i path is named (faults.NoMemory place) h = record { needed = inr (inr (record { given = i; present = (0, omega arith, refl); is = is; at = h.1 ∙ named })); none = h.0 }
 memory_import_refused w i path is named (faults.NoRealloc place) h = absurd h

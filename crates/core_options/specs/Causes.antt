@@ -1,12 +1,14 @@
 -- When the encoding of a world is refused: out of memory, where a function has no string encoding,
 -- no memory or no realloc, or an import of main's memory finds none (Canonical ABI:
--- `string-encoding`, `memory`, `realloc`), where an adapter is instantiated before one that it
--- names, where an interface is exported before one that it uses, and where a count passes 32 bits
--- (core standard, binary format: vectors).
+-- `string-encoding`, `memory`, `realloc`), where modules don't agree on the type of the thread-local
+-- base, which one cell has to hold, where an adapter is instantiated before one that it names, where
+-- an interface is exported before one that it uses, and where a count passes 32 bits (core standard,
+-- binary format: vectors).
 use Rattle.std.specs.Prelude.{◌≡◌, ◌≤◌, ◌^◌, ◌⊎◌, ◌++◌, ℕ, true, codes, List, Option, Some, None, is_some, if◌then◌else◌, Contains, IsSome, IsTrue}
 use Rattle.std.specs.List.{AllByRecursion}
 use Rattle.comp_roles.specs.CoreImports.{CoreImport}
 use Rattle.comp_worlds.specs.Absent.{absent_adapter}
+use Rattle.comp_worlds.specs.Bases.{AreBasesAlike, HasUnlikeBases}
 use Rattle.comp_worlds.specs.ExportOrder.{AreExportsInOrder, IsLaterExport}
 use Rattle.comp_worlds.specs.Made.{AreMadeInOrder, IsNotYetMade}
 use Rattle.comp_worlds.specs.Offered.{memory_of_main, shared_memory}
@@ -78,7 +80,7 @@ pub record NeedsLowering (w : ComponentWorld) (bit : ℕ) (imports : List UserIm
 pub record NeedsLift (w : ComponentWorld) (bit : ℕ) (functions : List RequiredFunction) (place : List ℕ) : Type 0 where
   pub required : RequiredFunction
   pub present : Contains functions required
-  pub needed : IsTrue (needs (lift_needs w required.key required.function) bit)
+  pub needed : IsTrue (needs (lift_needs w required) bit)
   pub at : place ≡ required.function
 
 -- one of these core imports is main's memory
@@ -123,6 +125,7 @@ pub record ExportsLater (w : ComponentWorld) (interface used : List ℕ) : Type 
 -- the cause of a fault, where these imports are given what they need and these functions are lifted
 abbrev pub IsCauseAmong : ComponentWorld → List UserImport → List RequiredFunction → StateFault → Type 0
 IsCauseAmong w imports functions faults.Memory = Unit {0}
+IsCauseAmong w imports functions faults.TlsTypes = HasUnlikeBases w
 IsCauseAmong w imports functions (faults.NoEncoding place) = LacksImportEncoding w imports place ⊎ LacksExportEncoding w functions place
 IsCauseAmong w imports functions (faults.NoMemory place) = LacksMemory w imports functions place
 IsCauseAmong w imports functions (faults.NoRealloc place) = LacksRealloc w imports functions place
@@ -140,6 +143,7 @@ IsListRefusal set memory realloc name fault = ⊥
 -- the same, where they name main's memory and this realloc
 abbrev pub IsOptionRefusal : ComponentWorld → ℕ → Option ExportRef → List ℕ → StateFault → Type 0
 IsOptionRefusal w set realloc name faults.Memory = Unit {0}
+IsOptionRefusal w set realloc name faults.TlsTypes = ⊥
 IsOptionRefusal w set realloc name (faults.TooMany excess) = 2 ^ 32 ≤ excess
 IsOptionRefusal w set realloc name (faults.NoMemory place) = IsTrue (needs set memory_bit) × (memory_of_main w.main ≡ None) × (place ≡ name)
 IsOptionRefusal w set realloc name (faults.NoRealloc place) = IsTrue (needs set realloc_bit) × (realloc ≡ None) × (place ≡ name)
@@ -174,12 +178,14 @@ abbrev pub IsEncodedExport : ComponentWorld → RequiredFunction → Type 0
 IsEncodedExport w r = IsSome (export_encoding w r.of r.key r.function)
 
 -- each core import has the string encoding or the memory that it needs, each required function has
--- a string encoding, there is what lowerings and lifts need, adapters are instantiated behind those
--- that they name, and interfaces are exported behind those that they use
+-- a string encoding, there is what lowerings and lifts need, modules agree on the type of the
+-- thread-local base, adapters are instantiated behind those that they name, and interfaces are
+-- exported behind those that they use
 pub record IsEncoded (w : ComponentWorld) : Type 0 where
   pub imports : AllByRecursion (λ i. IsSuppliedImport w i.of i.core.role) (user_imports w)
   pub exports : AllByRecursion (IsEncodedExport w) (required_functions w)
   pub lowered : AllByRecursion (HasLowerOptions w) (user_imports w)
   pub lifted : AllByRecursion (HasLiftOptions w) (required_functions w)
+  pub alike : AreBasesAlike w
   pub made : AreMadeInOrder w
   pub ordered : AreExportsInOrder w

@@ -153,8 +153,8 @@ pub record NameOptions (w : ComponentWorld) (ds : List Def) (written : List Cano
 
 -- main has the memory, and there is the realloc, that a lift of a required function needs
 pub record HasLiftOptions (w : ComponentWorld) (r : RequiredFunction) : Type 0 where
-  pub memory : IsTrue (needs (lift_needs w r.key r.function) memory_bit) → IsSome (memory_of_main w.main)
-  pub realloc : IsTrue (needs (lift_needs w r.key r.function) realloc_bit) → IsSome (lift_realloc w r.of)
+  pub memory : IsTrue (needs (lift_needs w r) memory_bit) → IsSome (memory_of_main w.main)
+  pub realloc : IsTrue (needs (lift_needs w r) realloc_bit) → IsSome (lift_realloc w r.of)
 
 -- and that a call of an imported function needs
 pub record HasLowerOptions (w : ComponentWorld) (i : UserImport) : Type 0 where

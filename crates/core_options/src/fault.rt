@@ -15,6 +15,10 @@ pub enum StateFault {
     /// An allocation failed.
     #[error("E1 Memory")]
     Memory,
+    /// Two core imports read or set bases of thread-local data of different types, where one cell
+    /// has to hold the base for all modules.
+    #[error("E6 TlsTypes")]
+    TlsTypes,
     /// A call needs a memory, or a module imports main's, and main neither imports nor exports one.
     /// `place` is the import's shim (`indirect-MODULE-FIELD`), the function that is lifted, or
     /// `MODULE::FIELD` of the import of the memory.

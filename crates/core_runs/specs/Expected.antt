@@ -1,6 +1,7 @@
 -- What a function that is bracketed by task hooks is to do.
 -- This project's own: the core standard has calls; which calls are events is defined in `Store`.
-use Rattle.std.specs.Prelude.{◌≡◌, ◌≤◌, ℕ, zero, suc, true, List, [], ◌∷◌, Option, Some, None, slice_get}
+use Rattle.std.specs.Prelude.{◌≡◌, ◌≤◌, ℕ, zero, suc, true, List, [], ◌∷◌, Option, Some, None, slice_get, slice_set}
+use Rattle.core_types.specs.declared.types.ValType.{ValType}
 use Rattle.core_types.specs.declared.types.ValType.TheVariants.{I32}
 use Rattle.core_types.specs.declared.types.FuncType.{FuncType}
 use Rattle.core_runs.specs.declared.bracket.TaskHook.{TaskHook}
@@ -9,9 +10,9 @@ use Rattle.core_runs.specs.declared.bracket.AfterHook.{AfterHook}
 use Rattle.core_runs.specs.declared.bracket.AfterHook.TheVariants.{Nothing, Always, ByStatus}
 use Rattle.core_runs.specs.declared.bracket.Bracket.{Bracket}
 use Rattle.core_runs.specs.Hooks.{hook_number}
-use Rattle.core_runs.specs.Values.{Value, I32Value, fit}
-use Rattle.core_runs.specs.Store.{Opaque, Store, Now, Outcome, Returned, Trapped, Open, Stuck}
-use Rattle.core_runs.specs.Execution.{and_then, asked, exec}
+use Rattle.core_runs.specs.Values.{Value, I32Value, fit, fits}
+use Rattle.core_runs.specs.Store.{Opaque, Store, Kept, Now, Outcome, Returned, Trapped, Open, Stuck}
+use Rattle.core_runs.specs.Execution.{and_then, asked, exec, acts}
 
 -- A task hook takes one number and returns nothing.
 abbrev pub hook_signature : FuncType
@@ -66,3 +67,12 @@ NotStuck (Returned results now) = Unit {0}
 NotStuck (Trapped cause now) = Unit {0}
 NotStuck (Open now) = Unit {0}
 NotStuck Stuck = ⊥
+
+-- A call of the function reads the cell, which is the global at this address: it returns what the cell holds, with no
+-- event, and changes nothing.
+pub record ReadsCell (store : Store) (type : ValType) (cell f : ℕ) : Type 0 where
+  pub same : (v : Value) (now : Now) → slice_get now.globals cell ≡ Some (Kept type v) → fits type v ≡ true → acts store f [] now ≡ Returned (v ∷ []) now
+
+-- A call of the function sets the cell to its argument, with no event, and changes nothing else.
+pub record WritesCell (store : Store) (type : ValType) (cell f : ℕ) : Type 0 where
+  pub same : (old v : Value) (now : Now) → slice_get now.globals cell ≡ Some (Kept type old) → fits type v ≡ true → acts store f (v ∷ []) now ≡ Returned [] (record now { globals = slice_set now.globals cell (Kept type v) })

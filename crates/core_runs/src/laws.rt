@@ -3,7 +3,7 @@
 ghost use Rattle.core_runs.specs.LawsOfInstances.{InstancesDefine, ShimsTrapAtFirst, SegmentsFill, FilledShimsForward};
 ghost use Rattle.core_runs.specs.LawsOfRefInstances.{RefShimsAreUnfilled, RefShimsTrapAtFirst, FilledRefShimsForward};
 ghost use Rattle.core_runs.specs.LawsOfStarts.{StartsAct, StartsFillFirst, DeedsAreTraced, FilledThroughout, NumbersAreRead, CellsAreSet, AddressesAreSums, DeedsAreNotStuck};
-ghost use Rattle.core_runs.specs.Cells.{TlsIsOneCell};
+ghost use Rattle.core_runs.specs.Cells.{GettersRead, SettersWrite, TlsIsOneCell};
 ghost use Rattle.core_runs.specs.LawsOfShims.{TableShimsForward, EmptyTableShimsTrap, RefShimsForward, StubsTrap, EmptyRefShimsTrap};
 ghost use Rattle.core_runs.specs.LawsOfWrappers.{WrappersAct, ExpectedShapes, CallbacksAct, TargetsAreMet, ExpectedIsNotStuck};
 
@@ -89,7 +89,18 @@ pub fn addresses_are_sums()
     ensures { AddressesAreSums }
 {}
 
-/// Over every list of calls the two functions of a thread-local cell are one cell, with no event.
+/// A function of a thread-local cell that reads it returns what it holds, with no event, and changes nothing.
+pub fn getters_read()
+    ensures { GettersRead }
+{}
+
+/// A function of a thread-local cell that sets it changes nothing else, with no event.
+pub fn setters_write()
+    ensures { SettersWrite }
+{}
+
+/// Over every list of calls the functions that read a thread-local cell, and those that set it, are
+/// one cell, with no event.
 pub fn tls_is_one_cell()
     ensures { TlsIsOneCell }
 {}

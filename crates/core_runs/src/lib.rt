@@ -31,10 +31,11 @@ pub use bracket::{AfterHook, Bracket, Bracketed, TaskHook};
 pub use laws::{
     addresses_are_sums, callbacks_act, cells_are_set, deeds_are_not_stuck, deeds_are_traced,
     empty_ref_shims_trap, empty_table_shims_trap, expected_is_not_stuck, expected_shapes,
-    filled_ref_shims_forward, filled_shims_forward, filled_throughout, instances_define,
-    numbers_are_read, ref_shims_are_unfilled, ref_shims_forward, ref_shims_trap_at_first,
-    segments_fill, shims_trap_at_first, starts_act, starts_fill_first, stubs_trap,
-    table_shims_forward, targets_are_met, tls_is_one_cell, wrappers_act,
+    filled_ref_shims_forward, filled_shims_forward, filled_throughout, getters_read,
+    instances_define, numbers_are_read, ref_shims_are_unfilled, ref_shims_forward,
+    ref_shims_trap_at_first, segments_fill, setters_write, shims_trap_at_first, starts_act,
+    starts_fill_first, stubs_trap, table_shims_forward, targets_are_met, tls_is_one_cell,
+    wrappers_act,
 };
 pub use start::{GlobalFill, StartStep};
 pub use tables::{Shim, table_fill, table_of_shims, table_shim_bodies};

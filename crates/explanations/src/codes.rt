@@ -4,8 +4,8 @@ ghost use Rattle.std.specs.Prelude.{◌≡◌, option_map};
 ghost use Rattle.explanations.specs.Codes.{of_encoding, of_lowering, of_fitting, explanation};
 
 use crate::texts::{
-    C1, C2, C4, C5, E1, E3, E5, E7, E8, E11, E15, E16, F2, F5, F6, F7, F8, F9, F10, F11, F12, F13,
-    F14, F15, P2, P3, P4, P5, P6, P7, P8, P9, P10, P11, P12, P14, R1,
+    C1, C2, C4, C5, E1, E3, E5, E6, E7, E8, E11, E15, E16, F2, F5, F6, F7, F8, F9, F10, F11, F12,
+    F13, F14, F15, P2, P3, P4, P5, P6, P7, P8, P9, P10, P11, P12, P14, R1,
 };
 
 /// The codes of the encoder, and of components that are read.
@@ -16,6 +16,7 @@ fn encoding(code: &str) -> Option<&'static str>
         "E1" => Some(E1),
         "E3" => Some(E3),
         "E5" => Some(E5),
+        "E6" => Some(E6),
         "E7" => Some(E7),
         "E8" => Some(E8),
         "E11" => Some(E11),

@@ -18,6 +18,14 @@ pub(crate) const E5: &str = "\
     Example: `E5 CanonicalNames first=\"a:b/i@0.2.0\" second=\"a:b/i@0.2.1\" name=\"a:b/i@0.2\"`\n\
     What to do: let imports of compatible versions be merged, or leave canonical names off.\n";
 
+pub(crate) const E6: &str = "\
+    E6: core imports have the roles `tls-get` or `tls-set` with `i32` and with `i64`, of one\n\
+    module or of several, and `context-slot-1` is not true: one cell holds the thread-local\n\
+    base of all modules, and has one type.\n\
+    Example: `E6 TlsTypes`\n\
+    What to do: compile all modules for one size of addresses; or, where the runtime keeps\n\
+    slot 1 for the base, say so by `context-slot-1`.\n";
+
 pub(crate) const E7: &str = "\
     E7: a function is lowered or lifted with a memory, or an adapter or a library imports\n\
     main's memory, and main neither imports nor exports one that has the role `memory`. For an\n\
@@ -130,7 +138,7 @@ pub(crate) const P7: &str = "\
 pub(crate) const P8: &str = "\
     P8: something that can't be encoded yet, by its kind, or a type that passes a limit;\n\
     docs/ERRORS.md lists the kinds.\n\
-    Example: `P8 LeftOut what=\"async\"`\n\
+    Example: `P8 LeftOut what=\"task-return\"`\n\
     What to do: leave it out of the world, or wait.\n";
 
 pub(crate) const P9: &str = "\

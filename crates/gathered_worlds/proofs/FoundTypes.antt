@@ -121,6 +121,10 @@ handling = record { params = numbers.I32 ∷ []; results = numbers.I32 ∷ []; i
 abbrev reallocating : WasmSignature
 reallocating = record { params = numbers.I32 ∷ numbers.I32 ∷ numbers.I32 ∷ numbers.I32 ∷ []; results = numbers.I32 ∷ []; indirect_params = false; retptr = false }
 
+-- a callback takes the code of an event and two numbers, and returns a code
+abbrev calling_back : WasmSignature
+calling_back = record { params = numbers.I32 ∷ numbers.I32 ∷ numbers.I32 ∷ []; results = numbers.I32 ∷ []; indirect_params = false; retptr = false }
+
 -- an initialization and a built-in function without numbers take and return nothing
 abbrev initializing : WasmSignature
 initializing = record { params = []; results = []; indirect_params = false; retptr = false }
@@ -239,6 +243,10 @@ module _ (r : Resolve) (present : 0 < length r.worlds) (core : CoreModule) where
       ap (λ (o : Option World). is_function core e (option_map (post_return r) (option_and_then (λ w. root_function_at w.exports key) o))) (sym the_world) ∙ fits in
       post_return_typed core r e (root_function_at the_items.exports key) ty asked is
   export_typed (exports.WorldFuncPostReturn key) items.Tag ty fits is = absurd (true≢false (sym fits))
+  export_typed (exports.WorldFuncCallback key) (items.Entity e) ty fits is = entity_of core e calling_back fits ∙ is
+  export_typed (exports.WorldFuncCallback key) items.Tag ty fits is = absurd (true≢false (sym fits))
+  export_typed (exports.InterfaceFuncCallback key name) (items.Entity e) ty fits is = entity_of core e calling_back fits ∙ is
+  export_typed (exports.InterfaceFuncCallback key name) items.Tag ty fits is = absurd (true≢false (sym fits))
   export_typed (exports.ResourceDtor id) (items.Entity e) ty fits is = entity_of core e dropping fits ∙ is
   export_typed (exports.ResourceDtor id) items.Tag ty fits is = absurd (true≢false (sym fits))
   export_typed (exports.Memory type) (items.Entity e) ty fits is = memory_typed core e type fits ∙ is

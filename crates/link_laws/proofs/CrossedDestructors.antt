@@ -83,6 +83,7 @@ use Rattle.comp_runs.specs.Machine.{Machine, Outcome}
 use Rattle.link_laws.specs.Composition.{GeneratedModules}
 use Rattle.link_laws.specs.Meeting.{CoreMeets, ItemIsExport}
 use Rattle.link_laws.specs.Linking.{outcome, DestructorMeets, IsDefined, IsTypeProvided, IsLinked, Links}
+use Rattle.link_laws.proofs.BaseRoles.{no_bases}
 use Rattle.link_laws.proofs.NamedItem.{traps_next, named_item}
 use Rattle.link_laws.proofs.Stores.{main_module, type_at_key}
 use Rattle.link_laws.proofs.Plain.{key_same}
@@ -150,7 +151,7 @@ is_world = record {
     imported = tt;
     export_roles = (record { present = omega arith; kind = refl }, (record { present = omega arith; kind = refl }, tt));
     exported = (record { type = externs.Func dtor_core; offered = refl; fits = refl }, (record { type = externs.Func dtor_core; offered = refl; fits = refl }, tt));
-    required = (record { exported = (0, omega arith, refl); present = tt }, tt);
+    required = (record { exported = (0, omega arith, refl); present = tt; formed = tt }, tt);
   };
   main_first = tt;
   adapters = tt;
@@ -237,7 +238,7 @@ fixup_module =
     ∷ sections.Elements (table_fill (0 ∷ 1 ∷ []) ∷ [])
     ∷ []
 
-pub shims_made : sections_of_shims None (shims_of world) false ≡ shim_module
+pub shims_made : sections_of_shims None None (shims_of world) false ≡ shim_module
 unfolding values_from digits
 shims_made = refl
 
@@ -267,7 +268,7 @@ fixup_encoded = (all_below (encoding_of fixup_module).counts refl, refl)
 
 unfoldable are_generated : AreGenerated world false bytes
 unfolding values_from digits
-are_generated = record { shims = (shims_encoded, refl); fixup = (fixup_encoded, refl); room = omega arith }
+are_generated = record { shims = (shims_encoded, refl); fixup = (fixup_encoded, refl); room = omega arith; alike = no_bases world refl }
 
 -- ---- a list for it, where r and s have these destructors, and the nested component is given these types for them
 

@@ -8,10 +8,12 @@ use Rattle.comp_bytes.specs.declared.space.Space.TheVariants as spaces
 use Rattle.comp_bytes.specs.declared.def.CoreArgument.{CoreArgument}
 use Rattle.comp_bytes.specs.declared.def.CoreInlineExport.{CoreInlineExport}
 use Rattle.comp_bytes.specs.declared.def.Def.{Def}
+use Rattle.comp_worlds.specs.Bases.{cell_type}
 use Rattle.comp_worlds.specs.Typed.{initialize_type}
 use Rattle.comp_worlds.specs.Worlds.{IsWorld}
 use Rattle.comp_worlds.specs.declared.world.ComponentWorld.{ComponentWorld}
 use Rattle.comp_links.specs.Targets.{Main}
+use Rattle.comp_terms.proofs.HasShims.{has_by_shims}
 use Rattle.comp_terms.specs.Generated.{shims_number, target_of}
 use Rattle.comp_terms.specs.Planned.{IsFillFor, AreFillsFor}
 use Rattle.comp_terms.specs.Rules.{IsFixupSource, IsFixupArgument}
@@ -30,8 +32,8 @@ use Rattle.link_laws.specs.Composition.{at_root, item_instantiates}
 use Rattle.link_laws.specs.Linking.{initialization}
 use Rattle.link_laws.proofs.Outcomes.{machine}
 use Rattle.link_laws.proofs.Stores.{IsOpaqueOf, ShimsAt, exports_of_shims, IsModuleInstance, IsUserInstance, IsUserItem, IsInlineInstance, IsFilledWith, IsServedAs, IsNamedEntry, IsFunctionExported, main_module, Agrees, Calls, IsSeen}
-use Rattle.link_laws.proofs.Given.{by_parts, found_name, thing_there, target_there, of_shims, module_there, user_there, offered_there, has_by_shims}
-use Rattle.link_laws.proofs.GivenImports.{purpose_opaque}
+use Rattle.link_laws.proofs.Given.{by_parts, found_name, thing_there, target_there, of_shims, module_there, user_there, offered_there}
+use Rattle.link_laws.proofs.GivenImports.{purpose_opaque, needs_none}
 use Rattle.link_laws.proofs.Plain.{initialize_offered}
 
 -- what is given for a shim: a function of its type that is what the shim stands for
@@ -47,7 +49,7 @@ module _ {w : ComponentWorld} {earlier : List Def} {c : Scope} {s : Store} {g : 
   fill_there : IsWorld w → (e : CoreInlineExport) (shim : Shim) (x : Export) → IsFillFor w earlier e shim → IsNamedEntry c.items e x → IsFilling w s shim x
   fill_there ok e shim x h n =
       let kind : kind_space e.kind ≡ spaces.CoreFunc = ap kind_space h.function in
-      let i : (y : ℕ) × (address_at spaces.CoreFunc e.index c.items ≡ Some y) × IsServedAs w s y (target_of w h.purpose) = target_there a e.index (target_of w h.purpose) h.serves in
+      let i : (y : ℕ) × (address_at spaces.CoreFunc e.index c.items ≡ Some y) × IsServedAs w s y (target_of w h.purpose) = target_there a e.index (target_of w h.purpose) (needs_none w shim h.purpose h.stands_for) h.serves in
       let at : address_at spaces.CoreFunc e.index c.items ≡ Some x.address = subst (λ space. address_at space e.index c.items ≡ Some x.address) kind n.at in
       let serves : IsServedAs w s x.address (target_of w h.purpose) = subst (λ y. IsServedAs w s y (target_of w h.purpose)) (same_Some i.0 x.address (sym i.1 ∙ at)) i.2 in
       let o : (item : CoreItem) × IsOpaqueOf s x.address (type_of_shim shim) item = purpose_opaque w ok s x.address shim h.purpose h.stands_for serves in (
@@ -142,7 +144,7 @@ module _ {w : ComponentWorld} {earlier : List Def} {c : Scope} {s : Store} {g : 
     pub called : List ℕ
     pub calls : AreCalls s.code main initialize called
     pub seen : AllZip (IsSeen w s) (map (λ address. Called address []) called) (map (λ call. Calls call) (initialization None initialize))
-    pub held : (now : Now) → all_some (map (core_argument (machine c s now)) arguments) ≡ Some (fixup_arguments shims initialize actual main at.address at.table at.memory)
+    pub held : (now : Now) → all_some (map (core_argument (machine c s now)) arguments) ≡ Some (fixup_arguments shims initialize actual main at.address at.table at.memory (cell_type w))
 
   -- no shims
   abbrev nowhere : ShimsAt
@@ -186,7 +188,7 @@ module _ {w : ComponentWorld} {earlier : List Def} {c : Scope} {s : Store} {g : 
         held = λ now.
             all_more (core_argument (machine c s now)) x (y ∷ []) (codes "actual", behind.exports) ((codes "shim", exports_of_shims w own.at) ∷ []) (behind.held now)
             (all_more (core_argument (machine c s now)) y [] (codes "shim", exports_of_shims w own.at) [] (own.held now) refl)
-            ∙ ap (λ l. Some ((codes "actual", behind.exports) ∷ (codes "shim", instance_exports l own.at.address own.at.table own.at.memory) ∷ [])) same;
+            ∙ ap (λ l. Some ((codes "actual", behind.exports) ∷ (codes "shim", instance_exports l own.at.address own.at.table own.at.memory (cell_type w)) ∷ [])) same;
       }
   arguments_held ok (shim ∷ shims) (Some name) same first [] h = absurd h
   arguments_held ok (shim ∷ shims) (Some name) same first (x ∷ []) h = absurd h.1
@@ -209,5 +211,5 @@ module _ {w : ComponentWorld} {earlier : List Def} {c : Scope} {s : Store} {g : 
             all_more (core_argument (machine c s now)) x (y ∷ z ∷ []) (codes "actual", behind.exports) ((codes "main", m.exports) ∷ (codes "shim", exports_of_shims w own.at) ∷ []) (behind.held now)
             (all_more (core_argument (machine c s now)) y (z ∷ []) (codes "main", m.exports) ((codes "shim", exports_of_shims w own.at) ∷ []) (m.held now)
             (all_more (core_argument (machine c s now)) z [] (codes "shim", exports_of_shims w own.at) [] (own.held now) refl))
-            ∙ ap (λ l. Some ((codes "actual", behind.exports) ∷ (codes "main", m.exports) ∷ (codes "shim", instance_exports l own.at.address own.at.table own.at.memory) ∷ [])) same;
+            ∙ ap (λ l. Some ((codes "actual", behind.exports) ∷ (codes "main", m.exports) ∷ (codes "shim", instance_exports l own.at.address own.at.table own.at.memory (cell_type w)) ∷ [])) same;
       }

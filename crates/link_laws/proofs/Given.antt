@@ -16,6 +16,7 @@ use Rattle.comp_bytes.specs.ItemIndices.{in_space, IsAt}
 use Rattle.core_types.specs.declared.types.FuncType.{FuncType}
 use Rattle.core_types.specs.declared.types.ValType.{ValType}
 use Rattle.core_types.specs.declared.types.MemoryType.{MemoryType}
+use Rattle.core_runs.specs.Cells.{IsGetter, IsSetter}
 use Rattle.core_runs.specs.Store.{Func, Now, signature_of}
 use Rattle.comp_bytes.specs.declared.space.Space.{Space}
 use Rattle.comp_bytes.specs.declared.space.Space.TheVariants as spaces
@@ -34,28 +35,31 @@ use Rattle.comp_trees.specs.Trees.{Origin, Resource, ResourceAt, FunctionTree}
 use Rattle.comp_trees.specs.DefinedTrees.{TypeTree, OfValues, OfFunctions}
 use Rattle.comp_trees.specs.DefinedScopes.{Denotes}
 use Rattle.comp_inventories.specs.Inventories.{TypeEntry, OfInstances, FunctionEntry, InstanceEntry, entry_tree, no_function, inventory, scope_of}
+use Rattle.comp_worlds.specs.Bases.{cell_type}
 use Rattle.comp_worlds.specs.declared.world.ComponentWorld.{ComponentWorld}
 use Rattle.comp_runs.specs.Store.{Thing, Export, HeldOption, HeldEncoding, HeldMemory, HeldRealloc, HeldPostReturn, HeldAsync, HeldCallback, Lowering, ExportedBy, Function, Imported, Lifting, TypeItem, TreeOf, tree_held, ModuleInstance, Store}
 use Rattle.comp_roles.specs.Matching.{kind_of}
 use Rattle.comp_roles.specs.declared.offered.ExternType.{ExternType}
 use Rattle.comp_roles.specs.declared.offered.ExternType.TheVariants as externs
 use Rattle.wit_data.specs.declared.ids.TypeId.{TypeId}
-use Rattle.comp_links.specs.Targets.{WorldFunction, ExportRef, TargetOption, Lowered, ExportOf, MainMemory, Unlinked, OfResource, BuiltIn, ResourceFunction, New, Rep, Drop, Lifted, Target}
+use Rattle.comp_links.specs.Targets.{WorldFunction, ExportRef, TargetOption, Lowered, ExportOf, MainMemory, Unlinked, OfResource, BuiltIn, TlsGet, TlsSet, ResourceFunction, New, Rep, Drop, Lifted, Target}
 use Rattle.comp_links.specs.Targets as targets
 use Rattle.comp_links.specs.Modules.{WorldModule, user_modules}
 use Rattle.comp_links.specs.Lists.{IsOriginOf, resource_of}
 use Rattle.shim_plan.specs.declared.shims.Shim.{Shim}
 use Rattle.world_shims.specs.WorldShims.{shims_of, type_of_shim}
 use Rattle.comp_roles.specs.Lookups.{first_memory}
-use Rattle.shim_runs.specs.ShimRuns.{IsShimAt, memory_name, memory_at}
+use Rattle.shim_modules.specs.Shims.{getter_name, setter_name}
+use Rattle.shim_runs.specs.ShimRuns.{IsShimAt, AreOfCell, exported_function, memory_name, memory_at}
 use Rattle.shim_runs.proofs.Placed.{shim_at}
 use Rattle.shim_runs.proofs.Exported.{shims_found}
 use Rattle.link_laws.specs.Composition.{at_root, item_instantiates}
-use Rattle.comp_terms.specs.Generated.{has_shims_in, has_shim_module, shims_number, number_behind, fixup_number}
+use Rattle.comp_terms.proofs.HasShims.{has_by_place, has_by_memory, has_by_cell}
+use Rattle.comp_terms.specs.Generated.{has_shim_module, shims_number, number_behind, fixup_number}
 use Rattle.comp_worlds.specs.Offered.{shared_memory}
 use Rattle.comp_terms.specs.Terms.{CoreExport, TermOption, Term, Is, IsFunctionType, IsImportedFunction, IsInstanceOf, IsExported, IsOption, IsLowering, IsOfResource, intrinsic_of, IsBuiltIn, IsLifting}
 use Rattle.comp_terms.specs.Terms as terms
-use Rattle.comp_terms.specs.Planned.{IsExportFor, memory_from, IsMemoryFor, IsShimPlace, shim_export, IsReallocFor, IsOptionFor, IsTypeOf, IsTermFor, IsItemFor, IsShimFor, IsLiftFor}
+use Rattle.comp_terms.specs.Planned.{IsExportFor, memory_from, IsMemoryFor, IsShimPlace, shim_export, cell_export, IsReallocFor, IsOptionFor, IsTypeOf, IsTermFor, IsItemFor, IsShimFor, IsLiftFor}
 use Rattle.comp_runs.specs.Machine.{Scope, address_at, is_of, export_named, export_in, export_of}
 use Rattle.comp_runs.specs.Instances.{type_space, type_at}
 use Rattle.comp_runs.specs.Signatures.{core_signature}
@@ -63,9 +67,10 @@ use Rattle.instance_laws.specs.Instantiated.{IsHeldAs, AreHeldAs}
 use Rattle.instance_laws.specs.InstanceEntries.{IsInstanceType, IsInstanceEntry}
 use Rattle.instance_laws.proofs.Held.{trees_of_held, held_of_entries, IsTypeThere, type_there as held_at, item_of_functions}
 use Rattle.link_laws.proofs.Zips.{AllZip-filter, AllZip-back, mapped_some, filter-both, found-zip, found-each}
+use Rattle.link_laws.proofs.BaseRoles.{NeedsCell}
 use Rattle.link_laws.proofs.Plain.{named_main}
 use Rattle.link_laws.proofs.BuiltIns.{plain_item}
-use Rattle.link_laws.proofs.Stores.{IsOpaqueOf, IsUserItem, IsUserExport, IsUserInstance, ShimsAt, exports_of_shims, AreModuleExports, IsModuleInstance, NamesUser, IsLoweredItem, IsTypeAt, IsResourceItem, IsLiftedItem, IsAliasedItem, DefIs, Means, makes, IsTypeEntry, entry_of, IsFunctionEntry, IsInstanceThing, IsLoweredFor, IsFunctionOf, IsPlainItem, IsBuiltInAt, ItemIs, IsFunctionExported, IsItemTyped, IsItemExported, IsServedAs, IsServedIn, main_module, IsShimGivenAt, IsShimGiven, MayHaveShims, AreShims, IsMemoryExported, IsTypeOfMemory, IsMemoryOfMain, IsShimExported, IsReallocHeld, HasSharedMemory, IsHeldOption, IsOptionHeld, IsCoreExportAt, IsLiftedFrom, Agrees}
+use Rattle.link_laws.proofs.Stores.{IsOpaqueOf, IsUserItem, IsUserExport, IsUserInstance, ShimsAt, exports_of_shims, AreModuleExports, IsModuleInstance, NamesUser, IsLoweredItem, IsTypeAt, IsResourceItem, IsLiftedItem, IsAliasedItem, DefIs, Means, makes, IsTypeEntry, entry_of, IsFunctionEntry, IsInstanceThing, IsLoweredFor, IsFunctionOf, IsPlainItem, IsBuiltInAt, IsCellGetter, IsCellSetter, ItemIs, IsFunctionExported, IsItemTyped, IsItemExported, IsServedAs, IsServedIn, main_module, IsShimGivenAt, IsShimGiven, MayHaveShims, AreShims, IsMemoryExported, IsTypeOfMemory, IsMemoryOfMain, IsShimExported, IsReallocHeld, HasSharedMemory, IsHeldOption, IsOptionHeld, IsCoreExportAt, IsLiftedFrom, Agrees}
 
 makes-space : (space : Space) (d : Def) → is_space space (space_of d) ≡ true → makes d ≡ true
 makes-space space d e = by (space_of d) e
@@ -193,32 +198,7 @@ not_fixup w number l e = by (has_shim_module w) e
     by true e = apart_after number (shims_number w) l e
     by false e = apart number (shims_number w) l e
 
--- there is a module of shims where there is a shim, or a memory that main imports
-pub has_by_shims : (w : ComponentWorld) → (shims_of w ≡ [] → ⊥) → has_shim_module w ≡ true
-has_by_shims w any = by (shims_of w) any (shared_memory w)
-  where
-    by : (ss : List Shim) → (ss ≡ [] → ⊥) → (memory : Option MemoryType) → has_shims_in ss memory ≡ true
-    by [] any memory = absurd (any refl)
-    by (s ∷ ss) any memory = refl
-
-pub has_by_place : (w : ComponentWorld) (place : ℕ) → place < length (shims_of w) → has_shim_module w ≡ true
-has_by_place w place listed = has_by_shims w (λ none. let count = ap (λ (l : List Shim). length l) none in omega (arith, listed, count))
-
-pub has_by_memory : (w : ComponentWorld) (type : MemoryType) → shared_memory w ≡ Some type → has_shim_module w ≡ true
-has_by_memory w type imported = ap (has_shims_in (shims_of w)) imported ∙ by (shims_of w)
-  where
-    by : (ss : List Shim) → has_shims_in ss (Some type) ≡ true
-    by [] = refl
-    by (s ∷ ss) = refl
-
-pub has_by_shared : (w : ComponentWorld) → IsSome (shared_memory w) → has_shim_module w ≡ true
-has_by_shared w imported = by (shared_memory w) imported refl
-  where
-    by : (o : Option MemoryType) → IsSome o → shared_memory w ≡ o → has_shim_module w ≡ true
-    by None some none = cc
-    by (Some type) some is = has_by_memory w type is
-
--- then the fixup comes behind it
+-- where there is a module of shims, the fixup comes behind it
 pub fixup_behind : (w : ComponentWorld) → has_shim_module w ≡ true → fixup_number w ≡ suc (shims_number w)
 fixup_behind w has = ap (λ b. number_behind b (shims_number w)) has
 
@@ -483,7 +463,7 @@ module _ {w : ComponentWorld} {earlier : List Def} {c : Scope} {s : Store} {g : 
       (export_named (decimal place) (exports_of_shims w own.at) ≡ Some (record { space = spaces.CoreFunc; name = decimal place; address = address })) × (address ≡ own.at.address + place)
   shim_found place address listed own =
       let shim : ℕ → Export = λ n. record { space = spaces.CoreFunc; name = decimal place; address = n } in
-      let found : export_named (decimal place) (exports_of_shims w own.at) ≡ Some (shim (own.at.address + place)) = (shims_found (shims_of w) own.at.address own.at.table own.at.memory).found place listed own.room in
+      let found : export_named (decimal place) (exports_of_shims w own.at) ≡ Some (shim (own.at.address + place)) = (shims_found (shims_of w) own.at.address own.at.table own.at.memory (cell_type w)).found place listed own.room in
       let is : own.export ≡ shim (own.at.address + place) = same_Some own.export (shim (own.at.address + place)) (sym own.found ∙ found) in
       let same : address ≡ own.at.address + place = sym own.is ∙ ap (λ (y : Export). y.address) is in
       (found ∙ ap (λ n. Some (shim n)) (sym same), same)
@@ -512,6 +492,31 @@ module _ {w : ComponentWorld} {earlier : List Def} {c : Scope} {s : Store} {g : 
           exported = ap (export_named (decimal place)) x.2.exports ∙ (shim_found place x.0 listed x.2).0;
         },
       )
+
+  -- an alias of the function that reads the cell is that function, and so is one of the function that sets it
+  getter_there : {index : ℕ} (type : ValType) → cell_type w ≡ Some type → IsExported earlier index (cell_export w getter_name) → (x : ℕ) × (address_at spaces.CoreFunc index c.items ≡ Some x) × IsCellGetter w s x
+  getter_there {index} type named h =
+      let x : (x : ℕ) × (address_at spaces.CoreFunc index c.items ≡ Some x) × IsOfShims getter_name x = shims_aliased (has_by_cell w (ap is_some named)) kinds.Func getter_name h in
+      let own : IsOfShims getter_name x.0 = x.2 in
+      let there : AreShims w s (flat_map (at_root item_instantiates) earlier) own.at = subst (MayHaveShims w s (flat_map (at_root item_instantiates) earlier)) own.made a.with_shims in
+      let first : ℕ = own.at.address + length (shims_of w) in
+      let both : AreOfCell s.code (Some type) 0 first = subst (λ o. AreOfCell s.code o 0 first) named there.of_cell in
+      let found : export_named getter_name (exports_of_shims w own.at) ≡ Some (exported_function getter_name first) = (shims_found (shims_of w) own.at.address own.at.table own.at.memory (cell_type w)).getter_named own.room type named in
+      let is : own.export ≡ exported_function getter_name first = same_Some own.export (exported_function getter_name first) (sym own.found ∙ found) in
+      let same : first ≡ x.0 = sym (ap (λ (y : Export). y.address) is) ∙ own.is in
+      (x.0, x.1, record { type = type; named = named; user = own.user; instance = record { instance = own.instance; present = own.present; of = own.of }; is = subst (IsGetter s.code type 0) same both.0 })
+
+  setter_there : {index : ℕ} (type : ValType) → cell_type w ≡ Some type → IsExported earlier index (cell_export w setter_name) → (x : ℕ) × (address_at spaces.CoreFunc index c.items ≡ Some x) × IsCellSetter w s x
+  setter_there {index} type named h =
+      let x : (x : ℕ) × (address_at spaces.CoreFunc index c.items ≡ Some x) × IsOfShims setter_name x = shims_aliased (has_by_cell w (ap is_some named)) kinds.Func setter_name h in
+      let own : IsOfShims setter_name x.0 = x.2 in
+      let there : AreShims w s (flat_map (at_root item_instantiates) earlier) own.at = subst (MayHaveShims w s (flat_map (at_root item_instantiates) earlier)) own.made a.with_shims in
+      let first : ℕ = own.at.address + length (shims_of w) in
+      let both : AreOfCell s.code (Some type) 0 first = subst (λ o. AreOfCell s.code o 0 first) named there.of_cell in
+      let found : export_named setter_name (exports_of_shims w own.at) ≡ Some (exported_function setter_name (first + 1)) = (shims_found (shims_of w) own.at.address own.at.table own.at.memory (cell_type w)).setter_named own.room type named in
+      let is : own.export ≡ exported_function setter_name (first + 1) = same_Some own.export (exported_function setter_name (first + 1)) (sym own.found ∙ found) in
+      let same : first + 1 ≡ x.0 = sym (ap (λ (y : Export). y.address) is) ∙ own.is in
+      (x.0, x.1, record { type = type; named = named; user = own.user; instance = record { instance = own.instance; present = own.present; of = own.of }; is = subst (IsSetter s.code type 0) same both.1 })
 
   -- an alias of a function that a user module exports is that function
   pub function_exported : {index : ℕ} {e : CoreExport} {export_ref : ExportRef} → e.kind ≡ kinds.Func → IsExportFor w e export_ref → IsExported earlier index e →
@@ -599,7 +604,7 @@ module _ {w : ComponentWorld} {earlier : List Def} {c : Scope} {s : Store} {g : 
       let own : IsOfShims memory_name x.0 = x.2 in
       let there : AreShims w s (flat_map (at_root item_instantiates) earlier) own.at = subst (MayHaveShims w s (flat_map (at_root item_instantiates) earlier)) own.made a.with_shims in
       let made : (y : ℕ) × (own.at.memory ≡ Some y) × (slice_get s.code.memories y ≡ Some type) = by own.at.memory (subst (λ o. HasSharedMemory s o own.at.memory) imported there.memory) in
-      let all = shims_found (shims_of w) own.at.address own.at.table own.at.memory in
+      let all = shims_found (shims_of w) own.at.address own.at.table own.at.memory (cell_type w) in
       let found : export_named memory_name (exports_of_shims w own.at) ≡ Some (memory_at made.0) = all.memory_named own.room ∙ ap (option_map memory_at) made.1 in
       let is : own.export ≡ memory_at made.0 = same_Some own.export (memory_at made.0) (sym own.found ∙ found) in
       let same : made.0 ≡ x.0 = sym (ap (λ (y : Export). y.address) is) ∙ own.is in (
@@ -772,6 +777,18 @@ module _ {w : ComponentWorld} {earlier : List Def} {c : Scope} {s : Store} {g : 
       (l.0, l.1, subst (IsBuiltInAt s l.0) asked l.2)
   built_in_there index intrinsic term is asked = absurd asked
 
+  getter_target : (index : ℕ) → IsSome (cell_type w) → (term : Term) → Is earlier spaces.CoreFunc index term → IsTermFor w TlsGet term → (x : ℕ) × (address_at spaces.CoreFunc index c.items ≡ Some x) × IsCellGetter w s x
+  getter_target index needed (terms.Exported e) is asked =
+      let type : (t : ValType) × (cell_type w ≡ Some t) = some_of (cell_type w) needed in
+      getter_there type.0 type.1 (subst (IsExported earlier index) asked is.1)
+  getter_target index needed term is asked = absurd asked
+
+  setter_target : (index : ℕ) → IsSome (cell_type w) → (term : Term) → Is earlier spaces.CoreFunc index term → IsTermFor w TlsSet term → (x : ℕ) × (address_at spaces.CoreFunc index c.items ≡ Some x) × IsCellSetter w s x
+  setter_target index needed (terms.Exported e) is asked =
+      let type : (t : ValType) × (cell_type w ≡ Some t) = some_of (cell_type w) needed in
+      setter_there type.0 type.1 (subst (IsExported earlier index) asked is.1)
+  setter_target index needed term is asked = absurd asked
+
   export_there : (index : ℕ) (export_ref : ExportRef) (term : Term) → Is earlier spaces.CoreFunc index term → IsTermFor w (ExportOf export_ref) term →
       (x : ℕ) × (address_at spaces.CoreFunc index c.items ≡ Some x) × IsFunctionExported w s x export_ref
   export_there index export_ref (terms.Exported e) is asked = function_exported (func_kind e.kind (sym is.0)) asked is.1
@@ -794,14 +811,16 @@ module _ {w : ComponentWorld} {earlier : List Def} {c : Scope} {s : Store} {g : 
   no_memory index term is asked = absurd asked
 
   -- the core function that a target names has an address
-  pub target_there : (index : ℕ) (target : Target) → IsItemFor w earlier spaces.CoreFunc index target → (x : ℕ) × (address_at spaces.CoreFunc index c.items ≡ Some x) × IsServedAs w s x target
-  target_there index (Lowered function options) h = lowering_there index function options h.term h.is h.asked
-  target_there index (OfResource function id) h = resource_function_there index function id h.term h.is h.asked
-  target_there index (BuiltIn intrinsic) h = built_in_there index intrinsic h.term h.is h.asked
-  target_there index (ExportOf export_ref) h = export_there index export_ref h.term h.is h.asked
-  target_there index (Lifted entry options) h = absurd (no_lift index entry options h.term h.is h.asked)
-  target_there index MainMemory h = absurd (no_memory index h.term h.is h.asked)
-  target_there index Unlinked h = absurd h.asked
+  pub target_there : (index : ℕ) (target : Target) → NeedsCell w target → IsItemFor w earlier spaces.CoreFunc index target → (x : ℕ) × (address_at spaces.CoreFunc index c.items ≡ Some x) × IsServedAs w s x target
+  target_there index (Lowered function options) needed h = lowering_there index function options h.term h.is h.asked
+  target_there index (OfResource function id) needed h = resource_function_there index function id h.term h.is h.asked
+  target_there index (BuiltIn intrinsic) needed h = built_in_there index intrinsic h.term h.is h.asked
+  target_there index TlsGet needed h = getter_target index needed h.term h.is h.asked
+  target_there index TlsSet needed h = setter_target index needed h.term h.is h.asked
+  target_there index (ExportOf export_ref) needed h = export_there index export_ref h.term h.is h.asked
+  target_there index (Lifted entry options) needed h = absurd (no_lift index entry options h.term h.is h.asked)
+  target_there index MainMemory needed h = absurd (no_memory index h.term h.is h.asked)
+  target_there index Unlinked needed h = absurd h.asked
 
   -- so has the memory, the table or the global
   memory_target_there : (index : ℕ) (target : Target) (term : Term) → Is earlier spaces.CoreMemory index term → IsTermFor w target term → (x : ℕ) × (address_at spaces.CoreMemory index c.items ≡ Some x) × IsServedIn w s spaces.CoreMemory x target
@@ -811,6 +830,8 @@ module _ {w : ComponentWorld} {earlier : List Def} {c : Scope} {s : Store} {g : 
   memory_target_there index (OfResource function id) (terms.OfResource same resource) is asked = absurd is
   memory_target_there index (BuiltIn intrinsic) (terms.BuiltIn same) is asked = absurd is
   memory_target_there index (Lifted entry options) (terms.Lifting e written type) is asked = absurd is
+  memory_target_there index TlsGet (terms.Exported e) is asked = absurd (memory_apart (is.0 ∙ ap (λ (e : CoreExport). kind_space e.kind) asked))
+  memory_target_there index TlsSet (terms.Exported e) is asked = absurd (memory_apart (is.0 ∙ ap (λ (e : CoreExport). kind_space e.kind) asked))
   memory_target_there index target term is asked = absurd asked
 
   table_target_there : (index : ℕ) (target : Target) (term : Term) → Is earlier spaces.CoreTable index term → IsTermFor w target term → (x : ℕ) × (address_at spaces.CoreTable index c.items ≡ Some x) × IsServedIn w s spaces.CoreTable x target
@@ -820,6 +841,8 @@ module _ {w : ComponentWorld} {earlier : List Def} {c : Scope} {s : Store} {g : 
   table_target_there index (OfResource function id) (terms.OfResource same resource) is asked = absurd is
   table_target_there index (BuiltIn intrinsic) (terms.BuiltIn same) is asked = absurd is
   table_target_there index (Lifted entry options) (terms.Lifting e written type) is asked = absurd is
+  table_target_there index TlsGet (terms.Exported e) is asked = absurd (table_apart (is.0 ∙ ap (λ (e : CoreExport). kind_space e.kind) asked))
+  table_target_there index TlsSet (terms.Exported e) is asked = absurd (table_apart (is.0 ∙ ap (λ (e : CoreExport). kind_space e.kind) asked))
   table_target_there index target term is asked = absurd asked
 
   global_target_there : (index : ℕ) (target : Target) (term : Term) → Is earlier spaces.CoreGlobal index term → IsTermFor w target term → (x : ℕ) × (address_at spaces.CoreGlobal index c.items ≡ Some x) × IsServedIn w s spaces.CoreGlobal x target
@@ -829,14 +852,16 @@ module _ {w : ComponentWorld} {earlier : List Def} {c : Scope} {s : Store} {g : 
   global_target_there index (OfResource function id) (terms.OfResource same resource) is asked = absurd is
   global_target_there index (BuiltIn intrinsic) (terms.BuiltIn same) is asked = absurd is
   global_target_there index (Lifted entry options) (terms.Lifting e written type) is asked = absurd is
+  global_target_there index TlsGet (terms.Exported e) is asked = absurd (global_apart (is.0 ∙ ap (λ (e : CoreExport). kind_space e.kind) asked))
+  global_target_there index TlsSet (terms.Exported e) is asked = absurd (global_apart (is.0 ∙ ap (λ (e : CoreExport). kind_space e.kind) asked))
   global_target_there index target term is asked = absurd asked
 
   -- the item that a target names has an address, in the space of its kind
-  pub item_there : (kind : ExportKind) (index : ℕ) (target : Target) → IsItemFor w earlier (kind_space kind) index target → (x : ℕ) × (address_at (kind_space kind) index c.items ≡ Some x) × IsServedIn w s (kind_space kind) x target
-  item_there kinds.Func index target h = target_there index target h
-  item_there kinds.Memory index target h = memory_target_there index target h.term h.is h.asked
-  item_there kinds.Table index target h = table_target_there index target h.term h.is h.asked
-  item_there kinds.Global index target h = global_target_there index target h.term h.is h.asked
+  pub item_there : (kind : ExportKind) (index : ℕ) (target : Target) → NeedsCell w target → IsItemFor w earlier (kind_space kind) index target → (x : ℕ) × (address_at (kind_space kind) index c.items ≡ Some x) × IsServedIn w s (kind_space kind) x target
+  item_there kinds.Func index target needed h = target_there index target needed h
+  item_there kinds.Memory index target needed h = memory_target_there index target h.term h.is h.asked
+  item_there kinds.Table index target needed h = table_target_there index target h.term h.is h.asked
+  item_there kinds.Global index target needed h = global_target_there index target h.term h.is h.asked
 
   -- so has a shim for what the target names
   pub shim_there : {space : Space} {index : ℕ} {target : Target} (h : IsShimFor w earlier space index target) → (x : ℕ) × (address_at spaces.CoreFunc index c.items ≡ Some x) × IsShimGiven w a.shims x target

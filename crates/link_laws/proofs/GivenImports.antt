@@ -12,7 +12,9 @@ use Rattle.comp_bytes.specs.Spaces.{kind_space}
 use Rattle.comp_bytes.specs.declared.canon.Intrinsic.{Intrinsic}
 use Rattle.core_types.specs.declared.types.FuncType.{FuncType}
 use Rattle.core_types.specs.declared.types.ValType.{ValType}
-use Rattle.core_runs.specs.Store.{Opaque}
+use Rattle.core_runs.specs.Bodies.{tls_get, tls_set}
+use Rattle.core_runs.specs.Cells.{getter_type, setter_type}
+use Rattle.core_runs.specs.Store.{Generated, Opaque}
 use Rattle.comp_bytes.specs.declared.space.Space.{Space}
 use Rattle.comp_bytes.specs.declared.space.Space.TheVariants as spaces
 use Rattle.standard_kinds.specs.declared.kinds.ExportKind.{ExportKind}
@@ -31,6 +33,7 @@ use Rattle.comp_roles.specs.CoreTypes.{called_type, core_type}
 use Rattle.comp_roles.specs.Matching.{matches}
 use Rattle.comp_worlds.proofs.Matched.{matched_function}
 use Rattle.comp_options.specs.Options.{import_set}
+use Rattle.comp_worlds.specs.Bases.{base_of_role}
 use Rattle.comp_worlds.specs.Lowerings.{IsImportForm}
 use Rattle.comp_worlds.specs.Typed.{drop_type, handle_type, type_of_import, FitsRole, FitsInstance}
 use Rattle.comp_worlds.specs.WorldContents.{items_of}
@@ -46,7 +49,7 @@ use Rattle.comp_runs.specs.Store.{Thing, Export, CoreItem, Lowering, IntrinsicOf
 use Rattle.comp_roles.specs.declared.offered.ExternType.{ExternType}
 use Rattle.comp_roles.specs.declared.offered.ExternType.TheVariants as externs
 use Rattle.comp_roles.specs.declared.offered.ImportType.{ImportType}
-use Rattle.comp_links.specs.Targets.{UserModule, Main, Adapter, ExportRef, WorldFunction, TargetOption, Target, OfRoot, OfInterface, Lowered, ResourceFunction, New, Rep, Drop, ExportOf}
+use Rattle.comp_links.specs.Targets.{UserModule, Main, Adapter, ExportRef, WorldFunction, TargetOption, Target, OfRoot, OfInterface, Lowered, ResourceFunction, New, Rep, Drop, ExportOf, Unlinked}
 use Rattle.comp_links.specs.Modules.{WorldModule, user_modules, IsModule, function_imported}
 use Rattle.comp_links.specs.Roles.{import_encoding}
 use Rattle.comp_links.specs.Lists.{resource_of}
@@ -65,12 +68,13 @@ use Rattle.comp_runs.specs.Signatures.{form_of, core_signature}
 use Rattle.comp_runs.specs.Running.{core_argument}
 use Rattle.link_laws.proofs.Zips.{all_some-zip, found-zip, mapped_some}
 use Rattle.comp_worlds.proofs.Roles.{bound_some}
+use Rattle.link_laws.proofs.BaseRoles.{IsAgreed, IsAgreedGroup, NeedsCell, getter_fits, setter_fits, cell_of_role, cell_needed, no_cell}
 use Rattle.link_laws.proofs.Plain.{HasRole, IsGivenImport, lowered_type, function_type_in}
 use Rattle.comp_links.proofs.Named.{one_module, named_found, listed_there}
 use Rattle.link_laws.proofs.Given.{thing_there, item_there, shim_there, shim_typed, user_there, found_name, by_parts, IsOfType, exports_named, IsFunctionTyped}
 use Rattle.link_laws.proofs.Forms.{form_asked, held_form, own_form, own_type}
 use Rattle.link_laws.proofs.Offering.{named_matches, offered_matches, HasType, export_typed, main_memory_typed, AreTypesOf, finds_given}
-use Rattle.link_laws.proofs.Stores.{IsOpaqueOf, IsLoweredFor, IsItemTyped, IsUserItem, IsUserExport, IsInstance, IsUserInstance, IsNamedEntry, IsInlineInstance, ShimsAt, IsFunctionOf, IsItemExported, IsServedAs, IsServedIn, resource_core, IsShimGiven, Serves, IsPlanned, HasGlobals, Agrees}
+use Rattle.link_laws.proofs.Stores.{IsOpaqueOf, IsLoweredFor, IsItemTyped, IsUserItem, IsUserExport, IsInstance, IsUserInstance, IsNamedEntry, IsInlineInstance, ShimsAt, IsFunctionOf, IsBuiltInAt, IsItemExported, IsServedAs, IsServedIn, resource_core, IsShimGiven, Serves, IsPlanned, HasGlobals, Agrees}
 
 -- ---- the core types of what is given
 
@@ -81,32 +85,45 @@ resource_opaque s address function resource type fits h =
     let item : CoreItem = IntrinsicOf (intrinsic_of function h.of) in
     (item, subst (λ t. IsOpaqueOf s address t item) (ap (function_type_in type) (same_Some (externs.Func (resource_core function)) (externs.Func type) fits)) h.is)
 
--- so is a built-in function without operands, where a role has one, and where slot 1 can be used is given the same
-built_in_opaque : (w : ComponentWorld) (s : Store) (address : ℕ) (o usable : Option Intrinsic) (type : FuncType) → ((i : Intrinsic) → o ≡ Some i → usable ≡ Some i) → option_map externs.Func (option_and_then plain_type usable) ≡ Some (externs.Func type) → IsServedAs w s address (link_of_intrinsic o) →
+-- so is a built-in function without operands, where slot 1 can be used is given the same
+intrinsic_opaque : (s : Store) (address : ℕ) (i : Intrinsic) (usable : Option Intrinsic) (type : FuncType) → usable ≡ Some i → option_map externs.Func (option_and_then plain_type usable) ≡ Some (externs.Func type) → IsBuiltInAt s address i →
     (item : CoreItem) × IsOpaqueOf s address type item
-built_in_opaque w s address None usable type same fits h = absurd h
-built_in_opaque w s address (Some i) usable type same fits h =
-    let asked : option_map externs.Func (plain_type i) ≡ Some (externs.Func type) = ap (λ o. option_map externs.Func (option_and_then plain_type o)) (sym (same i refl)) ∙ fits in
+intrinsic_opaque s address i usable type same fits h =
+    let asked : option_map externs.Func (plain_type i) ≡ Some (externs.Func type) = ap (λ o. option_map externs.Func (option_and_then plain_type o)) (sym same) ∙ fits in
     let typed : externs.Func h.type ≡ externs.Func type = same_Some (externs.Func h.type) (externs.Func type) (sym (ap (option_map externs.Func) h.typed) ∙ asked) in
     (IntrinsicOf i, subst (λ t. IsOpaqueOf s address t (IntrinsicOf i)) (ap (function_type_in type) typed) h.is)
 
--- it is no table, no memory and no global
-no_table : (w : ComponentWorld) (s : Store) (address : ℕ) (o : Option Intrinsic) → IsServedIn w s spaces.CoreTable address (link_of_intrinsic o) → ⊥
-no_table w s address None h = h
-no_table w s address (Some i) h = h
+-- where the role has one, and is none of a base
+built_in_opaque : (w : ComponentWorld) (s : Store) (address : ℕ) (role : Import) (o usable : Option Intrinsic) (type : FuncType) → base_of_role role ≡ None → ((i : Intrinsic) → o ≡ Some i → usable ≡ Some i) →
+    option_map externs.Func (option_and_then plain_type usable) ≡ Some (externs.Func type) → IsServedAs w s address (link_of_intrinsic role o) → (item : CoreItem) × IsOpaqueOf s address type item
+built_in_opaque w s address role None usable type none same fits h = let no : IsServedAs w s address Unlinked = subst (IsServedAs w s address) (no_cell role none) h in absurd no
+built_in_opaque w s address role (Some i) usable type none same fits h = intrinsic_opaque s address i usable type (same i refl) fits h
 
-no_memory : (w : ComponentWorld) (s : Store) (address : ℕ) (o : Option Intrinsic) → IsServedIn w s spaces.CoreMemory address (link_of_intrinsic o) → ⊥
-no_memory w s address None h = h
-no_memory w s address (Some i) h = h
+-- neither it nor a function of the cell is a table, a memory or a global
+no_table : (w : ComponentWorld) (s : Store) (address : ℕ) (role : Import) (o : Option Intrinsic) → IsServedIn w s spaces.CoreTable address (link_of_intrinsic role o) → ⊥
+no_table w s address (imports.TlsBaseGet type) None h = h
+no_table w s address (imports.TlsBaseSet type) None h = h
+no_table w s address role None h = h
+no_table w s address role (Some i) h = h
 
-no_global : (w : ComponentWorld) (s : Store) (address : ℕ) (o : Option Intrinsic) → IsServedIn w s spaces.CoreGlobal address (link_of_intrinsic o) → ⊥
-no_global w s address None h = h
-no_global w s address (Some i) h = h
+no_memory : (w : ComponentWorld) (s : Store) (address : ℕ) (role : Import) (o : Option Intrinsic) → IsServedIn w s spaces.CoreMemory address (link_of_intrinsic role o) → ⊥
+no_memory w s address (imports.TlsBaseGet type) None h = h
+no_memory w s address (imports.TlsBaseSet type) None h = h
+no_memory w s address role None h = h
+no_memory w s address role (Some i) h = h
+
+no_global : (w : ComponentWorld) (s : Store) (address : ℕ) (role : Import) (o : Option Intrinsic) → IsServedIn w s spaces.CoreGlobal address (link_of_intrinsic role o) → ⊥
+no_global w s address (imports.TlsBaseGet type) None h = h
+no_global w s address (imports.TlsBaseSet type) None h = h
+no_global w s address role None h = h
+no_global w s address role (Some i) h = h
 
 -- it is no lowering
-not_lowered : (o : Option Intrinsic) (function : WorldFunction) (options : List TargetOption) → link_of_intrinsic o ≡ Lowered function options → ⊥
-not_lowered None function options is = cc
-not_lowered (Some i) function options is = cc
+not_lowered : (role : Import) (o : Option Intrinsic) (function : WorldFunction) (options : List TargetOption) → link_of_intrinsic role o ≡ Lowered function options → ⊥
+not_lowered (imports.TlsBaseGet type) None function options is = cc
+not_lowered (imports.TlsBaseSet type) None function options is = cc
+not_lowered role None function options is = cc
+not_lowered role (Some i) function options is = cc
 
 -- a lowering of a function that is called in a form is opaque, and has the core type of such calls
 called_opaque : (w : ComponentWorld) (s : Store) (address : ℕ) (function : WorldFunction) (abi : AbiVariant) → IsImportForm abi → (type : FuncType) (realloc : Option ExportRef) (encoding : Option StringEncoding) →
@@ -121,105 +138,7 @@ called_opaque w s address function abi form type realloc encoding fits h =
     let typed : externs.Func (core_signature h.type h.held) ≡ externs.Func type = lowered_type w h.type h.typed.wit h.held h.typed.typed ∙ (ap (λ (a : AbiVariant). called_type w.resolve a h.typed.wit) same ∙ asked) in
     (Lowering h.lowered.of h.held, subst (λ t. IsOpaqueOf s address t (Lowering h.lowered.of h.held)) (ap (function_type_in type) typed) h.lowered.is)
 
-module _ (w : ComponentWorld) (ok : IsWorld w) (s : Store) (of : UserModule) where
-  -- what serves a role is opaque, and has the core type that the role requires
-  pub served_opaque : (address : ℕ) (role : Import) (type : FuncType) → IsImportRole w role → type_of_import w.resolve (items_of w) role ≡ Some (externs.Func type) →
-      IsServedAs w s address (link_of w of role) → (item : CoreItem) × IsOpaqueOf s address type item
-  served_opaque address (imports.WorldFunc (keys.Name text) function abi) type right fits h =
-      called_opaque w s address (OfRoot text) abi right.2 type (lower_realloc w of) (import_encoding w of (imports.WorldFunc (keys.Name text) function abi)) fits h
-  served_opaque address (imports.InterfaceFunc key id function abi) type right fits h =
-      called_opaque w s address (OfInterface id function) abi right.2 type (lower_realloc w of) (import_encoding w of (imports.InterfaceFunc key id function abi)) fits h
-  served_opaque address (imports.ImportedResourceDrop key interface id) type right fits h = resource_opaque s address Drop (resource_of w id) type fits h
-  served_opaque address (imports.ExportedResourceDrop key id) type right fits h = resource_opaque s address Drop (resource_of w id) type fits h
-  served_opaque address (imports.ExportedResourceRep key id) type right fits h = resource_opaque s address Rep (resource_of w id) type fits h
-  served_opaque address (imports.ExportedResourceNew key id) type right fits h = resource_opaque s address New (resource_of w id) type fits h
-  served_opaque address (imports.MainModuleMemory memory) type right fits h = absurd h
-  served_opaque address (imports.MainModuleExport name kind) type right fits h = absurd (none-some (externs.Func type) fits)
-  served_opaque address (imports.Item item) type right fits h = absurd (none-some (externs.Func type) fits)
-  served_opaque address (imports.AdapterExport adapter name function) type right fits h =
-      let e : ExportRef = record { of = Adapter adapter; name = name } in
-      let from : WorldModule = h.of.world_module in
-      let matching : matches (externs.Func type) (externs.Func h.type) ≡ true =
-      offered_matches w ok of (imports.AdapterExport adapter name function) e right refl from (listed_there (user_modules w) h.number from h.of.listed) h.of.same (externs.Func h.type) h.offered (externs.Func type) fits in
-      let typed : externs.Func type ≡ externs.Func h.type = matched_function (externs.Func type) h.type matching in
-      (ExportedBy h.user name, subst (λ t. IsOpaqueOf s address t (ExportedBy h.user name)) (ap (function_type_in type) (sym typed)) h.is)
-  served_opaque address (imports.WorldFunc (keys.Interface other) function abi) type right fits h = absurd (true≢false (sym right))
-  served_opaque address role type right fits h = built_in_opaque w s address (plain_intrinsic w.can_use_context_slot_1 role) (plain_intrinsic true role) type (usable_too w.can_use_context_slot_1 role) fits h
-
--- what serves a role matches an import that fits the role
-module _ (w : ComponentWorld) (ok : IsWorld w) (s : Store) (globals : List ValType) (typed : AllByRecursion (HasGlobals w globals) s.module_instances) (of : UserModule) where
-  opaque_typed : (address : ℕ) (type : FuncType) → (item : CoreItem) × IsOpaqueOf s address type item → IsFunctionTyped s address type
-  opaque_typed address type o = record { function = Opaque o.1.what type; present = o.1.present; typed = refl }
-
-  -- what has a core type of functions is a function
-  function_typed : (space : Space) (address : ℕ) (role : Import) (type : FuncType) → IsImportRole w role → type_of_import w.resolve (items_of w) role ≡ Some (externs.Func type) → (IsServedIn w s spaces.CoreTable address (link_of w of role) → ⊥) →
-      (IsServedIn w s spaces.CoreMemory address (link_of w of role) → ⊥) → (IsServedIn w s spaces.CoreGlobal address (link_of w of role) → ⊥) → IsServedIn w s space address (link_of w of role) → HasType s globals space address (externs.Func type)
-  function_typed spaces.CoreFunc address role type right fits no_table no_memory no_global h = opaque_typed address type (served_opaque w ok s of address role type right fits h)
-  function_typed spaces.CoreTable address role type right fits no_table no_memory no_global h = absurd (no_table h)
-  function_typed spaces.CoreMemory address role type right fits no_table no_memory no_global h = absurd (no_memory h)
-  function_typed spaces.CoreGlobal address role type right fits no_table no_memory no_global h = absurd (no_global h)
-  function_typed space address role type right fits no_table no_memory no_global h = absurd h
-
-  pub role_typed : (space : Space) (address : ℕ) (role : Import) (type : ExternType) → IsImportRole w role → FitsRole w role type → IsServedIn w s space address (link_of w of role) → HasType s globals space address type
-  role_typed space address (imports.WorldFunc (keys.Name text) function abi) type right fits h =
-      let x : (f : Function) × (root_function_at (items_of w).imports (keys.Name text) ≡ Some f) × (called_type w.resolve abi f ≡ type) =
-      mapped_some (called_type w.resolve abi) (root_function_at (items_of w).imports (keys.Name text)) type fits in
-      let core : FuncType = core_type (signature abi w.resolve.types x.0) in
-      subst (HasType s globals space address) x.2 (function_typed space address (imports.WorldFunc (keys.Name text) function abi) core right (fits ∙ ap (λ (t : ExternType). Some t) (sym x.2)) (λ no. no) (λ no. no) (λ no. no) h)
-  role_typed space address (imports.InterfaceFunc key id function abi) type right fits h =
-      let x : (f : Function) × (found function (functions_of w.resolve id) ≡ Some f) × (called_type w.resolve abi f ≡ type) =
-      mapped_some (called_type w.resolve abi) (found function (functions_of w.resolve id)) type fits in
-      let core : FuncType = core_type (signature abi w.resolve.types x.0) in
-      subst (HasType s globals space address) x.2 (function_typed space address (imports.InterfaceFunc key id function abi) core right (fits ∙ ap (λ (t : ExternType). Some t) (sym x.2)) (λ no. no) (λ no. no) (λ no. no) h)
-  role_typed space address (imports.ImportedResourceDrop key interface id) type right fits h =
-      subst (HasType s globals space address) (same_Some drop_type type fits) (function_typed space address (imports.ImportedResourceDrop key interface id) (resource_core Drop) right refl (λ no. no) (λ no. no) (λ no. no) h)
-  role_typed space address (imports.ExportedResourceDrop key id) type right fits h =
-      subst (HasType s globals space address) (same_Some drop_type type fits) (function_typed space address (imports.ExportedResourceDrop key id) (resource_core Drop) right refl (λ no. no) (λ no. no) (λ no. no) h)
-  role_typed space address (imports.ExportedResourceRep key id) type right fits h =
-      subst (HasType s globals space address) (same_Some handle_type type fits) (function_typed space address (imports.ExportedResourceRep key id) (resource_core Rep) right refl (λ no. no) (λ no. no) (λ no. no) h)
-  role_typed space address (imports.ExportedResourceNew key id) type right fits h =
-      subst (HasType s globals space address) (same_Some handle_type type fits) (function_typed space address (imports.ExportedResourceNew key id) (resource_core New) right refl (λ no. no) (λ no. no) (λ no. no) h)
-  role_typed space address (imports.MainModuleMemory memory) type right fits h =
-      subst (HasType s globals space address) (same_Some (externs.Memory memory) type fits) (main_memory_typed w ok s globals typed space address memory right h)
-  role_typed space address (imports.MainModuleExport name kind) type right fits h =
-      let e : ExportRef = record { of = Main; name = name } in
-      export_typed w ok s globals typed space address e type (λ m listed same t offered. offered_matches w ok of (imports.MainModuleExport name kind) e right refl m listed same t offered type fits) h
-  role_typed space address (imports.Item item) type right fits h =
-      let e : ExportRef = record { of = module_of item.which; name = item.name } in
-      export_typed w ok s globals typed space address e type (λ m listed same t offered. offered_matches w ok of (imports.Item item) e right refl m listed same t offered type fits) h
-  role_typed space address (imports.AdapterExport adapter name function) type right fits h =
-      let e : ExportRef = record { of = Adapter adapter; name = name } in
-      export_typed w ok s globals typed space address e type (λ m listed same t offered. offered_matches w ok of (imports.AdapterExport adapter name function) e right refl m listed same t offered type fits) h
-  role_typed space address (imports.WorldFunc (keys.Interface other) function abi) type right fits h = absurd (true≢false (sym right))
-  role_typed space address role type right fits h =
-      let core : (t : FuncType) × (plain_import_type role ≡ Some t) × (externs.Func t ≡ type) = mapped_some externs.Func (plain_import_type role) type fits in
-      subst (HasType s globals space address) core.2
-      (function_typed space address role core.0 right (fits ∙ ap (λ (t : ExternType). Some t) (sym core.2)) (no_table w s address (plain_intrinsic w.can_use_context_slot_1 role)) (no_memory w s address (plain_intrinsic w.can_use_context_slot_1 role)) (no_global w s address (plain_intrinsic w.can_use_context_slot_1 role)) h)
-
--- what a shim hands on to is opaque, and has the shim's core type
-pub purpose_opaque : (w : ComponentWorld) → IsWorld w → (s : Store) (address : ℕ) (shim : Shim) (p : Purpose) → HasPurpose w shim p → IsServedAs w s address (target_of w p) → (item : CoreItem) × IsOpaqueOf s address (type_of_shim shim) item
-purpose_opaque w ok s address shim (OfImport of role) stands h = served_opaque w ok s of address role (type_of_shim shim) stands.right stands.typed h
-purpose_opaque w ok s address shim (OfExport e) stands h =
-    let exporting : h.of.world_module ≡ stands.exporting = one_module w ok h.number h.of.world_module stands.exporting h.of.listed stands.listed (h.of.same ∙ sym stands.same) in
-    let offered : found e.name stands.exporting.found.offered ≡ Some (externs.Func h.type) = subst (λ (o : WorldModule). found e.name o.found.offered ≡ Some (externs.Func h.type)) exporting h.offered in
-    let typed : externs.Func h.type ≡ externs.Func (type_of_shim shim) = same_Some (externs.Func h.type) (externs.Func (type_of_shim shim)) (sym offered ∙ stands.typed) in
-    (ExportedBy h.user e.name, subst (λ t. IsOpaqueOf s address t (ExportedBy h.user e.name)) (ap (function_type_in (type_of_shim shim)) typed) h.is)
-
--- no kind is that of an import and of an export
-one_kind : (w : ComponentWorld) (kind : ShimKind) (x : UserModule × Import) (e : ExportRef) → role_of_kind w kind ≡ Some x → export_of_kind kind ≡ Some e → ⊥
-one_kind w (shim_kinds.Adapter adapter name) x e h k = none-some x h
-one_kind w (shim_kinds.ResourceDtor which name) x e h k = none-some x h
-one_kind w (shim_kinds.Realloc which name) x e h k = none-some x h
-one_kind w _ x e h k = none-some e k
-
--- a shim stands for one thing
-pub one_purpose : (w : ComponentWorld) (shim : Shim) (p q : Purpose) → HasPurpose w shim p → HasPurpose w shim q → p ≡ q
-one_purpose w shim (OfImport of role) (OfImport from other) h k = ap (λ (x : UserModule × Import). OfImport x.0 x.1) (same_Some (of, role) (from, other) (sym h.of_kind ∙ k.of_kind))
-one_purpose w shim (OfImport of role) (OfExport e) h k = absurd (one_kind w shim.kind (of, role) e h.of_kind k.of_kind)
-one_purpose w shim (OfExport e) (OfImport of role) h k = absurd (one_kind w shim.kind (of, role) e k.of_kind h.of_kind)
-one_purpose w shim (OfExport e) (OfExport other) h k = ap OfExport (same_Some e other (sym h.of_kind ∙ k.of_kind))
-
--- ---- shims for what imports are given
+-- ---- what a shim stands for as an import
 
 -- the role of a call of a function of the world
 abbrev IsCall : Import → Type 0
@@ -252,7 +171,156 @@ call_lowered w from (imports.WorldFunc (keys.Name text) function abi) call = rec
 call_lowered w from (imports.InterfaceFunc key id function abi) call = record { function = OfInterface id function; options = lower_options w from (imports.InterfaceFunc key id function abi); is = refl }
 call_lowered w from other call = absurd call
 
--- so what is given the same is called too
+-- and has no base
+call_no_base : (role : Import) → IsCall role → base_of_role role ≡ None
+call_no_base (imports.WorldFunc (keys.Name text) function abi) call = refl
+call_no_base (imports.InterfaceFunc key id function abi) call = refl
+call_no_base role call = absurd call
+
+-- so a shim stands for a lowering, or for an export
+pub of_purpose : (P : Target → Type 0) → ((function : WorldFunction) (options : List TargetOption) → P (Lowered function options)) → ((e : ExportRef) → P (ExportOf e)) → (w : ComponentWorld) (shim : Shim) (p : Purpose) → HasPurpose w shim p → P (target_of w p)
+of_purpose P of_lowered of_export w shim (OfImport of role) stands =
+    let lowered : IsLoweredTarget (link_of w of role) = call_lowered w of role (shim_calls w shim of role stands) in
+    subst P (sym lowered.is) (of_lowered lowered.function lowered.options)
+of_purpose P of_lowered of_export w shim (OfExport e) stands = of_export e
+
+-- which needs no cell
+pub needs_none : (w : ComponentWorld) (shim : Shim) (p : Purpose) → HasPurpose w shim p → NeedsCell w (target_of w p)
+needs_none w shim p stands = of_purpose (NeedsCell w) (λ function options. tt) (λ e. tt) w shim p stands
+
+-- ---- what serves a role
+
+module _ (w : ComponentWorld) (ok : IsWorld w) (s : Store) (of : UserModule) where
+  -- what serves a role is opaque, where it is none of a base, and has the core type that the role requires
+  pub served_opaque : (address : ℕ) (role : Import) (type : FuncType) → IsImportRole w role → base_of_role role ≡ None → type_of_import w.resolve (items_of w) role ≡ Some (externs.Func type) →
+      IsServedAs w s address (link_of w of role) → (item : CoreItem) × IsOpaqueOf s address type item
+  served_opaque address (imports.WorldFunc (keys.Name text) function abi) type right none fits h =
+      called_opaque w s address (OfRoot text) abi right.2 type (lower_realloc w of) (import_encoding w of (imports.WorldFunc (keys.Name text) function abi)) fits h
+  served_opaque address (imports.InterfaceFunc key id function abi) type right none fits h =
+      called_opaque w s address (OfInterface id function) abi right.2 type (lower_realloc w of) (import_encoding w of (imports.InterfaceFunc key id function abi)) fits h
+  served_opaque address (imports.ImportedResourceDrop key interface id) type right none fits h = resource_opaque s address Drop (resource_of w id) type fits h
+  served_opaque address (imports.ExportedResourceDrop key id) type right none fits h = resource_opaque s address Drop (resource_of w id) type fits h
+  served_opaque address (imports.ExportedResourceRep key id) type right none fits h = resource_opaque s address Rep (resource_of w id) type fits h
+  served_opaque address (imports.ExportedResourceNew key id) type right none fits h = resource_opaque s address New (resource_of w id) type fits h
+  served_opaque address (imports.MainModuleMemory memory) type right none fits h = absurd h
+  served_opaque address (imports.MainModuleExport name kind) type right none fits h = absurd (none-some (externs.Func type) fits)
+  served_opaque address (imports.Item item) type right none fits h = absurd (none-some (externs.Func type) fits)
+  served_opaque address (imports.AdapterExport adapter name function) type right none fits h =
+      let e : ExportRef = record { of = Adapter adapter; name = name } in
+      let from : WorldModule = h.of.world_module in
+      let matching : matches (externs.Func type) (externs.Func h.type) ≡ true =
+      offered_matches w ok of (imports.AdapterExport adapter name function) e right refl from (listed_there (user_modules w) h.number from h.of.listed) h.of.same (externs.Func h.type) h.offered (externs.Func type) fits in
+      let typed : externs.Func type ≡ externs.Func h.type = matched_function (externs.Func type) h.type matching in
+      (ExportedBy h.user name, subst (λ t. IsOpaqueOf s address t (ExportedBy h.user name)) (ap (function_type_in type) (sym typed)) h.is)
+  served_opaque address (imports.WorldFunc (keys.Interface other) function abi) type right none fits h = absurd (true≢false (sym right))
+  served_opaque address role type right none fits h = built_in_opaque w s address role (plain_intrinsic w.can_use_context_slot_1 role) (plain_intrinsic true role) type none (usable_too w.can_use_context_slot_1 role) fits h
+
+-- what serves a role matches an import that fits the role
+module _ (w : ComponentWorld) (ok : IsWorld w) (s : Store) (globals : List ValType) (typed : AllByRecursion (HasGlobals w globals) s.module_instances) (of : UserModule) where
+  opaque_typed : (address : ℕ) (type : FuncType) → (item : CoreItem) × IsOpaqueOf s address type item → IsFunctionTyped s address type
+  opaque_typed address type o = record { function = Opaque o.1.what type; present = o.1.present; typed = refl }
+
+  -- so does a function that reads the base, or sets it
+  getter_typed : (address : ℕ) (t : ValType) (type : FuncType) (o : Option Intrinsic) → plain_intrinsic w.can_use_context_slot_1 (imports.TlsBaseGet t) ≡ o → IsImportRole w (imports.TlsBaseGet t) → IsAgreed w (imports.TlsBaseGet t) →
+      option_map externs.Func (plain_import_type (imports.TlsBaseGet t)) ≡ Some (externs.Func type) → IsServedAs w s address (link_of_intrinsic (imports.TlsBaseGet t) o) → IsFunctionTyped s address type
+  getter_typed address t type (Some i) given right agreed fits h =
+      opaque_typed address type (intrinsic_opaque s address i (plain_intrinsic true (imports.TlsBaseGet t)) type (usable_too w.can_use_context_slot_1 (imports.TlsBaseGet t) i given) fits h)
+  getter_typed address t type None given right agreed fits h =
+      let same : h.type ≡ t = same_Some h.type t (sym h.named ∙ cell_of_role w (imports.TlsBaseGet t) t refl right agreed given) in
+      let typed : externs.Func (getter_type t) ≡ externs.Func type = same_Some (externs.Func (getter_type t)) (externs.Func type) (sym (ap (option_map externs.Func) (getter_fits t right)) ∙ fits) in
+      record { function = Generated h.is.frame (getter_type h.type) (tls_get h.is.local).locals (tls_get h.is.local).instructions; present = h.is.has; typed = ap getter_type same ∙ ap (function_type_in type) typed }
+
+  setter_typed : (address : ℕ) (t : ValType) (type : FuncType) (o : Option Intrinsic) → plain_intrinsic w.can_use_context_slot_1 (imports.TlsBaseSet t) ≡ o → IsImportRole w (imports.TlsBaseSet t) → IsAgreed w (imports.TlsBaseSet t) →
+      option_map externs.Func (plain_import_type (imports.TlsBaseSet t)) ≡ Some (externs.Func type) → IsServedAs w s address (link_of_intrinsic (imports.TlsBaseSet t) o) → IsFunctionTyped s address type
+  setter_typed address t type (Some i) given right agreed fits h =
+      opaque_typed address type (intrinsic_opaque s address i (plain_intrinsic true (imports.TlsBaseSet t)) type (usable_too w.can_use_context_slot_1 (imports.TlsBaseSet t) i given) fits h)
+  setter_typed address t type None given right agreed fits h =
+      let same : h.type ≡ t = same_Some h.type t (sym h.named ∙ cell_of_role w (imports.TlsBaseSet t) t refl right agreed given) in
+      let typed : externs.Func (setter_type t) ≡ externs.Func type = same_Some (externs.Func (setter_type t)) (externs.Func type) (sym (ap (option_map externs.Func) (setter_fits t right)) ∙ fits) in
+      record { function = Generated h.is.frame (setter_type h.type) (tls_set h.is.local).locals (tls_set h.is.local).instructions; present = h.is.has; typed = ap setter_type same ∙ ap (function_type_in type) typed }
+
+  served_typed : (address : ℕ) (role : Import) (type : FuncType) → IsImportRole w role → IsAgreed w role → type_of_import w.resolve (items_of w) role ≡ Some (externs.Func type) → IsServedAs w s address (link_of w of role) → IsFunctionTyped s address type
+  served_typed address role type right agreed fits h = by role right agreed fits h
+    where
+      other : (role : Import) → IsImportRole w role → base_of_role role ≡ None → type_of_import w.resolve (items_of w) role ≡ Some (externs.Func type) → IsServedAs w s address (link_of w of role) → IsFunctionTyped s address type
+      other role right none fits h = opaque_typed address type (served_opaque w ok s of address role type right none fits h)
+
+      by : (role : Import) → IsImportRole w role → IsAgreed w role → type_of_import w.resolve (items_of w) role ≡ Some (externs.Func type) → IsServedAs w s address (link_of w of role) → IsFunctionTyped s address type
+      by (imports.TlsBaseGet t) right agreed fits h = getter_typed address t type (plain_intrinsic w.can_use_context_slot_1 (imports.TlsBaseGet t)) refl right agreed fits h
+      by (imports.TlsBaseSet t) right agreed fits h = setter_typed address t type (plain_intrinsic w.can_use_context_slot_1 (imports.TlsBaseSet t)) refl right agreed fits h
+      by role right agreed fits h = other role right refl fits h
+
+  -- what has a core type of functions is a function
+  function_typed : (space : Space) (address : ℕ) (role : Import) (type : FuncType) → IsImportRole w role → IsAgreed w role → type_of_import w.resolve (items_of w) role ≡ Some (externs.Func type) → (IsServedIn w s spaces.CoreTable address (link_of w of role) → ⊥) →
+      (IsServedIn w s spaces.CoreMemory address (link_of w of role) → ⊥) → (IsServedIn w s spaces.CoreGlobal address (link_of w of role) → ⊥) → IsServedIn w s space address (link_of w of role) → HasType s globals space address (externs.Func type)
+  function_typed spaces.CoreFunc address role type right agreed fits no_table no_memory no_global h = served_typed address role type right agreed fits h
+  function_typed spaces.CoreTable address role type right agreed fits no_table no_memory no_global h = absurd (no_table h)
+  function_typed spaces.CoreMemory address role type right agreed fits no_table no_memory no_global h = absurd (no_memory h)
+  function_typed spaces.CoreGlobal address role type right agreed fits no_table no_memory no_global h = absurd (no_global h)
+  function_typed space address role type right agreed fits no_table no_memory no_global h = absurd h
+
+  pub role_typed : (space : Space) (address : ℕ) (role : Import) (type : ExternType) → IsImportRole w role → IsAgreed w role → FitsRole w role type → IsServedIn w s space address (link_of w of role) → HasType s globals space address type
+  role_typed space address (imports.WorldFunc (keys.Name text) function abi) type right agreed fits h =
+      let x : (f : Function) × (root_function_at (items_of w).imports (keys.Name text) ≡ Some f) × (called_type w.resolve abi f ≡ type) =
+      mapped_some (called_type w.resolve abi) (root_function_at (items_of w).imports (keys.Name text)) type fits in
+      let core : FuncType = core_type (signature abi w.resolve.types x.0) in
+      subst (HasType s globals space address) x.2 (function_typed space address (imports.WorldFunc (keys.Name text) function abi) core right agreed (fits ∙ ap (λ (t : ExternType). Some t) (sym x.2)) (λ no. no) (λ no. no) (λ no. no) h)
+  role_typed space address (imports.InterfaceFunc key id function abi) type right agreed fits h =
+      let x : (f : Function) × (found function (functions_of w.resolve id) ≡ Some f) × (called_type w.resolve abi f ≡ type) =
+      mapped_some (called_type w.resolve abi) (found function (functions_of w.resolve id)) type fits in
+      let core : FuncType = core_type (signature abi w.resolve.types x.0) in
+      subst (HasType s globals space address) x.2 (function_typed space address (imports.InterfaceFunc key id function abi) core right agreed (fits ∙ ap (λ (t : ExternType). Some t) (sym x.2)) (λ no. no) (λ no. no) (λ no. no) h)
+  role_typed space address (imports.ImportedResourceDrop key interface id) type right agreed fits h =
+      subst (HasType s globals space address) (same_Some drop_type type fits) (function_typed space address (imports.ImportedResourceDrop key interface id) (resource_core Drop) right agreed refl (λ no. no) (λ no. no) (λ no. no) h)
+  role_typed space address (imports.ExportedResourceDrop key id) type right agreed fits h =
+      subst (HasType s globals space address) (same_Some drop_type type fits) (function_typed space address (imports.ExportedResourceDrop key id) (resource_core Drop) right agreed refl (λ no. no) (λ no. no) (λ no. no) h)
+  role_typed space address (imports.ExportedResourceRep key id) type right agreed fits h =
+      subst (HasType s globals space address) (same_Some handle_type type fits) (function_typed space address (imports.ExportedResourceRep key id) (resource_core Rep) right agreed refl (λ no. no) (λ no. no) (λ no. no) h)
+  role_typed space address (imports.ExportedResourceNew key id) type right agreed fits h =
+      subst (HasType s globals space address) (same_Some handle_type type fits) (function_typed space address (imports.ExportedResourceNew key id) (resource_core New) right agreed refl (λ no. no) (λ no. no) (λ no. no) h)
+  role_typed space address (imports.MainModuleMemory memory) type right agreed fits h =
+      subst (HasType s globals space address) (same_Some (externs.Memory memory) type fits) (main_memory_typed w ok s globals typed space address memory right h)
+  role_typed space address (imports.MainModuleExport name kind) type right agreed fits h =
+      let e : ExportRef = record { of = Main; name = name } in
+      export_typed w ok s globals typed space address e type (λ m listed same t offered. offered_matches w ok of (imports.MainModuleExport name kind) e right refl m listed same t offered type fits) h
+  role_typed space address (imports.Item item) type right agreed fits h =
+      let e : ExportRef = record { of = module_of item.which; name = item.name } in
+      export_typed w ok s globals typed space address e type (λ m listed same t offered. offered_matches w ok of (imports.Item item) e right refl m listed same t offered type fits) h
+  role_typed space address (imports.AdapterExport adapter name function) type right agreed fits h =
+      let e : ExportRef = record { of = Adapter adapter; name = name } in
+      export_typed w ok s globals typed space address e type (λ m listed same t offered. offered_matches w ok of (imports.AdapterExport adapter name function) e right refl m listed same t offered type fits) h
+  role_typed space address (imports.WorldFunc (keys.Interface other) function abi) type right agreed fits h = absurd (true≢false (sym right))
+  role_typed space address role type right agreed fits h =
+      let core : (t : FuncType) × (plain_import_type role ≡ Some t) × (externs.Func t ≡ type) = mapped_some externs.Func (plain_import_type role) type fits in
+      subst (HasType s globals space address) core.2
+      (function_typed space address role core.0 right agreed (fits ∙ ap (λ (t : ExternType). Some t) (sym core.2)) (no_table w s address role (plain_intrinsic w.can_use_context_slot_1 role)) (no_memory w s address role (plain_intrinsic w.can_use_context_slot_1 role)) (no_global w s address role (plain_intrinsic w.can_use_context_slot_1 role)) h)
+
+-- what a shim hands on to is opaque, and has the shim's core type
+pub purpose_opaque : (w : ComponentWorld) → IsWorld w → (s : Store) (address : ℕ) (shim : Shim) (p : Purpose) → HasPurpose w shim p → IsServedAs w s address (target_of w p) → (item : CoreItem) × IsOpaqueOf s address (type_of_shim shim) item
+purpose_opaque w ok s address shim (OfImport of role) stands h = served_opaque w ok s of address role (type_of_shim shim) stands.right (call_no_base role (shim_calls w shim of role stands)) stands.typed h
+purpose_opaque w ok s address shim (OfExport e) stands h =
+    let exporting : h.of.world_module ≡ stands.exporting = one_module w ok h.number h.of.world_module stands.exporting h.of.listed stands.listed (h.of.same ∙ sym stands.same) in
+    let offered : found e.name stands.exporting.found.offered ≡ Some (externs.Func h.type) = subst (λ (o : WorldModule). found e.name o.found.offered ≡ Some (externs.Func h.type)) exporting h.offered in
+    let typed : externs.Func h.type ≡ externs.Func (type_of_shim shim) = same_Some (externs.Func h.type) (externs.Func (type_of_shim shim)) (sym offered ∙ stands.typed) in
+    (ExportedBy h.user e.name, subst (λ t. IsOpaqueOf s address t (ExportedBy h.user e.name)) (ap (function_type_in (type_of_shim shim)) typed) h.is)
+
+-- no kind is that of an import and of an export
+one_kind : (w : ComponentWorld) (kind : ShimKind) (x : UserModule × Import) (e : ExportRef) → role_of_kind w kind ≡ Some x → export_of_kind kind ≡ Some e → ⊥
+one_kind w (shim_kinds.Adapter adapter name) x e h k = none-some x h
+one_kind w (shim_kinds.ResourceDtor which name) x e h k = none-some x h
+one_kind w (shim_kinds.Realloc which name) x e h k = none-some x h
+one_kind w _ x e h k = none-some e k
+
+-- a shim stands for one thing
+pub one_purpose : (w : ComponentWorld) (shim : Shim) (p q : Purpose) → HasPurpose w shim p → HasPurpose w shim q → p ≡ q
+one_purpose w shim (OfImport of role) (OfImport from other) h k = ap (λ (x : UserModule × Import). OfImport x.0 x.1) (same_Some (of, role) (from, other) (sym h.of_kind ∙ k.of_kind))
+one_purpose w shim (OfImport of role) (OfExport e) h k = absurd (one_kind w shim.kind (of, role) e h.of_kind k.of_kind)
+one_purpose w shim (OfExport e) (OfImport of role) h k = absurd (one_kind w shim.kind (of, role) e k.of_kind h.of_kind)
+one_purpose w shim (OfExport e) (OfExport other) h k = ap OfExport (same_Some e other (sym h.of_kind ∙ k.of_kind))
+
+-- ---- shims for what imports are given
+
+-- what is given the same as a call is called too
 lowered_call : (w : ComponentWorld) (of : UserModule) (role : Import) → IsImportRole w role → (function : WorldFunction) (options : List TargetOption) → link_of w of role ≡ Lowered function options → IsCall role
 lowered_call w of (imports.WorldFunc (keys.Name text) function abi) right f options is = tt
 lowered_call w of (imports.InterfaceFunc key id function abi) right f options is = tt
@@ -264,7 +332,7 @@ lowered_call w of (imports.MainModuleMemory memory) right f options is = cc
 lowered_call w of (imports.MainModuleExport name kind) right f options is = cc
 lowered_call w of (imports.AdapterExport adapter name function) right f options is = cc
 lowered_call w of (imports.Item item) right f options is = cc
-lowered_call w of role right f options is = absurd (not_lowered (plain_intrinsic w.can_use_context_slot_1 role) f options is)
+lowered_call w of role right f options is = absurd (not_lowered role (plain_intrinsic w.can_use_context_slot_1 role) f options is)
 
 -- the core type of calls of what a target names
 abbrev type_of_target : ComponentWorld → Target → Option ExternType
@@ -337,11 +405,11 @@ own_is_shim w of ds space index role h = (h.shim, h.shimmed)
 
 -- what a user module is given
 module _ {w : ComponentWorld} {earlier : List Def} {c : Scope} {s : Store} {globals : List ValType} (a : Agrees w earlier c s globals) (ok : IsWorld w) (of : UserModule) where
-  item_served : (kind : ExportKind) (index : ℕ) (role : Import) → IsImportRole w role → IsItemFor w earlier (kind_space kind) index (link_of w of role) →
+  item_served : (kind : ExportKind) (index : ℕ) (role : Import) → IsImportRole w role → IsAgreed w role → IsItemFor w earlier (kind_space kind) index (link_of w of role) →
       (x : ℕ) × (address_at (kind_space kind) index c.items ≡ Some x) × IsRoleServed w a.shims s globals of (kind_space kind) x role
-  item_served kind index role right h =
-      let x = item_there a kind index (link_of w of role) h in
-      (x.0, x.1, record { serves = inl x.2; direct = λ none. x.2; typed = λ type fits. role_typed w ok s globals a.with_globals of (kind_space kind) x.0 role type right fits x.2 })
+  item_served kind index role right agreed h =
+      let x = item_there a kind index (link_of w of role) (cell_needed w of role right agreed) h in
+      (x.0, x.1, record { serves = inl x.2; direct = λ none. x.2; typed = λ type fits. role_typed w ok s globals a.with_globals of (kind_space kind) x.0 role type right agreed fits x.2 })
 
   shim_served : (index : ℕ) (role : Import) → IsImportRole w role → IsTrue (has_shim w role) → IsShimFor w earlier spaces.CoreFunc index (link_of w of role) →
       (x : ℕ) × (address_at spaces.CoreFunc index c.items ≡ Some x) × IsRoleServed w a.shims s globals of spaces.CoreFunc x role
@@ -360,38 +428,38 @@ module _ {w : ComponentWorld} {earlier : List Def} {c : Scope} {s : Store} {glob
       )
 
   -- what is given for an import is the item that the link table names, or a shim
-  role_there : (kind : ExportKind) (index : ℕ) (role : Import) → IsImportRole w role → IsGivenFor w of earlier (kind_space kind) index role →
+  role_there : (kind : ExportKind) (index : ℕ) (role : Import) → IsImportRole w role → IsAgreed w role → IsGivenFor w of earlier (kind_space kind) index role →
       (x : ℕ) × (address_at (kind_space kind) index c.items ≡ Some x) × IsRoleServed w a.shims s globals of (kind_space kind) x role
-  role_there kind index role right (inl h) = item_served kind index role right h
-  role_there kind index role right (inr h) =
+  role_there kind index role right agreed (inl h) = item_served kind index role right agreed h
+  role_there kind index role right agreed (inr h) =
       let own : IsShimFor w earlier (kind_space kind) index (link_of w of role) × IsTrue (has_shim w role) = own_is_shim w of earlier (kind_space kind) index role h in
       let function : kind_space kind ≡ spaces.CoreFunc = own.0.in_space in
       let shim : IsShimFor w earlier spaces.CoreFunc index (link_of w of role) = subst (λ space. IsShimFor w earlier space index (link_of w of role)) function own.0 in
       subst (λ space. (x : ℕ) × (address_at space index c.items ≡ Some x) × IsRoleServed w a.shims s globals of space x role) (sym function) (shim_served index role right own.1 shim)
 
   -- the entries of an inline instance, as they were put into the store
-  fields_there : (es : List CoreInlineExport) (xs : List Export) (fs : List (List ℕ × Import)) → AllByRecursion (λ f. IsImportRole w f.1) fs → AllZip (IsEntryFor w of earlier) es fs → AllZip (IsNamedEntry c.items) es xs →
+  fields_there : (es : List CoreInlineExport) (xs : List Export) (fs : List (List ℕ × Import)) → AllByRecursion (λ f. IsImportRole w f.1) fs → AllByRecursion (λ f. IsAgreed w f.1) fs → AllZip (IsEntryFor w of earlier) es fs → AllZip (IsNamedEntry c.items) es xs →
       AllZip (IsFieldExport w a.shims s globals of) xs fs
-  fields_there [] [] [] r h n = tt
-  fields_there (e ∷ es) (x ∷ xs) (f ∷ fs) r h n =
-      let i : (y : ℕ) × (address_at (kind_space e.kind) e.index c.items ≡ Some y) × IsRoleServed w a.shims s globals of (kind_space e.kind) y f.1 = role_there e.kind e.index f.1 r.0 h.0.serves in
+  fields_there [] [] [] r agreed h n = tt
+  fields_there (e ∷ es) (x ∷ xs) (f ∷ fs) r agreed h n =
+      let i : (y : ℕ) × (address_at (kind_space e.kind) e.index c.items ≡ Some y) × IsRoleServed w a.shims s globals of (kind_space e.kind) y f.1 = role_there e.kind e.index f.1 r.0 agreed.0 h.0.serves in
       let same : i.0 ≡ x.address = same_Some i.0 x.address (sym i.1 ∙ n.0.at) in
       let served : IsRoleServed w a.shims s globals of (kind_space e.kind) x.address f.1 = subst (λ y. IsRoleServed w a.shims s globals of (kind_space e.kind) y f.1) same i.2 in
-      (record { named = n.0.named ∙ h.0.named; is = subst (λ space. IsRoleServed w a.shims s globals of space x.address f.1) (sym n.0.space) served }, fields_there es xs fs r.1 h.1 n.1)
-  fields_there [] (x ∷ xs) fs r h n = absurd n
-  fields_there (e ∷ es) [] fs r h n = absurd n
-  fields_there [] [] (f ∷ fs) r h n = absurd h
-  fields_there (e ∷ es) (x ∷ xs) [] r h n = absurd h
+      (record { named = n.0.named ∙ h.0.named; is = subst (λ space. IsRoleServed w a.shims s globals of space x.address f.1) (sym n.0.space) served }, fields_there es xs fs r.1 agreed.1 h.1 n.1)
+  fields_there [] (x ∷ xs) fs r agreed h n = absurd n
+  fields_there (e ∷ es) [] fs r agreed h n = absurd n
+  fields_there [] [] (f ∷ fs) r agreed h n = absurd h
+  fields_there (e ∷ es) (x ∷ xs) [] r agreed h n = absurd h
 
   module _ (m : Machine) (items : m.scope.items ≡ c.items) (instances_same : m.store.core_instances ≡ s.core_instances) where
     abbrev pub OffersFor : CoreArgument → List ℕ × ImportInstance → Type 0
     OffersFor x g = (y : List ℕ × List Export) × (core_argument m x ≡ Some y) × IsOffered w a.shims s globals of y g
 
-    argument_there : (x : CoreArgument) (g : List ℕ × ImportInstance) → IsImportGroup w g → IsArgumentFor w of earlier x g → OffersFor x g
-    argument_there x (name, instances.Names fields) right h =
+    argument_there : (x : CoreArgument) (g : List ℕ × ImportInstance) → IsImportGroup w g → IsAgreedGroup w g → IsArgumentFor w of earlier x g → OffersFor x g
+    argument_there x (name, instances.Names fields) right agreed h =
         let b : (y : ℕ) × (address_at spaces.CoreInstance x.instance c.items ≡ Some y) × IsInlineInstance c.items s h.serves.entries y = thing_there a h.serves.made in
-        ((x.name, b.2.exports), rw (items, b.1, instances_same, b.2.present) refl, record { named = h.named; satisfy = fields_there h.serves.entries b.2.exports fields right.1 h.serves.each b.2.each })
-    argument_there x (name, instances.Whole which) right h =
+        ((x.name, b.2.exports), rw (items, b.1, instances_same, b.2.present) refl, record { named = h.named; satisfy = fields_there h.serves.entries b.2.exports fields right.1 agreed h.serves.each b.2.each })
+    argument_there x (name, instances.Whole which) right agreed h =
         let listed = h.serves.of.listed in
         let u : (y : ℕ) × (address_at spaces.CoreInstance x.instance c.items ≡ Some y) × IsUserInstance s h.serves.number h.serves.of.world_module y = user_there a h.serves.of.world_module listed h.serves.is in (
           (x.name, u.2.exports),
@@ -400,18 +468,18 @@ module _ {w : ComponentWorld} {earlier : List Def} {c : Scope} {s : Store} {glob
         )
 
     abbrev IsArgument : CoreArgument → List ℕ × ImportInstance → Type 0
-    IsArgument x g = IsImportGroup w g × IsArgumentFor w of earlier x g
+    IsArgument x g = IsImportGroup w g × IsAgreedGroup w g × IsArgumentFor w of earlier x g
 
-    with_groups : (xs : List CoreArgument) (gs : List (List ℕ × ImportInstance)) → AllByRecursion (IsImportGroup w) gs → AllZip (IsArgumentFor w of earlier) xs gs → AllZip IsArgument xs gs
-    with_groups [] [] r h = tt
-    with_groups (x ∷ xs) (g ∷ gs) r h = ((r.0, h.0), with_groups xs gs r.1 h.1)
-    with_groups [] (g ∷ gs) r h = absurd h
-    with_groups (x ∷ xs) [] r h = absurd h
+    with_groups : (xs : List CoreArgument) (gs : List (List ℕ × ImportInstance)) → AllByRecursion (IsImportGroup w) gs → AllByRecursion (IsAgreedGroup w) gs → AllZip (IsArgumentFor w of earlier) xs gs → AllZip IsArgument xs gs
+    with_groups [] [] r agreed h = tt
+    with_groups (x ∷ xs) (g ∷ gs) r agreed h = ((r.0, agreed.0, h.0), with_groups xs gs r.1 agreed.1 h.1)
+    with_groups [] (g ∷ gs) r agreed h = absurd h
+    with_groups (x ∷ xs) [] r agreed h = absurd h
 
     -- the arguments of the module's instantiation
-    pub arguments_there : (xs : List CoreArgument) (gs : List (List ℕ × ImportInstance)) → AllByRecursion (IsImportGroup w) gs → AllZip (IsArgumentFor w of earlier) xs gs →
+    pub arguments_there : (xs : List CoreArgument) (gs : List (List ℕ × ImportInstance)) → AllByRecursion (IsImportGroup w) gs → AllByRecursion (IsAgreedGroup w) gs → AllZip (IsArgumentFor w of earlier) xs gs →
         (ys : List (List ℕ × List Export)) × (all_some (map (core_argument m) xs) ≡ Some ys) × AllZip (IsOffered w a.shims s globals of) ys gs
-    arguments_there xs gs r h = all_some-zip (IsOffered w a.shims s globals of) (core_argument m) IsArgument (λ x g k. argument_there x g k.0 k.1) xs gs (with_groups xs gs r h)
+    arguments_there xs gs r agreed h = all_some-zip (IsOffered w a.shims s globals of) (core_argument m) IsArgument (λ x g k. argument_there x g k.0 k.1 k.2) xs gs (with_groups xs gs r agreed h)
 
 -- ---- what the imports of a user module find
 

@@ -15,13 +15,14 @@ use Rattle.comp_bytes.specs.declared.types.TypeDef.TheVariants as types
 use Rattle.comp_bytes.specs.declared.def.Item.TheVariants as items
 use Rattle.comp_bytes.specs.declared.def.Def.{Def}
 use Rattle.comp_bytes.specs.declared.def.Def.TheVariants as defs
+use Rattle.comp_worlds.specs.Bases.{cell_type, AreBasesAlike}
 use Rattle.comp_worlds.specs.Worlds.{IsWorld}
 use Rattle.comp_inventories.specs.Inventories.{inventory}
 use Rattle.core_types.specs.declared.types.MemoryType.{MemoryType}
 use Rattle.comp_terms.specs.Generated.{shims_number, fixup_number, IsFixup, has_shim_module, has_fixup, number_behind, GeneratedBytes, IsShimModule, AreGenerated}
 use Rattle.comp_worlds.specs.Offered.{shared_memory}
 use Rattle.world_shims.specs.WorldShims.{shims_of, type_of_shim, sections_of_shims, sections_of_fixup, initialize_of}
-use Rattle.shim_runs.specs.ShimRuns.{with_shims, with_memory, memory_address, ShimsRun, with_slots, FixupRun, HasSlots, AreCalls}
+use Rattle.shim_runs.specs.ShimRuns.{IsOfAddresses, with_cell, with_shims, with_memory, memory_address, ShimsRun, with_slots, FixupRun, HasSlots, AreCalls}
 use Rattle.comp_roles.specs.declared.imports.ImportInstance.{ImportInstance}
 use Rattle.comp_worlds.specs.declared.world.ComponentWorld.{ComponentWorld}
 use Rattle.core_runs.specs.Store.{Event, Instantiated, Called, Now}
@@ -39,10 +40,12 @@ use Rattle.comp_runs.specs.Machine.{Scope, Machine, Outcome, address_at, is_of, 
 use Rattle.comp_runs.specs.Instances.{ExportTypes, exported_by, with_exports, with_module_instance, given_to, new_user, ModuleMeaning, OfUser, OfGenerated}
 use Rattle.comp_runs.specs.Running.{core_argument, run}
 use Rattle.instance_laws.proofs.Held.{KeepsEntries, keeps_same, keeps_more, keeps_grown}
-use Rattle.link_laws.proofs.Outcomes.{machine, no_answers, IsNow, IsGood, good_answered, last_call, stopped_at, Continues, quiet_continues, quiet, Steps, one_event, cells, types-cells}
+use Rattle.link_laws.proofs.BaseHeld.{base_grown, made_push, made_fixup}
+use Rattle.link_laws.proofs.BaseRoles.{cell_addresses, module_agreed}
+use Rattle.link_laws.proofs.Outcomes.{machine, types_of_cell, no_answers, IsNow, IsGood, good_answered, last_call, stopped_at, Continues, unseen_continues, Steps, one_more_made, one_event, shims_made, cells, types-cells}
 use Rattle.link_laws.proofs.FixupArguments.{IsFilling, HoldsArguments, arguments_held}
 use Rattle.link_laws.proofs.Steps.{filter-push, with_thing, numbered_at, given_same, export_beside, not_last, agrees_with}
-use Rattle.shim_runs.proofs.Placed.{shims_kept}
+use Rattle.shim_runs.proofs.Placed.{shims_kept, cell_kept}
 use Rattle.shim_runs.proofs.ShimInstance.{shims_run, shim_table_there, shim_tables_kept, shim_memories_kept}
 use Rattle.shim_runs.proofs.FixupInstance.{fixup_run}
 use Rattle.world_shims.proofs.Numbered.{shims_numbered}
@@ -59,7 +62,7 @@ use Rattle.link_laws.proofs.Stores.{ShimsAt, exports_of_shims, HasSharedMemory, 
 use Rattle.link_laws.proofs.Given.{user_below, apart, not_shims, not_fixup, address_there, fixup_behind}
 use Rattle.link_laws.proofs.GivenImports.{IsOffered, arguments_there, given_there}
 use Rattle.link_laws.proofs.Plain.{only, nothing_in, IsRightModule, module_right, IsGivenImport, given_imports, no_hook}
-use Rattle.link_laws.proofs.UserExports.{Exports, Alike, IsFreshTable, IsFreshIfTable, each_table, all_exports, all_alike, same_exports, each_export, all_globals, each_global}
+use Rattle.link_laws.proofs.UserExports.{Exports, Alike, IsFreshTable, IsFreshIfTable, each_table, all_exports, all_foreign, all_alike, same_exports, each_export, all_globals, each_global}
 use Rattle.link_laws.proofs.Kept.{sizes_kept, sizes_set, HasGlobals-kept, HasOwnTables-kept, HasSharedMemory-kept, IsFilledWith-kept, ShimsKept, shims_same, MayHaveShims-kept, Keeps, things_kept, IsPlannedUser-kept, AreKeyExports-kept, AreResources-kept, AreSeen-kept, KeepsSizes}
 
 -- ---- generated modules
@@ -67,7 +70,7 @@ use Rattle.link_laws.proofs.Kept.{sizes_kept, sizes_set, HasGlobals-kept, HasOwn
 -- the modules that are generated for a world, where there are these bytes of them
 abbrev pub generated_for : ComponentWorld → Bool → GeneratedBytes → GeneratedModules
 generated_for w debug_names b = record {
-  shims = option_map (λ bytes. sections_of_shims (shared_memory w) (shims_of w) debug_names) b.shims;
+  shims = option_map (λ bytes. sections_of_shims (shared_memory w) (cell_type w) (shims_of w) debug_names) b.shims;
   fixup = option_map (λ bytes. sections_of_fixup (shims_of w) (initialize_of w) debug_names) b.fixup;
 }
 
@@ -98,14 +101,14 @@ user_meaning w gen number of listed =
     slice_get-append (map meaning_of_user (user_modules w)) (map (λ ss. OfGenerated ss) (generated_sections gen)) number (OfUser of.found.imported of.found.offered)
     (slice_get-map meaning_of_user (user_modules w) number ∙ ap (option_map meaning_of_user) listed)
 
-shims_meaning : (w : ComponentWorld) (gen : GeneratedModules) (h : IsGenerated w gen) → has_shim_module w ≡ true → slice_get (module_meanings w gen) (shims_number w) ≡ Some (OfGenerated (sections_of_shims (shared_memory w) (shims_of w) h.debug_names))
+shims_meaning : (w : ComponentWorld) (gen : GeneratedModules) (h : IsGenerated w gen) → has_shim_module w ≡ true → slice_get (module_meanings w gen) (shims_number w) ≡ Some (OfGenerated (sections_of_shims (shared_memory w) (cell_type w) (shims_of w) h.debug_names))
 shims_meaning w gen h has =
     ap (λ x. meaning_at (user_modules w) x (shims_number w)) h.is
     ∙ (first_behind meaning_of_user (user_modules w) (map (λ ss. OfGenerated ss) (generated_sections (generated_for w h.debug_names h.bytes)))
     ∙ by h.bytes.shims has h.are.shims)
   where
     by : (shims : Option (List ℕ)) → has_shim_module w ≡ true → IsShimModule w h.debug_names shims →
-        slice_get (map (λ ss. OfGenerated ss) (generated_sections (generated_for w h.debug_names (record { shims = shims; fixup = h.bytes.fixup })))) 0 ≡ Some (OfGenerated (sections_of_shims (shared_memory w) (shims_of w) h.debug_names))
+        slice_get (map (λ ss. OfGenerated ss) (generated_sections (generated_for w h.debug_names (record { shims = shims; fixup = h.bytes.fixup })))) 0 ≡ Some (OfGenerated (sections_of_shims (shared_memory w) (cell_type w) (shims_of w) h.debug_names))
     by None has none = cc
     by (Some bytes) has is = refl
 
@@ -238,6 +241,11 @@ memory_made : (type : Option MemoryType) (s t : Store) → t.code.memories ≡ w
 memory_made None s t same = tt
 memory_made (Some type) s t same = ap (λ l. slice_get l (length s.code.memories)) same ∙ slice_get-end s.code.memories type
 
+-- a cell takes no answer
+same_answers : (cell : Option ValType) (now : Now) → (with_cell cell now).answers ≡ now.answers
+same_answers None now = refl
+same_answers (Some type) now = refl
+
 -- the events of calls of these functions
 abbrev calls_seen : List ℕ → List Event
 calls_seen called = map (λ address. Called address []) called
@@ -266,8 +274,8 @@ module _ {w : ComponentWorld} {earlier : List Def} {c : Scope} {s : Store} {g : 
           record { size = t.size; empty = t.empty; apart = λ at there any same. let below : at.table < length s.code.tables = before at there any in omega (arith, below, new, same) }
 
   -- any user module: what it imports is given, and its instance exports what the module offers
-  pub step_user : IsWorld w → (number : ℕ) (arguments : List CoreArgument) (h : InstantiatesUser w earlier number arguments) → IsRightModule w h.of → Steps w gen earlier c s g a.events (defs.Item (items.CoreInstantiate number arguments))
-  step_user ok number arguments h right =
+  pub step_user : IsWorld w → AreBasesAlike w → (number : ℕ) (arguments : List CoreArgument) (h : InstantiatesUser w earlier number arguments) → IsRightModule w h.of → Steps w gen earlier c s g a.events (defs.Item (items.CoreInstantiate number arguments))
+  step_user ok agree number arguments h right =
       let d : Def = defs.Item (items.CoreInstantiate number arguments) in
       let of : WorldModule = h.of in
       let es : ExportTypes = of.found.offered in
@@ -281,7 +289,7 @@ module _ {w : ComponentWorld} {earlier : List Def} {c : Scope} {s : Store} {g : 
       let own : List Export = exported_by user es m0 in
       let below : number < shims_number w = user_below w number of h.listed in
       let args : (ys : List (List ℕ × List Export)) × (all_some (map (core_argument m0) arguments) ≡ Some ys) × AllZip (IsOffered w a.shims s g of.of) ys roles =
-      arguments_there a ok of.of m0 refl refl arguments roles right.is.import_roles h.each in
+      arguments_there a ok of.of m0 refl refl arguments roles right.is.import_roles (module_agreed w agree number of h.listed) h.each in
       let plain : AllByRecursion (IsGivenImport w of.found) is = given_imports w of right in
       let found : (ts : List Thing) × (all_some (map (given_to m0 args.0) is) ≡ Some ts) × AllZip (IsPlanned w a.shims s of) ts is =
       all_some-each (IsPlanned w a.shims s of) (given_to m0 args.0) is
@@ -337,12 +345,16 @@ module _ {w : ComponentWorld} {earlier : List Def} {c : Scope} {s : Store} {g : 
       λ e u n events later questions rest go now at. rw (module_address number h.scoped, user_meaning w gen number of h.listed, args.1, given now at.globals) (
       good_answered w e u n (events ++ (Instantiated number ∷ later)) questions now.answers (seen now (Instantiated number)) (machine c s now) _
       (λ after same_moments. stopped_at w (Instantiated number) events later g now after c s at same_moments (inl tt))
-      (λ values after same_events same_moments same_globals.
+      (λ values after same_events same_moments same_globals kept.
       let count : map type_of after.globals ≡ g = same_globals ∙ at.globals in
       let b : Machine = with_exports user es (machine c s after) in
       let added : Exports (machine c s after) b = all_exports user es (machine c s after) in
-      let is_now : IsNow (events ++ Instantiated number ∷ []) types b.now =
-      one_event (Instantiated number) events g types now b.now at (ap (λ (m : Machine). m.now.events) added.same ∙ same_events) (ap (λ (m : Machine). m.now.moments) added.same ∙ same_moments) (all_alike user es (machine c s after) m0 (alike after count)).globals in
+      let own_now : IsNow w (s.module_instances ++ instance ∷ []) (events ++ Instantiated number ∷ []) types b.now =
+      one_event w s.module_instances instance (Instantiated number) events g types now b.now (made_push w s.module_instances instance (not_shims w number below)) at (ap (λ (m : Machine). m.now.events) added.same ∙ same_events) (ap (λ (m : Machine). m.now.moments) added.same ∙ same_moments)
+      (all_alike user es (machine c s after) m0 (alike after count)).globals
+      (λ o base. base_grown o after.globals b.now.globals (all_foreign user es (machine c s after)) (kept o base)) in
+      let is_now : IsNow w s'.module_instances (events ++ Instantiated number ∷ []) types b.now =
+      subst (λ us. IsNow w us (events ++ Instantiated number ∷ []) types b.now) (ap (λ l. l ++ instance ∷ []) (sym users)) own_now in
       subst (λ (m : Machine). IsGood w e u n (events ++ (Instantiated number ∷ later)) questions after.answers (run (module_meanings w gen) rest m)) (sym (new after count))
       (subst (λ l. IsGood w e u n (events ++ (Instantiated number ∷ later)) questions l (run (module_meanings w gen) rest (machine (with_thing c t c.imports) s' b.now))) (ap (λ (m : Machine). m.now.answers) added.same)
       (subst (λ l. IsGood w e u n l questions b.now.answers (run (module_meanings w gen) rest (machine (with_thing c t c.imports) s' b.now))) (append_assoc events (Instantiated number ∷ []) (later))
@@ -384,8 +396,8 @@ module _ {w : ComponentWorld} {earlier : List Def} {c : Scope} {s : Store} {g : 
 
   -- ---- the shims
 
-  pub step_shims : IsGenerated w gen → InstantiatesShims w earlier (shims_number w) [] → Steps w gen earlier c s g a.events (defs.Item (items.CoreInstantiate (shims_number w) []))
-  step_shims there h =
+  pub step_shims : IsWorld w → IsGenerated w gen → InstantiatesShims w earlier (shims_number w) [] → Steps w gen earlier c s g a.events (defs.Item (items.CoreInstantiate (shims_number w) []))
+  step_shims ok there h =
       let number : ℕ = shims_number w in
       let d : Def = defs.Item (items.CoreInstantiate number []) in
       let shims : List Shim = shims_of w in
@@ -393,7 +405,9 @@ module _ {w : ComponentWorld} {earlier : List Def} {c : Scope} {s : Store} {g : 
       let none : numbers ≡ [] = sym (numbers_of earlier) ∙ h.first in
       let no_instance : s.module_instances ≡ [] = no_entries (λ (u : ModuleInstance). u.module_number) s.module_instances (a.instantiated ∙ none) in
       let memory : Option MemoryType = shared_memory w in
-      let r : ShimsRun memory shims there.debug_names number c s = shims_run memory shims there.debug_names number c s in
+      let addresses : IsOfAddresses (cell_type w) = cell_addresses w ok in
+      let r : ShimsRun memory (cell_type w) shims there.debug_names 0 number c s = shims_run memory (cell_type w) shims there.debug_names 0 number c s addresses in
+      let g' : List ValType = g ++ types_of_cell (cell_type w) in
       let at : ShimsAt = record { address = length s.code.functions; table = length s.code.tables; memory = memory_address memory s.code } in
       let own : List Export = exports_of_shims w at in
       let instance : ModuleInstance = record { module_number = number; given = []; exports = own } in
@@ -420,17 +434,21 @@ module _ {w : ComponentWorld} {earlier : List Def} {c : Scope} {s : Store} {g : 
         any = h.any;
         room = there.are.room;
         made = r.are;
+        of_cell = r.of_cell;
         exported = AllByRecursion-push (ExportsShims w (Some at)) s.module_instances instance (subst (AllByRecursion (ExportsShims w (Some at))) (sym no_instance) tt) (λ e. refl);
         memory = memory_made memory s s' refl;
         slotted = λ any. record { slots = empty_table (length shims); present = shim_table_there memory shims r.functions s.code any };
         unfilled = λ any no. shim_table_there memory shims r.functions s.code any;
         filled = λ any yes. absurd (no_fixup yes);
-      } in (
+      } in
+      let continues : Continues w gen d c s g (with_thing c t c.imports) s' g' [] =
+      unseen_continues w gen d c s g (with_thing c t c.imports) s' g' (with_cell (cell_type w)) (same_answers (cell_type w)) (λ es now is_now. shims_made w instance s.module_instances es g now refl addresses no_instance is_now)
+      (λ es rest now is_now. rw (module_address number h.scoped, shims_meaning w gen there h.any) (r.runs now [] (run (module_meanings w gen) rest) (ap (λ (l : List core.Cell). length l) (is_now.unmade no_instance).0))) in (
         with_thing c t c.imports,
         s',
-        g,
-        quiet w gen d c s g (with_thing c t c.imports) s' (λ rest now. rw (module_address number h.scoped, shims_meaning w gen there h.any) (r.runs now [] (run (module_meanings w gen) rest))),
-        agrees_with a gen d (with_thing c t c.imports) s' g t (Some at) new refl k
+        g',
+        record { seen = []; continues = continues },
+        agrees_with a gen d (with_thing c t c.imports) s' g' t (Some at) new refl k
             (record {
               space = refl;
               is = record {
@@ -448,7 +466,7 @@ module _ {w : ComponentWorld} {earlier : List Def} {c : Scope} {s : Store} {g : 
             (AllByRecursion-push (IsPlannedUser w (Some at) s') s.module_instances instance
             (AllByRecursion-weaker (IsPlannedUser-kept w k a.shims (Some at) new) s.module_instances a.served)
             (λ of listed. absurd (not_shims w number (user_below w number of listed) refl)))
-            (AllByRecursion-push (HasGlobals w g) s.module_instances instance a.with_globals (λ of listed. absurd (not_shims w number (user_below w number of listed) refl)))
+            (AllByRecursion-push (HasGlobals w g') s.module_instances instance (subst (AllByRecursion (HasGlobals w g')) (sym no_instance) tt) (λ of listed. absurd (not_shims w number (user_below w number of listed) refl)))
             (AllByRecursion-push (HasOwnTables w (Some at) s'.code.tables) s.module_instances instance (subst (AllByRecursion (HasOwnTables w (Some at) s'.code.tables)) (sym no_instance) tt) (λ of listed. absurd (not_shims w number (user_below w number of listed) refl)))
             are
             (sym (append-nil (map (λ (e : Export). e.name) c.exports)))
@@ -494,8 +512,8 @@ module _ {w : ComponentWorld} {earlier : List Def} {c : Scope} {s : Store} {g : 
       slotted : (shims ≡ [] → ⊥) → HasSlots s.code at.table shims
       slotted any = record { slots = empty_table (length shims); present = (before any).unfilled any first; size = length-replicate (length shims) None }
 
-      r : (called : List ℕ) → AreCalls s.code those.main (initialize_of w) called → FixupRun shims (initialize_of w) there.debug_names actual those.main at.address at.table at.memory called (fixup_number w) c s
-      r called calls = fixup_run shims (initialize_of w) there.debug_names actual those.main at.address at.table at.memory called (fixup_number w) c s (record {
+      r : (called : List ℕ) → AreCalls s.code those.main (initialize_of w) called → FixupRun shims (initialize_of w) there.debug_names actual those.main at.address at.table at.memory (cell_type w) called (fixup_number w) c s
+      r called calls = fixup_run shims (initialize_of w) there.debug_names actual those.main at.address at.table at.memory (cell_type w) called (fixup_number w) c s (record {
         numbered = shims_numbered w;
         room = there.are.room;
         each = AllZip-weaker (λ shim e f. f.0) shims actual those.filling;
@@ -600,6 +618,7 @@ module _ {w : ComponentWorld} {earlier : List Def} {c : Scope} {s : Store} {g : 
             any = with_shims.any;
             room = with_shims.room;
             made = shims_kept s.code s'.code (λ i f e. ap (λ l. slice_get l i) (functions_left at.table actual s.code shims) ∙ e) now.table 0 now.address shims with_shims.made;
+            of_cell = cell_kept s.code s'.code (λ i f e. ap (λ l. slice_get l i) (functions_left at.table actual s.code shims) ∙ e) (cell_type w) 0 (now.address + length (shims_of w)) with_shims.of_cell;
             exported = AllByRecursion-push (ExportsShims w (Some now)) s.module_instances instance with_shims.exported
                 (λ e. let same : suc (shims_number w) ≡ shims_number w = sym (fixup_behind w with_shims.any) ∙ e in absurd (omega (arith, same)));
             memory = HasSharedMemory-kept k (shared_memory w) now.memory with_shims.memory;
@@ -628,7 +647,10 @@ module _ {w : ComponentWorld} {earlier : List Def} {c : Scope} {s : Store} {g : 
           rw (module_address (fixup_number w) (subst (λ n. n < items_in spaces.CoreModule earlier) h.numbered h.scoped), fixup_meaning w gen there h.any, those.held now) ((r called calls).runs now (run (module_meanings w gen) rest))
 
       goes_on : (called : List ℕ) (calls : AreCalls s.code those.main (initialize_of w) called) → Continues w gen d c s g (with_thing c t c.imports) (after called calls) g (calls_seen called)
-      goes_on [] calls = quiet_continues w gen d c s g (with_thing c t c.imports) (after [] calls) (λ rest now. runs_to [] calls rest now)
+      goes_on [] calls =
+          unseen_continues w gen d c s g (with_thing c t c.imports) (after [] calls) g (λ now. now) (λ now. refl)
+          (λ es now is_now. one_more_made w s.module_instances (instance_with [] calls) es g now (made_fixup w s.module_instances (instance_with [] calls) refl) is_now)
+          (λ es rest now is_now. runs_to [] calls rest now)
       goes_on (address ∷ []) calls =
           λ e u n events later questions rest go now at_now.
           let event : Event = Called address [] in
@@ -636,8 +658,9 @@ module _ {w : ComponentWorld} {earlier : List Def} {c : Scope} {s : Store} {g : 
           subst (IsGood w e u n (events ++ (event ∷ later)) ([] ∷ questions) now.answers) (sym (runs_to (address ∷ []) calls rest now ∙ last_call now.answers (seen now event) (machine c filled now) next))
           (good_answered w e u n (events ++ (event ∷ later)) questions now.answers (seen now event) (machine c filled now) (λ values m. next [] m)
           (λ stopped same. stopped_at w event events later g now stopped c filled at_now same (inr ready))
-          (λ values later_now same_events same_moments same_globals.
-          let is_now : IsNow (events ++ event ∷ []) g later_now = one_event event events g g now later_now at_now same_events same_moments (same_globals ∙ at_now.globals) in
+          (λ values later_now same_events same_moments same_globals kept.
+          let is_now : IsNow w (after (address ∷ []) calls).module_instances (events ++ event ∷ []) g later_now =
+          one_event w s.module_instances (instance_with (address ∷ []) calls) event events g g now later_now (made_fixup w s.module_instances (instance_with (address ∷ []) calls) refl) at_now same_events same_moments (same_globals ∙ at_now.globals) kept in
           subst (λ l. IsGood w e u n l questions later_now.answers (run (module_meanings w gen) rest (machine (with_thing c t c.imports) (after (address ∷ []) calls) later_now))) (append_assoc events (event ∷ []) later)
           (go later_now is_now)))
       goes_on (x ∷ y ∷ more) calls = absurd (at_most_one (initialize_of w) calls)
@@ -692,11 +715,11 @@ module _ {w : ComponentWorld} {earlier : List Def} {c : Scope} {s : Store} {g : 
   -- ---- any of these
 
   -- where a generated module is instantiated, it is one of the list
-  pub step_instantiate : IsWorld w → (number : ℕ) (arguments : List CoreArgument) → ((number < shims_number w → ⊥) → IsGenerated w gen) → InstantiatesModule w earlier number arguments → Steps w gen earlier c s g a.events (defs.Item (items.CoreInstantiate number arguments))
-  step_instantiate ok number arguments there (inl h) = step_user ok number arguments h (module_right w ok number h.of h.listed)
-  step_instantiate ok number arguments there (inr (inl h)) =
+  pub step_instantiate : IsWorld w → AreBasesAlike w → (number : ℕ) (arguments : List CoreArgument) → ((number < shims_number w → ⊥) → IsGenerated w gen) → InstantiatesModule w earlier number arguments → Steps w gen earlier c s g a.events (defs.Item (items.CoreInstantiate number arguments))
+  step_instantiate ok agree number arguments there (inl h) = step_user ok agree number arguments h (module_right w ok number h.of h.listed)
+  step_instantiate ok agree number arguments there (inr (inl h)) =
       let generated : IsGenerated w gen = there (λ below. not_shims w number below h.numbered) in
       let own : InstantiatesShims w earlier (shims_number w) [] = subst (InstantiatesShims w earlier (shims_number w)) h.closed (subst (λ n. InstantiatesShims w earlier n arguments) h.numbered h) in
       subst (λ n. Steps w gen earlier c s g a.events (defs.Item (items.CoreInstantiate n arguments))) (sym h.numbered)
-      (subst (λ l. Steps w gen earlier c s g a.events (defs.Item (items.CoreInstantiate (shims_number w) l))) (sym h.closed) (step_shims generated own))
-  step_instantiate ok number arguments there (inr (inr h)) = step_fixup ok (there (λ below. not_fixup w number below h.numbered)) number arguments h
+      (subst (λ l. Steps w gen earlier c s g a.events (defs.Item (items.CoreInstantiate (shims_number w) l))) (sym h.closed) (step_shims ok generated own))
+  step_instantiate ok agree number arguments there (inr (inr h)) = step_fixup ok (there (λ below. not_fixup w number below h.numbered)) number arguments h

@@ -32,9 +32,10 @@ use Rattle.comp_inventories.specs.Inventories.{TypeEntry, Denoting, OfInstances,
 use Rattle.comp_roles.specs.declared.offered.ExternType.{ExternType}
 use Rattle.comp_roles.specs.declared.offered.ExternType.TheVariants as externs
 use Rattle.comp_roles.specs.declared.offered.ImportType.{ImportType}
+use Rattle.comp_worlds.specs.Bases.{cell_type}
 use Rattle.comp_worlds.specs.WorldContents.{exported_item}
 use Rattle.comp_worlds.specs.declared.world.ComponentWorld.{ComponentWorld}
-use Rattle.comp_links.specs.Targets.{ExportRef, TargetOption, Target, Lowered, ExportOf, MainMemory, OfResource, BuiltIn}
+use Rattle.comp_links.specs.Targets.{ExportRef, TargetOption, Target, Lowered, ExportOf, MainMemory, OfResource, BuiltIn, TlsGet, TlsSet}
 use Rattle.comp_links.specs.Targets as targets
 use Rattle.comp_links.specs.Modules.{WorldModule}
 use Rattle.comp_links.specs.Lists.{resource_of, RequiredKey, RequiredFunction, functions_required, RequiredType, types_required, type_of_world}
@@ -49,7 +50,7 @@ use Rattle.comp_runs.specs.Store.{Thing, Export, HeldOption, HeldMemory, HeldRea
 use Rattle.comp_runs.specs.Machine.{address_at, is_of, with_opaque}
 use Rattle.instance_laws.proofs.Held.{KeepsEntries, keeps_same, keeps_more, IsHeldAs-kept, own_resources-append}
 use Rattle.instance_laws.proofs.Importing.{IsInstanceType-kept, IsInstanceEntry-kept}
-use Rattle.shim_runs.proofs.Placed.{shims_kept}
+use Rattle.shim_runs.proofs.Placed.{shims_kept, getter_kept, setter_kept, cell_kept}
 use Rattle.nested_terms.specs.Nested.{empty_scope, imports_after, exports_after}
 use Rattle.nested_laws.proofs.Kept.{AreGiven-kept, AreNestedExports-kept}
 use Rattle.wit_data.specs.declared.worlds.WorldItem.{WorldItem}
@@ -391,6 +392,8 @@ module _ {a b : List Thing} {s t : Store} (k : Keeps a b s t) where
   }
   IsServedAs-kept w address (OfResource function id) h = record { of = h.of; is = IsOpaque-kept h.is; held = IsHeldAs-kept k.types (OfValues (ResourceAt (resource_of w id))) h.of h.held }
   IsServedAs-kept w address (BuiltIn intrinsic) h = record { type = h.type; typed = h.typed; is = IsOpaque-kept h.is }
+  IsServedAs-kept w address TlsGet h = record { type = h.type; named = h.named; user = h.user; instance = IsInstance-kept h.instance; is = getter_kept s.code t.code k.code.at h.type 0 address h.is }
+  IsServedAs-kept w address TlsSet h = record { type = h.type; named = h.named; user = h.user; instance = IsInstance-kept h.instance; is = setter_kept s.code t.code k.code.at h.type 0 address h.is }
   IsServedAs-kept w address (ExportOf export_ref) h = IsFunctionExported-kept h
   IsServedAs-kept w address target h = absurd h
 
@@ -421,6 +424,7 @@ module _ {a b : List Thing} {s t : Store} (k : Keeps a b s t) where
     any = h.any;
     room = h.room;
     made = shims_kept s.code t.code k.code.at at.table 0 at.address (shims_of w) h.made;
+    of_cell = cell_kept s.code t.code k.code.at (cell_type w) 0 (at.address + length (shims_of w)) h.of_cell;
     exported = exported;
     memory = HasSharedMemory-kept (shared_memory w) at.memory h.memory;
     slotted = λ any. let t : HasTable s.code.tables at.table = h.slotted any in record { slots = t.slots; present = tables.at at.table t.slots t.present };

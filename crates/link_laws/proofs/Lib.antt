@@ -3,6 +3,8 @@ mod Stores
 mod BuiltIns
 mod Kept
 pub mod Plain
+mod BaseRoles
+mod BaseHeld
 mod ModuleMarks
 mod Given
 mod Offering
@@ -56,3 +58,5 @@ mod OtherLists
 mod OtherRuns
 mod WorkedInitialize
 mod WorkedBuiltIns
+mod WorkedCallbacks
+mod WorkedCells

@@ -202,7 +202,7 @@ module _ {w : ComponentWorld} {earlier : List Def} {c : Scope} {s : Store} {g : 
         c',
         s,
         g,
-        quiet w gen d c s g c' s (λ rest now. rw at refl),
+        quiet w gen d c s g c' s refl (λ rest now. rw at refl),
         agrees_with a gen d c' s g t a.shims (shims_same a.shims) refl k (record { space = refl; is = tt }) makes
             (rw (filter-push (is_of spaces.CoreModule) false c.items t other) a.modules)
             (sym (append-nil (map (λ (u : ModuleInstance). u.module_number) s.module_instances)))

@@ -56,10 +56,12 @@ abbrev ref_in : ExportRef → Target → ExportRef
 ref_in other (ExportOf e) = e
 ref_in other target = other
 
--- a built-in function is no export
-not_export : (o : Option Intrinsic) (e : ExportRef) → link_of_intrinsic o ≡ ExportOf e → ⊥
-not_export None e is = cc
-not_export (Some i) e is = cc
+-- a built-in function is no export, nor is a function of the cell
+not_export : (role : Import) (o : Option Intrinsic) (e : ExportRef) → link_of_intrinsic role o ≡ ExportOf e → ⊥
+not_export (imports.TlsBaseGet type) None e is = cc
+not_export (imports.TlsBaseSet type) None e is = cc
+not_export role None e is = cc
+not_export role (Some i) e is = cc
 
 module _ (w : ComponentWorld) (ok : IsWorld w) where
   main_found : (m : WorldModule) → Contains (user_modules w) m → m.of ≡ Main → m.found ≡ w.main
@@ -100,7 +102,7 @@ module _ (w : ComponentWorld) (ok : IsWorld w) where
   offered_matches of (imports.ExportedResourceRep key id) e right is m listed same t offered type fits = cc
   offered_matches of (imports.ExportedResourceNew key id) e right is m listed same t offered type fits = cc
   offered_matches of (imports.MainModuleMemory memory) e right is m listed same t offered type fits = cc
-  offered_matches of role e right is m listed same t offered type fits = absurd (not_export (plain_intrinsic w.can_use_context_slot_1 role) e is)
+  offered_matches of role e right is m listed same t offered type fits = absurd (not_export role (plain_intrinsic w.can_use_context_slot_1 role) e is)
 
 -- ---- types of what is given
 

@@ -1,6 +1,6 @@
 -- The sections of generated modules are in their order, with debug names where these are on, and
 -- export nothing twice; and each definition is sound.
-use Rattle.std.proofs.Common.{◌≡◌, ◌∙◌, ◌<◌, ◌≤◌, ◌+◌, ◌^◌, ℕ, suc, Bool, true, false, true≢false, List, [], ◌∷◌, ◌++◌, length, Option, Some, None, map, refl, sym, ap, ap₂, subst, append-nil, inl, inr, arith}
+use Rattle.std.proofs.Common.{◌≡◌, ◌∙◌, ◌<◌, ◌≤◌, ◌+◌, ◌^◌, ℕ, suc, Bool, true, false, true≢false, List, [], ◌∷◌, ◌++◌, length, Option, Some, None, map, refl, sym, ap, ap₂, subst, inl, inr, arith}
 use Rattle.std.proofs.lemmas.Fmt.{decimal_is_IsNumeral}
 use Rattle.std.proofs.lemmas.Map.Keys.{IsDistinct-cons}
 use Rattle.std.proofs.lemmas.Slice.Eq.{bytes_eq-Decides}
@@ -12,6 +12,7 @@ use Rattle.std.proofs.lemmas.Option.{none-some, same_Some}
 use Rattle.std.specs.List.{slice_get, flat_map, AllByRecursion, AllZip, IsDistinct}
 use Rattle.core_types.specs.declared.types.FuncType.{FuncType}
 use Rattle.core_types.specs.declared.types.MemoryType.{MemoryType}
+use Rattle.core_types.specs.declared.types.ValType.{ValType}
 use Rattle.core_bytes.specs.declared.entry.Export.{Export}
 use Rattle.core_bytes.specs.declared.entry.Import.{Import}
 use Rattle.core_bytes.specs.declared.section.Section.{Section}
@@ -25,18 +26,21 @@ use Rattle.comp_bytes.specs.declared.def.Item.TheVariants as items
 use Rattle.comp_roles.specs.declared.imports.ImportInstance.{ImportInstance}
 use Rattle.comp_bytes.specs.declared.def.Def.{Def}
 use Rattle.comp_bytes.specs.declared.def.Def.TheVariants as defs
+use Rattle.comp_worlds.specs.Bases.{cell_type}
 use Rattle.comp_worlds.specs.Offered.{shared_memory}
 use Rattle.comp_worlds.specs.declared.world.ComponentWorld.{ComponentWorld}
 use Rattle.shim_modules.specs.Shims as shims
 use Rattle.shim_modules.specs.declared.shims.ShimFunction.{ShimFunction}
+use Rattle.shim_modules.specs.declared.shims.ThreadCell.{ThreadCell}
 use Rattle.fixup_modules.specs.Fixups.{Fixup}
 use Rattle.fixup_modules.specs.Sections as fixups
 use Rattle.interned_types.specs.Interning.{interned}
 use Rattle.shim_plan.specs.declared.shims.Shim.{Shim}
-use Rattle.world_shims.specs.WorldShims.{shims_of, initialize_of, type_of_shim, types_with, functions_of, sections_of_shims, fixup_of}
+use Rattle.world_shims.specs.WorldShims.{shims_of, initialize_of, type_of_shim, types_with, functions_of, with_cell_types, cell_of, sections_of_shims, fixup_of}
+use Rattle.shim_runs.proofs.Exported.{no_memory_name, no_getter_name, no_setter_name}
 use Rattle.shim_runs.proofs.FixupInstance.{no_exports}
+use Rattle.shim_runs.proofs.ShimInstance.{exports_alone}
 use Rattle.world_shims.proofs.Digits.{other_digits}
-use Rattle.comp_runs.specs.Instances.{section_exports}
 use Rattle.comp_terms.specs.Generated.{GeneratedBytes, AreGenerated}
 use Rattle.comp_links.specs.Targets.{UserModule}
 use Rattle.comp_links.specs.Modules.{WorldModule, user_modules}
@@ -52,15 +56,20 @@ modules_of w named b = generated_for w named b
 
 -- ---- sections
 
-shim_names_last : (id : ℕ) (debug_names : Bool) (functions : List ShimFunction) → AreSectionsAfter id debug_names (shims.names_of debug_names functions)
-shim_names_last id false functions = refl
-shim_names_last id true functions = (refl, refl)
+shim_names_last : (id : ℕ) (debug_names : Bool) (cell : Option ThreadCell) (functions : List ShimFunction) → AreSectionsAfter id debug_names (shims.names_of debug_names cell functions)
+shim_names_last id false cell functions = refl
+shim_names_last id true cell functions = (refl, refl)
 
-shims_in_order : (memory : Option MemoryType) (types : List FuncType) (functions : List ShimFunction) (debug_names : Bool) → AreSectionsAfter 0 debug_names (shims.shim_sections memory types functions debug_names)
-shims_in_order None types [] debug_names = (omega arith, (omega arith, shim_names_last 7 debug_names []))
-shims_in_order (Some type) types [] debug_names = (omega arith, (omega arith, (omega arith, shim_names_last 7 debug_names [])))
-shims_in_order None types (f ∷ fs) debug_names = (omega arith, (omega arith, (omega arith, (omega arith, (omega arith, shim_names_last 10 debug_names (f ∷ fs))))))
-shims_in_order (Some type) types (f ∷ fs) debug_names = (omega arith, (omega arith, (omega arith, (omega arith, (omega arith, (omega arith, shim_names_last 10 debug_names (f ∷ fs)))))))
+shims_in_order : (memory : Option MemoryType) (cell : Option ThreadCell) (types : List FuncType) (functions : List ShimFunction) (debug_names : Bool) → AreSectionsAfter 0 debug_names (shims.shim_sections memory cell types functions debug_names)
+shims_in_order None None types [] debug_names = (omega arith, (omega arith, shim_names_last 7 debug_names None []))
+shims_in_order (Some type) None types [] debug_names = (omega arith, (omega arith, (omega arith, shim_names_last 7 debug_names None [])))
+shims_in_order None None types (f ∷ fs) debug_names = (omega arith, (omega arith, (omega arith, (omega arith, (omega arith, shim_names_last 10 debug_names None (f ∷ fs))))))
+shims_in_order (Some type) None types (f ∷ fs) debug_names = (omega arith, (omega arith, (omega arith, (omega arith, (omega arith, (omega arith, shim_names_last 10 debug_names None (f ∷ fs)))))))
+shims_in_order None (Some c) types [] debug_names = (omega arith, (omega arith, (omega arith, (omega arith, (omega arith, shim_names_last 10 debug_names (Some c) [])))))
+shims_in_order (Some type) (Some c) types [] debug_names = (omega arith, (omega arith, (omega arith, (omega arith, (omega arith, (omega arith, shim_names_last 10 debug_names (Some c) []))))))
+shims_in_order None (Some c) types (f ∷ fs) debug_names = (omega arith, (omega arith, (omega arith, (omega arith, (omega arith, (omega arith, shim_names_last 10 debug_names (Some c) (f ∷ fs)))))))
+shims_in_order (Some type) (Some c) types (f ∷ fs) debug_names =
+    (omega arith, (omega arith, (omega arith, (omega arith, (omega arith, (omega arith, (omega arith, shim_names_last 10 debug_names (Some c) (f ∷ fs))))))))
 
 fixup_names_last : (id : ℕ) (debug_names : Bool) (entries : List Import) (own : Option ℕ) → AreSectionsAfter id debug_names (fixups.names_of debug_names entries own)
 fixup_names_last id false entries own = refl
@@ -129,38 +138,42 @@ numbers_apart number (f ∷ fs) rest room others apart =
     (numbers_after number (suc number) fs rest (omega arith) (omega (arith, room)) (others number (omega (arith, room))))
     (numbers_apart (suc number) fs rest (omega (arith, room)) others apart)
 
--- the table and the memory have other names
-abbrev behind : Option MemoryType → List ShimFunction → List Export
-behind memory fs = shims.table_exports fs ++ shims.memory_exports memory
+-- the table, the memory and the functions of the cell have other names
+abbrev behind : Option MemoryType → Option ThreadCell → ℕ → List ShimFunction → List Export
+behind memory cell count fs = shims.table_exports fs ++ (shims.memory_exports memory ++ shims.cell_exports count cell)
 
 no_table : IsNumeral 10 (codes "$imports") → ⊥
 no_table h = let below : 36 < 10 = h.1.0 in absurd (omega (arith, below))
 
-no_memory : IsNumeral 10 (codes "$memory") → ⊥
-no_memory h = let below : 36 < 10 = h.1.0 in absurd (omega (arith, below))
+not_table : (m : ℕ) → m < 2 ^ 32 → bytes_eq (decimal m) (codes "$imports") ≡ false
+not_table m small = never_numbered m (codes "$imports") small no_table
 
-never_behind : (memory : Option MemoryType) (fs : List ShimFunction) (m : ℕ) → m < 2 ^ 32 → IsOther (decimal m) (names_in (behind memory fs))
-never_behind None [] m small = tt
-never_behind (Some type) [] m small = (never_numbered m (codes "$memory") small no_memory, tt)
-never_behind None (f ∷ fs) m small = (never_numbered m (codes "$imports") small no_table, tt)
-never_behind (Some type) (f ∷ fs) m small = (never_numbered m (codes "$imports") small no_table, (never_numbered m (codes "$memory") small no_memory, tt))
+not_memory : (m : ℕ) → m < 2 ^ 32 → bytes_eq (decimal m) (codes "$memory") ≡ false
+not_memory m small = never_numbered m (codes "$memory") small no_memory_name
 
-behind_apart : (memory : Option MemoryType) (fs : List ShimFunction) → IsDistinct bytes_eq (names_in (behind memory fs))
+not_of_cell : (m : ℕ) → m < 2 ^ 32 → IsOther (decimal m) (shims.getter_name ∷ shims.setter_name ∷ [])
+not_of_cell m small = (never_numbered m shims.getter_name small no_getter_name, (never_numbered m shims.setter_name small no_setter_name, tt))
+
+never_behind : (memory : Option MemoryType) (cell : Option ThreadCell) (count : ℕ) (fs : List ShimFunction) (m : ℕ) → m < 2 ^ 32 → IsOther (decimal m) (names_in (behind memory cell count fs))
+never_behind None None count [] m small = tt
+never_behind (Some type) None count [] m small = (not_memory m small, tt)
+never_behind None None count (f ∷ fs) m small = (not_table m small, tt)
+never_behind (Some type) None count (f ∷ fs) m small = (not_table m small, (not_memory m small, tt))
+never_behind None (Some c) count [] m small = not_of_cell m small
+never_behind (Some type) (Some c) count [] m small = (not_memory m small, not_of_cell m small)
+never_behind None (Some c) count (f ∷ fs) m small = (not_table m small, not_of_cell m small)
+never_behind (Some type) (Some c) count (f ∷ fs) m small = (not_table m small, (not_memory m small, not_of_cell m small))
+
+behind_apart : (memory : Option MemoryType) (cell : Option ThreadCell) (count : ℕ) (fs : List ShimFunction) → IsDistinct bytes_eq (names_in (behind memory cell count fs))
 unfolding IsDistinct
-behind_apart None [] = tt
-behind_apart (Some type) [] = (tt, tt)
-behind_apart None (f ∷ fs) = (tt, tt)
-behind_apart (Some type) (f ∷ fs) = ((refl, tt), (tt, tt))
-
-exported_by_shims : (memory : Option MemoryType) (types : List FuncType) (fs : List ShimFunction) (debug_names : Bool) → flat_map section_exports (shims.shim_sections memory types fs debug_names) ≡ shims.exports_of memory fs
-exported_by_shims None types [] true = append-nil (shims.exports_of None [])
-exported_by_shims None types [] false = append-nil (shims.exports_of None [])
-exported_by_shims (Some type) types [] true = append-nil (shims.exports_of (Some type) [])
-exported_by_shims (Some type) types [] false = append-nil (shims.exports_of (Some type) [])
-exported_by_shims None types (f ∷ fs) true = append-nil (shims.exports_of None (f ∷ fs))
-exported_by_shims None types (f ∷ fs) false = append-nil (shims.exports_of None (f ∷ fs))
-exported_by_shims (Some type) types (f ∷ fs) true = append-nil (shims.exports_of (Some type) (f ∷ fs))
-exported_by_shims (Some type) types (f ∷ fs) false = append-nil (shims.exports_of (Some type) (f ∷ fs))
+behind_apart None None count [] = tt
+behind_apart (Some type) None count [] = (tt, tt)
+behind_apart None None count (f ∷ fs) = (tt, tt)
+behind_apart (Some type) None count (f ∷ fs) = ((refl, tt), (tt, tt))
+behind_apart None (Some c) count [] = ((refl, tt), (tt, tt))
+behind_apart (Some type) (Some c) count [] = ((refl, (refl, tt)), ((refl, tt), (tt, tt)))
+behind_apart None (Some c) count (f ∷ fs) = ((refl, (refl, tt)), ((refl, tt), (tt, tt)))
+behind_apart (Some type) (Some c) count (f ∷ fs) = ((refl, (refl, (refl, tt))), ((refl, (refl, tt)), ((refl, tt), (tt, tt))))
 
 none_apart : IsDistinct {K = List ℕ} bytes_eq []
 unfolding IsDistinct
@@ -173,14 +186,16 @@ functions_counted types (s ∷ ss) = ap suc (functions_counted (interned types (
 
 -- ---- both modules
 
-are_shims : (memory : Option MemoryType) (ss : List Shim) (debug_names : Bool) → length ss < 2 ^ 32 → AreSections debug_names (sections_of_shims memory ss debug_names)
-are_shims memory ss debug_names room =
+are_shims : (memory : Option MemoryType) (cell : Option ValType) (ss : List Shim) (debug_names : Bool) → length ss < 2 ^ 32 → AreSections debug_names (sections_of_shims memory cell ss debug_names)
+are_shims memory cell ss debug_names room =
     let fs : List ShimFunction = functions_of [] ss in
     let counted : length fs ≡ length ss = functions_counted [] ss in
+    let types : List FuncType = with_cell_types cell (types_with [] ss) in
+    let own : Option ThreadCell = cell_of cell (types_with [] ss) in
     record {
-      ordered = shims_in_order memory (types_with [] ss) fs debug_names;
-      once = subst (λ es. IsDistinct bytes_eq (names_in es)) (sym (exported_by_shims memory (types_with [] ss) fs debug_names))
-          (numbers_apart 0 fs (behind memory fs) (omega (arith, room, counted)) (never_behind memory fs) (behind_apart memory fs));
+      ordered = shims_in_order memory own types fs debug_names;
+      once = subst (λ es. IsDistinct bytes_eq (names_in es)) (sym (exports_alone memory own types fs debug_names))
+          (numbers_apart 0 fs (behind memory own (length fs) fs) (omega (arith, room, counted)) (never_behind memory own (length fs) fs) (behind_apart memory own (length fs) fs));
     }
 
 are_fixup : (f : Fixup) (debug_names : Bool) → AreSections debug_names (fixups.fixup_sections f debug_names)
@@ -195,7 +210,7 @@ sections_in_order w debug_names g h = by g.shims g.fixup
 
     by : (o p : Option (List ℕ)) → AllByRecursion (AreSections debug_names) (generated_sections (generated_for w debug_names (record { shims = o; fixup = p })))
     by None p = fixup p
-    by (Some bytes) p = (are_shims (shared_memory w) (shims_of w) debug_names h.room, fixup p)
+    by (Some bytes) p = (are_shims (shared_memory w) (cell_type w) (shims_of w) debug_names h.room, fixup p)
 
 -- ---- definitions
 

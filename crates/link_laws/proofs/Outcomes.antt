@@ -1,35 +1,52 @@
 -- How a definition goes on from one state of a run to the next, whatever is answered, and what is seen of it.
-use Rattle.std.proofs.Common.{◌⊎◌, ◌+◌, ◌≡◌, ◌∙◌, ℕ, suc, false, List, [], ◌∷◌, ◌++◌, length, map, filter, refl, sym, ap, ap₂, subst, append-nil, length-append, add-one, IsTrue}
+use Rattle.std.proofs.Common.{◌⊎◌, ◌+◌, ◌≡◌, ◌∙◌, ℕ, suc, false, Option, Some, None, List, [], ◌∷◌, ◌++◌, length, map, filter, refl, sym, ap, ap₂, subst, append-nil, length-append, add-one, IsTrue}
 use Rattle.std.proofs.Math.Dec.{ltb}
+use Rattle.std.proofs.lemmas.List.{map-append}
+use Rattle.std.specs.List.{AllByRecursion}
+use Rattle.comp_lists.proofs.Lists.{slice_get-end, AllByRecursion-push}
+use Rattle.comp_worlds.specs.Bases.{cell_type}
 use Rattle.comp_bytes.specs.declared.def.Def.{Def}
 use Rattle.comp_worlds.specs.declared.world.ComponentWorld.{ComponentWorld}
 use Rattle.comp_links.specs.Modules.{user_modules}
 use Rattle.core_types.specs.declared.types.ValType.{ValType}
-use Rattle.core_runs.specs.Values.{Value, I32Value, I64Value}
+use Rattle.core_runs.specs.Values.{Value, I32Value, I64Value, zero_of}
 use Rattle.core_runs.specs.Instances.{type_of}
 use Rattle.core_runs.specs.Store.{Answer, Gives, Traps, Event, Instantiated, Now, Cell, Kept, Foreign}
 use Rattle.core_runs.specs.Store as core
 use Rattle.core_runs.specs.Execution.{and_then, answered, seen, renewed}
-use Rattle.comp_runs.specs.Store.{Store}
+use Rattle.comp_terms.specs.Generated.{shims_number}
+use Rattle.shim_runs.specs.ShimRuns.{IsOfAddresses, with_cell}
+use Rattle.comp_runs.specs.Store.{ModuleInstance, Store}
 use Rattle.comp_runs.specs.Machine.{Scope, Machine, Outcome, Done, Trapped, Open, Stuck, resumed}
 use Rattle.comp_runs.specs.Running.{run}
 use Rattle.link_laws.specs.Composition.{GeneratedModules}
 use Rattle.link_laws.specs.Linking.{module_meanings, LetsRun}
+use Rattle.link_laws.proofs.BaseHeld.{IsForeign, HoldsBase, BaseIn, ZeroIn, cell_made, made_at, zero_fits, base_renewed}
 use Rattle.link_laws.proofs.Stores.{Agrees, IsReady}
 
 -- the machine of a scope, a store, and the changing state
 abbrev pub machine : Scope → Store → Now → Machine
 machine c s now = record { scope = c; store = s; now = now }
 
+-- the types of the globals that a cell has
+abbrev pub types_of_cell : Option ValType → List ValType
+types_of_cell None = []
+types_of_cell (Some type) = type ∷ []
+
 -- no event so far, and no answer left
 abbrev pub no_answers : Now
 no_answers = record { globals = []; answers = []; events = []; moments = [] }
 
--- what a run has seen so far, and the types of the globals
-pub record IsNow (es : List Event) (types : List ValType) (now : Now) : Type 0 where
+-- What a run has seen so far, and the types of the globals, where these instances are made: the globals hold the base,
+-- and held it at each event; it is zero while there is none.
+pub record IsNow (w : ComponentWorld) (users : List ModuleInstance) (es : List Event) (types : List ValType) (now : Now) : Type 0 where
   pub events : now.events ≡ es
   pub moments : length now.moments ≡ length es
   pub globals : map type_of now.globals ≡ types
+  pub base : BaseIn (cell_made w users) now.globals
+  pub zero_yet : es ≡ [] → ZeroIn (cell_made w users) now.globals
+  pub bases : AllByRecursion (BaseIn (cell_made w users)) now.moments
+  pub unmade : users ≡ [] → (now.globals ≡ []) × (now.moments ≡ [])
 
 -- the event is the instantiation of a user module
 abbrev pub IsInstantiation : Event → Type 0
@@ -43,12 +60,13 @@ pub record IsStopped (w : ComponentWorld) (es : List Event) (m : Machine) : Type
   pub after : List Event
   pub among : es ≡ before ++ (last ∷ after)
   pub moments : length m.now.moments ≡ suc (length before)
+  pub bases : AllByRecursion (BaseIn (cell_made w m.store.module_instances)) m.now.moments
   pub by_then : IsInstantiation last ⊎ IsReady w m.store
 
 -- a run ends with this scope, this store, globals of these types and these events, or it stops with
 -- an answer that doesn't let it go to its end
 abbrev pub IsGood : ComponentWorld → Scope → Store → List ValType → List Event → List (List ValType) → List Answer → Outcome → Type 0
-IsGood w c s g es questions answers (Done m) = (m.scope ≡ c) × (m.store ≡ s) × IsNow es g m.now
+IsGood w c s g es questions answers (Done m) = (m.scope ≡ c) × (m.store ≡ s) × IsNow w s.module_instances es g m.now
 IsGood w c s g es questions answers (Trapped m) = (LetsRun questions answers → ⊥) × IsStopped w es m
 IsGood w c s g es questions answers (Open m) = (LetsRun questions answers → ⊥) × IsStopped w es m
 IsGood w c s g es questions answers Stuck = ⊥
@@ -83,12 +101,12 @@ types_renewed number (cell ∷ cells) = ap₂ (λ t ts. t ∷ ts) (type_renewed 
 -- a call of the outside is made, which returns nothing: the run stops there, or goes on
 pub good_answered : (w : ComponentWorld) (c : Scope) (s : Store) (g : List ValType) (es : List Event) (questions : List (List ValType)) (answers : List Answer) (now : Now) (m : Machine) (next : List Value → Machine → Outcome) →
     ((after : Now) → after.moments ≡ now.moments → IsStopped w es (record m { now = after })) →
-    ((values : List Value) (after : Now) → after.events ≡ now.events → after.moments ≡ now.moments → map type_of after.globals ≡ map type_of now.globals →
+    ((values : List Value) (after : Now) → after.events ≡ now.events → after.moments ≡ now.moments → map type_of after.globals ≡ map type_of now.globals → ((o : Option ValType) → BaseIn o now.globals → BaseIn o after.globals) →
     IsGood w c s g es questions after.answers (next values (record m { now = after }))) →
     IsGood w c s g es ([] ∷ questions) answers (resumed (answered [] answers now) m next)
 good_answered w c s g es questions [] now m next stopped h = (λ l. l, stopped now refl)
 good_answered w c s g es questions (Traps ∷ answers) now m next stopped h = (λ l. l, stopped (record now { answers = answers }) refl)
-good_answered w c s g es questions (Gives [] number ∷ answers) now m next stopped h = one_more w c s g es questions number answers _ (h [] _ refl refl (types_renewed number now.globals))
+good_answered w c s g es questions (Gives [] number ∷ answers) now m next stopped h = one_more w c s g es questions number answers _ (h [] _ refl refl (types_renewed number now.globals) (λ o. base_renewed number o now.globals))
 good_answered w c s g es questions (Gives (v ∷ values) number ∷ answers) now m next stopped h = (λ l. absurd (no l.0), stopped now refl)
   where
     no : IsTrue false → ⊥
@@ -106,25 +124,33 @@ last_call (Gives (v ∷ values) number ∷ answers) now m next = refl
 abbrev pub Continues : (w : ComponentWorld) (gen : GeneratedModules) (d : Def) (c : Scope) (s : Store) (g : List ValType) (c' : Scope) (s' : Store) (g' : List ValType) → List Event → Type 0
 Continues w gen d c s g c' s' g' seen =
     (e : Scope) (t : Store) (k : List ValType) (es later : List Event) (questions : List (List ValType)) (rest : List Def) →
-    ((now : Now) → IsNow (es ++ seen) g' now → IsGood w e t k ((es ++ seen) ++ later) questions now.answers (run (module_meanings w gen) rest (machine c' s' now))) →
-    (now : Now) → IsNow es g now → IsGood w e t k (es ++ (seen ++ later)) (asks seen ++ questions) now.answers (run (module_meanings w gen) (d ∷ rest) (machine c s now))
+    ((now : Now) → IsNow w s'.module_instances (es ++ seen) g' now → IsGood w e t k ((es ++ seen) ++ later) questions now.answers (run (module_meanings w gen) rest (machine c' s' now))) →
+    (now : Now) → IsNow w s.module_instances es g now → IsGood w e t k (es ++ (seen ++ later)) (asks seen ++ questions) now.answers (run (module_meanings w gen) (d ∷ rest) (machine c s now))
 
 pub record Runs (w : ComponentWorld) (gen : GeneratedModules) (d : Def) (c : Scope) (s : Store) (g : List ValType) (c' : Scope) (s' : Store) (g' : List ValType) : Type 0 where
   pub seen : List Event
   pub continues : Continues w gen d c s g c' s' g' seen
 
--- a definition that calls nothing outside
-pub quiet_continues : (w : ComponentWorld) (gen : GeneratedModules) (d : Def) (c : Scope) (s : Store) (g : List ValType) (c' : Scope) (s' : Store) →
-    ((rest : List Def) (now : Now) → run (module_meanings w gen) (d ∷ rest) (machine c s now) ≡ run (module_meanings w gen) rest (machine c' s' now)) → Continues w gen d c s g c' s' g []
-quiet_continues w gen d c s g c' s' same e t k es later questions rest go now at =
+-- a definition that calls nothing outside, and changes what changes in a run as this says
+pub unseen_continues : (w : ComponentWorld) (gen : GeneratedModules) (d : Def) (c : Scope) (s : Store) (g : List ValType) (c' : Scope) (s' : Store) (g' : List ValType) (change : Now → Now) → ((now : Now) → (change now).answers ≡ now.answers) →
+    ((es : List Event) (now : Now) → IsNow w s.module_instances es g now → IsNow w s'.module_instances es g' (change now)) →
+    ((es : List Event) (rest : List Def) (now : Now) → IsNow w s.module_instances es g now → run (module_meanings w gen) (d ∷ rest) (machine c s now) ≡ run (module_meanings w gen) rest (machine c' s' (change now))) → Continues w gen d c s g c' s' g' []
+unseen_continues w gen d c s g c' s' g' change answers keeps same e t k es later questions rest go now at =
     let after : List Event → Type 0 =
-    λ l. (n : Now) → IsNow l g n → IsGood w e t k (l ++ later) questions n.answers (run (module_meanings w gen) rest (machine c' s' n)) in
+    λ l. (n : Now) → IsNow w s'.module_instances l g' n → IsGood w e t k (l ++ later) questions n.answers (run (module_meanings w gen) rest (machine c' s' n)) in
     let plain : after es = subst after (append-nil es) go in
-    subst (IsGood w e t k (es ++ later) questions now.answers) (sym (same rest now)) (plain now at)
+    subst (IsGood w e t k (es ++ later) questions now.answers) (sym (same es rest now at))
+    (subst (λ l. IsGood w e t k (es ++ later) questions l (run (module_meanings w gen) rest (machine c' s' (change now)))) (answers now) (plain (change now) (keeps es now at)))
 
-abbrev pub quiet : (w : ComponentWorld) (gen : GeneratedModules) (d : Def) (c : Scope) (s : Store) (g : List ValType) (c' : Scope) (s' : Store) →
+-- a definition that calls nothing outside, and makes no instance of a module
+pub quiet_continues : (w : ComponentWorld) (gen : GeneratedModules) (d : Def) (c : Scope) (s : Store) (g : List ValType) (c' : Scope) (s' : Store) → s.module_instances ≡ s'.module_instances →
+    ((rest : List Def) (now : Now) → run (module_meanings w gen) (d ∷ rest) (machine c s now) ≡ run (module_meanings w gen) rest (machine c' s' now)) → Continues w gen d c s g c' s' g []
+quiet_continues w gen d c s g c' s' users same =
+    unseen_continues w gen d c s g c' s' g (λ now. now) (λ now. refl) (λ es now at. subst (λ us. IsNow w us es g now) users at) (λ es rest now at. same rest now)
+
+abbrev pub quiet : (w : ComponentWorld) (gen : GeneratedModules) (d : Def) (c : Scope) (s : Store) (g : List ValType) (c' : Scope) (s' : Store) → s.module_instances ≡ s'.module_instances →
     ((rest : List Def) (now : Now) → run (module_meanings w gen) (d ∷ rest) (machine c s now) ≡ run (module_meanings w gen) rest (machine c' s' now)) → Runs w gen d c s g c' s' g
-quiet w gen d c s g c' s' same = record { seen = []; continues = quiet_continues w gen d c s g c' s' same }
+quiet w gen d c s g c' s' users same = record { seen = []; continues = quiet_continues w gen d c s g c' s' users same }
 
 -- the scope and the store agree with one more definition, of which this was seen
 pub record AgreesWith (w : ComponentWorld) (ds : List Def) (c : Scope) (s : Store) (g : List ValType) (before seen : List Event) : Type 0 where
@@ -135,7 +161,7 @@ abbrev pub Steps : ComponentWorld → GeneratedModules → List Def → Scope �
 Steps w gen earlier c s g before d = (c' : Scope) × (s' : Store) × (g' : List ValType) × (r : Runs w gen d c s g c' s' g') × AgreesWith w (earlier ++ d ∷ []) c' s' g' before r.seen
 
 -- a run that stops at its next event
-pub stopped_at : (w : ComponentWorld) (event : Event) (es later : List Event) (g : List ValType) (now after : Now) (c : Scope) (s : Store) → IsNow es g now → after.moments ≡ (seen now event).moments → IsInstantiation event ⊎ IsReady w s →
+pub stopped_at : (w : ComponentWorld) (event : Event) (es later : List Event) (g : List ValType) (now after : Now) (c : Scope) (s : Store) → IsNow w s.module_instances es g now → after.moments ≡ (seen now event).moments → IsInstantiation event ⊎ IsReady w s →
     IsStopped w (es ++ (event ∷ later)) (machine c s after)
 stopped_at w event es later g now after c s at same by_then = record {
   before = es;
@@ -143,16 +169,78 @@ stopped_at w event es later g now after c s at same by_then = record {
   after = later;
   among = refl;
   moments = ap (λ (l : List (List Cell)). length l) same ∙ (length-append now.moments (now.globals ∷ []) ∙ (ap (λ n. n + 1) at.moments ∙ add-one (length es)));
+  bases = subst (AllByRecursion (BaseIn (cell_made w s.module_instances))) (sym same) (AllByRecursion-push (BaseIn (cell_made w s.module_instances)) now.moments now.globals at.bases at.base);
   by_then = by_then;
 }
 
-pub one_event : (event : Event) (es : List Event) (g k : List ValType) (now after : Now) → IsNow es g now → after.events ≡ (seen now event).events → after.moments ≡ (seen now event).moments → map type_of after.globals ≡ k →
-    IsNow (es ++ event ∷ []) k after
-one_event event es g k now after at events moments count = record {
+-- there is an instance where one is new
+some_made : {X P : Type 0} (xs : List X) (x : X) → xs ++ x ∷ [] ≡ [] → P
+some_made [] x e = cc
+some_made (y ∷ xs) x e = cc
+
+-- one instance more, of a module that isn't that of the shims, or where there is no cell
+pub one_more_made : (w : ComponentWorld) (users : List ModuleInstance) (u : ModuleInstance) (es : List Event) (g : List ValType) (now : Now) → cell_made w (users ++ u ∷ []) ≡ cell_made w users → IsNow w users es g now → IsNow w (users ++ u ∷ []) es g now
+one_more_made w users u es g now same at = record {
+  events = at.events;
+  moments = at.moments;
+  globals = at.globals;
+  base = subst (λ o. BaseIn o now.globals) (sym same) at.base;
+  zero_yet = λ none. subst (λ o. ZeroIn o now.globals) (sym same) (at.zero_yet none);
+  bases = subst (λ o. AllByRecursion (BaseIn o) now.moments) (sym same) at.bases;
+  unmade = λ none. some_made users u none;
+}
+
+-- one event more, and one instance, in the same way
+pub one_event : (w : ComponentWorld) (users : List ModuleInstance) (u : ModuleInstance) (event : Event) (es : List Event) (g k : List ValType) (now after : Now) → cell_made w (users ++ u ∷ []) ≡ cell_made w users → IsNow w users es g now →
+    after.events ≡ (seen now event).events → after.moments ≡ (seen now event).moments → map type_of after.globals ≡ k → ((o : Option ValType) → BaseIn o now.globals → BaseIn o after.globals) → IsNow w (users ++ u ∷ []) (es ++ event ∷ []) k after
+one_event w users u event es g k now after made at events moments count kept = record {
   events = events ∙ ap (λ l. l ++ event ∷ []) at.events;
   moments = ap (λ (l : List (List Cell)). length l) moments ∙ (length-append now.moments (now.globals ∷ []) ∙ (ap (λ n. n + 1) at.moments ∙ sym (length-append es (event ∷ []))));
   globals = count;
+  base = subst (λ o. BaseIn o after.globals) (sym made) (kept (cell_made w users) at.base);
+  zero_yet = λ none. some_made es event none;
+  bases =
+      subst (λ o. AllByRecursion (BaseIn o) after.moments) (sym made)
+      (subst (AllByRecursion (BaseIn (cell_made w users))) (sym moments) (AllByRecursion-push (BaseIn (cell_made w users)) now.moments now.globals at.bases at.base));
+  unmade = λ none. some_made users u none;
 }
+
+-- the instance of the shims is the first, and has the cell
+pub shims_made : (w : ComponentWorld) (u : ModuleInstance) (users : List ModuleInstance) (es : List Event) (g : List ValType) (now : Now) → u.module_number ≡ shims_number w → IsOfAddresses (cell_type w) → users ≡ [] → IsNow w users es g now →
+    IsNow w (users ++ u ∷ []) es (g ++ types_of_cell (cell_type w)) (with_cell (cell_type w) now)
+shims_made w u users es g now of addresses none at = by (cell_type w) refl
+  where
+    globals_none : now.globals ≡ []
+    globals_none = (at.unmade none).0
+
+    moments_none : now.moments ≡ []
+    moments_none = (at.unmade none).1
+
+    made : cell_made w (users ++ u ∷ []) ≡ cell_type w
+    made = made_at w (users ++ u ∷ []) (length users) u (slice_get-end users u) of
+
+    by : (o : Option ValType) → cell_type w ≡ o → IsNow w (users ++ u ∷ []) es (g ++ types_of_cell o) (with_cell o now)
+    by None is = record {
+      events = at.events;
+      moments = at.moments;
+      globals = at.globals ∙ sym (append-nil g);
+      base = subst (λ o. BaseIn o now.globals) (sym (made ∙ is)) (subst (AllByRecursion IsForeign) (sym globals_none) tt);
+      zero_yet = λ unseen. subst (λ o. ZeroIn o now.globals) (sym (made ∙ is)) tt;
+      bases = subst (AllByRecursion (BaseIn (cell_made w (users ++ u ∷ [])))) (sym moments_none) tt;
+      unmade = λ no. some_made users u no;
+    }
+    by (Some type) is =
+        let holds : HoldsBase type (zero_of type) (now.globals ++ Kept type (zero_of type) ∷ []) =
+        record { rest = []; first = ap (λ l. l ++ Kept type (zero_of type) ∷ []) globals_none; of_type = zero_fits type (subst IsOfAddresses is addresses); others = tt } in
+        record {
+          events = at.events;
+          moments = at.moments;
+          globals = map-append type_of now.globals (Kept type (zero_of type) ∷ []) ∙ ap (λ ts. ts ++ type ∷ []) at.globals;
+          base = subst (λ o. BaseIn o (now.globals ++ Kept type (zero_of type) ∷ [])) (sym (made ∙ is)) (zero_of type, holds);
+          zero_yet = λ unseen. subst (λ o. ZeroIn o (now.globals ++ Kept type (zero_of type) ∷ [])) (sym (made ∙ is)) holds;
+          bases = subst (AllByRecursion (BaseIn (cell_made w (users ++ u ∷ [])))) (sym moments_none) tt;
+          unmade = λ no. some_made users u no;
+        }
 
 -- a moment with globals of these types
 pub cells : List ValType → List Cell

@@ -1,7 +1,7 @@
 -- A list of right definitions runs, and the final state is linked.
 use Rattle.std.proofs.Common.{◌⊎◌, inl, inr, drop, false, Bool, ◌≡◌, ◌∙◌, ◌≤◌, ◌<◌, ◌+◌, zero, suc, Option, is_some, ℕ, List, [], ◌∷◌, ◌++◌, length, map, refl, sym, ap, ap₂, subst, append-nil, append_assoc, add-one, Some, None, arith, IsTrue, true}
 use Rattle.std.proofs.lemmas.List.{map-append, length-map}
-use Rattle.std.proofs.lemmas.Option.{slice_get_within, none-some, same_Some}
+use Rattle.std.proofs.lemmas.Option.{slice_get_within, same_Some}
 use Rattle.std.proofs.lemmas.List.Elements.{Contains-append_right}
 use Rattle.std.proofs.lemmas.Grind.{flat_map-append}
 use Rattle.std.specs.Prelude.{Contains, ◌≢◌}
@@ -12,7 +12,6 @@ use Rattle.world_shims.specs.WorldShims.{shims_of, type_of_shim, initialize_of}
 use Rattle.shim_runs.specs.ShimRuns.{IsShimAt}
 use Rattle.shim_runs.proofs.Acting.{empty_shims_trap}
 use Rattle.shim_runs.proofs.Placed.{shim_at}
-use Rattle.shim_runs.proofs.Exported.{shims_found}
 use Rattle.comp_terms.specs.Generated.{shims_number, fixup_number, GeneratedBytes, IsFixup, has_tasks_in, has_fixup, number_behind, IsShimModule, AreGenerated}
 use Rattle.std.specs.List.{slice_get, flat_map, range_with_len, AllZip, AllByRecursion}
 use Rattle.comp_bytes.specs.ItemIndices.{in_space}
@@ -25,6 +24,7 @@ use Rattle.comp_bytes.specs.declared.canon.Intrinsic.TheVariants as intrinsics
 use Rattle.comp_bytes.specs.declared.def.Item.TheVariants as items
 use Rattle.comp_bytes.specs.declared.def.Def.{Def}
 use Rattle.comp_bytes.specs.declared.def.Def.TheVariants as defs
+use Rattle.comp_worlds.specs.Bases.{AreBasesAlike}
 use Rattle.comp_worlds.specs.Worlds.{IsWorld}
 use Rattle.comp_worlds.specs.declared.world.ComponentWorld.{ComponentWorld}
 use Rattle.comp_links.specs.Naming.{Naming}
@@ -36,15 +36,18 @@ use Rattle.comp_inventories.specs.Inventories.{Inventory, inventory}
 use Rattle.comp_inventories.proofs.Inventories.{inventory-empty}
 use Rattle.core_types.specs.declared.types.ValType.{ValType}
 use Rattle.core_runs.specs.Bodies.{table_shim}
+use Rattle.core_runs.specs.Values.{Value, zero_of}
 use Rattle.core_runs.specs.Store.{Generated, Answer, Now, Cell, Event, Instantiated, Called}
 use Rattle.comp_runs.specs.Store.{ExportedBy, ModuleInstance, Store}
 use Rattle.comp_runs.specs.Machine.{Scope, Machine, Outcome, Done, Trapped, Open, Stuck}
 use Rattle.comp_runs.specs.Running.{run, fresh_machine}
 use Rattle.comp_terms.specs.Rules.{IsRight, RightAfter, IsBuilt}
-use Rattle.link_laws.specs.Meeting.{task_hook}
+use Rattle.link_laws.specs.Meeting.{IsBase, task_hook}
 use Rattle.link_laws.specs.Composition.{GeneratedModules, generated_sections, IsComposed, numbers_from, instance_order, at_root, item_instantiates, number_after}
 use Rattle.link_laws.specs.Linking.{module_meanings, outcome, EndsAt, StartCall, start_calls, initialization, questions, LetsRun, UsersServed, ShimsFilled, MakesCall, IsLinked, imported_among, TypesServed, IsShim, TrapsAtOnce, BeforeFixup, Links}
 use Rattle.link_laws.proofs.Stores.{ShimsAt, exports_of_shims, IsReady, IsFunctionExported, ExportsShims, MayHaveShims, IsTypeEntry, IsFunctionEntry, IsInstanceThing, Agrees, Expected, Made, Calls, expected_of, expects, IsSeen}
+use Rattle.link_laws.proofs.Zips.{contained}
+use Rattle.link_laws.proofs.BaseHeld.{BaseIn, cell_made, base_alone, zero_held}
 use Rattle.link_laws.proofs.Given.{scope_there, fixup_behind}
 use Rattle.link_laws.proofs.Plain.{nothing_in}
 use Rattle.link_laws.proofs.ModuleMarks.{bytes_listed, user_range, numbers_listed, bytes_if, number_if}
@@ -54,7 +57,7 @@ use Rattle.link_laws.proofs.Steps.{step_type, step_instance_type, step_import, s
 use Rattle.link_laws.proofs.Ordered.{modules_of, sections_in_order, all_sound}
 use Rattle.link_laws.proofs.Marks.{root_type_names, root_nested_names, root_imports, root_modules, root_instances, root_exports, root_export_names, all_resources, no_customs}
 use Rattle.link_laws.proofs.ImportedTypes.{types_served}
-use Rattle.link_laws.proofs.Served.{function_item, FilledAtEnd, shims_filled, tables_untouched, users_served, resource_defined, number_defined, each_provided, each_type_provided}
+use Rattle.link_laws.proofs.Served.{function_item, FilledAtEnd, shim_place, shims_filled, tables_untouched, users_served, resource_defined, number_defined, each_provided, each_type_provided}
 use Rattle.link_laws.proofs.NestedSteps.{step_component, step_nested, step_export_function, step_export_instance}
 
 -- a generated module is instantiated only where it is one of these
@@ -62,54 +65,54 @@ abbrev pub MayMake : ComponentWorld → GeneratedModules → ℕ → Type 0
 MayMake w gen n = (n < shims_number w → ⊥) → IsGenerated w gen
 
 module _ {w : ComponentWorld} {earlier : List Def} {c : Scope} {s : Store} {g : List ValType} (a : Agrees w earlier c s g) (gen : GeneratedModules) where
-  step : IsWorld w → (d : Def) → AllByRecursion (MayMake w gen) (at_root item_instantiates d) → IsRight w earlier d → Steps w gen earlier c s g a.events d
-  step ok (defs.Item (items.CoreModule bytes)) may h = step_module a gen bytes
-  step ok (defs.Item (items.CoreInstantiate number arguments)) may h = step_instantiate a gen ok number arguments may.0 h
-  step ok (defs.Item (items.CoreExports entries)) may h = step_inline_instance a gen entries h
-  step ok (defs.Item (items.Alias (aliases.CoreExport kind instance name))) may h = step_alias a gen kind instance name h
-  step ok (defs.Item (items.Alias (aliases.Export exports.Func instance name))) may h = step_alias_function a gen instance name h
-  step ok (defs.Item (items.Alias (aliases.Export exports.Type instance name))) may h = step_alias_type a gen instance name h
-  step ok (defs.Item (items.Type t)) may h = step_type a gen t h
-  step ok (defs.Item (items.InstanceType t)) may h = step_instance_type a gen t
-  step ok (defs.Item (items.Lift core options kind)) may h = step_lift a gen core options kind h.0 h.1 h.2
-  step ok (defs.Item (items.Lower function options)) may h = step_lower a gen function options h.0 h.1
-  step ok (defs.Item (items.Intrinsic (intrinsics.ResourceNew type))) may h = step_new a gen type h
-  step ok (defs.Item (items.Intrinsic (intrinsics.ResourceRep type))) may h = step_rep a gen type h
-  step ok (defs.Item (items.Intrinsic (intrinsics.ResourceDrop type))) may h = step_drop a gen type h
-  step ok (defs.Item (items.Intrinsic intrinsic)) may h = step_plain a gen intrinsic h
-  step ok (defs.Item (items.Import name (descriptions.Func kind))) may h = step_import a gen name kind h
-  step ok (defs.Item (items.Import name (descriptions.TypeEqual index))) may h = step_import_type a gen name index h.0
-  step ok (defs.Item (items.Import name descriptions.SubResource)) may h = step_import_resource a gen name
-  step ok (defs.Item (items.Import name (descriptions.Instance index))) may h = step_import_instance a gen name index h.outer h.members h.is h.right
-  step ok (defs.Item (items.Instantiate component arguments)) may h = step_nested a gen component arguments h
-  step ok (defs.Item (items.Export name sorts.Func index None)) may h = step_export_function a gen name index h
-  step ok (defs.Item (items.Export name sorts.Instance index None)) may h = step_export_instance a gen name index h
-  step ok (defs.Item (items.Custom name contents)) may h = step_custom a gen name contents
-  step ok (defs.Component inner) may h = step_component a gen inner
-  step ok _ may h = absurd h
+  step : IsWorld w → AreBasesAlike w → (d : Def) → AllByRecursion (MayMake w gen) (at_root item_instantiates d) → IsRight w earlier d → Steps w gen earlier c s g a.events d
+  step ok alike (defs.Item (items.CoreModule bytes)) may h = step_module a gen bytes
+  step ok alike (defs.Item (items.CoreInstantiate number arguments)) may h = step_instantiate a gen ok alike number arguments may.0 h
+  step ok alike (defs.Item (items.CoreExports entries)) may h = step_inline_instance a gen entries h
+  step ok alike (defs.Item (items.Alias (aliases.CoreExport kind instance name))) may h = step_alias a gen kind instance name h
+  step ok alike (defs.Item (items.Alias (aliases.Export exports.Func instance name))) may h = step_alias_function a gen instance name h
+  step ok alike (defs.Item (items.Alias (aliases.Export exports.Type instance name))) may h = step_alias_type a gen instance name h
+  step ok alike (defs.Item (items.Type t)) may h = step_type a gen t h
+  step ok alike (defs.Item (items.InstanceType t)) may h = step_instance_type a gen t
+  step ok alike (defs.Item (items.Lift core options kind)) may h = step_lift a gen core options kind h.0 h.1 h.2
+  step ok alike (defs.Item (items.Lower function options)) may h = step_lower a gen function options h.0 h.1
+  step ok alike (defs.Item (items.Intrinsic (intrinsics.ResourceNew type))) may h = step_new a gen type h
+  step ok alike (defs.Item (items.Intrinsic (intrinsics.ResourceRep type))) may h = step_rep a gen type h
+  step ok alike (defs.Item (items.Intrinsic (intrinsics.ResourceDrop type))) may h = step_drop a gen type h
+  step ok alike (defs.Item (items.Intrinsic intrinsic)) may h = step_plain a gen intrinsic h
+  step ok alike (defs.Item (items.Import name (descriptions.Func kind))) may h = step_import a gen name kind h
+  step ok alike (defs.Item (items.Import name (descriptions.TypeEqual index))) may h = step_import_type a gen name index h.0
+  step ok alike (defs.Item (items.Import name descriptions.SubResource)) may h = step_import_resource a gen name
+  step ok alike (defs.Item (items.Import name (descriptions.Instance index))) may h = step_import_instance a gen name index h.outer h.members h.is h.right
+  step ok alike (defs.Item (items.Instantiate component arguments)) may h = step_nested a gen component arguments h
+  step ok alike (defs.Item (items.Export name sorts.Func index None)) may h = step_export_function a gen name index h
+  step ok alike (defs.Item (items.Export name sorts.Instance index None)) may h = step_export_instance a gen name index h
+  step ok alike (defs.Item (items.Custom name contents)) may h = step_custom a gen name contents
+  step ok alike (defs.Component inner) may h = step_component a gen inner
+  step ok alike _ may h = absurd h
 
 -- the rest runs from here to this state, and this is seen
 abbrev Resolves : ComponentWorld → GeneratedModules → List Def → List Def → Scope → Store → List ValType → List Event → Type 0
 Resolves w gen earlier rest c s g before =
     (e : Scope) × (t : Store) × (k : List ValType) × (seen : List Event)
-    × ((es : List Event) (now : Now) → IsNow es g now → IsGood w e t k (es ++ seen) (asks seen) now.answers (run (module_meanings w gen) rest (machine c s now)))
+    × ((es : List Event) (now : Now) → IsNow w s.module_instances es g now → IsGood w e t k (es ++ seen) (asks seen) now.answers (run (module_meanings w gen) rest (machine c s now)))
     × AgreesWith w (earlier ++ rest) e t k before seen
 
-resolves : (w : ComponentWorld) (gen : GeneratedModules) → IsWorld w → (earlier rest : List Def) (c : Scope) (s : Store) (g : List ValType) (a : Agrees w earlier c s g) → AllByRecursion (MayMake w gen) (flat_map (at_root item_instantiates) rest) → RightAfter w earlier rest → Resolves w gen earlier rest c s g a.events
-resolves w gen ok earlier [] c s g a may h = (
+resolves : (w : ComponentWorld) (gen : GeneratedModules) → IsWorld w → AreBasesAlike w → (earlier rest : List Def) (c : Scope) (s : Store) (g : List ValType) (a : Agrees w earlier c s g) → AllByRecursion (MayMake w gen) (flat_map (at_root item_instantiates) rest) → RightAfter w earlier rest → Resolves w gen earlier rest c s g a.events
+resolves w gen ok alike earlier [] c s g a may h = (
   c,
   s,
   g,
   [],
-  λ es now at. (refl, refl, subst (λ l. IsNow l g now) (sym (append-nil es)) at),
+  λ es now at. (refl, refl, subst (λ l. IsNow w s.module_instances l g now) (sym (append-nil es)) at),
   subst (λ l. AgreesWith w l c s g a.events []) (sym (append-nil earlier)) (record { agrees = a; events = sym (append-nil a.events) }),
 )
-resolves w gen ok earlier (d ∷ ds) c s g a may h =
+resolves w gen ok alike earlier (d ∷ ds) c s g a may h =
     let own : AllByRecursion (MayMake w gen) (at_root item_instantiates d) = AllByRecursion-front (MayMake w gen) (at_root item_instantiates d) (flat_map (at_root item_instantiates) ds) may in
     let later : AllByRecursion (MayMake w gen) (flat_map (at_root item_instantiates) ds) = AllByRecursion-back (MayMake w gen) (at_root item_instantiates d) (flat_map (at_root item_instantiates) ds) may in
-    let one : Steps w gen earlier c s g a.events d = step a gen ok d own h.0 in
+    let one : Steps w gen earlier c s g a.events d = step a gen ok alike d own h.0 in
     let first : List Event = one.3.seen in
-    let all : Resolves w gen (earlier ++ d ∷ []) ds one.0 one.1 one.2 one.4.agrees.events = resolves w gen ok (earlier ++ d ∷ []) ds one.0 one.1 one.2 one.4.agrees later h.1 in
+    let all : Resolves w gen (earlier ++ d ∷ []) ds one.0 one.1 one.2 one.4.agrees.events = resolves w gen ok alike (earlier ++ d ∷ []) ds one.0 one.1 one.2 one.4.agrees later h.1 in
     let rest : List Event = all.3 in (
       all.0,
       all.1,
@@ -343,14 +346,14 @@ filled_at_end w m named b are (Some at) made same h ok = (h.made, λ any. h.fill
         subst (λ l. Contains l (fixup_number w)) (sym same) (Contains-append_right (number_if (shims_number w) b.shims) (user_range w ++ fixup_number w ∷ []) (fixup_number w) last)
 
 -- the end of a run is linked
-linked_at_end : (n : Naming) (w : ComponentWorld) (ds : List Def) (m : Machine) → IsWorld w → AreExportsApart n w → (built : IsBuilt n w ds) → {globals : List ValType} → Agrees w ds m.scope m.store globals → AreSeen w m.store m.now.events (user_numbers w) (start_calls w) → IsLinked n w (modules_of w n.debug_names built.generated) m
-linked_at_end n w ds m ok apart built {globals} a seen =
+linked_at_end : (n : Naming) (w : ComponentWorld) (ds : List Def) (m : Machine) → IsWorld w → AreExportsApart n w → (built : IsBuilt n w ds) → {globals : List ValType} → Agrees w ds m.scope m.store globals → BaseIn (cell_made w m.store.module_instances) m.now.globals → AreSeen w m.store m.now.events (user_numbers w) (start_calls w) → IsLinked n w (modules_of w n.debug_names built.generated) m
+linked_at_end n w ds m ok apart built {globals} a base seen =
     let filled : FilledAtEnd w ok m a.shims = filled_at_end w m n.debug_names built.generated built.are_generated a.shims (flat_map (at_root item_instantiates) ds) (root_instances n w ds built) a.with_shims ok in
     record {
       origins = resource_of w;
       start_events = seen.called;
       instances = a.instantiated ∙ instances_in_order n w ds built;
-      imports = users_served w ok m a.shims filled a.served;
+      imports = users_served w ok m a.shims filled base a.served;
       exports = each_provided n w ok apart m a.shims filled (a.exports ∙ root_export_names n w ds built) a.lifted;
       types = each_type_provided n w ok apart m a.shims filled (a.exports ∙ root_export_names n w ds built) a.lifted;
       resources = λ address number destructor present. resource_defined w ok m a.shims filled address number destructor present a.resources;
@@ -372,10 +375,10 @@ AllServed w m = ShimsFilled w m × (origins : TypeId → Resource) × UsersServe
 abbrev with_moment : Machine → List Cell → Machine
 with_moment m globals = record m { now = record m.now { globals = globals } }
 
-ready_serves : (w : ComponentWorld) (ok : IsWorld w) (m : Machine) (globals : List Cell) → IsReady w m.store → AllServed w (with_moment m globals)
-ready_serves w ok m globals h =
+ready_serves : (w : ComponentWorld) (ok : IsWorld w) (m : Machine) (globals : List Cell) → BaseIn (cell_made w m.store.module_instances) globals → IsReady w m.store → AllServed w (with_moment m globals)
+ready_serves w ok m globals base h =
     let then : Machine = with_moment m globals in
-    (shims_filled w ok then h.shims h.filled, resource_of w, users_served w ok then h.shims h.filled h.planned)
+    (shims_filled w ok then h.shims h.filled, resource_of w, users_served w ok then h.shims h.filled base h.planned)
 
 module _ (w : ComponentWorld) (e : Scope) (t : Store) (g : List ValType) (es : List Event) (questions : List (List ValType)) (answers : List Answer) where
   not_stuck : (o : Outcome) → IsGood w e t g es questions answers o → o ≡ Stuck → ⊥
@@ -387,7 +390,7 @@ module _ (w : ComponentWorld) (e : Scope) (t : Store) (g : List ValType) (es : L
   is_done (Open m) h l = absurd (h.0 l)
   is_done Stuck h l = absurd h
 
-  done_with : (o : Outcome) (m : Machine) → IsGood w e t g es questions answers o → o ≡ Done m → (m.scope ≡ e) × (m.store ≡ t) × IsNow es g m.now
+  done_with : (o : Outcome) (m : Machine) → IsGood w e t g es questions answers o → o ≡ Done m → (m.scope ≡ e) × (m.store ≡ t) × IsNow w t.module_instances es g m.now
   done_with o m h same = subst (IsGood w e t g es questions answers) same h
 
   module _ (seen : AreSeen w t es (user_numbers w) (start_calls w)) (event : ℕ) (late : user_count w ≤ event) where
@@ -411,6 +414,14 @@ module _ (w : ComponentWorld) (e : Scope) (t : Store) (g : List ValType) (es : L
         subst (λ (x : Machine). IsReady w x.store) same (ready_stopped n h.1 (subst (λ (x : Machine). event < length x.now.moments) (sym same) within))
     ready_late Stuck m h done same within = absurd h
 
+  -- the base was there at each event
+  bases_at : (o : Outcome) (m : Machine) → IsGood w e t g es questions answers o → EndsAt m o → AllByRecursion (BaseIn (cell_made w m.store.module_instances)) m.now.moments
+  bases_at (Done n) m h same =
+      subst (λ (x : Machine). AllByRecursion (BaseIn (cell_made w x.store.module_instances)) x.now.moments) same (subst (λ (s : Store). AllByRecursion (BaseIn (cell_made w s.module_instances)) n.now.moments) (sym h.1) h.2.bases)
+  bases_at (Trapped n) m h same = subst (λ (x : Machine). AllByRecursion (BaseIn (cell_made w x.store.module_instances)) x.now.moments) same h.1.bases
+  bases_at (Open n) m h same = subst (λ (x : Machine). AllByRecursion (BaseIn (cell_made w x.store.module_instances)) x.now.moments) same h.1.bases
+  bases_at Stuck m h same = absurd h
+
 first_part : (a b n : ℕ) → a + b ≤ n → a ≤ n
 first_part a b n l = omega (arith, l)
 
@@ -419,14 +430,6 @@ first_part a b n l = omega (arith, l)
 right_before : (w : ComponentWorld) (earlier before after : List Def) → RightAfter w earlier (before ++ after) → RightAfter w earlier before
 right_before w earlier [] after h = tt
 right_before w earlier (d ∷ before) after h = (h.0, right_before w (earlier ++ d ∷ []) before after h.1)
-
--- an entry is contained
-contained : {X : Type 0} (xs : List X) (i : ℕ) (x : X) → slice_get xs i ≡ Some x → Contains xs x
-contained [] i x e = absurd (none-some x e)
-contained (y ∷ xs) zero x e = (0, omega arith, same_Some y x e)
-contained (y ∷ xs) (suc i) x e =
-    let c : Contains xs x = contained xs i x e in
-    Contains-append_right (y ∷ []) xs x c
 
 -- a shim whose slot is empty traps
 quiet_shims : (w : ComponentWorld) (m : Machine) (numbers : List ℕ) (shims : Option ShimsAt) → map (λ (u : ModuleInstance). u.module_number) m.store.module_instances ≡ numbers → MayHaveShims w m.store numbers shims → (Contains numbers (fixup_number w) → ⊥) →
@@ -438,8 +441,7 @@ quiet_shims w m numbers (Some at) same h unfixed address s =
     let shims : List Shim = shims_of w in
     let exports : s.made.exports ≡ exports_of_shims w at =
     AllByRecursion-contains (ExportsShims w (Some at)) m.store.module_instances s.made h.exported (contained m.store.module_instances s.instance s.made s.present) s.of in
-    let place : (place : ℕ) × (place < length shims) × (address ≡ at.address + place) =
-    (shims_found shims at.address at.table at.memory).listed s.name address (subst (λ es. Contains es (record { space = spaces.CoreFunc; name = s.name; address = address })) exports s.exported) in
+    let place : (place : ℕ) × (place < length shims) × (address ≡ at.address + place) = shim_place w m at address s exports in
     let shim : (shim : Shim) × (slice_get shims place.0 ≡ Some shim) = there shims place.0 place.1 in
     let zero_is : 0 + place.0 ≡ place.0 = omega arith in
     let is : IsShimAt m.store.code at.table address place.0 (type_of_shim shim.0) =
@@ -465,19 +467,28 @@ unfolding start
 links n w ds ok apart built = record {
   never_stuck = λ answers. not_stuck w all.0 all.1 all.2 all.3 (questions w) answers (outcome w gen ds answers) (good answers);
   ends = λ answers. is_done w all.0 all.1 all.2 all.3 (questions w) answers (outcome w gen ds answers) (good answers);
-  linked = λ answers m done. let is = at_end answers m done in linked_at_end n w ds m ok apart built is.0 is.1;
+  linked = λ answers m done. let is = at_end answers m done in linked_at_end n w ds m ok apart built is.0 is.1 is.2;
   types = λ answers m done. types_at_end n w ds m built (at_end answers m done).0;
   traps_before = record { each = traps };
   served_throughout = record {
     each = λ answers m ends event globals late at.
         let behind : user_count w ≤ event = first_part (user_count w) _ event late in
-        ready_serves w ok m globals
+        ready_serves w ok m globals (base_at answers m ends event globals at)
         (ready_late w all.0 all.1 all.2 all.3 (questions w) answers seen event behind (outcome w gen ds answers) m (good answers) (λ n done. ready_at_end answers n done) ends (slice_get_within m.now.moments event globals at));
+  };
+  one_base = record {
+    cell = 0;
+    at_end = λ answers m done. base_alone (cell_made w m.store.module_instances) m.now.globals (at_end answers m done).1;
+    throughout = λ answers m ends event globals at. base_alone (cell_made w m.store.module_instances) globals (base_at answers m ends event globals at);
+    zero_first = zero_first;
   };
 }
   where
     gen : GeneratedModules
     gen = modules_of w n.debug_names built.generated
+
+    alike : AreBasesAlike w
+    alike = built.are_generated.alike
 
     in_order : flat_map (at_root item_instantiates) ds ≡ instance_order (length (user_modules w)) gen
     in_order = instances_in_order n w ds built
@@ -486,7 +497,7 @@ links n w ds ok apart built = record {
     may = subst (AllByRecursion (MayMake w gen)) (sym in_order) (may_make w n.debug_names built.generated built.are_generated)
 
     all : Resolves w gen [] ds (fresh_machine []).scope (fresh_machine []).store [] []
-    all = resolves w gen ok [] ds (fresh_machine []).scope (fresh_machine []).store [] (start w) may built.right
+    all = resolves w gen ok alike [] ds (fresh_machine []).scope (fresh_machine []).store [] (start w) may built.right
 
     -- each user module is instantiated, and then the calls are made
     expected : flat_map (expects w) ds ≡ map (λ n. Made n) (user_numbers w) ++ calls_expected w
@@ -501,18 +512,23 @@ links n w ds ok apart built = record {
         ∙ (map-append (λ (e : Event). []) (events_of (user_numbers w)) seen.called
         ∙ ap₂ (λ xs ys. xs ++ ys) (asked_of_each (user_modules w) 0) (asked_of_calls w all.1 seen.called (start_calls w) seen.each))
 
-    fresh : (answers : List Answer) → IsNow [] [] (fresh_machine answers).now
-    fresh answers = record { events = refl; moments = refl; globals = refl }
+    fresh : (answers : List Answer) → IsNow w [] [] [] (fresh_machine answers).now
+    fresh answers = record { events = refl; moments = refl; globals = refl; base = tt; zero_yet = λ unseen. tt; bases = tt; unmade = λ unmade. (refl, refl) }
 
     good : (answers : List Answer) → IsGood w all.0 all.1 all.2 all.3 (questions w) answers (outcome w gen ds answers)
     good answers = subst (λ q. IsGood w all.0 all.1 all.2 all.3 q answers (outcome w gen ds answers)) asked (all.4 [] (fresh_machine answers).now (fresh answers))
 
-    at_end : (answers : List Answer) (m : Machine) → outcome w gen ds answers ≡ Done m → Agrees w ds m.scope m.store all.2 × AreSeen w m.store m.now.events (user_numbers w) (start_calls w)
+    at_end : (answers : List Answer) (m : Machine) → outcome w gen ds answers ≡ Done m → Agrees w ds m.scope m.store all.2 × BaseIn (cell_made w m.store.module_instances) m.now.globals × AreSeen w m.store m.now.events (user_numbers w) (start_calls w)
     at_end answers m done =
-        let is : (m.scope ≡ all.0) × (m.store ≡ all.1) × IsNow all.3 all.2 m.now = done_with w all.0 all.1 all.2 all.3 (questions w) answers (outcome w gen ds answers) m (good answers) done in (
+        let is : (m.scope ≡ all.0) × (m.store ≡ all.1) × IsNow w all.1.module_instances all.3 all.2 m.now = done_with w all.0 all.1 all.2 all.3 (questions w) answers (outcome w gen ds answers) m (good answers) done in (
           subst (λ s. Agrees w ds m.scope s all.2) (sym is.1) (subst (λ c. Agrees w ds c all.1 all.2) (sym is.0) all.5.agrees),
+          subst (λ (s : Store). BaseIn (cell_made w s.module_instances) m.now.globals) (sym is.1) is.2.base,
           subst (λ s. AreSeen w s m.now.events (user_numbers w) (start_calls w)) (sym is.1) (subst (λ es. AreSeen w all.1 es (user_numbers w) (start_calls w)) (sym is.2.events) seen),
         )
+
+    base_at : (answers : List Answer) (m : Machine) → EndsAt m (outcome w gen ds answers) → (event : ℕ) (globals : List Cell) → slice_get m.now.moments event ≡ Some globals → BaseIn (cell_made w m.store.module_instances) globals
+    base_at answers m ends event globals at =
+        AllByRecursion-contains (BaseIn (cell_made w m.store.module_instances)) m.now.moments globals (bases_at w all.0 all.1 all.2 all.3 (questions w) answers (outcome w gen ds answers) m (good answers) ends) (contained m.now.moments event globals at)
 
     ready_at_end : (answers : List Answer) (m : Machine) → outcome w gen ds answers ≡ Done m → IsReady w m.store
     ready_at_end answers m done =
@@ -523,14 +539,27 @@ links n w ds ok apart built = record {
           planned = a.served;
         }
 
-    traps : (before after : List Def) → ds ≡ before ++ after → BeforeFixup w gen before → IsTrue (is_some gen.fixup) → (answers : List Answer) (m : Machine) → outcome w gen before answers ≡ Done m → (address : ℕ) → IsShim w m address → TrapsAtOnce m address
-    traps before after whole unfixed fixed answers m done =
+    -- a run of the first definitions
+    up_to : (before after : List Def) → ds ≡ before ++ after → Resolves w gen [] before (fresh_machine []).scope (fresh_machine []).store [] []
+    up_to before after whole =
         let those : List ℕ = flat_map (at_root item_instantiates) before in
         let may_before : AllByRecursion (MayMake w gen) those =
         AllByRecursion-front (MayMake w gen) those (flat_map (at_root item_instantiates) after) (subst (AllByRecursion (MayMake w gen)) (ap (flat_map (at_root item_instantiates)) whole ∙ flat_map-append (at_root item_instantiates) before after) may) in
-        let to : Resolves w gen [] before (fresh_machine []).scope (fresh_machine []).store [] [] =
-        resolves w gen ok [] before (fresh_machine []).scope (fresh_machine []).store [] (start w) may_before (right_before w [] before after (subst (RightAfter w []) whole built.right)) in
-        let is : (m.scope ≡ to.0) × (m.store ≡ to.1) × IsNow to.3 to.2 m.now =
+        resolves w gen ok alike [] before (fresh_machine []).scope (fresh_machine []).store [] (start w) may_before (right_before w [] before after (subst (RightAfter w []) whole built.right))
+
+    traps : (before after : List Def) → ds ≡ before ++ after → BeforeFixup w gen before → IsTrue (is_some gen.fixup) → (answers : List Answer) (m : Machine) → outcome w gen before answers ≡ Done m → (address : ℕ) → IsShim w m address → TrapsAtOnce m address
+    traps before after whole unfixed fixed answers m done =
+        let those : List ℕ = flat_map (at_root item_instantiates) before in
+        let to : Resolves w gen [] before (fresh_machine []).scope (fresh_machine []).store [] [] = up_to before after whole in
+        let is : (m.scope ≡ to.0) × (m.store ≡ to.1) × IsNow w to.1.module_instances to.3 to.2 m.now =
         done_with w to.0 to.1 to.2 to.3 (asks to.3) answers (outcome w gen before answers) m (to.4 [] (fresh_machine answers).now (fresh answers)) done in
         let a : Agrees w before m.scope m.store to.2 = subst (λ s. Agrees w before m.scope s to.2) (sym is.1) (subst (λ c. Agrees w before c to.1 to.2) (sym is.0) to.5.agrees) in
         quiet_shims w m those a.shims a.instantiated a.with_shims (no_fixup_before w n.debug_names built.generated built.are_generated before unfixed)
+
+    zero_first : (before after : List Def) → ds ≡ before ++ after → Contains (flat_map (at_root item_instantiates) before) (length (user_modules w)) → (answers : List Answer) (m : Machine) → outcome w gen before answers ≡ Done m → m.now.events ≡ [] →
+        (type : ValType) (value : Value) → IsBase m.now.globals 0 type value → value ≡ zero_of type
+    zero_first before after whole there answers m done unseen type value base =
+        let to : Resolves w gen [] before (fresh_machine []).scope (fresh_machine []).store [] [] = up_to before after whole in
+        let is : (m.scope ≡ to.0) × (m.store ≡ to.1) × IsNow w to.1.module_instances to.3 to.2 m.now =
+        done_with w to.0 to.1 to.2 to.3 (asks to.3) answers (outcome w gen before answers) m (to.4 [] (fresh_machine answers).now (fresh answers)) done in
+        zero_held (cell_made w to.1.module_instances) m.now.globals is.2.base (is.2.zero_yet (sym is.2.events ∙ unseen)) 0 type value base.held

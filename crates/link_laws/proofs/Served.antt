@@ -1,10 +1,10 @@
 -- What was planned for the imports and the exports of user modules meets the link table.
-use Rattle.std.proofs.Common.{◌≡◌, ◌∙◌, ◌++◌, inl, inr, ◌+◌, ◌<◌, ◌^◌, arith, length, IsTrue, ℕ, Bool, false, zero, suc, true, List, [], ◌∷◌, map, refl, sym, ap, subst, Option, Some, None, is_some, if◌then◌else◌}
+use Rattle.std.proofs.Common.{◌≡◌, ◌∙◌, ◌++◌, ◌⊎◌, inl, inr, true≢false, ◌+◌, ◌<◌, ◌^◌, arith, length, IsTrue, ℕ, Bool, false, zero, suc, true, List, [], ◌∷◌, map, refl, sym, ap, subst, Option, Some, None, is_some, if◌then◌else◌}
 use Rattle.std.proofs.lemmas.Option.{none-some, same_Some, slice_get_within, slice_get-map}
 use Rattle.std.proofs.lemmas.Slice.Eq.{bytes_eq-Decides}
 use Rattle.std.specs.Prelude.{Contains}
 use Rattle.std.specs.Str.{bytes_eq}
-use Rattle.std.specs.List.{slice_get, flat_map, AllZip, AllByRecursion}
+use Rattle.std.specs.List.{slice_get, flat_map, list_all, AllZip, AllByRecursion}
 use Rattle.std.specs.Fmt.{decimal}
 use Rattle.std.specs.Option.{option_map, option_and_then}
 use Rattle.comp_lists.proofs.Lists.{there, AllZip-at, AllZip-weaker, AllByRecursion-weaker}
@@ -14,6 +14,8 @@ use Rattle.comp_terms.specs.Terms.{intrinsic_of}
 use Rattle.comp_bytes.specs.Spaces.{is_space}
 use Rattle.comp_bytes.specs.declared.space.Space.{Space}
 use Rattle.core_types.specs.declared.types.FuncType.{FuncType}
+use Rattle.core_types.specs.declared.types.ValType.{ValType}
+use Rattle.core_runs.proofs.TlsCells.{getters_read, setters_write}
 use Rattle.core_runs.specs.declared.bracket.Bracketed.{Bracketed}
 use Rattle.core_runs.specs.declared.bracket.Bracketed.TheVariants as brackets
 use Rattle.core_runs.specs.declared.bracket.AfterHook.TheVariants.{Nothing}
@@ -22,7 +24,7 @@ use Rattle.core_runs.specs.Values.{Value, fit}
 use Rattle.core_runs.specs.Store.{Store as CodeStore, Func, Opaque, Now, Outcome as CoreOutcome, Returned}
 use Rattle.core_runs.specs.Store as core
 use Rattle.core_runs.specs.Execution.{and_then, asked, exec, acts}
-use Rattle.core_runs.specs.Expected.{expected}
+use Rattle.core_runs.specs.Expected.{expected, ReadsCell, WritesCell}
 use Rattle.wit_data.specs.declared.functions.Function.{Function as WitFunction}
 use Rattle.wit_data.specs.declared.ids.TypeId.{TypeId}
 use Rattle.wit_data.specs.declared.worlds.WorldKey.{WorldKey}
@@ -33,11 +35,12 @@ use Rattle.wit_data.specs.declared.worlds.WorldItem.TheVariants as world_items
 use Rattle.comp_roles.specs.declared.offered.ImportType.{ImportType}
 use Rattle.comp_roles.specs.Lookups.{first_memory}
 use Rattle.world_values.specs.Items.{functions_in}
+use Rattle.comp_worlds.specs.Bases.{cell_type}
 use Rattle.comp_worlds.specs.Worlds.{IsWorld}
 use Rattle.comp_worlds.specs.declared.world.ComponentWorld.{ComponentWorld}
 use Rattle.comp_trees.specs.Trees.{Resource, FunctionTree}
 use Rattle.comp_trees.specs.DefinedTrees.{OfOthers}
-use Rattle.comp_links.specs.Targets.{ExportRef, WorldFunction, TargetOption, Target, Lowered, ResourceFunction, New, Rep, Drop, ExportOf, OfResource, BuiltIn, Lifted}
+use Rattle.comp_links.specs.Targets.{ExportRef, WorldFunction, TargetOption, Target, Lowered, ResourceFunction, New, Rep, Drop, ExportOf, OfResource, BuiltIn, TlsGet, TlsSet, Lifted}
 use Rattle.comp_links.specs.Targets as targets
 use Rattle.comp_links.specs.Links.{lift_options, destructor_of}
 use Rattle.comp_terms.specs.Generated.{shims_number, Purpose, target_of}
@@ -48,7 +51,8 @@ use Rattle.shim_plan.specs.declared.shims.Shim.{Shim}
 use Rattle.world_shims.specs.WorldShims.{shims_of, type_of_shim}
 use Rattle.standard_kinds.specs.declared.kinds.ExportKind.TheVariants as kinds
 use Rattle.core_types.specs.declared.types.MemoryType.{MemoryType}
-use Rattle.shim_runs.specs.ShimRuns.{IsShimAt, memory_name}
+use Rattle.shim_modules.specs.Shims.{getter_name, setter_name}
+use Rattle.shim_runs.specs.ShimRuns.{IsShimAt, IsOfAddresses, IsCellFunction, exported_function, memory_name}
 use Rattle.shim_runs.proofs.Exported.{shims_found}
 use Rattle.shim_runs.proofs.Acting.{filled_shims_forward}
 use Rattle.shim_runs.proofs.Placed.{shim_at}
@@ -60,14 +64,16 @@ use Rattle.comp_runs.specs.Store.{Thing, Export, HeldOption, HeldEncoding, HeldM
 use Rattle.comp_runs.specs.Machine.{Machine, export_named, export_in, export_of}
 use Rattle.nested_laws.proofs.Kept.{is_function}
 use Rattle.nested_laws.proofs.Exports.{front, other_space}
-use Rattle.link_laws.specs.Meeting.{CoreMeets, CoreExportMeets, task_hook, hooks_round, IsExportedItem, ItemMeets, MemoryMeets, IsMainMemory, MeetsOption, ItemIsExport, ItemIsLowering, IsResourceHeld, ItemIsOfResource, ItemIsBuiltIn, Meets, MeetsIn, entry_kind}
+use Rattle.link_laws.specs.Meeting.{IsBase, IsOfBase, CoreMeets, CoreExportMeets, task_hook, hooks_round, IsExportedItem, ItemMeets, MemoryMeets, IsMainMemory, MeetsOption, ItemIsExport, ItemIsLowering, IsResourceHeld, ItemIsOfResource, ItemIsBuiltIn, Meets, MeetsIn, entry_kind}
 use Rattle.instance_laws.proofs.Held.{tree_of_held}
-use Rattle.link_laws.specs.Linking.{IsOpaque, IsUntouched, AreTablesUntouched, ShimsFilled, IsServed, AreServed, UsersServed, IsProvided, IsTypeProvided, DestructorMeets, IsDefined, IsNumberDefined, exports_at}
+use Rattle.link_laws.specs.Linking.{is_digit, IsShim, IsDirect, IsUntouched, AreTablesUntouched, ShimsFilled, IsServed, AreServed, UsersServed, IsProvided, IsTypeProvided, DestructorMeets, IsDefined, IsNumberDefined, exports_at}
 use Rattle.link_laws.proofs.Zips.{AllByRecursion-join, each_at}
-use Rattle.link_laws.proofs.Stores.{IsOpaqueOf, ShimsAt, resource_core, IsLoweredFor, IsFunctionOf, IsBuiltInAt, IsFunctionExported, IsItemExported, IsServedAs, IsServedIn, IsShimGivenAt, IsShimGiven, ExportsShims, exports_of_shims, Serves, IsFilledWith, AreFilled, AreShimsFilled, main_module, IsPlanned, IsPlannedUser, IsMemoryOfMain, IsShimExported, IsReallocHeld, IsOptionHeld, function_at_key, IsRequiredAt, IsFunctionExport, IsAmong, IsInterfaceExport, IsItemExport, IsKeyExport, AreKeyExports, type_at_key, IsTypeAmong, IsTypeOfMemory, IsOwnTable, IsOwnIfTable, HasOwnTables, IsDestroyedBy, IsOwnResource, IsOwnIfDefined, AreResources, HasNumber}
+use Rattle.link_laws.proofs.BaseHeld.{BaseIn, cell_made, made_at, is_base}
+use Rattle.link_laws.proofs.BaseRoles.{cell_addresses}
+use Rattle.link_laws.proofs.Stores.{IsInstance, IsCellGetter, IsCellSetter, IsOpaqueOf, ShimsAt, resource_core, IsLoweredFor, IsFunctionOf, IsBuiltInAt, IsFunctionExported, IsItemExported, IsServedAs, IsServedIn, IsShimGivenAt, IsShimGiven, ExportsShims, exports_of_shims, Serves, IsFilledWith, AreFilled, AreShimsFilled, main_module, IsPlanned, IsPlannedUser, IsMemoryOfMain, IsShimExported, IsReallocHeld, IsOptionHeld, function_at_key, IsRequiredAt, IsFunctionExport, IsAmong, IsInterfaceExport, IsItemExport, IsKeyExport, AreKeyExports, type_at_key, IsTypeAmong, IsTypeOfMemory, IsOwnTable, IsOwnIfTable, HasOwnTables, IsDestroyedBy, IsOwnResource, IsOwnIfDefined, AreResources, HasNumber}
 use Rattle.link_laws.proofs.Given.{by_parts, named_in_space}
 use Rattle.comp_links.proofs.Keys.{one_provider}
-use Rattle.link_laws.proofs.GivenImports.{purpose_opaque, one_purpose}
+use Rattle.link_laws.proofs.GivenImports.{of_purpose, purpose_opaque, one_purpose}
 use Rattle.link_laws.proofs.Plain.{nothing_in, no_hook, function_key}
 use Rattle.comp_worlds.specs.WorldContents.{exported_item}
 
@@ -166,6 +172,26 @@ module _ (w : ComponentWorld) (ok : IsWorld w) (m : Machine) where
 
 -- ---- shims
 
+-- a name of digits is none of the names of the cell's functions
+no_getter : IsTrue (list_all is_digit getter_name) → ⊥
+no_getter e = true≢false (sym e)
+
+no_setter : IsTrue (list_all is_digit setter_name) → ⊥
+no_setter e = true≢false (sym e)
+
+no_cell_name : (first : ℕ) (name : List ℕ) (function : ℕ) → IsTrue (list_all is_digit name) → IsCellFunction first name function → ⊥
+no_cell_name first name function digits (inl h) = no_getter (subst (λ n. IsTrue (list_all is_digit n)) h.0 digits)
+no_cell_name first name function digits (inr h) = no_setter (subst (λ n. IsTrue (list_all is_digit n)) h.0 digits)
+
+-- so a shim is at a place
+pub shim_place : (w : ComponentWorld) (m : Machine) (at : ShimsAt) (address : ℕ) (s : IsShim w m address) → s.made.exports ≡ exports_of_shims w at → (place : ℕ) × (place < length (shims_of w)) × (address ≡ at.address + place)
+shim_place w m at address s exports =
+    by ((shims_found (shims_of w) at.address at.table at.memory (cell_type w)).listed s.name address (subst (λ es. Contains es (exported_function s.name address)) exports s.exported))
+  where
+    by : ((place : ℕ) × (place < length (shims_of w)) × (address ≡ at.address + place)) ⊎ IsCellFunction (at.address + length (shims_of w)) s.name address → (place : ℕ) × (place < length (shims_of w)) × (address ≡ at.address + place)
+    by (inl own) = own
+    by (inr other) = absurd (no_cell_name (at.address + length (shims_of w)) s.name address s.numbered other)
+
 -- what holds of each entry holds of the one at a place
 entry_at : {X : Type 0} (P : X → Type 0) (xs : List X) (n : ℕ) (x : X) → AllByRecursion P xs → slice_get xs n ≡ Some x → P x
 entry_at P [] n x h e = absurd (none-some x e)
@@ -219,8 +245,7 @@ module _ (w : ComponentWorld) (ok : IsWorld w) (m : Machine) where
   shims_filled (Some at) filled address s =
       let shims : List Shim = shims_of w in
       let exports : s.made.exports ≡ exports_of_shims w at = entry_at (ExportsShims w (Some at)) m.store.module_instances s.instance s.made filled.3 s.present s.of in
-      let own : (place : ℕ) × (place < length shims) × (address ≡ at.address + place) =
-      (shims_found shims at.address at.table at.memory).listed s.name address (subst (λ es. Contains es (record { space = spaces.CoreFunc; name = s.name; address = address })) exports s.exported) in
+      let own : (place : ℕ) × (place < length shims) × (address ≡ at.address + place) = shim_place w m at address s exports in
       let place : ℕ = own.0 in
       let listed : (shim : Shim) × (slice_get shims place ≡ Some shim) = there shims place own.1 in
       let shim : Shim = listed.0 in
@@ -251,7 +276,7 @@ module _ (w : ComponentWorld) (ok : IsWorld w) (m : Machine) where
       let exports : h.instance.exports ≡ exports_of_shims w at = entry_at (ExportsShims w (Some at)) m.store.module_instances h.user h.instance filled.3 h.present h.of in
       let shim : ℕ → Export = λ n. record { space = spaces.CoreFunc; name = decimal h.place; address = n } in
       let found : export_named (decimal h.place) (exports_of_shims w at) ≡ Some (shim (at.address + h.place)) =
-      (shims_found (shims_of w) at.address at.table at.memory).found h.place (slice_get_within (shims_of w) h.place h.stands.shim h.stands.listed) filled.2 in
+      (shims_found (shims_of w) at.address at.table at.memory (cell_type w)).found h.place (slice_get_within (shims_of w) h.place h.stands.shim h.stands.listed) filled.2 in
       let same : shim (at.address + h.place) ≡ shim address = same_Some (shim (at.address + h.place)) (shim address) (sym found ∙ (ap (export_named (decimal h.place)) (sym exports) ∙ h.exported)) in
       record { place = h.place; stands = h.stands; is = sym (ap (λ (e : Export). e.address) same) }
 
@@ -290,6 +315,16 @@ module _ (w : ComponentWorld) (ok : IsWorld w) (m : Machine) (shims : Option Shi
 
 -- ---- imports
 
+-- a target that is no function of the cell, as none is that a shim stands for
+abbrev IsNoCell : Target → Type 0
+IsNoCell TlsGet = ⊥
+IsNoCell TlsSet = ⊥
+IsNoCell target = Unit {0}
+
+no_cell_given : (w : ComponentWorld) (shims : Option ShimsAt) (address : ℕ) (target : Target) → IsShimGiven w shims address target → IsNoCell target
+no_cell_given w None address target h = absurd h
+no_cell_given w (Some at) address target h = subst IsNoCell h.stands.same (of_purpose IsNoCell (λ function options. tt) (λ e. tt) w h.stands.shim h.stands.purpose h.stands.stands_for)
+
 module _ (w : ComponentWorld) (ok : IsWorld w) (m : Machine) (shims : Option ShimsAt) (filled : FilledAtEnd w ok m shims) where
   import_meets : (address at : ℕ) (function : WorldFunction) (options : List TargetOption) (h : IsLoweredFor w m.store at function options) → Forwards w ok m address at (core_signature h.type h.held) → CoreMeets w m None address (ItemIsLowering w m (resource_of w) function options)
   import_meets address at function options h same =
@@ -319,19 +354,21 @@ module _ (w : ComponentWorld) (ok : IsWorld w) (m : Machine) (shims : Option Shi
   built_in_meets address at intrinsic h same = forwarding_meets w ok m None address at h.type (IntrinsicOf intrinsic) (ItemIsBuiltIn intrinsic) same h.is refl
 
   -- a function meets what another one is, where it forwards to that
-  function_meets_as : (t : Thing) (at : ℕ) (target : Target) → t.space ≡ spaces.CoreFunc → ((type : FuncType) (item : CoreItem) → IsOpaqueOf m.store at type item → Forwards w ok m t.address at type) → IsServedAs w m.store at target → Meets w m (resource_of w) t target
-  function_meets_as t at (Lowered function options) space same h =
+  function_meets_as : (t : Thing) (at : ℕ) (target : Target) → IsNoCell target → t.space ≡ spaces.CoreFunc → ((type : FuncType) (item : CoreItem) → IsOpaqueOf m.store at type item → Forwards w ok m t.address at type) → IsServedAs w m.store at target → Meets w m (resource_of w) t target
+  function_meets_as t at (Lowered function options) other space same h =
       subst (λ space. MeetsIn w m (resource_of w) space t.address (Lowered function options)) (sym space)
       (import_meets t.address at function options h (same (core_signature h.type h.held) (Lowering h.lowered.of h.held) h.lowered.is))
-  function_meets_as t at (OfResource function id) space same h =
+  function_meets_as t at (OfResource function id) other space same h =
       subst (λ space. MeetsIn w m (resource_of w) space t.address (OfResource function id)) (sym space)
       (resource_meets t.address at function id h (same (resource_core function) (IntrinsicOf (intrinsic_of function h.of)) h.is))
-  function_meets_as t at (BuiltIn intrinsic) space same h =
+  function_meets_as t at (BuiltIn intrinsic) other space same h =
       subst (λ space. MeetsIn w m (resource_of w) space t.address (BuiltIn intrinsic)) (sym space) (built_in_meets t.address at intrinsic h (same h.type (IntrinsicOf intrinsic) h.is))
-  function_meets_as t at (ExportOf export_ref) space same h =
+  function_meets_as t at (ExportOf export_ref) other space same h =
       subst (λ space. MeetsIn w m (resource_of w) space t.address (ExportOf export_ref)) (sym space)
       (export_meets w ok m None t.address at export_ref h (same h.type (ExportedBy h.user export_ref.name) h.is))
-  function_meets_as t at target space same h = absurd h
+  function_meets_as t at TlsGet other space same h = absurd other
+  function_meets_as t at TlsSet other space same h = absurd other
+  function_meets_as t at target other space same h = absurd h
 
   -- ---- the resources that the component defines
 
@@ -387,45 +424,79 @@ module _ (w : ComponentWorld) (ok : IsWorld w) (m : Machine) (shims : Option Shi
   global_met address (ExportOf export_ref) h = exported_meets spaces.CoreGlobal refl address export_ref h
   global_met address target h = absurd h
 
-  item_meets : (space : Space) (address : ℕ) (target : Target) → IsServedIn w m.store space address target → MeetsIn w m (resource_of w) space address target
-  item_meets spaces.CoreFunc address target h = function_meets_as (record { space = spaces.CoreFunc; address = address }) address target refl (λ type item o. forwards_itself w ok m address type item o) h
-  item_meets spaces.CoreTable address target h = table_met address target h
-  item_meets spaces.CoreMemory address target h = memory_met address target h
-  item_meets spaces.CoreGlobal address target h = global_met address target h
-  item_meets space address target h = absurd h
+  -- what the link table names is an opaque function, or one of the cell
+  served_direct : (address : ℕ) (target : Target) → IsServedAs w m.store address target → IsDirect m address target
+  served_direct address (Lowered function options) h = record { what = h.lowered.is.what; signature = core_signature h.type h.held; is = h.lowered.is.present }
+  served_direct address (OfResource function id) h = record { what = h.is.what; signature = resource_core function; is = h.is.present }
+  served_direct address (BuiltIn intrinsic) h = record { what = h.is.what; signature = h.type; is = h.is.present }
+  served_direct address (ExportOf export_ref) h = record { what = h.is.what; signature = h.type; is = h.is.present }
+  served_direct address TlsGet h = tt
+  served_direct address TlsSet h = tt
+  served_direct address target h = absurd h
 
-  serves_meets : (t : Thing) (target : Target) → Serves w shims m.store t.space t.address target → Meets w m (resource_of w) t target
-  serves_meets t target (inl h) = item_meets t.space t.address target h
-  serves_meets t target (inr h) =
-      let x : ForwardsFor w ok m t.address target = given_forwards w ok m shims filled t.address target h.1 in
-      function_meets_as t x.function target h.0 x.same x.serves
+  -- with the base in a cell
+  module _ (base : BaseIn (cell_made w m.store.module_instances) m.now.globals) where
+    cell_there : (type : ValType) → cell_type w ≡ Some type → {user : ℕ} → IsInstance m.store user (shims_number w) → (value : Value) × IsBase m.now.globals 0 type value
+    cell_there type named {user} made =
+        let here : cell_made w m.store.module_instances ≡ Some type = made_at w m.store.module_instances user made.instance made.present made.of ∙ named in
+        let held : BaseIn (Some type) m.now.globals = subst (λ o. BaseIn o m.now.globals) here base in
+        (held.0, is_base type held.0 m.now.globals (subst IsOfAddresses named (cell_addresses w ok)) held.1)
 
-  -- what the link table names is an opaque function
-  served_opaque : (address : ℕ) (target : Target) → IsServedAs w m.store address target → IsOpaque m address
-  served_opaque address (Lowered function options) h = record { what = h.lowered.is.what; signature = core_signature h.type h.held; is = h.lowered.is.present }
-  served_opaque address (OfResource function id) h = record { what = h.is.what; signature = resource_core function; is = h.is.present }
-  served_opaque address (BuiltIn intrinsic) h = record { what = h.is.what; signature = h.type; is = h.is.present }
-  served_opaque address (ExportOf export_ref) h = record { what = h.is.what; signature = h.type; is = h.is.present }
-  served_opaque address target h = absurd h
+    getter_meets : (address : ℕ) → IsCellGetter w m.store address → IsOfBase m address ReadsCell
+    getter_meets address h =
+        let held : (value : Value) × IsBase m.now.globals 0 h.type value = cell_there h.type h.named h.instance in
+        record {
+          cell = 0;
+          type = h.type;
+          value = held.0;
+          is = held.1;
+          does = λ store same. getters_read store h.type 0 address (record { frame = h.is.frame; local = h.is.local; has = same ∙ h.is.has; names = h.is.names });
+        }
 
-  planned_served : (of : WorldModule) (t : Thing) (i : ImportType) → IsPlanned w shims m.store of t i → IsServed w m (resource_of w) of t i
-  planned_served of t i h = record {
-    target = h.target;
-    said = h.said;
-    meets = serves_meets t h.target h.serves;
-    direct = λ none function. served_opaque t.address h.target (subst (λ space. IsServedIn w m.store space t.address h.target) function (h.direct none));
-  }
+    setter_meets : (address : ℕ) → IsCellSetter w m.store address → IsOfBase m address WritesCell
+    setter_meets address h =
+        let held : (value : Value) × IsBase m.now.globals 0 h.type value = cell_there h.type h.named h.instance in
+        record {
+          cell = 0;
+          type = h.type;
+          value = held.0;
+          is = held.1;
+          does = λ store same. setters_write store h.type 0 address (record { frame = h.is.frame; local = h.is.local; has = same ∙ h.is.has; names = h.is.names });
+        }
 
-  instance_served : (i : ModuleInstance) (of : WorldModule) → slice_get (user_modules w) i.module_number ≡ Some of → IsPlannedUser w shims m.store i → AreServed w m (resource_of w) of i
-  instance_served i of listed h = AllZip-weaker (planned_served of) i.given of.found.imported (h of listed)
+    item_meets : (space : Space) (address : ℕ) (target : Target) → IsServedIn w m.store space address target → MeetsIn w m (resource_of w) space address target
+    item_meets spaces.CoreFunc address TlsGet h = getter_meets address h
+    item_meets spaces.CoreFunc address TlsSet h = setter_meets address h
+    item_meets spaces.CoreFunc address target h = function_meets_as (record { space = spaces.CoreFunc; address = address }) address target tt refl (λ type item o. forwards_itself w ok m address type item o) h
+    item_meets spaces.CoreTable address target h = table_met address target h
+    item_meets spaces.CoreMemory address target h = memory_met address target h
+    item_meets spaces.CoreGlobal address target h = global_met address target h
+    item_meets space address target h = absurd h
 
-  -- each import of a user module is served
-  pub users_served : AllByRecursion (IsPlannedUser w shims m.store) m.store.module_instances → UsersServed w m (resource_of w)
-  users_served all = record { resources = same_resources (component_types w ++ own_resources w); each = λ instance i of present listed. instance_served i of listed (entry_at (IsPlannedUser w shims m.store) m.store.module_instances instance i all present) }
-    where
-      same_resources : (ts : List TypeId) → AllByRecursion (λ id. resource_of w id ≡ resource_of w id) ts
-      same_resources [] = tt
-      same_resources (t ∷ ts) = (refl, same_resources ts)
+    serves_meets : (t : Thing) (target : Target) → Serves w shims m.store t.space t.address target → Meets w m (resource_of w) t target
+    serves_meets t target (inl h) = item_meets t.space t.address target h
+    serves_meets t target (inr h) =
+        let x : ForwardsFor w ok m t.address target = given_forwards w ok m shims filled t.address target h.1 in
+        function_meets_as t x.function target (no_cell_given w shims t.address target h.1) h.0 x.same x.serves
+
+    planned_served : (of : WorldModule) (t : Thing) (i : ImportType) → IsPlanned w shims m.store of t i → IsServed w m (resource_of w) of t i
+    planned_served of t i h = record {
+      target = h.target;
+      said = h.said;
+      meets = serves_meets t h.target h.serves;
+      direct = λ none function. served_direct t.address h.target (subst (λ space. IsServedIn w m.store space t.address h.target) function (h.direct none));
+    }
+
+    instance_served : (i : ModuleInstance) (of : WorldModule) → slice_get (user_modules w) i.module_number ≡ Some of → IsPlannedUser w shims m.store i → AreServed w m (resource_of w) of i
+    instance_served i of listed h = AllZip-weaker (planned_served of) i.given of.found.imported (h of listed)
+
+    -- each import of a user module is served
+    pub users_served : AllByRecursion (IsPlannedUser w shims m.store) m.store.module_instances → UsersServed w m (resource_of w)
+    users_served all = record { resources = same_resources (component_types w ++ own_resources w); each = λ instance i of present listed. instance_served i of listed (entry_at (IsPlannedUser w shims m.store) m.store.module_instances instance i all present) }
+      where
+        same_resources : (ts : List TypeId) → AllByRecursion (λ id. resource_of w id ≡ resource_of w id) ts
+        same_resources [] = tt
+        same_resources (t ∷ ts) = (refl, same_resources ts)
 
 -- ---- tables
 

@@ -21,7 +21,7 @@ use Rattle.comp_links.specs.Lists.{RootFunction, import_entries}
 use Rattle.comp_runs.specs.Store.{Lowering}
 use Rattle.comp_runs.specs.Machine.{Machine}
 use Rattle.link_laws.specs.Meeting.{CoreMeets, ItemIsLowering, IsImport, Meets}
-use Rattle.link_laws.specs.Linking.{outcome, IsOpaque, IsServed, IsLinked}
+use Rattle.link_laws.specs.Linking.{outcome, IsOpaque, IsDirect, IsServed, IsLinked}
 use Rattle.link_laws.proofs.Worked.{plain_core}
 use Rattle.link_laws.proofs.Worked.{machine_of, core_function}
 use Rattle.link_laws.proofs.Stores.{main_module}
@@ -48,7 +48,7 @@ first_import = record { module_name = root; field = f; ty = externs.Func plain_c
 -- the shim is generated code, and a call of f needs no memory, so that it has no shim
 given_a_shim : (number : ℕ) (rest : List Answer) (origins : TypeId → Resource) → IsServed world (end number rest) origins (main_module world) (core_function 0) first_import → ⊥
 given_a_shim number rest origins s =
-    let o : IsOpaque (end number rest) 0 = s.direct refl refl in
+    let o : IsOpaque (end number rest) 0 = subst (IsDirect (end number rest) 0) (same_Some s.target (Lowered (OfRoot f) []) (sym s.said)) (s.direct refl refl) in
     let same : 1 ≡ 0 = ap code_of (same_Some (shim_function 0) (Opaque o.what o.signature) o.is) in
     absurd (omega (arith, same))
 

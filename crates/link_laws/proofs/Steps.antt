@@ -44,11 +44,13 @@ use Rattle.nested_terms.specs.Nested.{type_named}
 use Rattle.comp_inventories.specs.Inventories.{Inventory, OfInstances, InstanceEntry, Denoting, ImportedInstance, NestedInstance, OtherInstance, entry_tree, no_type, type_if_named, type_of_instance, function_of_instance, instance_imported, types_made, functions_made, instances_made, imports_made, resources_made, surroundings_of, inventory, scope_of}
 use Rattle.comp_trees.specs.Members.{AreMembersRight}
 use Rattle.core_types.specs.declared.types.MemoryType.{MemoryType}
+use Rattle.comp_terms.proofs.HasShims.{has_by_place, has_by_shared, has_by_cell}
 use Rattle.comp_terms.specs.Generated.{shims_number}
 use Rattle.comp_worlds.specs.Offered.{shared_memory}
 use Rattle.comp_terms.specs.Terms.{IsInstanceOf, IsResource, intrinsic_of, imports_in}
 use Rattle.world_shims.specs.WorldShims.{shims_of}
-use Rattle.shim_runs.specs.ShimRuns.{memory_at}
+use Rattle.shim_modules.specs.Shims.{getter_name, setter_name}
+use Rattle.shim_runs.specs.ShimRuns.{exported_function, memory_at}
 use Rattle.shim_runs.proofs.Exported.{shims_found}
 use Rattle.comp_roles.specs.CoreTypes.{core_type}
 use Rattle.comp_trees.specs.Flattening.{tree_signature}
@@ -57,6 +59,7 @@ use Rattle.comp_inventories.proofs.Inventories.{inventory-push}
 use Rattle.core_types.specs.declared.types.FuncType.{FuncType}
 use Rattle.core_types.specs.declared.types.GlobalType.{GlobalType}
 use Rattle.core_types.specs.declared.types.ValType.{ValType}
+use Rattle.comp_worlds.specs.Bases.{cell_type}
 use Rattle.comp_worlds.specs.declared.world.ComponentWorld.{ComponentWorld}
 use Rattle.core_runs.specs.Instances.{there_is, type_of}
 use Rattle.core_runs.specs.Store.{Opaque, Event, Cell, Now}
@@ -69,7 +72,7 @@ use Rattle.comp_roles.specs.Matching.{kind_of}
 use Rattle.comp_roles.specs.declared.offered.ExternType.{ExternType}
 use Rattle.comp_roles.specs.declared.offered.ExternType.TheVariants as externs
 use Rattle.comp_roles.specs.declared.offered.ImportType.{ImportType}
-use Rattle.comp_terms.specs.Rules.{AliasesUser, AliasesShim, AliasesMemory, IsEntry, AreEntries, AliasesImported, AliasesNested, AliasesType as MayAliasType, HasFunctionType, HasResource, HasOwnResource, HasImportedFunction, IsOptionRight, IsTypeRight, IsDestructorRight, DefinesResource, IsItemRight}
+use Rattle.comp_terms.specs.Rules.{AliasesUser, AliasesShim, AliasesMemory, AliasesCell, IsEntry, AreEntries, AliasesImported, AliasesNested, AliasesType as MayAliasType, HasFunctionType, HasResource, HasOwnResource, HasImportedFunction, IsOptionRight, IsTypeRight, IsDestructorRight, DefinesResource, IsItemRight}
 use Rattle.comp_runs.specs.Machine.{Scope, Machine, with_some, address_at, is_of, export_named, all_some, with_opaque}
 use Rattle.comp_runs.specs.Instances.{matching, argument_for, given_to, type_scope, known_function, type_item}
 use Rattle.comp_runs.specs.Signatures.{is_async, core_signature, intrinsic_signature}
@@ -85,7 +88,7 @@ use Rattle.link_laws.proofs.Zips.{all_some-self}
 use Rattle.link_laws.proofs.Outcomes.{AgreesWith, machine, no_answers, quiet, Steps}
 use Rattle.link_laws.proofs.BuiltIns.{plain_addressed, plain_signature, item_plain}
 use Rattle.link_laws.proofs.Stores.{IsSeen, expected_of, expects, IsOpaqueOf, IsUserItem, IsUserExport, IsUserInstance, ShimsAt, exports_of_shims, HasSharedMemory, IsModuleInstance, IsNamedEntry, ExportsShims, AreShims, MayHaveShims, IsTypeAt, resource_core, IsResourceItem, IsPlainItem, DefIs, Means, makes, IsTypeEntry, entry_of, IsFunctionEntry, IsInstanceThing, IsPlannedUser, IsAliasedItem, IsHeldOption, NumberedFrom, HasGlobals, HasOwnTables, Agrees, AreKeyExports, IsShimGiven, IsDestroyedBy, IsOwnResource, AreResources}
-use Rattle.link_laws.proofs.Given.{has_by_place, has_by_shared, of_shims, module_there, address_there, all_held, scope_there, entry_there, held_there, type_there, instance_type_there, instance_there, imported_there, user_there, space_of_kind, offered_there, shim_there}
+use Rattle.link_laws.proofs.Given.{of_shims, module_there, address_there, all_held, scope_there, entry_there, held_there, type_there, instance_type_there, instance_there, imported_there, user_there, space_of_kind, offered_there, shim_there}
 use Rattle.link_laws.proofs.Plain.{only}
 use Rattle.link_laws.proofs.Kept.{AreSeen-kept, sizes_kept, ShimsKept, shims_same, MayHaveShims-kept, keeps_all, IsHeldOption-kept, Keeps, address_at-append, things_kept, keeps_store, keeps_type, keeps_function, keeps_opaque, keeps_core_instance, keeps_module, Means-kept, IsTypeEntry-kept, IsFunctionEntry-kept, IsInstanceThing-kept, IsPlannedUser-kept, AreKeyExports-kept, AreResources-more, AreResources-push}
 
@@ -330,7 +333,7 @@ module _ {w : ComponentWorld} {earlier : List Def} {c : Scope} {s : Store} {g : 
     with_thing c t count,
     s',
     g,
-    quiet w gen d c s g (with_thing c t count) s' same,
+    quiet w gen d c s g (with_thing c t count) s' (sym users) same,
     agrees_with d (with_thing c t count) s' g t a.shims (shims_same a.shims) refl keeps means made
         (rw (filter-push (is_of spaces.CoreModule) false c.items t other, modules) a.modules)
         (rw (users, none) (sym (append-nil (map (λ (u : ModuleInstance). u.module_number) s.module_instances))))
@@ -677,7 +680,7 @@ module _ {w : ComponentWorld} {earlier : List Def} {c : Scope} {s : Store} {g : 
       let at : (at : ShimsAt) × (a.shims ≡ Some at) × (m.2.exports ≡ exports_of_shims w at) × (length (shims_of w) < 2 ^ 32) =
       of_shims w s (flat_map (at_root item_instantiates) earlier) m.2.user m.2.exports a.shims (has_by_place w h.place h.listed) a.with_shims m.2.each in
       let shim : Export = record { space = spaces.CoreFunc; name = decimal h.place; address = at.0.address + h.place } in
-      let there : export_named name m.2.exports ≡ Some shim = ap₂ export_named h.named at.2 ∙ (shims_found (shims_of w) at.0.address at.0.table at.0.memory).found h.place h.listed at.3 in
+      let there : export_named name m.2.exports ≡ Some shim = ap₂ export_named h.named at.2 ∙ (shims_found (shims_of w) at.0.address at.0.table at.0.memory (cell_type w)).found h.place h.listed at.3 in
       record {
         export = shim;
         space = refl;
@@ -694,7 +697,7 @@ module _ {w : ComponentWorld} {earlier : List Def} {c : Scope} {s : Store} {g : 
       let made : AreShims w s numbers at.0 = subst (MayHaveShims w s numbers) at.1 a.with_shims in
       let held : (y : ℕ) × (at.0.memory ≡ Some y) = shared_address s (shared_memory w) at.0.memory h.shared made.memory in
       let there : export_named name m.2.exports ≡ Some (memory_at held.0) =
-      ap₂ export_named h.named at.2 ∙ ((shims_found (shims_of w) at.0.address at.0.table at.0.memory).memory_named at.3 ∙ ap (option_map memory_at) held.1) in
+      ap₂ export_named h.named at.2 ∙ ((shims_found (shims_of w) at.0.address at.0.table at.0.memory (cell_type w)).memory_named at.3 ∙ ap (option_map memory_at) held.1) in
       record {
         export = memory_at held.0;
         space = refl;
@@ -702,14 +705,39 @@ module _ {w : ComponentWorld} {earlier : List Def} {c : Scope} {s : Store} {g : 
         found = there;
       }
 
+  -- and one of a function of the cell
+  cell_found : (instance : ℕ) (name : List ℕ) → AliasesCell w earlier kinds.Func instance name → FindsExport w earlier c s kinds.Func instance name
+  cell_found instance name h =
+      let m : (x : ℕ) × (address_at spaces.CoreInstance instance c.items ≡ Some x) × IsModuleInstance w a.shims s (shims_number w) x = module_there a h.is in
+      let at : (at : ShimsAt) × (a.shims ≡ Some at) × (m.2.exports ≡ exports_of_shims w at) × (length (shims_of w) < 2 ^ 32) =
+      of_shims w s (flat_map (at_root item_instantiates) earlier) m.2.user m.2.exports a.shims (has_by_cell w h.there) a.with_shims m.2.each in
+      let type : (t : ValType) × (cell_type w ≡ Some t) = some_of (cell_type w) h.there in
+      let f : (address : ℕ) × (export_named name (exports_of_shims w at.0) ≡ Some (exported_function name address)) = by at.0 type.0 type.1 at.3 name h.named in
+      let there : export_named name m.2.exports ≡ Some (exported_function name f.0) = ap (export_named name) at.2 ∙ f.1 in
+      record {
+        export = exported_function name f.0;
+        space = refl;
+        is = record { number = shims_number w; of = h.is; names = inr refl; from = m.0; exports = m.2.exports; export = exported_function name f.0; at = m.1; present = m.2.present; found = there; is = refl };
+        found = there;
+      }
+    where
+      by : (at : ShimsAt) (type : ValType) → cell_type w ≡ Some type → length (shims_of w) < 2 ^ 32 → (name : List ℕ) → (name ≡ getter_name) ⊎ (name ≡ setter_name) → (address : ℕ) × (export_named name (exports_of_shims w at) ≡ Some (exported_function name address))
+      by at type is room name (inl named) =
+          let first : ℕ = at.address + length (shims_of w) in
+          (first, subst (λ n. export_named n (exports_of_shims w at) ≡ Some (exported_function n first)) (sym named) ((shims_found (shims_of w) at.address at.table at.memory (cell_type w)).getter_named room type is))
+      by at type is room name (inr named) =
+          let first : ℕ = at.address + length (shims_of w) in
+          (first + 1, subst (λ n. export_named n (exports_of_shims w at) ≡ Some (exported_function n (first + 1))) (sym named) ((shims_found (shims_of w) at.address at.table at.memory (cell_type w)).setter_named room type is))
+
   -- an alias of what the module of shims exports
   abbrev pub AliasesGenerated : ExportKind → ℕ → List ℕ → Type 0
-  AliasesGenerated kind instance name = AliasesShim w earlier kind instance name ⊎ AliasesMemory w earlier kind instance name
+  AliasesGenerated kind instance name = AliasesShim w earlier kind instance name ⊎ AliasesMemory w earlier kind instance name ⊎ AliasesCell w earlier kind instance name
 
   alias_found : (kind : ExportKind) (instance : ℕ) (name : List ℕ) → AliasesUser w earlier kind instance name ⊎ AliasesGenerated kind instance name → FindsExport w earlier c s kind instance name
   alias_found kind instance name (inl h) = user_found kind instance name h
   alias_found kind instance name (inr (inl h)) = subst (λ k. FindsExport w earlier c s k instance name) (sym h.function) (shim_found instance name (subst (λ k. AliasesShim w earlier k instance name) h.function h))
-  alias_found kind instance name (inr (inr h)) = subst (λ k. FindsExport w earlier c s k instance name) (sym h.memory) (memory_found instance name (subst (λ k. AliasesMemory w earlier k instance name) h.memory h))
+  alias_found kind instance name (inr (inr (inl h))) = subst (λ k. FindsExport w earlier c s k instance name) (sym h.memory) (memory_found instance name (subst (λ k. AliasesMemory w earlier k instance name) h.memory h))
+  alias_found kind instance name (inr (inr (inr h))) = subst (λ k. FindsExport w earlier c s k instance name) (sym h.function) (cell_found instance name (subst (λ k. AliasesCell w earlier k instance name) h.function h))
 
   -- the same, in a scope with one item more
   aliased_item : (kind : ExportKind) (instance : ℕ) (name : List ℕ) (f : FindsExport w earlier c s kind instance name) (d : Def) (t : Thing) → IsAliasedItem w (earlier ++ d ∷ []) (c.items ++ t ∷ []) s kind instance name f.export.address
@@ -761,7 +789,7 @@ module _ {w : ComponentWorld} {earlier : List Def} {c : Scope} {s : Store} {g : 
         with_thing c t c.imports,
         s',
         g,
-        quiet w gen d c s g (with_thing c t c.imports) s' (λ rest now. refl),
+        quiet w gen d c s g (with_thing c t c.imports) s' refl (λ rest now. refl),
         agrees_with d (with_thing c t c.imports) s' g t a.shims (shims_same a.shims) refl k (record { space = refl; is = tt }) (tt, tt, tt)
             (rw (filter-push (is_of spaces.CoreModule) true c.items t refl, length-append s.core_modules (bytes ∷ []), add-one (length s.core_modules)) (consecutive-push 0 (filter (is_of spaces.CoreModule) c.items) (length s.core_modules) t a.modules refl))
             (sym (append-nil (map (λ (u : ModuleInstance). u.module_number) s.module_instances)))
@@ -785,7 +813,7 @@ module _ {w : ComponentWorld} {earlier : List Def} {c : Scope} {s : Store} {g : 
         c,
         s,
         g,
-        quiet w gen d c s g c s (λ rest now. refl),
+        quiet w gen d c s g c s refl (λ rest now. refl),
         record {
           events = sym (append-nil a.events);
           agrees = record {

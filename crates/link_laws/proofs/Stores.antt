@@ -36,21 +36,23 @@ use Rattle.comp_roles.specs.CoreTypes.{function_type}
 use Rattle.comp_roles.specs.declared.offered.ExternType.{ExternType}
 use Rattle.comp_roles.specs.declared.offered.ExternType.TheVariants as externs
 use Rattle.comp_roles.specs.declared.offered.ImportType.{ImportType}
+use Rattle.comp_worlds.specs.Bases.{cell_type}
 use Rattle.comp_worlds.specs.WorldContents.{exported_item, function_exported}
 use Rattle.comp_worlds.specs.declared.world.ComponentWorld.{ComponentWorld}
-use Rattle.comp_links.specs.Targets.{Main, ExportRef, WorldFunction, TargetOption, ResourceFunction, New, Rep, Drop, Target, Lowered, ExportOf, MainMemory, OfResource, BuiltIn}
+use Rattle.comp_links.specs.Targets.{Main, ExportRef, WorldFunction, TargetOption, ResourceFunction, New, Rep, Drop, Target, Lowered, ExportOf, MainMemory, OfResource, BuiltIn, TlsGet, TlsSet}
 use Rattle.comp_links.specs.Targets as targets
 use Rattle.comp_links.specs.Modules.{WorldModule, user_modules, IsModule}
 use Rattle.comp_links.specs.Lists.{IsOriginOf, resource_of, RequiredKey, required_keys, RequiredFunction, functions_required, RequiredType, types_required, type_of_world, ProvidedType, provided_resources}
 use Rattle.comp_links.specs.Links.{core_name, lift_options, link_at, destructor_of}
 use Rattle.shim_plan.specs.declared.shims.Shim.{Shim}
 use Rattle.world_shims.specs.WorldShims.{shims_of}
-use Rattle.shim_runs.specs.ShimRuns.{AreShimsFrom, instance_exports}
+use Rattle.shim_runs.specs.ShimRuns.{AreShimsFrom, AreOfCell, instance_exports}
 use Rattle.comp_terms.specs.Generated.{has_shim_module, shims_number, fixup_number, Purpose, target_of, HasPurpose}
 use Rattle.comp_terms.specs.Shimmed.{has_shim_at}
 use Rattle.comp_worlds.specs.Offered.{shared_memory}
 use Rattle.comp_terms.specs.Terms.{CoreExport, IsInstanceOf, intrinsic_of, imports_in}
 use Rattle.comp_terms.specs.Planned.{main_memory, IsShimPlace, IsTypeOf, type_of_function}
+use Rattle.core_runs.specs.Cells.{IsGetter, IsSetter}
 use Rattle.core_runs.specs.Store.{Opaque, Event, Instantiated, Called}
 use Rattle.core_runs.specs.Instances.{empty_table}
 use Rattle.comp_runs.specs.Store.{Thing, Export, HeldOption, HeldEncoding, HeldMemory, HeldRealloc, HeldPostReturn, HeldAsync, HeldCallback, CoreItem, Lowering, IntrinsicOf, ExportedBy, Function, Imported, Lifting, TypeItem, TreeOf, OwnResource, item_tree, own_resources as resources_among, ModuleInstance, Store, ComponentItem}
@@ -122,7 +124,7 @@ pub record ShimsAt : Type 0 where
 
 -- what an instance of their module exports
 abbrev pub exports_of_shims : ComponentWorld → ShimsAt → List Export
-exports_of_shims w at = instance_exports (shims_of w) at.address at.table at.memory
+exports_of_shims w at = instance_exports (shims_of w) at.address at.table at.memory (cell_type w)
 
 -- what an instance of a module exports: of a user module, of the shims, or of the fixup
 pub record AreUserExports (w : ComponentWorld) (s : Store) (user number : ℕ) (exports : List Export) : Type 0 where
@@ -421,11 +423,29 @@ pub record IsBuiltInAt (s : Store) (address : ℕ) (intrinsic : Intrinsic) : Typ
   pub typed : plain_type intrinsic ≡ Some type
   pub is : IsOpaqueOf s address type (IntrinsicOf intrinsic)
 
+-- the core function reads the cell of the base, or sets it, and the instance of the shims is made: that
+-- is the first instance, and so its global is the first
+pub record IsCellGetter (w : ComponentWorld) (s : Store) (address : ℕ) : Type 0 where
+  pub type : ValType
+  pub named : cell_type w ≡ Some type
+  pub user : ℕ
+  pub instance : IsInstance s user (shims_number w)
+  pub is : IsGetter s.code type 0 address
+
+pub record IsCellSetter (w : ComponentWorld) (s : Store) (address : ℕ) : Type 0 where
+  pub type : ValType
+  pub named : cell_type w ≡ Some type
+  pub user : ℕ
+  pub instance : IsInstance s user (shims_number w)
+  pub is : IsSetter s.code type 0 address
+
 -- the core function is what the target names
 abbrev pub IsServedAs : ComponentWorld → Store → ℕ → Target → Type 0
 IsServedAs w s address (Lowered function options) = IsLoweredFor w s address function options
 IsServedAs w s address (OfResource function id) = IsFunctionOf s address function (resource_of w id)
 IsServedAs w s address (BuiltIn intrinsic) = IsBuiltInAt s address intrinsic
+IsServedAs w s address TlsGet = IsCellGetter w s address
+IsServedAs w s address TlsSet = IsCellSetter w s address
 IsServedAs w s address (ExportOf export_ref) = IsFunctionExported w s address export_ref
 IsServedAs w s address target = ⊥
 
@@ -504,6 +524,7 @@ pub record AreShims (w : ComponentWorld) (s : Store) (numbers : List ℕ) (at : 
   pub any : has_shim_module w ≡ true
   pub room : length (shims_of w) < 2 ^ 32
   pub made : AreShimsFrom s.code at.table 0 at.address (shims_of w)
+  pub of_cell : AreOfCell s.code (cell_type w) 0 (at.address + length (shims_of w))
   pub exported : AllByRecursion (ExportsShims w (Some at)) s.module_instances
   pub memory : HasSharedMemory s (shared_memory w) at.memory
   pub slotted : (shims_of w ≡ [] → ⊥) → HasTable s.code.tables at.table

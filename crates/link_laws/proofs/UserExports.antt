@@ -1,5 +1,5 @@
 -- What an instance of a user module adds to a machine: its exports, each at an address of its own.
-use Rattle.std.proofs.Common.{◌≡◌, ◌∙◌, ◌≤◌, ◌+◌, arith, length-append, Option, ℕ, List, [], ◌∷◌, ◌++◌, length, map, refl, sym, ap, ap₂, subst, Some, None}
+use Rattle.std.proofs.Common.{◌≡◌, ◌∙◌, ◌≤◌, ◌+◌, arith, append-nil, append_assoc, length-append, Option, ℕ, List, [], ◌∷◌, ◌++◌, length, map, refl, sym, ap, ap₂, subst, Some, None}
 use Rattle.std.proofs.lemmas.List.{map-append, length-map, length-replicate}
 use Rattle.std.specs.List.{slice_get, AllZip, AllByRecursion}
 use Rattle.comp_bytes.specs.declared.space.Space.TheVariants as spaces
@@ -13,6 +13,8 @@ use Rattle.comp_runs.specs.Store.{Export, CoreItem, ExportedBy, Store}
 use Rattle.comp_runs.specs.Machine.{Machine, with_opaque}
 use Rattle.comp_runs.specs.Instances.{ExportTypes, type_space, next_address, with_export, exported_by, with_exports}
 use Rattle.instance_laws.proofs.Held.{KeepsEntries, keeps_same, keeps_more, keeps_then, keeps_grown}
+use Rattle.link_laws.proofs.BaseHeld.{IsForeign, HasMore}
+use Rattle.link_laws.proofs.Zips.{AllByRecursion-join}
 use Rattle.link_laws.proofs.Stores.{IsUserItem, IsUserExport, IsGlobalTyped, HasGlobalType}
 
 -- a machine without its core code, its known items and its globals
@@ -98,6 +100,27 @@ module _ (user : ℕ) where
   same_exports ((name, type) ∷ es) m n a =
       ap₂ (λ address rest. record { space = type_space type; name = name; address = address } ∷ rest) (one_address type m n a)
       (same_exports es (with_export (ExportedBy user name) type m) (with_export (ExportedBy user name) type n) (one_alike (ExportedBy user name) type m n a))
+
+  -- ---- the globals that are added
+
+  one_foreign : (item : CoreItem) (type : ExternType) (m : Machine) → HasMore m.now.globals (with_export item type m).now.globals
+  one_foreign item (externs.Func type) m = record { more = []; grew = sym (append-nil m.now.globals); foreign = tt }
+  one_foreign item (externs.Table type) m = record { more = []; grew = sym (append-nil m.now.globals); foreign = tt }
+  one_foreign item (externs.Memory type) m = record { more = []; grew = sym (append-nil m.now.globals); foreign = tt }
+  one_foreign item (externs.Global type) m = record { more = Foreign (length m.store.known) type.val_type ∷ []; grew = refl; foreign = (tt, tt) }
+
+  -- they are the user module's
+  pub all_foreign : (es : ExportTypes) (m : Machine) → HasMore m.now.globals (with_exports user es m).now.globals
+  all_foreign [] m = record { more = []; grew = sym (append-nil m.now.globals); foreign = tt }
+  all_foreign ((name, type) ∷ es) m =
+      let next : Machine = with_export (ExportedBy user name) type m in
+      let first : HasMore m.now.globals next.now.globals = one_foreign (ExportedBy user name) type m in
+      let rest : HasMore next.now.globals (with_exports user es next).now.globals = all_foreign es next in
+      record {
+        more = first.more ++ rest.more;
+        grew = rest.grew ∙ (ap (λ l. l ++ rest.more) first.grew ∙ append_assoc m.now.globals first.more rest.more);
+        foreign = AllByRecursion-join IsForeign first.more rest.more first.foreign rest.foreign;
+      }
 
   -- ---- each export is there
 

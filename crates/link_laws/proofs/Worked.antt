@@ -60,6 +60,7 @@ use Rattle.comp_terms.specs.Rules.{IsBuilt}
 use Rattle.comp_runs.specs.Machine.{Machine, Outcome, Done, Trapped, Open, Stuck, new_core_function, resumed}
 use Rattle.comp_runs.specs.Instances.{ExportTypes, new_user}
 use Rattle.link_laws.specs.Linking.{outcome}
+use Rattle.link_laws.proofs.BaseRoles.{no_bases}
 use Rattle.link_laws.proofs.Stores.{main_module}
 use Rattle.link_laws.proofs.Steps.{no_modules}
 use Rattle.comp_runs.specs.Running.{fresh_machine}
@@ -418,7 +419,7 @@ wit_g = record { name = g; kind = Freestanding; params = []; result = None }
 pub keeps_the_rules : IsBuilt own_names one_each one_import_one_export
 keeps_the_rules = record {
   generated = record { shims = None; fixup = None };
-  are_generated = record { shims = refl; fixup = refl; room = omega arith };
+  are_generated = record { shims = refl; fixup = refl; room = omega arith; alike = no_bases one_each refl };
   front = one_import_one_export;
   names = [];
   whole = refl;

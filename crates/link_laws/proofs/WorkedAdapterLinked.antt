@@ -2,15 +2,19 @@
 -- imports crossed it isn't linked, nor with main's function in the place of one that the adapter
 -- has to provide.
 use Rattle.comp_links.specs.Naming.{own_names}
-use Rattle.std.proofs.Common.{◌≡◌, ◌<◌, ◌∙◌, ◌≤◌, ℕ, zero, suc, true≢false, List, [], ◌∷◌, refl, sym, ap, subst, Option, Some, None, arith}
+use Rattle.std.proofs.Common.{◌≡◌, ◌<◌, ◌∙◌, ◌≤◌, ◌++◌, ℕ, zero, suc, true≢false, List, [], ◌∷◌, refl, sym, ap, subst, Option, Some, None, arith}
 use Rattle.std.proofs.lemmas.Option.{none-some, same_Some}
-use Rattle.std.specs.List.{slice_get}
+use Rattle.std.proofs.lemmas.Grind.{flat_map-append}
+use Rattle.std.proofs.lemmas.List.Elements.{Contains-append_left}
+use Rattle.std.specs.Prelude.{Contains}
+use Rattle.std.specs.List.{slice_get, flat_map, AllByRecursion}
+use Rattle.comp_lists.proofs.Lists.{AllByRecursion-contains}
 use Rattle.comp_bytes.proofs.Worked.{g}
 use Rattle.core_runs.specs.declared.bracket.Bracketed.{Bracketed}
 use Rattle.core_runs.specs.declared.bracket.AfterHook.TheVariants.{Nothing}
 use Rattle.core_runs.specs.Hooks.{around}
 use Rattle.core_runs.specs.Values.{Value}
-use Rattle.core_runs.specs.Store.{Store as CodeStore, Opaque, Cell, Answer, Gives, Traps, Now, Outcome as CoreOutcome, Returned}
+use Rattle.core_runs.specs.Store.{Store as CodeStore, Opaque, Cell, Kept, Answer, Gives, Traps, Now, Outcome as CoreOutcome, Returned}
 use Rattle.core_runs.specs.Store as core
 use Rattle.core_runs.specs.Execution.{and_then, asked, exec, acts}
 use Rattle.core_runs.specs.Expected.{Known, expected}
@@ -24,13 +28,15 @@ use Rattle.comp_links.specs.Modules.{WorldModule, adapter_module, user_modules, 
 use Rattle.comp_bytes.specs.ItemIndices.{in_space}
 use Rattle.comp_runs.specs.Instances.{type_scope}
 use Rattle.link_laws.proofs.Kept.{none_at}
+use Rattle.link_laws.proofs.Zips.{contained}
 use Rattle.link_laws.proofs.ImportedTypes.{none_imported}
 use Rattle.comp_bytes.specs.declared.space.Space.TheVariants as spaces
 use Rattle.comp_runs.specs.Store.{Export, ExportedBy, Function, Lifting, ModuleInstance}
 use Rattle.comp_runs.specs.Machine.{Machine, Outcome, Done, Trapped, Open, Stuck}
-use Rattle.link_laws.specs.Composition.{IsComposed}
+use Rattle.comp_bytes.specs.declared.def.Def.{Def}
+use Rattle.link_laws.specs.Composition.{IsComposed, at_root, item_instantiates}
 use Rattle.link_laws.specs.Meeting.{ItemIsExport, CoreExportMeets, hooks_round, IsMainMemory, Meets, entry_kind}
-use Rattle.link_laws.specs.Linking.{outcome, ShimsFilled, AreTablesUntouched, questions, LetsRun, EndsAt, AreServed, IsServed, LiftMeets, IsProvided, IsLinked, Links}
+use Rattle.link_laws.specs.Linking.{outcome, ShimsFilled, AreTablesUntouched, questions, LetsRun, EndsAt, AreServed, IsServed, LiftMeets, IsProvided, IsLinked, IsAlone, Links}
 use Rattle.link_laws.proofs.Worked.{plain_core}
 use Rattle.link_laws.proofs.Steps.{no_modules}
 use Rattle.link_laws.proofs.Worked.{machine_of, core_function, h, k, a}
@@ -253,21 +259,26 @@ ends_linked = straight_is_linked 0 0 []
 abbrev SeesTwo : Machine → Type 0
 SeesTwo m = (n : ℕ) → slice_get m.now.moments (suc (suc n)) ≡ None
 
+-- there is no global, at the end and at each event
+record HasNoGlobal (m : Machine) : Type 0 where
+  none : m.now.globals ≡ []
+  never : AllByRecursion (λ (globals : List Cell). globals ≡ []) m.now.moments
+
 -- how a run with these answers may end
 abbrev IsRightEnd : List Answer → Outcome → Type 0
-IsRightEnd answers (Done m) = IsLinked own_names world no_modules m × SeesTwo m
-IsRightEnd answers (Trapped m) = (LetsRun (questions world) answers → ⊥) × SeesTwo m
-IsRightEnd answers (Open m) = (LetsRun (questions world) answers → ⊥) × SeesTwo m
+IsRightEnd answers (Done m) = IsLinked own_names world no_modules m × SeesTwo m × HasNoGlobal m
+IsRightEnd answers (Trapped m) = (LetsRun (questions world) answers → ⊥) × SeesTwo m × HasNoGlobal m
+IsRightEnd answers (Open m) = (LetsRun (questions world) answers → ⊥) × SeesTwo m × HasNoGlobal m
 IsRightEnd answers Stuck = ⊥
 
 runs : (answers : List Answer) → IsRightEnd answers (outcome world no_modules definitions answers)
-runs [] = (λ lets. lets, λ n. refl)
-runs (Traps ∷ rest) = (λ lets. lets, λ n. refl)
-runs (Gives (v ∷ vs) number ∷ rest) = (λ lets. true≢false (sym lets.0), λ n. refl)
-runs (Gives [] number ∷ []) = (λ lets. lets.1, λ n. refl)
-runs (Gives [] number ∷ Traps ∷ rest) = (λ lets. lets.1, λ n. refl)
-runs (Gives [] number ∷ Gives (v ∷ vs) number' ∷ rest) = (λ lets. true≢false (sym lets.1.0), λ n. refl)
-runs (Gives [] number ∷ Gives [] number' ∷ rest) = (straight_is_linked number number' rest, λ n. refl)
+runs [] = (λ lets. lets, (λ n. refl), record { none = refl; never = (refl, tt) })
+runs (Traps ∷ rest) = (λ lets. lets, (λ n. refl), record { none = refl; never = (refl, tt) })
+runs (Gives (v ∷ vs) number ∷ rest) = (λ lets. true≢false (sym lets.0), (λ n. refl), record { none = refl; never = (refl, tt) })
+runs (Gives [] number ∷ []) = (λ lets. lets.1, (λ n. refl), record { none = refl; never = (refl, (refl, tt)) })
+runs (Gives [] number ∷ Traps ∷ rest) = (λ lets. lets.1, (λ n. refl), record { none = refl; never = (refl, (refl, tt)) })
+runs (Gives [] number ∷ Gives (v ∷ vs) number' ∷ rest) = (λ lets. true≢false (sym lets.1.0), (λ n. refl), record { none = refl; never = (refl, (refl, tt)) })
+runs (Gives [] number ∷ Gives [] number' ∷ rest) = (straight_is_linked number number' rest, (λ n. refl), record { none = refl; never = (refl, (refl, tt)) })
 
 done : (answers : List Answer) (o : Outcome) → IsRightEnd answers o → LetsRun (questions world) answers → (m : Machine) × (o ≡ Done m)
 done answers (Done m) h lets = (m, refl)
@@ -275,16 +286,29 @@ done answers (Trapped m) h lets = absurd (h.0 lets)
 done answers (Open m) h lets = absurd (h.0 lets)
 done answers Stuck h lets = absurd h
 
-sees_two : (answers : List Answer) (m : Machine) (o : Outcome) → IsRightEnd answers o → EndsAt m o → SeesTwo m
-sees_two answers m (Done n) h e = subst SeesTwo e h.1
-sees_two answers m (Trapped n) h e = subst SeesTwo e h.1
-sees_two answers m (Open n) h e = subst SeesTwo e h.1
+sees_two : (answers : List Answer) (m : Machine) (o : Outcome) → IsRightEnd answers o → EndsAt m o → SeesTwo m × HasNoGlobal m
+sees_two answers m (Done n) h e = subst (λ (x : Machine). SeesTwo x × HasNoGlobal x) e (h.1, h.2)
+sees_two answers m (Trapped n) h e = subst (λ (x : Machine). SeesTwo x × HasNoGlobal x) e (h.1, h.2)
+sees_two answers m (Open n) h e = subst (λ (x : Machine). SeesTwo x × HasNoGlobal x) e (h.1, h.2)
 sees_two answers m Stuck h e = absurd h
+
+-- so none is kept
+none_kept : (globals : List Cell) → globals ≡ [] → IsAlone globals 0
+none_kept globals none other type value at number = absurd (none-some (Kept type value) (subst (λ (l : List Cell). slice_get l other ≡ Some (Kept type value)) none at))
 
 no_third : (m : Machine) (event : ℕ) (globals : List Cell) → SeesTwo m → 2 ≤ event → slice_get m.now.moments event ≡ Some globals → ⊥
 no_third m zero globals h late e = absurd (omega (arith, late))
 no_third m (suc zero) globals h late e = absurd (omega (arith, late))
 no_third m (suc (suc n)) globals h late e = none-some globals (sym (h n) ∙ e)
+
+-- nor is there an instance of a third module
+no_third_module : (before after : List Def) → definitions ≡ before ++ after → Contains (flat_map (at_root item_instantiates) before) 2 → ⊥
+no_third_module before after split there =
+    let all : List ℕ = flat_map (at_root item_instantiates) definitions in
+    let whole : Contains all 2 =
+    subst (λ l. Contains l 2) (sym (ap (flat_map (at_root item_instantiates)) split ∙ flat_map-append (at_root item_instantiates) before after)) (Contains-append_left (flat_map (at_root item_instantiates) before) (flat_map (at_root item_instantiates) after) 2 there) in
+    let below : 2 < 2 = AllByRecursion-contains (λ n. n < 2) all 2 (omega arith, (omega arith, tt)) whole in
+    absurd (omega (arith, below))
 
 pub straight_links : Links own_names world no_modules definitions
 straight_links = record {
@@ -294,7 +318,15 @@ straight_links = record {
   types = λ answers m e. none_imported (in_space spaces.Type definitions) (type_scope m) (λ tree. refl, tt);
   traps_before = record { each = λ before after split unfixed present. absurd (true≢false (sym present)) };
   served_throughout = record {
-    each = λ answers m e event globals late found. absurd (no_third m event globals (sees_two answers m (outcome world no_modules definitions answers) (runs answers) e) late found);
+    each = λ answers m e event globals late found. absurd (no_third m event globals (sees_two answers m (outcome world no_modules definitions answers) (runs answers) e).0 late found);
+  };
+  one_base = record {
+    cell = 0;
+    at_end = λ answers m e. none_kept m.now.globals (subst (IsRightEnd answers) e (runs answers)).2.none;
+    throughout = λ answers m e event globals at.
+        let all = (sees_two answers m (outcome world no_modules definitions answers) (runs answers) e).1.never in
+        none_kept globals (AllByRecursion-contains (λ (g : List Cell). g ≡ []) m.now.moments globals all (contained m.now.moments event globals at));
+    zero_first = λ before after split there answers m e unseen type value base. absurd (no_third_module before after split there);
   };
 }
 

@@ -38,6 +38,7 @@ use Rattle.comp_runs.specs.Store.{CoreItem, IntrinsicOf}
 use Rattle.comp_runs.specs.Machine.{Machine, Outcome}
 use Rattle.link_laws.specs.Meeting.{CoreMeets, ItemIsBuiltIn, Meets}
 use Rattle.link_laws.specs.Linking.{outcome, IsServed, IsLinked, Links}
+use Rattle.link_laws.proofs.BaseRoles.{no_bases}
 use Rattle.link_laws.proofs.Stores.{main_module}
 use Rattle.link_laws.proofs.Steps.{no_modules}
 use Rattle.link_laws.proofs.Runs.{links}
@@ -179,7 +180,7 @@ keeps_the_rules : IsBuilt own_names world straight
 unfolding values_from
 keeps_the_rules = record {
   generated = record { shims = None; fixup = None };
-  are_generated = record { shims = refl; fixup = refl; room = omega arith };
+  are_generated = record { shims = refl; fixup = refl; room = omega arith; alike = no_bases world refl };
   front = straight;
   names = [];
   whole = refl;

@@ -37,6 +37,7 @@ use Rattle.comp_terms.specs.Planned.{IsArgumentFor}
 use Rattle.comp_terms.specs.Rules.{IsBuilt}
 use Rattle.link_laws.specs.Composition.{IsComposed}
 use Rattle.link_laws.specs.Linking.{outcome, Links, IsLinked}
+use Rattle.link_laws.proofs.BaseRoles.{no_bases}
 use Rattle.link_laws.proofs.Stores.{main_module}
 use Rattle.link_laws.proofs.Steps.{no_modules}
 use Rattle.link_laws.proofs.Runs.{composed, links}
@@ -212,7 +213,7 @@ both_given = record {
 keeps_the_rules : IsBuilt own_names world definitions
 keeps_the_rules = record {
   generated = record { shims = None; fixup = None };
-  are_generated = record { shims = refl; fixup = refl; room = omega arith };
+  are_generated = record { shims = refl; fixup = refl; room = omega arith; alike = no_bases world refl };
   front = definitions;
   names = [];
   whole = refl;

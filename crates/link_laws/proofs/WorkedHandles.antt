@@ -54,6 +54,7 @@ use Rattle.comp_runs.specs.Store.{IntrinsicOf}
 use Rattle.comp_runs.specs.Machine.{Machine, Outcome, Stuck}
 use Rattle.link_laws.specs.Meeting.{CoreMeets, ItemIsOfResource, Meets}
 use Rattle.link_laws.specs.Linking.{outcome, IsServed, IsLinked, Links}
+use Rattle.link_laws.proofs.BaseRoles.{no_bases}
 use Rattle.link_laws.proofs.Stores.{resource_core, main_module}
 use Rattle.link_laws.proofs.Plain.{key_same}
 use Rattle.link_laws.proofs.Steps.{no_modules}
@@ -146,7 +147,7 @@ is_world = record {
     );
     export_roles = tt;
     exported = tt;
-    required = (record { exported = (0, omega arith, refl); present = tt }, tt);
+    required = (record { exported = (0, omega arith, refl); present = tt; formed = tt }, tt);
   };
   main_first = ((tt, (tt, (tt, tt))), tt);
   adapters = tt;
@@ -303,7 +304,7 @@ keeps_the_rules : IsBuilt own_names world (list_of 0)
 unfolding values_from
 keeps_the_rules = record {
   generated = record { shims = None; fixup = None };
-  are_generated = record { shims = refl; fixup = refl; room = omega arith };
+  are_generated = record { shims = refl; fixup = refl; room = omega arith; alike = no_bases world refl };
   front = list_of 0;
   names = [];
   whole = refl;

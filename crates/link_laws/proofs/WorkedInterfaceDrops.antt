@@ -53,6 +53,7 @@ use Rattle.comp_runs.specs.Store.{IntrinsicOf}
 use Rattle.comp_runs.specs.Machine.{Machine, Outcome}
 use Rattle.link_laws.specs.Meeting.{CoreMeets, ItemIsOfResource, Meets}
 use Rattle.link_laws.specs.Linking.{outcome, IsServed, UsersServed, IsLinked, Links}
+use Rattle.link_laws.proofs.BaseRoles.{no_bases}
 use Rattle.link_laws.proofs.Stores.{drop_core, main_module}
 use Rattle.link_laws.proofs.Steps.{no_modules}
 use Rattle.link_laws.proofs.Runs.{links}
@@ -240,7 +241,7 @@ keeps_the_rules : IsBuilt own_names world (list_of s r)
 unfolding values_from
 keeps_the_rules = record {
   generated = record { shims = None; fixup = None };
-  are_generated = record { shims = refl; fixup = refl; room = omega arith };
+  are_generated = record { shims = refl; fixup = refl; room = omega arith; alike = no_bases world refl };
   front = list_of s r;
   names = [];
   whole = refl;

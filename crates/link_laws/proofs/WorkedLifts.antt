@@ -53,6 +53,7 @@ use Rattle.comp_terms.specs.Planned.{type_of_function, IsExportFor, IsLiftFor}
 use Rattle.comp_terms.specs.Rules.{IsBuilt}
 use Rattle.comp_terms.specs.Exports.{ExportsFunction}
 use Rattle.link_laws.specs.Linking.{outcome, IsLinked, Links}
+use Rattle.link_laws.proofs.BaseRoles.{no_bases}
 use Rattle.link_laws.proofs.Stores.{main_module}
 use Rattle.link_laws.proofs.Steps.{no_modules}
 use Rattle.link_laws.proofs.Runs.{links}
@@ -139,9 +140,9 @@ is_world = record {
     import_roles = tt;
     own_keys = tt;
     imported = tt;
-    export_roles = (((0, omega arith, refl), refl, refl), (tt, (tt, ((0, omega arith, refl), tt))));
+    export_roles = (((0, omega arith, refl), refl, tt), (tt, (tt, ((0, omega arith, refl), tt))));
     exported = (record { type = externs.Func g_core; offered = refl; fits = refl }, (record { type = externs.Func r_core; offered = refl; fits = refl }, (record { type = externs.Memory memory_type; offered = refl; fits = refl }, (record { type = externs.Func p_core; offered = refl; fits = refl }, tt))));
-    required = (record { exported = (0, omega arith, refl); present = (refl, tt) }, tt);
+    required = (record { exported = (0, omega arith, refl); present = (refl, tt); formed = (tt, tt) }, tt);
   };
   main_first = tt;
   adapters = tt;
@@ -263,7 +264,7 @@ g_required = record {
 keeps_the_rules : IsBuilt own_names world (lifting right_options)
 keeps_the_rules = record {
   generated = record { shims = None; fixup = None };
-  are_generated = record { shims = refl; fixup = refl; room = omega arith };
+  are_generated = record { shims = refl; fixup = refl; room = omega arith; alike = no_bases world refl };
   front = lifting right_options;
   names = [];
   whole = refl;

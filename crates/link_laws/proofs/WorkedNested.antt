@@ -56,6 +56,7 @@ use Rattle.comp_runs.specs.Store.{ExportedBy, Lifting, Export}
 use Rattle.comp_runs.specs.Machine.{Outcome, Done}
 use Rattle.core_runs.specs.Store.{Opaque, Instantiated}
 use Rattle.link_laws.specs.Linking.{outcome, IsLinked, Links}
+use Rattle.link_laws.proofs.BaseRoles.{no_bases}
 use Rattle.link_laws.proofs.Stores.{main_module, function_at_key}
 use Rattle.link_laws.proofs.Steps.{no_modules}
 use Rattle.link_laws.proofs.Plain.{key_same}
@@ -129,9 +130,9 @@ is_world = record {
     import_roles = tt;
     own_keys = tt;
     imported = tt;
-    export_roles = ((record { exported = refl; has = (0, omega arith, refl) }, refl), ((record { exported = refl; has = (1, omega arith, refl) }, refl), tt));
+    export_roles = ((record { exported = refl; has = (0, omega arith, refl) }, tt), ((record { exported = refl; has = (1, omega arith, refl) }, tt), tt));
     exported = (record { type = externs.Func plain_core; offered = refl; fits = refl }, (record { type = externs.Func plain_core; offered = refl; fits = refl }, tt));
-    required = (record { exported = (0, omega arith, refl); present = (refl, (refl, tt)) }, tt);
+    required = (record { exported = (0, omega arith, refl); present = (refl, (refl, tt)); formed = (tt, (tt, tt)) }, tt);
   };
   main_first = tt;
   adapters = tt;
@@ -346,7 +347,7 @@ exported = record {
 keeps_the_rules : IsBuilt own_names world straight
 keeps_the_rules = record {
   generated = record { shims = None; fixup = None };
-  are_generated = record { shims = refl; fixup = refl; room = omega arith };
+  are_generated = record { shims = refl; fixup = refl; room = omega arith; alike = no_bases world refl };
   front = straight;
   names = [];
   whole = refl;

@@ -44,6 +44,7 @@ use Rattle.comp_terms.specs.Rules.{IsBuilt}
 use Rattle.comp_runs.specs.Store.{Export, tree_held}
 use Rattle.comp_runs.specs.Machine.{Machine}
 use Rattle.link_laws.specs.Linking.{outcome, IsTypeProvided, IsLinked, Links}
+use Rattle.link_laws.proofs.BaseRoles.{no_bases}
 use Rattle.link_laws.proofs.Stores.{main_module, type_at_key}
 use Rattle.link_laws.proofs.Steps.{no_modules}
 use Rattle.link_laws.proofs.Plain.{key_same}
@@ -115,7 +116,7 @@ is_world = record {
     imported = tt;
     export_roles = tt;
     exported = tt;
-    required = (record { exported = (0, omega arith, refl); present = tt }, tt);
+    required = (record { exported = (0, omega arith, refl); present = tt; formed = tt }, tt);
   };
   main_first = tt;
   adapters = tt;
@@ -190,7 +191,7 @@ exported = record { required = record { of = Main; key = key }; id = interface_i
 keeps_the_rules : IsBuilt own_names world straight
 keeps_the_rules = record {
   generated = record { shims = None; fixup = None };
-  are_generated = record { shims = refl; fixup = refl; room = omega arith };
+  are_generated = record { shims = refl; fixup = refl; room = omega arith; alike = no_bases world refl };
   front = straight;
   names = [];
   whole = refl;

@@ -43,6 +43,7 @@ use Rattle.comp_terms.specs.Instances.{ImportsInterface}
 use Rattle.comp_terms.specs.Rules.{AliasesImported, IsBuilt}
 use Rattle.comp_runs.specs.Store.{Lowering, Imported}
 use Rattle.link_laws.specs.Linking.{outcome, IsLinked, Links}
+use Rattle.link_laws.proofs.BaseRoles.{no_bases}
 use Rattle.link_laws.proofs.Stores.{main_module}
 use Rattle.link_laws.proofs.Steps.{no_modules}
 use Rattle.link_laws.proofs.Runs.{links}
@@ -203,7 +204,7 @@ keeps_the_rules : IsBuilt own_names world (list_of [] 1)
 unfolding inventory values_from
 keeps_the_rules = record {
   generated = record { shims = None; fixup = None };
-  are_generated = record { shims = refl; fixup = refl; room = omega arith };
+  are_generated = record { shims = refl; fixup = refl; room = omega arith; alike = no_bases world refl };
   front = list_of [] 1;
   names = [];
   whole = refl;

@@ -78,6 +78,7 @@ use Rattle.comp_runs.specs.Machine.{Machine, Outcome, Done}
 use Rattle.link_laws.specs.Composition.{GeneratedModules, IsComposed}
 use Rattle.link_laws.specs.Meeting.{CoreMeets, ItemIsExport}
 use Rattle.link_laws.specs.Linking.{outcome, DestructorMeets, IsDefined, IsLinked, Links}
+use Rattle.link_laws.proofs.BaseRoles.{no_bases}
 use Rattle.link_laws.proofs.Stores.{main_module}
 use Rattle.link_laws.proofs.Plain.{key_same}
 use Rattle.link_laws.proofs.Runs.{composed, links}
@@ -151,7 +152,7 @@ is_world = record {
     imported = tt;
     export_roles = (record { present = omega arith; kind = refl }, tt);
     exported = (record { type = externs.Func dtor_core; offered = refl; fits = refl }, tt);
-    required = (record { exported = (0, omega arith, refl); present = tt }, tt);
+    required = (record { exported = (0, omega arith, refl); present = tt; formed = tt }, tt);
   };
   main_first = tt;
   adapters = tt;
@@ -231,7 +232,7 @@ fixup_module =
     ∷ sections.Elements (table_fill (0 ∷ []) ∷ [])
     ∷ []
 
-pub shims_made : sections_of_shims None (shims_of world) false ≡ shim_module
+pub shims_made : sections_of_shims None None (shims_of world) false ≡ shim_module
 unfolding values_from digits
 shims_made = refl
 
@@ -261,7 +262,7 @@ fixup_encoded = (all_below (encoding_of fixup_module).counts refl, refl)
 
 unfoldable are_generated : AreGenerated world false bytes
 unfolding values_from digits
-are_generated = record { shims = (shims_encoded, refl); fixup = (fixup_encoded, refl); room = omega arith }
+are_generated = record { shims = (shims_encoded, refl); fixup = (fixup_encoded, refl); room = omega arith; alike = no_bases world refl }
 
 -- ---- a list for it, where the resource is defined with this destructor
 

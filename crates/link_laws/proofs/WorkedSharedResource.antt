@@ -64,6 +64,7 @@ use Rattle.comp_runs.specs.Store.{Lowering, IntrinsicOf, Function, Imported}
 use Rattle.comp_runs.specs.Machine.{Machine}
 use Rattle.link_laws.specs.Meeting.{CoreMeets, ItemIsLowering, IsImport, Meets}
 use Rattle.link_laws.specs.Linking.{outcome, IsServed, UsersServed, IsLinked, Links}
+use Rattle.link_laws.proofs.BaseRoles.{no_bases}
 use Rattle.link_laws.proofs.Stores.{drop_core, main_module}
 use Rattle.link_laws.proofs.Steps.{no_modules}
 use Rattle.link_laws.proofs.Runs.{links}
@@ -294,7 +295,7 @@ keeps_the_rules : IsBuilt own_names world (list_of shared)
 unfolding inventory values_from
 keeps_the_rules = record {
   generated = record { shims = None; fixup = None };
-  are_generated = record { shims = refl; fixup = refl; room = omega arith };
+  are_generated = record { shims = refl; fixup = refl; room = omega arith; alike = no_bases world refl };
   front = list_of shared;
   names = [];
   whole = refl;

@@ -56,6 +56,7 @@ use Rattle.shim_plan.specs.declared.kinds.ShimKind.TheVariants as shim_kinds
 use Rattle.shim_plan.specs.declared.shims.Shim.{Shim}
 use Rattle.world_shims.specs.WorldShims.{shims_of, sections_of_shims, sections_of_fixup}
 use Rattle.link_laws.specs.Composition.{GeneratedModules}
+use Rattle.link_laws.proofs.BaseRoles.{no_bases}
 use Rattle.link_laws.proofs.Worked.{one_apart}
 use Rattle.link_laws.proofs.WorkedDrops.{none_apart}
 use Rattle.link_laws.proofs.WorkedApart.{no_keys_apart}
@@ -162,7 +163,7 @@ unfolding values_from digits
 one_shim = refl
 
 -- one shim that calls through a table, and what fills its slot
-shims_made : sections_of_shims None (only_shim ∷ []) false ≡ table_shim
+shims_made : sections_of_shims None None (only_shim ∷ []) false ≡ table_shim
 unfolding digits
 shims_made = refl
 
@@ -197,7 +198,7 @@ fixup_encoded = (all_below (encoding_of table_fixup).counts refl, refl)
 
 unfoldable pub are_generated : AreGenerated world false bytes
 unfolding values_from digits
-are_generated = record { shims = (shims_encoded, refl); fixup = (fixup_encoded, refl); room = omega arith }
+are_generated = record { shims = (shims_encoded, refl); fixup = (fixup_encoded, refl); room = omega arith; alike = no_bases world refl }
 
 -- ---- a list for it, where the lowering has these options
 

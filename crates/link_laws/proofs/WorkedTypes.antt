@@ -137,9 +137,9 @@ is_world = record {
     import_roles = ((one_apart f, (((0, omega arith, refl), refl, tt), tt)), tt);
     own_keys = (tt, tt);
     imported = (inl (record { role = imports.WorldFunc (keys.Name f) f GuestImport; has_role = refl; fits = refl }), tt);
-    export_roles = (((0, omega arith, refl), refl, refl), tt);
+    export_roles = (((0, omega arith, refl), refl, tt), tt);
     exported = (record { type = externs.Func g_core; offered = refl; fits = refl }, tt);
-    required = (record { exported = (0, omega arith, refl); present = (refl, tt) }, tt);
+    required = (record { exported = (0, omega arith, refl); present = (refl, tt); formed = (tt, tt) }, tt);
   };
   main_first = ((tt, tt), tt);
   adapters = tt;

@@ -36,6 +36,7 @@ use Rattle.comp_terms.specs.Rules.{IsBuilt, IsDescriptionRight}
 use Rattle.comp_terms.specs.Exports.{ExportsFunction}
 use Rattle.link_laws.specs.Composition.{IsComposed}
 use Rattle.link_laws.specs.Linking.{outcome, LiftMeets, IsProvided, IsLinked, Links}
+use Rattle.link_laws.proofs.BaseRoles.{no_bases}
 use Rattle.link_laws.proofs.Stores.{main_module}
 use Rattle.link_laws.proofs.Steps.{no_modules}
 use Rattle.link_laws.proofs.Runs.{composed, links}
@@ -143,7 +144,7 @@ keeps_the_rules : IsBuilt own_names world (typed_list 4)
 unfolding values_from
 keeps_the_rules = record {
   generated = record { shims = None; fixup = None };
-  are_generated = record { shims = refl; fixup = refl; room = omega arith };
+  are_generated = record { shims = refl; fixup = refl; room = omega arith; alike = no_bases world refl };
   front = typed_list 4;
   names = [];
   whole = refl;

@@ -48,6 +48,7 @@ use Rattle.comp_terms.specs.Rules.{IsBuilt}
 use Rattle.comp_terms.specs.Exports.{ExportsFunction}
 use Rattle.link_laws.specs.Composition.{IsComposed}
 use Rattle.link_laws.specs.Linking.{outcome, Links, IsLinked}
+use Rattle.link_laws.proofs.BaseRoles.{no_bases}
 use Rattle.link_laws.proofs.Stores.{main_module}
 use Rattle.link_laws.proofs.Steps.{no_modules}
 use Rattle.link_laws.proofs.Runs.{composed, links}
@@ -128,9 +129,9 @@ is_world = record {
     import_roles = tt;
     own_keys = tt;
     imported = tt;
-    export_roles = (((0, omega arith, refl), refl, refl), tt);
+    export_roles = (((0, omega arith, refl), refl, tt), tt);
     exported = (record { type = externs.Func plain_core; offered = refl; fits = refl }, tt);
-    required = (record { exported = (0, omega arith, refl); present = (refl, tt) }, tt);
+    required = (record { exported = (0, omega arith, refl); present = (refl, tt); formed = (tt, tt) }, tt);
   };
   main_first = tt;
   adapters = (
@@ -140,9 +141,9 @@ is_world = record {
       import_roles = ((one_apart f, (((0, omega arith, refl), refl, tt), tt)), tt);
       own_keys = (tt, tt);
       imported = (inl (record { role = imports.WorldFunc (keys.Name f) f GuestImport; has_role = refl; fits = refl }), tt);
-      export_roles = (((1, omega arith, refl), refl, refl), tt);
+      export_roles = (((1, omega arith, refl), refl, tt), tt);
       exported = (record { type = externs.Func plain_core; offered = refl; fits = refl }, tt);
-      required = (record { exported = (1, omega arith, refl); present = (refl, tt) }, tt);
+      required = (record { exported = (1, omega arith, refl); present = (refl, tt); formed = (tt, tt) }, tt);
     },
     tt,
   );
@@ -313,7 +314,7 @@ h_required = record {
 keeps_the_rules : IsBuilt own_names world definitions
 keeps_the_rules = record {
   generated = record { shims = None; fixup = None };
-  are_generated = record { shims = refl; fixup = refl; room = omega arith };
+  are_generated = record { shims = refl; fixup = refl; room = omega arith; alike = no_bases world refl };
   front = definitions;
   names = [];
   whole = refl;

@@ -1,11 +1,12 @@
 -- Lists that are related elementwise, and look-ups in them.
-use Rattle.std.proofs.Common.{◌≡◌, ◌∙◌, ℕ, zero, suc, Bool, true, false, true≢false, List, [], ◌∷◌, ◌++◌, map, filter, refl, sym, ap, subst, Option, Some, None, cond, if◌then◌else◌, append_assoc}
+use Rattle.std.proofs.Common.{◌≡◌, ◌∙◌, ℕ, zero, suc, arith, Contains, ◌||◌, Bool, true, false, true≢false, List, [], ◌∷◌, ◌++◌, map, filter, refl, sym, ap, subst, Option, Some, None, cond, if◌then◌else◌, append_assoc}
 use Rattle.std.proofs.lemmas.Option.{same_Some, none-some}
 use Rattle.std.proofs.lemmas.Bool.{false_from_ne_true}
+use Rattle.std.proofs.lemmas.List.Elements.{Contains-append_right}
 use Rattle.std.proofs.lemmas.Slice.Eq.{bytes_eq-Decides}
 use Rattle.std.proofs.lemmas.Map.Keys.{IsDistinct-head, IsDistinct-tail}
 use Rattle.std.specs.Str.{bytes_eq}
-use Rattle.std.specs.List.{slice_get, flat_map, filter_map, cons_option, AllZip, AllByRecursion, IsDistinct}
+use Rattle.std.specs.List.{slice_get, list_any, flat_map, filter_map, cons_option, AllZip, AllByRecursion, IsDistinct}
 use Rattle.std.specs.Option.{option_map}
 use Rattle.comp_lists.specs.Found.{found}
 use Rattle.comp_lists.proofs.Lists.{AllByRecursion-weaker}
@@ -117,6 +118,24 @@ module _ {E : Type 0} (name_of : E → List ℕ) where
 pub each_at : {X : Type 0} (xs : List X) → AllByRecursion (λ x. (i : ℕ) × (slice_get xs i ≡ Some x)) xs
 each_at [] = tt
 each_at (x ∷ xs) = ((0, refl), AllByRecursion-weaker (λ y h. (suc h.0, h.1)) xs (each_at xs))
+
+-- an entry is contained
+pub contained : {X : Type 0} (xs : List X) (i : ℕ) (x : X) → slice_get xs i ≡ Some x → Contains xs x
+contained [] i x e = absurd (none-some x e)
+contained (y ∷ xs) zero x e = (0, omega arith, same_Some y x e)
+contained (y ∷ xs) (suc i) x e =
+    let c : Contains xs x = contained xs i x e in
+    Contains-append_right (y ∷ []) xs x c
+
+-- where one passes a test, some do
+pub or_true : (b c : Bool) → c ≡ true → (b || c) ≡ true
+or_true true c e = refl
+or_true false c e = e
+
+pub passes : {X : Type 0} (test : X → Bool) (xs : List X) (x : X) → Contains xs x → test x ≡ true → list_any test xs ≡ true
+passes test [] x (k, l, is) e = absurd (omega (arith, l))
+passes test (y ∷ xs) x (zero, l, is) e = ap (λ b. b || list_any test xs) (ap test is ∙ e)
+passes test (y ∷ xs) x (suc k, l, is) e = or_true (test y) (list_any test xs) (passes test xs x (k, omega (arith, l), is) e)
 
 -- the first list has an element where the second has one
 pub AllZip-back : {A B : Type 0} (R : A → B → Type 0) (xs : List A) (ys : List B) (i : ℕ) (y : B) → AllZip R xs ys → slice_get ys i ≡ Some y → (x : A) × (slice_get xs i ≡ Some x) × R x y

@@ -15,8 +15,8 @@ use Rattle.core_runs.specs.declared.bracket.TaskHook.{TaskHook}
 use Rattle.core_runs.specs.declared.bracket.TaskHook.TheVariants.{InitializeStart, InitializeFinish}
 use Rattle.core_runs.specs.declared.bracket.AfterHook.TheVariants.{Nothing}
 use Rattle.core_runs.specs.Hooks.{around, hook_number}
-use Rattle.core_runs.specs.Values.{Value, I32Value, fit}
-use Rattle.core_runs.specs.Store.{Cell, Event, Instantiated, Called, Answer, Gives, Traps, Func, Opaque, signature_of, Now, ByCode}
+use Rattle.core_runs.specs.Values.{Value, I32Value, fit, zero_of}
+use Rattle.core_runs.specs.Store.{Cell, Kept, Event, Instantiated, Called, Answer, Gives, Traps, Func, Opaque, signature_of, Now, ByCode}
 use Rattle.core_runs.specs.Store as core
 use Rattle.core_runs.specs.Execution.{acts}
 use Rattle.core_runs.specs.Instances.{empty_table}
@@ -33,7 +33,7 @@ use Rattle.comp_worlds.specs.declared.world.ComponentWorld.{ComponentWorld}
 use Rattle.comp_trees.specs.Trees.{Resource}
 use Rattle.comp_trees.specs.DefinedTrees.{TypeTree}
 use Rattle.comp_trees.specs.WitTrees.{wit_function_tree}
-use Rattle.comp_links.specs.Targets.{Main, ExportRef, Target, Lifted}
+use Rattle.comp_links.specs.Targets.{Main, ExportRef, Target, TlsGet, TlsSet, Lifted}
 use Rattle.comp_links.specs.Naming.{Naming, name_of}
 use Rattle.comp_links.specs.Modules.{WorldModule, user_modules}
 use Rattle.comp_links.specs.Lists.{RequiredFunction, required_functions, RequiredType, required_types, component_types, own_resources, ProvidedType, provided_resources, resource_of, type_of_world, stated_types}
@@ -43,7 +43,7 @@ use Rattle.comp_runs.specs.Machine.{Machine, Outcome, Done, Trapped, Open, Stuck
 use Rattle.comp_runs.specs.Instances.{ModuleMeaning, OfUser, OfGenerated, type_scope}
 use Rattle.comp_runs.specs.Running.{run, fresh_machine}
 use Rattle.comp_terms.specs.Shimmed.{has_shim_at}
-use Rattle.link_laws.specs.Meeting.{KeepsReferences, ActsAs, ItemIsExport, CoreExportMeets, IsLift, Meets, task_hook}
+use Rattle.link_laws.specs.Meeting.{KeepsReferences, ActsAs, IsNumber, IsBase, ItemIsExport, CoreExportMeets, IsLift, Meets, task_hook}
 use Rattle.link_laws.specs.Composition.{GeneratedModules, generated_sections, numbers_from, number_after, instance_order, at_root, item_instantiates}
 
 -- ---- how a list runs
@@ -103,13 +103,19 @@ pub record IsOpaque (m : Machine) (address : ℕ) : Type 0 where
   pub signature : FuncType
   pub is : slice_get m.store.code.functions address ≡ Some (Opaque what signature)
 
+-- so is what is given for each target, but for the functions of the base: these are generated, and call nothing
+abbrev pub IsDirect : Machine → ℕ → Target → Type 0
+IsDirect m address TlsGet = Unit {0}
+IsDirect m address TlsSet = Unit {0}
+IsDirect m address _ = IsOpaque m address
+
 -- What an import was given is what the link table says of it. A function that is given to an import
 -- which has no shim works from the moment that it is given.
 pub record IsServed (w : ComponentWorld) (m : Machine) (origins : TypeId → Resource) (of : WorldModule) (thing : Thing) (i : ImportType) : Type 0 where
   pub target : Target
   pub said : link_at w of i.module_name i.field ≡ Some target
   pub meets : Meets w m origins thing target
-  pub direct : has_shim_at w of i.module_name i.field ≡ false → thing.space ≡ spaces.CoreFunc → IsOpaque m thing.address
+  pub direct : has_shim_at w of i.module_name i.field ≡ false → thing.space ≡ spaces.CoreFunc → IsDirect m thing.address target
 
 -- an instance of a module: each import is served
 abbrev pub AreServed : ComponentWorld → Machine → (TypeId → Resource) → WorldModule → ModuleInstance → Type 0
@@ -131,7 +137,7 @@ exports_at w m name item = option_and_then (λ (e : Export). slice_get m.store.i
 -- the function at this address is a lift of this function of the world as the target says
 abbrev pub LiftMeets : ComponentWorld → Machine → (TypeId → Resource) → ℕ → WitFunction → Target → Type 0
 LiftMeets w m origins address wit (Lifted entry options) = IsLift w m address (wit_function_tree origins w.resolve.types wit) entry options
-LiftMeets w m origins address wit target = ⊥
+LiftMeets w m origins address wit _ = ⊥
 
 -- a required function is found by its sort and name, and is what the link table says, with its type
 pub record IsProvided (n : Naming) (w : ComponentWorld) (m : Machine) (origins : TypeId → Resource) (r : RequiredFunction) : Type 0 where
@@ -183,7 +189,7 @@ AreTablesUntouched m exports = AllByRecursion (λ (e : Export). e.space ≡ spac
 -- ---- shims
 
 -- a shim, by its address: what the module of shims exports under a decimal number
-abbrev is_digit : ℕ → Bool
+abbrev pub is_digit : ℕ → Bool
 is_digit c = nat_le 0x30 c && nat_le c 0x39
 
 pub record IsShim (w : ComponentWorld) (m : Machine) (address : ℕ) : Type 0 where
@@ -276,9 +282,24 @@ pub record ServedThroughout (w : ComponentWorld) (g : GeneratedModules) (ds : Li
   pub each : (answers : List Answer) (m : Machine) → EndsAt m (outcome w g ds answers) → (event : ℕ) (globals : List Cell) → events_before_start w g ≤ event → slice_get m.now.moments event ≡ Some globals →
       ShimsFilled w (record m { now = record m.now { globals = globals } }) × (origins : TypeId → Resource) × UsersServed w (record m { now = record m.now { globals = globals } }) origins
 
+-- ---- the thread-local base
+
+-- no other number is kept than that at this address
+abbrev pub IsAlone : List Cell → ℕ → Type 0
+IsAlone globals cell = (other : ℕ) (type : ValType) (value : Value) → slice_get globals other ≡ Some (Kept type value) → IsNumber type → other ≡ cell
+
+-- In all runs one cell is the base's: whatever function reads the base or sets it has this one. It is zero when the
+-- instance of the shims is made, and as long as nothing is seen from outside.
+pub record HasOneBase (w : ComponentWorld) (g : GeneratedModules) (ds : List Def) : Type 0 where
+  pub cell : ℕ
+  pub at_end : (answers : List Answer) (m : Machine) → outcome w g ds answers ≡ Done m → IsAlone m.now.globals cell
+  pub throughout : (answers : List Answer) (m : Machine) → EndsAt m (outcome w g ds answers) → (event : ℕ) (globals : List Cell) → slice_get m.now.moments event ≡ Some globals → IsAlone globals cell
+  pub zero_first : (before after : List Def) → ds ≡ before ++ after → Contains (flat_map (at_root item_instantiates) before) (length (user_modules w)) → (answers : List Answer) (m : Machine) → outcome w g before answers ≡ Done m → m.now.events ≡ [] →
+      (type : ValType) (value : Value) → IsBase m.now.globals cell type value → value ≡ zero_of type
+
 -- When it is run, whatever the outside returns: it is never stuck; it is done where the answers let
 -- it; where it is done it is linked, and the types that it imports are the world's; shims trap
--- before they are filled, and are filled before anything is called.
+-- before they are filled, and are filled before anything is called; and one cell is the thread-local base's.
 pub record Links (n : Naming) (w : ComponentWorld) (g : GeneratedModules) (ds : List Def) : Type 0 where
   pub never_stuck : (answers : List Answer) → outcome w g ds answers ≢ Stuck
   pub ends : (answers : List Answer) → LetsRun (questions w) answers → (m : Machine) × (outcome w g ds answers ≡ Done m)
@@ -286,3 +307,4 @@ pub record Links (n : Naming) (w : ComponentWorld) (g : GeneratedModules) (ds : 
   pub types : (answers : List Answer) (m : Machine) → outcome w g ds answers ≡ Done m → TypesServed w ds m
   pub traps_before : ShimsTrapBefore w g ds
   pub served_throughout : ServedThroughout w g ds
+  pub one_base : HasOneBase w g ds

@@ -4,6 +4,7 @@ use Rattle.std.specs.Prelude.{◌≡◌, ℕ, Bool, true, false, List, [], ◌�
 use Rattle.std.specs.List.{AllZip, list_any}
 use Rattle.comp_bytes.specs.declared.space.Space.{Space}
 use Rattle.comp_bytes.specs.declared.space.Space.TheVariants as spaces
+use Rattle.core_types.specs.declared.types.ValType.{ValType}
 use Rattle.core_types.specs.declared.types.ValType.TheVariants.{Ref}
 use Rattle.core_types.specs.declared.types.MemoryType.{MemoryType}
 use Rattle.core_runs.specs.declared.bracket.Bracket.{Bracket}
@@ -11,10 +12,10 @@ use Rattle.core_runs.specs.declared.bracket.Bracketed.{Bracketed}
 use Rattle.core_runs.specs.declared.bracket.Bracketed.TheVariants as brackets
 use Rattle.core_runs.specs.declared.bracket.AfterHook.TheVariants.{Nothing}
 use Rattle.core_runs.specs.Hooks.{around, bracket_of}
-use Rattle.core_runs.specs.Values.{Value, fit}
-use Rattle.core_runs.specs.Store.{Cell, Kept, Now}
+use Rattle.core_runs.specs.Values.{Value, fit, fits}
+use Rattle.core_runs.specs.Store.{Cell, Kept, Now, Store as CodeStore}
 use Rattle.core_runs.specs.Execution.{acts}
-use Rattle.core_runs.specs.Expected.{Known, Is, expected}
+use Rattle.core_runs.specs.Expected.{Known, Is, expected, ReadsCell, WritesCell}
 use Rattle.wit_data.specs.declared.ids.TypeId.{TypeId}
 use Rattle.wit_data.specs.declared.functions.Function.{Function as WitFunction}
 use Rattle.comp_roles.specs.Lookups.{first_export, is_task_hook, imported_memory, first_memory}
@@ -24,7 +25,7 @@ use Rattle.comp_trees.specs.WitTrees.{wit_function_tree}
 use Rattle.comp_trees.specs.DefinedTrees.{OfValues}
 use Rattle.comp_bytes.specs.declared.canon.Intrinsic.{Intrinsic}
 use Rattle.comp_bytes.specs.declared.canon.Intrinsic.TheVariants as intrinsics
-use Rattle.comp_links.specs.Targets.{Main, WorldFunction, ExportRef, TargetOption, Memory, Realloc, Encoding, Async, PostReturn, Callback, ResourceFunction, New, Rep, Drop, Target, Lowered, ExportOf, MainMemory, OfResource, BuiltIn}
+use Rattle.comp_links.specs.Targets.{Main, WorldFunction, ExportRef, TargetOption, Memory, Realloc, Encoding, Async, PostReturn, Callback, ResourceFunction, New, Rep, Drop, Target, Lowered, ExportOf, MainMemory, OfResource, BuiltIn, TlsGet, TlsSet}
 use Rattle.comp_links.specs.Modules.{user_modules, IsModule, function_imported}
 use Rattle.comp_links.specs.Lists.{IsOriginOf}
 use Rattle.comp_runs.specs.Store.{Thing, HeldOption, HeldEncoding, HeldMemory, HeldRealloc, HeldPostReturn, HeldAsync, HeldCallback, CoreItem, Lowering, IntrinsicOf, tree_held, ExportedBy, Imported, Lifting, ModuleInstance}
@@ -98,6 +99,28 @@ pub record CoreMeets (w : ComponentWorld) (m : Machine) (kind : Option Bracketed
 
 abbrev pub CoreExportMeets : ComponentWorld → Machine → Option Bracketed → ℕ → ExportRef → Type 0
 CoreExportMeets w m kind address export_ref = CoreMeets w m kind address (ItemIsExport w m export_ref)
+
+-- ---- the thread-local base
+
+-- a type of numbers: the others are of references
+abbrev pub IsNumber : ValType → Type 0
+IsNumber (Ref r) = ⊥
+IsNumber type = Unit {0}
+
+-- the global at this address is the base's: it holds a number of its type
+pub record IsBase (globals : List Cell) (cell : ℕ) (type : ValType) (value : Value) : Type 0 where
+  pub held : slice_get globals cell ≡ Some (Kept type value)
+  pub of_type : fits type value ≡ true
+  pub number : IsNumber type
+
+-- A call of the function at this address does this with the base: it reads it, or sets it. It does so by itself: in every
+-- store where this function is at its address, and so from the moment that there is one.
+pub record IsOfBase (m : Machine) (address : ℕ) (Does : CodeStore → ValType → (cell function : ℕ) → Type 0) : Type 0 where
+  pub cell : ℕ
+  pub type : ValType
+  pub value : Value
+  pub is : IsBase m.now.globals cell type value
+  pub does : (store : CodeStore) → slice_get store.functions address ≡ slice_get m.store.code.functions address → Does store type cell address
 
 -- ---- items that are no functions
 
@@ -204,12 +227,14 @@ abbrev pub MeetsIn : ComponentWorld → Machine → (TypeId → Resource) → Sp
 MeetsIn w m origins spaces.CoreFunc address (Lowered of options) = CoreMeets w m None address (ItemIsLowering w m origins of options)
 MeetsIn w m origins spaces.CoreFunc address (OfResource function id) = CoreMeets w m None address (ItemIsOfResource m function (origins id))
 MeetsIn w m origins spaces.CoreFunc address (BuiltIn intrinsic) = CoreMeets w m None address (ItemIsBuiltIn intrinsic)
+MeetsIn w m origins spaces.CoreFunc address TlsGet = IsOfBase m address ReadsCell
+MeetsIn w m origins spaces.CoreFunc address TlsSet = IsOfBase m address WritesCell
 MeetsIn w m origins spaces.CoreFunc address (ExportOf export_ref) = CoreExportMeets w m None address export_ref
 MeetsIn w m origins spaces.CoreTable address (ExportOf export_ref) = ItemMeets w m spaces.CoreTable address export_ref
 MeetsIn w m origins spaces.CoreMemory address (ExportOf export_ref) = ItemMeets w m spaces.CoreMemory address export_ref
 MeetsIn w m origins spaces.CoreGlobal address (ExportOf export_ref) = ItemMeets w m spaces.CoreGlobal address export_ref
 MeetsIn w m origins spaces.CoreMemory address MainMemory = IsMainMemory w m address
-MeetsIn w m origins space address target = ⊥
+MeetsIn w m origins space address _ = ⊥
 
 abbrev pub Meets : ComponentWorld → Machine → (TypeId → Resource) → Thing → Target → Type 0
 Meets w m origins thing target = MeetsIn w m origins thing.space thing.address target

@@ -34,7 +34,6 @@ ghost use Rattle.wit_data.specs.Live.{named_types};
 ghost use Rattle.world_values.specs.Items.{functions_of};
 
 use crate::sources::ModuleExports;
-use crate::tables::function_key;
 use comp_bytes::{Argument, Item, Sort};
 use comp_lists::{Keyed, Seq, Text};
 use comp_worlds::ComponentWorld;
@@ -43,6 +42,7 @@ use nested_components::{NestedComponent, nested_component};
 use root_imports::{RootScope, types_of};
 use std::alloc::{AllocError, Global};
 use wit_data::{Function, InterfaceId, TypeId, WorldItem, WorldKey};
+use world_values::function_key;
 
 /// The debug name of what is generated for an interface.
 fn debug_name(alloc: Global, interface: &Text, what: &str) -> Result<Text, AllocError> {

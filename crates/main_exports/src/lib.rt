@@ -1,7 +1,7 @@
 //! The required exports of a world, those of main and then those of the adapters in order: each
 //! function is lifted from the core export of its user module that implements it, with main's
-//! memory, and the module's realloc, string encoding and post-return, as far as its type needs
-//! them. A function at the root is exported as its lift; the functions of an interface, and the
+//! memory, and the module's realloc, string encoding, post-return and callback, as far as its type
+//! and its form ask for them. A function at the root is exported as its lift; the functions of an interface, and the
 //! types of which they are made, are given to a nested component (`nested_components`), whose
 //! instance is exported in the place of the interface.
 //!

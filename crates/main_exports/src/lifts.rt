@@ -19,7 +19,6 @@ ghost use Rattle.root_imports.specs.Met.{IsSupplied, IsSuppliedFor};
 ghost use Rattle.root_imports.specs.RootScopes.{IsRefusal};
 
 use crate::sources::ModuleExports;
-use crate::tables::function_key;
 use byte_encoding::BuildFault;
 use comp_bytes::{Argument, Sort};
 use comp_lists::{Keyed, Seq, Text};
@@ -27,6 +26,7 @@ use comp_worlds::{ComponentWorld, FunctionKey};
 use core_options::{StateFault, alias_of};
 use root_imports::RootScope;
 use wit_data::{Function, InterfaceId, WorldKey};
+use world_values::function_key;
 
 impl ModuleExports<'_> {
     /// The alias of the core export that implements a function.

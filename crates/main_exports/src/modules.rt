@@ -30,8 +30,8 @@ use root_imports::RootScope;
 use wit_data::WorldKey;
 
 /// Lifts and exports what is required of a user module, in order: the next keys of the world.
-/// Functions are lifted from the module's own instance, with its realloc, its string encodings and
-/// its post-returns, and with main's memory.
+/// Functions are lifted from the module's own instance, with its realloc, its string encodings, its
+/// post-returns and its callbacks, and with main's memory.
 fn export_module(
     root: &mut RootScope<'_, ComponentWorld>,
     user: UserInstance<'_>,

@@ -1,18 +1,19 @@
-//! The options of a lift: those that its type needs, with main's memory and the realloc of its
-//! module, and its post-return.
+//! The options of a lift: those that its type needs in its form, with main's memory and the realloc
+//! of its module, and its post-return or its callback.
 //!
 //! Component model, binary format: `canonopt`; Canonical ABI: `canon lift`, `realloc`,
-//! `string-encoding`, `post-return`.
+//! `string-encoding`, `async`, `post-return`, `callback`.
 #![tactic(auto, using(crate::proofs::Growth::growing))]
 
 ghost use Rattle.std.specs.Prelude.{◌≡◌, [], ◌∷◌, ◌++◌, IfOk, IfErr, OnOk, Some};
 ghost use Rattle.comp_items.specs.Items.{Extends};
-ghost use Rattle.comp_links.specs.Links.{needed_options, lift_options};
+ghost use Rattle.comp_links.specs.Links.{form_of, needed_options, lift_options};
 ghost use Rattle.comp_links.specs.Roles.{export_encoding};
 ghost use Rattle.comp_options.specs.OptionLists.{one_if};
 ghost use Rattle.core_options.specs.Causes.{IsCauseAmong, IsEncodedExport};
 ghost use Rattle.core_options.specs.MainOptions.{NameOptions, HasLiftOptions};
 ghost use Rattle.main_exports.specs.Exports.{AreExports, exporter, function_of, IsModuleFunction};
+ghost use Rattle.main_exports.specs.Tables.{follower_option};
 ghost use Rattle.comp_terms.specs.Rules.{Grows};
 
 use crate::sources::ModuleExports;
@@ -26,18 +27,33 @@ use standard_kinds::StringEncoding;
 use std::alloc::AllocError;
 use wit_data::{AbiVariant, Function};
 
-/// Appends the post-return, if there is one.
-fn push_post_return(
+/// Appends the option that names what is called behind a lift of this form.
+fn push_option(
     options: &mut Seq<CanonicalOption>,
-    post_return: Option<u32>,
+    form: AbiVariant,
+    index: u32,
 ) -> Result<(), AllocError>
-    ensures { OnOk result
-        (options.new ≡ options.old ++ one_if CanonicalOption.PostReturn post_return) }
+    ensures { OnOk result (options.new ≡ options.old ++ follower_option form index ∷ []) }
 {
-    if let Some(index) = post_return {
-        options.push(CanonicalOption::PostReturn(index))?;
+    match form {
+        AbiVariant::GuestExportAsync => options.push(CanonicalOption::Callback(index))?,
+        _ => options.push(CanonicalOption::PostReturn(index))?,
     }
     Ok(())
+}
+
+/// The same, if there is something to name.
+fn push_follower(
+    options: &mut Seq<CanonicalOption>,
+    form: AbiVariant,
+    follower: Option<u32>,
+) -> Result<(), AllocError>
+    ensures { OnOk result (options.new ≡ options.old ++ one_if (follower_option form) follower) }
+{
+    match follower {
+        Some(index) => push_option(options, form, index),
+        None => Ok(()),
+    }
 }
 
 impl ModuleExports<'_> {
@@ -63,14 +79,17 @@ impl ModuleExports<'_> {
         }
     }
 
-    /// The options that the type of a function needs for its lift, in order.
+    /// The options that the type of a function needs for its lift in its form, in order.
     fn needed_options(
         &self,
         root: &mut RootScope<'_, ComponentWorld>,
+        form: AbiVariant,
         required: &FunctionKey,
         function: &Function,
     ) -> Result<Seq<CanonicalOption>, StateFault>
         requires exports { AreExports root.old.world.now self.now root.old }
+        requires called { form
+            ≡ form_of root.old.world.now (function_of (exporter self.now) required.now) }
         requires required { IsModuleFunction root.old.world.now (exporter self.now) required.now
             function.now }
         ensures same { root.new ≡ record root.old { items = root.new.items } }
@@ -89,13 +108,14 @@ impl ModuleExports<'_> {
     {
         let world = root.world;
         let encoding = self.lift_encoding(root, required)?;
-        let needed = RequiredOptions::for_export(&world.resolve, function, AbiVariant::GuestExport);
+        let needed = RequiredOptions::for_export(&world.resolve, function, form);
         let place = &required.function;
         let options = options_for(root, &self.sources, place, needed, encoding)?;
         Ok(options)
     }
 
-    /// The options with which a function is lifted: those that its type needs, and its post-return.
+    /// The options with which a function is lifted: those that its type needs in its form, and then
+    /// its post-return where it is synchronous, or its callback where it has one.
     ///
     /// `E7` where it needs a memory and main has none, `E8` where it needs a realloc and there is
     /// none for the module, `E9` where it has no string encoding.
@@ -122,10 +142,11 @@ impl ModuleExports<'_> {
         ensures cause { IfErr result (IsCauseAmong root.old.world.now []
             (function_of (exporter self.now) required.now ∷ [])) }
     {
-        let mut options = self.needed_options(root, required, function)?;
-        let export = self.own_export_if(self.tables.post_return(required));
-        let post_return = alias_if(root, export)?;
-        push_post_return(&mut options, post_return)?;
+        let form = self.tables.form(required);
+        let mut options = self.needed_options(root, form, required, function)?;
+        let export = self.own_export_if(self.tables.follower(form, required));
+        let follower = alias_if(root, export)?;
+        push_follower(&mut options, form, follower)?;
         Ok(options)
     }
 }

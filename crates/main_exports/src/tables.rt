@@ -1,26 +1,67 @@
 //! The core exports of a user module by the functions that they belong to, looked up once for all functions.
 //!
-//! Canonical ABI: `canon lift`, with its option `post-return`.
+//! Canonical ABI: `canon lift`, with its options `post-return` and `callback`.
 
-ghost use Rattle.std.specs.Prelude.{◌≡◌, [], IfOk, OnOk};
+ghost use Rattle.std.specs.Prelude.{◌≡◌, IfOk, unwrap_or};
 ghost use Rattle.std.specs.Map.{lookup};
 ghost use Rattle.std.specs.Option.{option_copied};
 ghost use Rattle.comp_roles.specs.Functions.{is_same_function};
-ghost use Rattle.world_values.specs.CoreExports.{function_key, at_root, post_return_function, implemented_by, implementations, returned_by, post_returns};
-ghost use Rattle.world_values.specs.Tables.{with_all};
-ghost use Rattle.main_exports.specs.Tables.{AreTablesOf};
+ghost use Rattle.main_exports.specs.Tables.{AreEntriesOf, AreFollowersOf, AreTablesOf, follower_in};
 
-use comp_lists::{Keyed, Text, TryClone};
+use comp_lists::{Keyed, Text};
 use comp_worlds::{Export, FunctionKey};
 use std::alloc::{AllocError, Global};
-use wit_data::WorldKey;
+use wit_data::AbiVariant;
+use world_values::{callbacks, implementations, lifted_functions, post_returns};
+
+/// The exports of a module that implement functions, and the forms in which these are called.
+#[derive(Drop)]
+pub(crate) struct EntryTables {
+    implementations: Keyed<FunctionKey, Text>,
+    forms: Keyed<FunctionKey, AbiVariant>,
+}
+
+impl EntryTables {
+    #[tactic(auto, using(crate::proofs::Tabled::entries_are))]
+    fn of(alloc: Global, exports: &Keyed<Text, Export>) -> Result<EntryTables, AllocError>
+        ensures { IfOk result (AreEntriesOf exports.now) }
+    {
+        let implementations = implementations(alloc, exports)?;
+        let forms = lifted_functions(alloc, exports)?;
+        Ok(EntryTables {
+            implementations,
+            forms,
+        })
+    }
+}
+
+/// The exports of a module that are called behind these: post-returns and callbacks.
+#[derive(Drop)]
+pub(crate) struct FollowerTables {
+    post_returns: Keyed<FunctionKey, Text>,
+    callbacks: Keyed<FunctionKey, Text>,
+}
+
+impl FollowerTables {
+    #[tactic(auto, using(crate::proofs::Tabled::followers_are))]
+    fn of(alloc: Global, exports: &Keyed<Text, Export>) -> Result<FollowerTables, AllocError>
+        ensures { IfOk result (AreFollowersOf exports.now) }
+    {
+        let post_returns = post_returns(alloc, exports)?;
+        let callbacks = callbacks(alloc, exports)?;
+        Ok(FollowerTables {
+            post_returns,
+            callbacks,
+        })
+    }
+}
 
 /// The names of a module's exports, by the functions that they implement, and by those whose
-/// post-return they are: the first, where there are several for one function.
+/// post-return or callback they are: the first, where there are several for one function.
 #[derive(Drop)]
 pub(crate) struct ExportTables {
-    implementations: Keyed<FunctionKey, Text>,
-    post_returns: Keyed<FunctionKey, Text>,
+    entries: EntryTables,
+    followers: FollowerTables,
 }
 
 impl ExportTables {
@@ -31,128 +72,67 @@ impl ExportTables {
     ) -> Result<ExportTables, AllocError>
         ensures { IfOk result (AreTablesOf exports.now) }
     {
-        let implementations = implementations(alloc, exports)?;
-        let post_returns = post_returns(alloc, exports)?;
-        Ok(ExportTables {
-            implementations,
-            post_returns,
-        })
+        let entries = EntryTables::of(alloc, exports)?;
+        let followers = FollowerTables::of(alloc, exports)?;
+        Ok(ExportTables { entries, followers })
     }
 
     /// The core export that implements a function.
     pub(crate) fn implementation(&self, function: &FunctionKey) -> Option<&Text>
         ensures { option_copied result
-            ≡ lookup (is_same_function function.now) self.now.implementations }
+            ≡ lookup (is_same_function function.now) self.now.entries.implementations }
     {
-        self.implementations.get(function)
+        self.entries.implementations.get(function)
+    }
+
+    /// The form in which some export implements a function.
+    fn form_if(&self, function: &FunctionKey) -> Option<AbiVariant>
+        ensures { result ≡ lookup (is_same_function function.now) self.now.entries.forms }
+    {
+        self.entries.forms.get(function).copied()
+    }
+
+    /// The form in which a function is implemented; one that no export implements counts as
+    /// synchronous.
+    pub(crate) fn form(&self, function: &FunctionKey) -> AbiVariant
+        ensures { result
+            ≡ unwrap_or (lookup (is_same_function function.now) self.now.entries.forms)
+            AbiVariant.GuestExport }
+    {
+        match self.form_if(function) {
+            Some(form) => form,
+            None => AbiVariant::GuestExport,
+        }
     }
 
     /// The post-return of a function, if it has one.
-    pub(crate) fn post_return(&self, function: &FunctionKey) -> Option<&Text>
+    fn post_return(&self, function: &FunctionKey) -> Option<&Text>
         ensures { option_copied result
-            ≡ lookup (is_same_function function.now) self.now.post_returns }
+            ≡ lookup (is_same_function function.now) self.now.followers.post_returns }
     {
-        self.post_returns.get(function)
+        self.followers.post_returns.get(function)
     }
-}
 
-/// The function of a name at a key.
-pub(crate) fn function_key(
-    alloc: Global,
-    key: &WorldKey,
-    name: &Text,
-) -> Result<FunctionKey, AllocError>
-    ensures { IfOk result (λ f. f ≡ function_key key.now name.now) }
-{
-    let key = key.try_clone(alloc)?;
-    let function = name.clone(alloc)?;
-    Ok(FunctionKey { key, function })
-}
-
-/// The function of the world itself at a key.
-fn at_root(alloc: Global, key: &WorldKey) -> Result<Option<FunctionKey>, AllocError>
-    ensures { IfOk result (λ f. f ≡ at_root key.now) }
-{
-    match key {
-        WorldKey::Name(text) => Ok(Some(function_key(alloc, key, text)?)),
-        WorldKey::Interface(_) => Ok(None),
+    /// The callback of a function, if it has one.
+    fn callback(&self, function: &FunctionKey) -> Option<&Text>
+        ensures { option_copied result
+            ≡ lookup (is_same_function function.now) self.now.followers.callbacks }
+    {
+        self.followers.callbacks.get(function)
     }
-}
 
-/// The function whose post-return an export is.
-fn post_return_function(alloc: Global, export: &Export) -> Result<Option<FunctionKey>, AllocError>
-    ensures { IfOk result (λ f. f ≡ post_return_function export.now) }
-{
-    match export {
-        Export::WorldFuncPostReturn(key) => at_root(alloc, key),
-        Export::InterfaceFuncPostReturn(key, name) => Ok(Some(function_key(alloc, key, name)?)),
-        _ => Ok(None),
-    }
-}
-
-/// Adds an export, if it implements a function.
-fn add_implementation(
-    alloc: Global,
-    table: &mut Keyed<FunctionKey, Text>,
-    name: &Text,
-    export: &Export,
-) -> Result<(), AllocError>
-    ensures { OnOk result
-        (table.new ≡ with_all is_same_function table.old (implemented_by (name.now, export.now))) }
-{
-    match export {
-        Export::WorldFunc(key, function, _) => {
-            table.insert_if_absent(function_key(alloc, key, function)?, name.clone(alloc)?)
+    /// What is called behind a function of this form, if anything is: the post-return of a
+    /// synchronous one, and the callback of one that has a callback.
+    pub(crate) fn follower(&self, form: AbiVariant, function: &FunctionKey) -> Option<&Text>
+        ensures { option_copied result
+            ≡ follower_in form
+            (lookup (is_same_function function.now) self.now.followers.post_returns)
+            (lookup (is_same_function function.now) self.now.followers.callbacks) }
+    {
+        match form {
+            AbiVariant::GuestExport => self.post_return(function),
+            AbiVariant::GuestExportAsync => self.callback(function),
+            _ => None,
         }
-        Export::InterfaceFunc(key, _, function, _) => {
-            table.insert_if_absent(function_key(alloc, key, function)?, name.clone(alloc)?)
-        }
-        _ => Ok(()),
     }
-}
-
-/// Adds an export, if it is the post-return of a function.
-fn add_post_return(
-    alloc: Global,
-    table: &mut Keyed<FunctionKey, Text>,
-    name: &Text,
-    export: &Export,
-) -> Result<(), AllocError>
-    ensures { OnOk result
-        (table.new ≡ with_all is_same_function table.old (returned_by (name.now, export.now))) }
-{
-    match post_return_function(alloc, export)? {
-        Some(function) => table.insert_if_absent(function, name.clone(alloc)?),
-        None => Ok(()),
-    }
-}
-
-/// The exports that implement functions, of which the first counts.
-#[tactic(auto, using(world_values::proofs::Entering::after_item))]
-fn implementations(
-    alloc: Global,
-    exports: &Keyed<Text, Export>,
-) -> Result<Keyed<FunctionKey, Text>, AllocError>
-    ensures { IfOk result (λ t. t ≡ with_all is_same_function [] (implementations exports.now)) }
-{
-    let mut table = Keyed::new(alloc);
-    for (name, export) in exports.iter() {
-        add_implementation(alloc, &mut table, name, export)?;
-    }
-    Ok(table)
-}
-
-/// The exports that are post-returns of functions, of which the first counts.
-#[tactic(auto, using(world_values::proofs::Entering::after_item))]
-fn post_returns(
-    alloc: Global,
-    exports: &Keyed<Text, Export>,
-) -> Result<Keyed<FunctionKey, Text>, AllocError>
-    ensures { IfOk result (λ t. t ≡ with_all is_same_function [] (post_returns exports.now)) }
-{
-    let mut table = Keyed::new(alloc);
-    for (name, export) in exports.iter() {
-        add_post_return(alloc, &mut table, name, export)?;
-    }
-    Ok(table)
 }

@@ -34,6 +34,8 @@ IsLinked (imports.MainModuleMemory type) = Unit {0}
 IsLinked (imports.MainModuleExport name kind) = Unit {0}
 IsLinked (imports.AdapterExport adapter name type) = Unit {0}
 IsLinked (imports.Item item) = Unit {0}
+IsLinked (imports.TlsBaseGet type) = Unit {0}
+IsLinked (imports.TlsBaseSet type) = Unit {0}
 IsLinked role = ⊥
 
 pub linked_role : (w : ComponentWorld) (role : Import) → IsImportRole w role → plain_intrinsic w.can_use_context_slot_1 role ≡ None → IsLinked role
@@ -47,6 +49,8 @@ linked_role w (imports.MainModuleMemory type) h none = tt
 linked_role w (imports.MainModuleExport name kind) h none = tt
 linked_role w (imports.AdapterExport adapter name type) h none = tt
 linked_role w (imports.Item item) h none = tt
+linked_role w (imports.TlsBaseGet type) h none = tt
+linked_role w (imports.TlsBaseSet type) h none = tt
 linked_role w role h none = absurd (true≢false (sym h ∙ ap is_some none))
 
 -- such a function has a core type
@@ -65,7 +69,7 @@ built_in_linked w of (imports.MainModuleMemory type) intrinsic h = absurd (none-
 built_in_linked w of (imports.MainModuleExport name kind) intrinsic h = absurd (none-some intrinsic h)
 built_in_linked w of (imports.AdapterExport adapter name type) intrinsic h = absurd (none-some intrinsic h)
 built_in_linked w of (imports.Item item) intrinsic h = absurd (none-some intrinsic h)
-built_in_linked w of role intrinsic h = ap link_of_intrinsic h
+built_in_linked w of role intrinsic h = ap (link_of_intrinsic role) h
 
 -- such a function is given for it
 pub built_in_given : (w : ComponentWorld) (of : UserModule) (ds : List Def) (index : ℕ) (role : Import) (intrinsic : Intrinsic) → plain_intrinsic w.can_use_context_slot_1 role ≡ Some intrinsic → IsBuiltIn ds index intrinsic → IsGivenFor w of ds spaces.CoreFunc index role

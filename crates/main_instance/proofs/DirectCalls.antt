@@ -159,6 +159,7 @@ module _ (w : ComponentWorld) (ok : IsEncodable w) (of : User) (m : ValidatedMod
       -- no option is missing where none is named
       nothing : (e : StateFault) → shared_memory w ≡ None → IsListRefusal set memory realloc place e → IsCauseAmong w (record { of = of; core = i } ∷ []) [] e
       nothing faults.Memory none h = tt
+      nothing faults.TlsTypes none h = absurd h
       nothing (faults.NoMemory x) none h = absurd (true≢false (sym h.0 ∙ ap (λ b. b && not (is_some memory)) (unnamed 1 (λ n. n.memory) none)))
       nothing (faults.NoRealloc x) none h = absurd (true≢false (sym h.0 ∙ ap (λ b. b && not (is_some realloc)) (unnamed 2 (λ n. n.realloc) none)))
       nothing (faults.NoEncoding x) none h = absurd h

@@ -1,9 +1,10 @@
 -- The module of shims and its instance keep the rules.
-use Rattle.std.proofs.Common.{true, ◌≡◌, ◌∙◌, ◌<◌, ◌^◌, ℕ, Bool, IsSome, List, [], ◌∷◌, ◌++◌, length, ap, ap₂, sym, subst, refl, filter_map, inl, inr, Option, Some, None}
+use Rattle.std.proofs.Common.{true, false, true≢false, is_some, ◌≡◌, ◌∙◌, ◌⊎◌, ◌<◌, ◌^◌, ℕ, Bool, IsSome, List, [], ◌∷◌, ◌++◌, length, ap, sym, subst, refl, filter_map, inl, inr, Option, Some, None}
 use Rattle.std.specs.Prelude.{codes}
 use Rattle.std.proofs.lemmas.Option.{none-some}
 use Rattle.core_bytes.specs.declared.section.Section.{Section}
 use Rattle.core_types.specs.declared.types.MemoryType.{MemoryType}
+use Rattle.core_types.specs.declared.types.ValType.{ValType}
 use Rattle.world_shims.specs.Refusals.{if_needed}
 use Rattle.core_bytes.specs.Modules.{Encodes}
 use Rattle.comp_builder.specs.Built.{Built}
@@ -19,9 +20,14 @@ use Rattle.comp_bytes.specs.declared.def.Def.{Def}
 use Rattle.comp_bytes.specs.declared.def.Def.TheVariants as defs
 use Rattle.comp_bytes.specs.declared.def.Item.TheVariants as items
 use Rattle.comp_bytes.specs.declared.space.Space.TheVariants as spaces
+use Rattle.comp_worlds.specs.Bases.{cell_type}
 use Rattle.comp_worlds.specs.Offered.{shared_memory}
 use Rattle.comp_worlds.specs.declared.world.ComponentWorld.{ComponentWorld}
+use Rattle.shim_modules.specs.Shims.{getter_name, setter_name}
+use Rattle.shim_plan.specs.Plans.{shim_of}
+use Rattle.shim_plan.specs.declared.kinds.ShimKind.{ShimKind}
 use Rattle.shim_plan.specs.declared.shims.Shim.{Shim}
+use Rattle.comp_terms.proofs.HasShims.{has_by_shims}
 use Rattle.comp_terms.specs.Generated.{has_shims_in, has_shim_module, shims_number}
 use Rattle.comp_terms.specs.Rules.{Grows, ModuleIs, InstanceOf, instance_number, landmark, landmarks, instances_in}
 use Rattle.comp_terms.specs.Terms.{IsInstanceOf}
@@ -29,6 +35,7 @@ use Rattle.root_imports.specs.Growing.{Grows-by, Grows-may, Grows-then}
 use Rattle.std.proofs.lemmas.List.Elements.{filter_map-append}
 use Rattle.world_shims.specs.WorldShims.{shims_of, sections_of_shims}
 use Rattle.main_instance.specs.Shims.{AddsShims}
+use Rattle.main_instance.specs.Sources.{IsShimInstance}
 
 pub extends_by : (old new : Built) (d : Def) (names : List Name) → new ≡ record { defs = old.defs ++ d ∷ []; names = old.names ++ names } → Extends old new
 extends_by old new d names h = record { more_defs = d ∷ []; more_names = names; defs = ap (λ (b : Built). b.defs) h; names = ap (λ (b : Built). b.names) h }
@@ -38,17 +45,8 @@ still_first : (bytes : List ℕ) (old mid : List Def) → mid ≡ old ++ defs.It
 still_first bytes old mid appended first =
     ap instances_in appended ∙ (ap (λ l. filter_map instance_number l) (filter_map-append landmark old (defs.Item (items.CoreModule bytes) ∷ [])) ∙ (filter_map-append instance_number (landmarks old) (ModuleIs bytes ∷ []) ∙ ap (λ l. l ++ []) first))
 
--- where there are shims, or main imports its memory, there is a module of shims
-pub one_made : (w : ComponentWorld) → (shims_of w ≡ [] → IsSome (shared_memory w)) → has_shim_module w ≡ true
-one_made w memory = by (shims_of w) (shared_memory w) memory
-  where
-    by : (ss : List Shim) (o : Option MemoryType) → (ss ≡ [] → IsSome o) → has_shims_in ss o ≡ true
-    by [] None memory = let no : IsSome {T = MemoryType} None = memory refl in cc
-    by [] (Some type) memory = refl
-    by (s ∷ ss) o memory = refl
-
 pub adds_shims : (w : ComponentWorld) (debug_names : Bool) (old mid new : List Def) (bytes : List ℕ) (index instance : ℕ) →
-    Encodes bytes (sections_of_shims (shared_memory w) (shims_of w) debug_names) → length (shims_of w) < 2 ^ 32 → has_shim_module w ≡ true → instances_in old ≡ [] → items_in spaces.CoreModule old ≡ shims_number w →
+    Encodes bytes (sections_of_shims (shared_memory w) (cell_type w) (shims_of w) debug_names) → length (shims_of w) < 2 ^ 32 → has_shim_module w ≡ true → instances_in old ≡ [] → items_in spaces.CoreModule old ≡ shims_number w →
     index ≡ items_in spaces.CoreModule old → mid ≡ old ++ defs.Item (items.CoreModule bytes) ∷ [] → IsAt mid spaces.CoreModule index (defs.Item (items.CoreModule bytes)) →
     new ≡ mid ++ defs.Item (items.CoreInstantiate index []) ∷ [] → IsInstanceOf new instance index → AddsShims w debug_names old new instance
 adds_shims w debug_names old mid new bytes index instance encodes room any first next is module_added at instance_added made =
@@ -68,17 +66,41 @@ adds_shims w debug_names old mid new bytes index instance encodes room any first
 pub shared_alias_grows : (w : ComponentWorld) (old new : List Def) (instance : ℕ) (name : List ℕ) → IsInstanceOf old instance (shims_number w) → IsSome (shared_memory w) → name ≡ codes "$memory" →
     MayAdd old new (defs.Item (items.Alias (aliases.CoreExport kinds.Memory instance name))) → Grows w old new []
 shared_alias_grows w old new instance name made shared named adds =
-    Grows-may (defs.Item (items.Alias (aliases.CoreExport kinds.Memory instance name))) refl adds (inr (inr (record { is = made; shared = shared; named = named; memory = refl })))
+    Grows-may (defs.Item (items.Alias (aliases.CoreExport kinds.Memory instance name))) refl adds (inr (inr (inl (record { is = made; shared = shared; named = named; memory = refl }))))
 
 -- and adds nothing else
 pub adds_alias : (w : ComponentWorld) (debug_names : Bool) (old mid new : List Def) (instance : ℕ) → AddsShims w debug_names old mid instance → Longer mid new → Grows w mid new [] → AddsShims w debug_names old new instance
 adds_alias w debug_names old mid new instance a longer grows =
     record { bytes = a.bytes; encodes = a.encodes; room = a.room; grows = Grows-then a.grows grows; made = instance-kept longer a.made }
 
--- where the module is made and there are no shims, main imports its memory
-pub needed_for : (w : ComponentWorld) (sections made : List Section) → Some made ≡ if_needed (shared_memory w) (shims_of w) sections → shims_of w ≡ [] → IsSome (shared_memory w)
-needed_for w sections made h none = by (shared_memory w) refl
+-- so does an alias of a function of the cell
+pub cell_alias_grows : (w : ComponentWorld) (old new : List Def) (instance : ℕ) (name : List ℕ) → IsInstanceOf old instance (shims_number w) → IsSome (cell_type w) → (name ≡ getter_name) ⊎ (name ≡ setter_name) →
+    MayAdd old new (defs.Item (items.Alias (aliases.CoreExport kinds.Func instance name))) → Grows w old new []
+cell_alias_grows w old new instance name made there named adds =
+    Grows-may (defs.Item (items.Alias (aliases.CoreExport kinds.Func instance name))) refl adds (inr (inr (inr (record { is = made; there = there; named = named; function = refl }))))
+
+-- the module is made where there is one
+pub is_needed : (w : ComponentWorld) (memory : Option MemoryType) (cell : Option ValType) (shims : List Shim) (debug_names : Bool) (made : Option (List Section)) →
+    memory ≡ shared_memory w → cell ≡ cell_type w → shims ≡ shims_of w → made ≡ if_needed memory cell shims (sections_of_shims memory cell shims debug_names) → has_shim_module w ≡ is_some made
+is_needed w memory cell shims debug_names made memory_is cell_is shims_are h =
+    ap (λ (o : Option MemoryType). has_shims_in (shims_of w) o (cell_type w)) (sym memory_is)
+    ∙ ap (λ (o : Option ValType). has_shims_in (shims_of w) memory o) (sym cell_is)
+    ∙ ap (λ (ss : List Shim). has_shims_in ss memory cell) (sym shims_are)
+    ∙ by shims memory cell (sections_of_shims memory cell shims debug_names)
+    ∙ sym (ap is_some h)
   where
-    by : (o : Option MemoryType) → shared_memory w ≡ o → IsSome o
-    by (Some type) e = refl
-    by None e = absurd (none-some made (sym (h ∙ ap₂ (λ m s. if_needed m s sections) e none)))
+    by : (ss : List Shim) (memory : Option MemoryType) (cell : Option ValType) (sections : List Section) → has_shims_in ss memory cell ≡ is_some (if_needed memory cell ss sections)
+    by [] None None sections = refl
+    by [] None (Some type) sections = refl
+    by [] (Some memory) cell sections = refl
+    by (s ∷ ss) None None sections = refl
+    by (s ∷ ss) None (Some type) sections = refl
+    by (s ∷ ss) (Some memory) cell sections = refl
+
+-- then it has an instance
+pub instance_there : (w : ComponentWorld) (ds : List Def) (instance : Option ℕ) → IsShimInstance w ds instance → has_shim_module w ≡ true → IsSome instance
+instance_there w ds None h any = absurd (true≢false (sym any ∙ h))
+instance_there w ds (Some index) h any = refl
+
+pub has_by_kind : (w : ComponentWorld) (kind : ShimKind) (shim : Shim) → shim_of kind (shims_of w) ≡ Some shim → has_shim_module w ≡ true
+has_by_kind w kind shim h = has_by_shims w (λ none. none-some shim (sym (ap (shim_of kind) none) ∙ h))

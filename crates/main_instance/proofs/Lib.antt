@@ -8,3 +8,4 @@ pub mod Instantiating
 mod OwnHandles
 pub mod BuiltIns
 pub mod OfMain
+pub mod Cells

@@ -77,6 +77,7 @@ module _ (w : ComponentWorld) (of : User) (m : ValidatedModule) (there : module_
   -- what it lacks is a cause
   pub unencoded : (i : CoreImport) → IsTrue (needs_encoding i.role) → (e : StateFault) → IsUnencoded (encoding_in i.role m) (field_path i.module_name i.field) e → IsCauseAmong w (record { of = of; core = i } ∷ []) [] e
   unencoded i needs faults.Memory h = tt
+  unencoded i needs faults.TlsTypes h = absurd h
   unencoded i needs (faults.NoEncoding place) h = one_import_lacks w (record { of = of; core = i }) place needs (encoding_found i.role None h.0) h.1
   unencoded i needs (faults.NoMemory place) h = absurd h
   unencoded i needs (faults.NoRealloc place) h = absurd h

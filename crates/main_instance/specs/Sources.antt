@@ -1,6 +1,6 @@
 -- What is taken as given where the imports of a user module are given what they need. (The rules
 -- are this project's own.)
-use Rattle.std.specs.Prelude.{◌≡◌, ℕ, List, [], Option, Some, None, true, map, Contains}
+use Rattle.std.specs.Prelude.{◌≡◌, ℕ, List, Option, Some, None, true, false, map, Contains}
 use Rattle.std.specs.List.{AllByRecursion}
 use Rattle.standard_kinds.specs.declared.kinds.ExportKind.TheVariants as kinds
 use Rattle.comp_bytes.specs.declared.def.Def.{Def}
@@ -26,7 +26,7 @@ use Rattle.comp_links.specs.Links.{module_of}
 use Rattle.comp_links.specs.Modules.{UserImport, IsModule}
 use Rattle.comp_links.specs.Roles.{is_used_of}
 use Rattle.comp_links.specs.Targets.{UserModule as User, Main, Adapter}
-use Rattle.comp_terms.specs.Generated.{shims_number}
+use Rattle.comp_terms.specs.Generated.{has_shim_module, shims_number}
 use Rattle.comp_terms.specs.Planned.{memory_from, main_memory}
 use Rattle.comp_terms.specs.Terms.{CoreExport, IsInstanceOf, IsExported}
 use Rattle.shim_plan.specs.Plans.{shim_of}
@@ -60,9 +60,9 @@ pub record IsDefinedHere (w : ComponentWorld) (id : TypeId) : Type 0 where
 abbrev pub AreExportsMet : ComponentWorld → MetTypes → Type 0
 AreExportsMet w met = AllByRecursion (λ interface. has_types met interface ≡ true) (required_interfaces w)
 
--- the instance of the module of shims, without which there are no shims
+-- the instance of the module of shims, where there is one
 abbrev pub IsShimInstance : ComponentWorld → List Def → Option ℕ → Type 0
-IsShimInstance w ds None = shims_of w ≡ []
+IsShimInstance w ds None = has_shim_module w ≡ false
 IsShimInstance w ds (Some instance) = IsInstanceOf ds instance (shims_number w)
 
 -- the memory that main imports, as the module of shims exports it

@@ -421,6 +421,14 @@ impl ImportSources<'_> {
                 let index = self.item(root, item)?;
                 Ok((item.kind, index))
             }
+            Import::TlsBaseGet { .. } => {
+                let index = self.cell_getter(root)?;
+                Ok((ExportKind::Func, index))
+            }
+            Import::TlsBaseSet { .. } => {
+                let index = self.cell_setter(root)?;
+                Ok((ExportKind::Func, index))
+            }
             _ => unreachable!(),
         }
     }

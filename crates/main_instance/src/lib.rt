@@ -4,14 +4,16 @@
 //! doesn't import its memory, as a shim: an export of the instance of shims, which stands for a
 //! lowering that is made after the user modules. The functions of a resource's handles are given as
 //! themselves, and so are main's memory and what main exports; a function that an adapter exports
-//! is given as a shim, since the adapter is instantiated later. There is an inline instance for
-//! each module that the user module imports from, with an entry for each field.
+//! is given as a shim, since the adapter is instantiated later. Where the thread-local base can't be
+//! in a task's context, the module of shims has a cell for it, with a function that reads it and one
+//! that sets it. There is an inline instance for each module that the user module imports from, with
+//! an entry for each field.
 //!
 //! In reading order: `calls` (string encodings, and the kinds of shims), `shims` (their module and
-//! its instance), `own_handles` (functions of the handles of own resources), `direct` (the options
-//! of lowerings without a shim), `others` (what other user modules export), `instances` (what each
-//! import is given). In `specs/`: `Calls`, `Direct`, `Shims`, and `Sources` (what is taken as
-//! given).
+//! its instance), `cell` (the functions of the cell of the thread-local base), `own_handles`
+//! (functions of the handles of own resources), `direct` (the options of lowerings without a shim),
+//! `others` (what other user modules export), `instances` (what each import is given). In `specs/`:
+//! `Calls`, `Direct`, `Shims`, and `Sources` (what is taken as given).
 //!
 //! Upward this crate promises: each argument is what the link table names for each of its fields,
 //! or a shim that stands for it (`IsArgumentFor` of `comp_terms`); definitions grow at their end,
@@ -19,6 +21,7 @@
 #![tactic(auto)]
 
 mod calls;
+mod cell;
 mod direct;
 mod instances;
 mod others;

@@ -1,10 +1,12 @@
 //! The module of shims, and its instance.
 #![tactic(auto, using(crate::proofs::Growth::growing))]
 
-ghost use Rattle.std.specs.Prelude.{true, ◌≡◌, ◌<◌, ◌^◌, [], length, None, IfOk, IfErr, OnOk};
+ghost use Rattle.std.specs.Prelude.{true, ◌≡◌, ◌⊎◌, ◌<◌, ◌^◌, [], length, None, IfOk, IfErr, OnOk, IsSome};
 ghost use Rattle.comp_terms.specs.Rules.{Grows};
-ghost use Rattle.comp_terms.specs.Terms.{IsInstanceOf};
+ghost use Rattle.comp_terms.specs.Planned.{cell_export};
+ghost use Rattle.comp_terms.specs.Terms.{IsInstanceOf, IsExported};
 ghost use Rattle.comp_worlds.specs.Encodable.{IsEncodable};
+ghost use Rattle.comp_worlds.specs.Bases.{cell_type};
 ghost use Rattle.comp_worlds.specs.Offered.{shared_memory};
 ghost use Rattle.core_options.specs.MainOptions.{IsMemoryIf};
 ghost use Rattle.main_instance.specs.Sources.{IsShimAlias, IsShimInstance, shared_export};
@@ -15,12 +17,14 @@ ghost use Rattle.comp_terms.specs.Generated.{has_shim_module, shims_number};
 ghost use Rattle.comp_terms.specs.Rules.{instances_in};
 ghost use Rattle.main_instance.specs.Shims.{AddsShims, MayAddShims};
 ghost use Rattle.root_imports.specs.RootScopes.{IsRefusal};
+ghost use Rattle.shim_modules.specs.Shims.{getter_name, setter_name};
 ghost use Rattle.world_shims.specs.WorldShims.{shims_of, sections_of_shims};
 
 use byte_encoding::BuildFault;
 use comp_lists::Seq;
 use comp_worlds::ComponentWorld;
 use core_bytes::Module;
+use core_types::ValType;
 use root_imports::RootScope;
 use shim_plan::{ShimKind, Shims};
 use world_shims::module_of_shims;
@@ -32,8 +36,8 @@ fn instantiate_shims(
     debug_names: bool,
 ) -> Result<u32, BuildFault>
     requires module { «module».now
-        ≡ sections_of_shims (shared_memory root.old.world.now) (shims_of root.old.world.now)
-        debug_names }
+        ≡ sections_of_shims (shared_memory root.old.world.now) (cell_type root.old.world.now)
+        (shims_of root.old.world.now) debug_names }
     requires room { length (shims_of root.old.world.now) < 2 ^ 32 }
     requires any { has_shim_module root.old.world.now ≡ true }
     requires first { instances_in root.old.items.defs ≡ [] }
@@ -85,6 +89,29 @@ pub fn shim_alias(
     Ok(Some(index))
 }
 
+/// A function of the cell of the thread-local base, by its name, as an alias of what the shims'
+/// instance exports.
+pub(crate) fn cell_function(
+    root: &mut RootScope<'_, ComponentWorld>,
+    shim_instance: Option<u32>,
+    name: &str,
+) -> Result<u32, BuildFault>
+    requires made { IsShimInstance root.old.world.now root.old.items.defs shim_instance }
+    requires there { IsSome (cell_type root.old.world.now) }
+    requires named { (name.now ≡ getter_name) ⊎ (name.now ≡ setter_name) }
+    ensures same { root.new ≡ record root.old { items = root.new.items } }
+    ensures extends { Extends root.old.items root.new.items }
+    ensures grows { OnOk result
+        (Grows root.old.world.now root.old.items.defs root.new.items.defs []) }
+    ensures exported { IfOk result (λ index. IsExported root.new.items.defs index
+        (cell_export root.old.world.now name.now)) }
+    ensures cause { IfErr result IsRefusal }
+{
+    let instance = shim_instance.unwrap();
+    let index = root.items.core_function(instance, name)?;
+    Ok(index)
+}
+
 /// The alias of the memory that main imports, as the module of shims exports it, if main imports one.
 fn shared_memory(
     root: &mut RootScope<'_, ComponentWorld>,
@@ -118,14 +145,17 @@ pub struct MadeShims {
     pub memory: Option<u32>,
 }
 
-/// Adds the module of shims and its instance, where there are shims or main imports its memory: it
-/// is the first core instance of a component. With an alias of that memory. After a refusal the
-/// definitions that were made until then stay.
+/// Adds the module of shims and its instance, where there are shims, main imports its memory, or
+/// there is a cell of this type for the thread-local base: it is the first core instance of a
+/// component. With an alias of that memory. After a refusal the definitions that were made until
+/// then stay.
 pub fn encode_shim_instantiation(
     root: &mut RootScope<'_, ComponentWorld>,
+    cell: Option<ValType>,
     shims: &Shims,
     debug_names: bool,
 ) -> Result<MadeShims, BuildFault>
+    requires cell { cell ≡ cell_type root.old.world.now }
     requires shims { shims.now ≡ shims_of root.old.world.now }
     requires first { instances_in root.old.items.defs ≡ [] }
     requires next { items_in spaces.CoreModule root.old.items.defs
@@ -139,7 +169,7 @@ pub fn encode_shim_instantiation(
     ensures cause { IfErr result IsRefusal }
 {
     let memory = root.world.main.imports.imported_memory();
-    match module_of_shims(root.items.allocator(), memory, shims, debug_names)? {
+    match module_of_shims(root.items.allocator(), memory, cell, shims, debug_names)? {
         Some(module) => {
             let instance = instantiate_shims(root, &module, debug_names)?;
             let memory = shared_memory(root, instance)?;

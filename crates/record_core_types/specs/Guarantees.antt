@@ -1,6 +1,6 @@
 -- What holds of the roles of a main module: the world has the function that the role of a root
 -- function, or of an interface's function, names, under the role's key; and each function that must
--- be exported has a core export.
+-- be exported has a core export, and the callback that its form asks for.
 use Rattle.std.specs.Prelude.{◌≡◌, ℕ, List, [], ◌∷◌, Option, Some, Contains, IsSome, get_or, map}
 use Rattle.std.specs.List.{AllByRecursion}
 use Rattle.wit_data.specs.declared.ids.InterfaceId.{InterfaceId}
@@ -17,6 +17,7 @@ use Rattle.comp_roles.specs.declared.exports.Export.TheVariants as exports
 use Rattle.comp_roles.specs.declared.imports.Import.{Import}
 use Rattle.comp_roles.specs.declared.imports.Import.TheVariants as imports
 use Rattle.world_values.specs.CoreExports.{implementations}
+use Rattle.world_values.specs.ExportForms.{IsFormed}
 use Rattle.world_values.specs.Items.{no_items, functions_of}
 use Rattle.record_core_types.specs.Asked.{imported_function, exported_function, exported_item, function_of, imported_interface, exported_interface}
 
@@ -28,12 +29,14 @@ IsCalled r w (imports.InterfaceFunc key id function abi) = (imported_interface r
 IsCalled r w role = Unit {0}
 
 -- the world exports the root function of an export's role, under its own name, and that of a
--- post-return; or the interface of the role, which has the function
+-- post-return or a callback; or the interface of the role, which has the function
 abbrev pub IsLifted : Resolve → WorldId → Export → Type 0
 IsLifted r w (exports.WorldFunc (keys.Name text) function abi) = (function ≡ text) × IsSome (exported_function r w (keys.Name text))
 IsLifted r w (exports.InterfaceFunc key id function abi) = (exported_interface r w key ≡ Some id) × IsSome (function_of r id function)
 IsLifted r w (exports.WorldFuncPostReturn (keys.Name text)) = IsSome (exported_function r w (keys.Name text))
 IsLifted r w (exports.InterfaceFuncPostReturn key function) = (id : InterfaceId) × (exported_interface r w key ≡ Some id) × IsSome (function_of r id function)
+IsLifted r w (exports.WorldFuncCallback (keys.Name text)) = IsSome (exported_function r w (keys.Name text))
+IsLifted r w (exports.InterfaceFuncCallback key function) = (id : InterfaceId) × (exported_interface r w key ≡ Some id) × IsSome (function_of r id function)
 IsLifted r w role = Unit {0}
 
 -- the names that the functions of an item have themselves
@@ -42,7 +45,9 @@ own_names r (Some (items.Function f)) = f.name ∷ []
 own_names r (Some (items.Interface id)) = map (λ e. e.1.name) (functions_of r id)
 own_names r item = []
 
--- the world exports something at a key, and some core export implements each function there
+-- the world exports something at a key, and some core export implements each function there, with a
+-- callback where its form asks for one
 pub record IsKept (r : Resolve) (w : WorldId) (all : Exports) (key : WorldKey) : Type 0 where
   pub exported : Contains (map (λ e. e.0) (get_or r.worlds w.index no_items).exports) key
   pub present : AllByRecursion (λ name. IsSome (of_function key name (implementations all))) (own_names r (exported_item r w key))
+  pub formed : AllByRecursion (IsFormed all key) (own_names r (exported_item r w key))

@@ -1,4 +1,4 @@
--- A required export is one of the world, and some core export implements each function there.
+-- A required export is one of the world, and some core export implements each function there, with its callback.
 use Rattle.std.proofs.Common.{◌≡◌, ◌∙◌, ap, sym, subst, refl, ℕ, suc, nat_eq, Bool, true, false, cond, ◌&&◌, List, [], ◌∷◌, ◌++◌, map, get_or, Option, Some, None, Ok, is_some, IsSome, Contains, true≢false, if◌then◌else◌, arith}
 use Rattle.std.proofs.Math.Dec.{eqb-zero-suc, eqb-suc-zero}
 use Rattle.std.specs.Prelude.{slice_get, ok_or, ⊤}
@@ -11,6 +11,7 @@ use Rattle.std.proofs.lemmas.Slice.Eq.{bytes_eq-Decides}
 use Rattle.comp_lists.proofs.Lists.{AllByRecursion-push}
 use Rattle.wit_data.specs.Keys.{is_same_key}
 use Rattle.wit_data.specs.declared.functions.AbiVariant.{AbiVariant}
+use Rattle.wit_data.specs.declared.functions.AbiVariant.TheVariants as abis
 use Rattle.wit_data.specs.declared.ids.InterfaceId.{InterfaceId}
 use Rattle.wit_data.specs.declared.worlds.World.{World}
 use Rattle.wit_data.specs.declared.worlds.WorldItem.{WorldItem}
@@ -18,7 +19,8 @@ use Rattle.wit_data.specs.declared.worlds.WorldKey.{WorldKey}
 use Rattle.wit_data.specs.declared.worlds.WorldKey.TheVariants as keys
 use Rattle.comp_roles.specs.Functions.{is_same_function, of_function}
 use Rattle.comp_roles.specs.declared.metadata.FunctionKey.{FunctionKey}
-use Rattle.world_values.specs.CoreExports.{function_key, lifted_function, implementations}
+use Rattle.world_values.specs.CoreExports.{function_key, lifted_function, lifted_functions, implementations}
+use Rattle.world_values.specs.ExportForms.{callback_in, form_in, HasItsCallback, IsFormed}
 use Rattle.world_values.specs.Items.{no_items}
 use Rattle.world_values.specs.declared.gathered.ExportKey.{ExportKey}
 use Rattle.world_values.specs.declared.gathered.ExportKey.TheVariants as export_keys
@@ -30,7 +32,7 @@ use Rattle.record_role_targets.specs.Keys.{existing, resolved_export_key}
 use Rattle.record_core_types.specs.Guarantees.{IsKept}
 use Rattle.record_faults.specs.Faults.{◌>>=◌}
 use Rattle.record_faults.proofs.Chains.{bind_ok, got, passed}
-use Rattle.record_exports.specs.Functions.{Exports, Known, known, lifted_functions, abi_at, has_callback}
+use Rattle.record_exports.specs.Functions.{Exports, Known, known, abi_at, has_callback}
 use Rattle.record_exports.specs.Meaning.{world_id}
 use Rattle.record_exports.specs.Requiring.{missing, key_text, functions_at, suffices, is_there, function_there, all_there, required_key, required_after, required_of}
 
@@ -109,6 +111,18 @@ all_implemented all key (name ∷ names) e =
     let there = sufficient (abi_at all (function_key key name)) (has_callback all (function_key key name)) p.0 in
     (sym (implemented (is_same_function (function_key key name)) all) ∙ there, all_implemented all key names a.2)
 
+-- and the callbacks that their forms ask for
+called_back : (abi : Option AbiVariant) (callback : Option (List ℕ)) → suffices abi (is_some callback) ≡ true → HasItsCallback abi callback
+called_back (Some abis.GuestExportAsync) callback e = e
+called_back abi callback e = tt
+
+all_formed : (all : Exports) (key : WorldKey) (names : List (List ℕ)) → all_there (known all) key names ≡ Ok tt → AllByRecursion (IsFormed all key) names
+all_formed all key [] e = tt
+all_formed all key (name ∷ names) e =
+    let a = bind_ok (function_there (known all) key name) (λ (_ : ⊤). all_there (known all) key names) tt e in
+    let p = passed (is_there (known all) (function_key key name)) tt a.0 (missing name) a.1 in
+    (called_back (form_in all key name) (callback_in all key name) p.0, all_formed all key names a.2)
+
 -- ---- keys that were returned
 
 -- what a key that was returned has, by the steps to it
@@ -128,7 +142,7 @@ key_required r k needed key e =
 key_kept : (r : Resolved) (all : Exports) (needed : ExportKey) (key : WorldKey) → required_key r (known all) needed ≡ Ok key → IsKept r.resolve world_id all key
 key_kept r all needed key e =
     let q = key_required r (known all) needed key e in
-    record { exported = key_there r key (target_exists r needed key q.target); present = all_implemented all key (functions_at r key) q.there }
+    record { exported = key_there r key (target_exists r needed key q.target); present = all_implemented all key (functions_at r key) q.there; formed = all_formed all key (functions_at r key) q.there }
 
 keys_kept : (r : Resolved) (all : Exports) (done ks : List WorldKey) (ws : List ExportKey) → AllByRecursion (IsKept r.resolve world_id all) done → required_after r (known all) done ws ≡ Ok ks
     → AllByRecursion (IsKept r.resolve world_id all) ks

@@ -16,8 +16,8 @@ use Rattle.record_role_targets.specs.Keys.{resolved_export_key}
 use Rattle.record_faults.specs.declared.fault.Failure.{Failure}
 use Rattle.record_faults.specs.Faults.{◌>>=◌, Gives}
 use Rattle.record_exports.specs.declared.functions.Functions.{Functions}
-use Rattle.world_values.specs.CoreExports.{function_key, post_return_function, callback_function}
-use Rattle.record_exports.specs.Functions.{Exports, IsOf, known, known_by, lifted_functions, callbacks}
+use Rattle.world_values.specs.CoreExports.{function_key, post_return_function, callback_function, lifted_functions, callbacks}
+use Rattle.record_exports.specs.Functions.{Exports, IsOf, known, known_by}
 use Rattle.record_exports.specs.Meaning.{unfit}
 use Rattle.record_exports.specs.Taking.{takes_post_return, takes_callback, is_taken, taken, all_taken}
 use Rattle.record_exports.specs.Requiring.{missing, key_text, functions_at, suffices, is_there, function_there, all_there, required_key, required_after, required_of}

@@ -86,6 +86,13 @@ module _ (r : Resolved) where
       by None e = tt
       by (Some f) e = ap is_some e
 
+  callback_at_root : (name : List ℕ) → IfSome (option_map (callback name) (function_position sides.Exported r owners.World name)) Lifted
+  callback_at_root name = by (function_at sides.Exported r (at_root name) name) (root_item r (keys.Name name))
+    where
+      by : (o : Option Function) → exported_function r.resolve world_id (keys.Name name) ≡ o → IfSome (option_map (callback name) (option_map (λ f. at_root name) o)) Lifted
+      by None e = tt
+      by (Some f) e = ap is_some e
+
   -- ---- functions of interfaces
 
   -- an interface has the key under which it is found, and the function
@@ -122,9 +129,9 @@ module _ (r : Resolved) where
   post_return_lifted owners.World name = post_return_at_root name
   post_return_lifted (owners.Interface i) name = in_interfaces (λ key interface. post_return_there key interface name) name (λ id k there. (id, there.exported, there.has)) (interface_of sides.Exported r i)
 
-  callback_lifted : (name : List ℕ) (key : WorldKey) (interface : Option InterfaceId) → Lifted (callback_there key interface name)
-  callback_lifted name key None = tt
-  callback_lifted name key (Some id) = tt
+  callback_lifted : (owner : Owner) (name : List ℕ) → IfSome (option_map (callback name) (function_position sides.Exported r owner name)) Lifted
+  callback_lifted owners.World name = callback_at_root name
+  callback_lifted (owners.Interface i) name = in_interfaces (λ key interface. callback_there key interface name) name (λ id k there. (id, there.exported, there.has)) (interface_of sides.Exported r i)
 
   plain_lifted : (p : PlainExport) (ty : Option ExternType) → IfSome (plain_export p ty) Lifted
   plain_lifted plain.Memory ty = mapped exports.Memory (λ m. tt) (memory_type ty)
@@ -138,7 +145,7 @@ module _ (r : Resolved) where
   role_lifted : (role : ExportRole) (ty : Option ExternType) → IfSome (resolved_export r role ty) Lifted
   role_lifted (roles.Function owner name abi) ty = function_lifted owner name abi
   role_lifted (roles.PostReturn owner name) ty = post_return_lifted owner name
-  role_lifted (roles.Callback owner name) ty = mapped (callback name) (λ p. callback_lifted name p.key p.interface) (function_position sides.Exported r owner name)
+  role_lifted (roles.Callback owner name) ty = callback_lifted owner name
   role_lifted (roles.Destructor t) ty = mapped (λ d. exports.ResourceDtor d.id) (λ d. tt) (resource_of sides.Exported r t)
   role_lifted (roles.Plain p) ty = plain_lifted p ty
 

@@ -1,31 +1,17 @@
 -- What is known of functions from core exports: how each is called, and whether it has a callback
 -- (Canonical ABI: `canon lift`).
-use Rattle.std.specs.Prelude.{◌≡◌, ℕ, Bool, List, [], ◌∷◌, Option, Some, None, is_some}
-use Rattle.std.specs.List.{flat_map}
+use Rattle.std.specs.Prelude.{◌≡◌, ℕ, Bool, List, Option, is_some}
 use Rattle.std.specs.Map.{lookup}
 use Rattle.wit_data.specs.declared.functions.AbiVariant.{AbiVariant}
 use Rattle.comp_roles.specs.Functions.{is_same_function}
 use Rattle.comp_roles.specs.declared.exports.Export.{Export}
 use Rattle.comp_roles.specs.declared.metadata.FunctionKey.{FunctionKey}
-use Rattle.world_values.specs.CoreExports.{lifted_function, callback_function}
+use Rattle.world_values.specs.CoreExports.{lifted_functions, callbacks}
 use Rattle.record_exports.specs.declared.functions.Functions.{Functions}
 
 -- core exports by name
 abbrev pub Exports : Type 0
 Exports = List (List ℕ × Export)
-
--- a function in a table of functions alone
-abbrev pub alone : Option FunctionKey → List (FunctionKey × Unit {0})
-alone None = []
-alone (Some k) = (k, tt) ∷ []
-
--- ---- the functions of all exports
-
-abbrev pub lifted_functions : Exports → List (FunctionKey × AbiVariant)
-lifted_functions all = flat_map (λ e. lifted_function e.1) all
-
-abbrev pub callbacks : Exports → List (FunctionKey × Unit {0})
-callbacks all = flat_map (λ e. alone (callback_function e.1)) all
 
 -- how a function is called, according to its first export
 abbrev pub abi_at : Exports → FunctionKey → Option AbiVariant

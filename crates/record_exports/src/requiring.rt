@@ -14,7 +14,7 @@ ghost use Rattle.record_exports.specs.Functions.{known_by};
 ghost use Rattle.record_exports.specs.Meaning.{world_id};
 ghost use Rattle.record_exports.specs.Requiring.{missing, key_text, functions_at, suffices, is_there, function_there, all_there, required_key, required_after, required_of};
 
-use crate::functions::{Functions, function_key};
+use crate::functions::Functions;
 use comp_lists::{Keyed, Seq, Text};
 use comp_roles::{Export, FunctionKey};
 use record_faults::{Failure, Refusal};
@@ -22,7 +22,7 @@ use record_resolve::Resolved;
 use record_role_targets::resolved_export_key;
 use std::alloc::Global;
 use wit_data::{AbiVariant, Function, InterfaceId, WorldItem, WorldKey};
-use world_values::ExportKey;
+use world_values::{ExportKey, function_key};
 
 /// The refusal that the export of this name is missing, or out of memory.
 fn missing(alloc: Global, name: &Text) -> Failure

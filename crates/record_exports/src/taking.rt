@@ -7,13 +7,14 @@ ghost use Rattle.world_values.specs.CoreExports.{post_return_function, callback_
 ghost use Rattle.record_exports.specs.Functions.{known_by};
 ghost use Rattle.record_exports.specs.Taking.{takes_post_return, takes_callback, is_taken, taken, all_taken};
 
-use crate::functions::{Functions, callback_function, post_return_function};
+use crate::functions::Functions;
 use crate::meaning::unfit;
 use comp_lists::{Keyed, Text};
 use comp_roles::Export;
 use record_faults::Failure;
 use std::alloc::{AllocError, Global};
 use wit_data::AbiVariant;
+use world_values::{callback_function, post_return_function};
 
 /// Whether a function that is called like this can have a post-return.
 fn takes_post_return(abi: Option<AbiVariant>) -> bool

@@ -1,15 +1,18 @@
--- Worked examples: one shim, of two parameters; a memory alone; and both.
-use Rattle.std.proofs.Common.{◌≡◌, Bool, true, false, List, [], ◌∷◌, ℕ, Option, Some, None, refl}
+-- Worked examples: one shim, of two parameters; a memory alone; a cell alone; and the order of them all.
+use Rattle.std.proofs.Common.{◌≡◌, Bool, true, false, List, [], ◌∷◌, ◌++◌, ℕ, pos, Option, Some, None, refl}
 use Rattle.std.specs.Prelude.{codes}
-use Rattle.std.specs.Fmt.{digits}
+use Rattle.std.specs.Fmt.{decimal, digits}
+use Rattle.standard_kinds.specs.declared.kinds.ExportKind.TheVariants as kinds
 use Rattle.byte_encoding.specs.Encoding.{leb128}
 use Rattle.core_types.specs.declared.types.FuncType.{FuncType}
 use Rattle.core_types.specs.declared.types.MemoryType.{MemoryType}
-use Rattle.core_types.specs.declared.types.ValType.TheVariants.{I32}
+use Rattle.core_types.specs.declared.types.ValType.TheVariants.{I32, I64}
+use Rattle.core_bytes.specs.declared.entity.ConstExpr.TheVariants as constants
 use Rattle.core_bytes.specs.Modules.{encoding_of}
 use Rattle.core_bytes.specs.Signed.{signed_within}
 use Rattle.shim_modules.specs.declared.shims.ShimFunction.{ShimFunction}
-use Rattle.shim_modules.specs.Shims.{shim_sections, shim_module}
+use Rattle.shim_modules.specs.declared.shims.ThreadCell.{ThreadCell}
+use Rattle.shim_modules.specs.Shims.{shim_sections, shim_module, exports_of, table_export, memory_export, shim_names, cell_names, cell_global}
 
 -- a function of two parameters and no result
 abbrev pair : FuncType
@@ -19,7 +22,7 @@ abbrev shim : ShimFunction
 shim = record { code = record { params = 2; type_index = 0 }; debug_name = codes "indirect-a:b/i-f" }
 
 abbrev bytes_of : Bool → List ℕ
-bytes_of debug_names = (encoding_of (shim_sections None (pair ∷ []) (shim ∷ []) debug_names)).bytes
+bytes_of debug_names = (encoding_of (shim_sections None None (pair ∷ []) (shim ∷ []) debug_names)).bytes
 
 -- ---- without a memory
 
@@ -40,19 +43,47 @@ abbrev one_page : MemoryType
 one_page = record { minimum = 1; maximum = None }
 
 -- the bytes of the module; none, where there is no module
-abbrev bytes_if_any : Option MemoryType → List FuncType → List ShimFunction → Bool → List ℕ
-bytes_if_any memory types shims debug_names = elim (shim_module memory types shims debug_names) [ None ↦ [] | Some ss ↦ (encoding_of ss).bytes ]
+abbrev bytes_if_any : Option MemoryType → Option ThreadCell → List FuncType → List ShimFunction → Bool → List ℕ
+bytes_if_any memory cell types shims debug_names = elim (shim_module memory cell types shims debug_names) [ None ↦ [] | Some ss ↦ (encoding_of ss).bytes ]
 
 -- a memory alone: there are no functions and no table, and the section of types is there all the same
-memory_alone : bytes_if_any (Some one_page) [] [] false ≡ 0x00 ∷ 0x61 ∷ 0x73 ∷ 0x6d ∷ 0x01 ∷ 0x00 ∷ 0x00 ∷ 0x00 ∷ 0x01 ∷ 0x01 ∷ 0x00 ∷ 0x05 ∷ 0x03 ∷ 0x01 ∷ 0x00 ∷ 0x01 ∷ 0x07 ∷ 0x0b ∷ 0x01 ∷ 0x07 ∷ 0x24 ∷ 0x6d ∷ 0x65 ∷ 0x6d ∷ 0x6f ∷ 0x72 ∷ 0x79 ∷ 0x02 ∷ 0x00 ∷ []
+memory_alone : bytes_if_any (Some one_page) None [] [] false ≡ 0x00 ∷ 0x61 ∷ 0x73 ∷ 0x6d ∷ 0x01 ∷ 0x00 ∷ 0x00 ∷ 0x00 ∷ 0x01 ∷ 0x01 ∷ 0x00 ∷ 0x05 ∷ 0x03 ∷ 0x01 ∷ 0x00 ∷ 0x01 ∷ 0x07 ∷ 0x0b ∷ 0x01 ∷ 0x07 ∷ 0x24 ∷ 0x6d ∷ 0x65 ∷ 0x6d ∷ 0x6f ∷ 0x72 ∷ 0x79 ∷ 0x02 ∷ 0x00 ∷ []
 unfolding leb128 signed_within digits
 memory_alone = refl
 
 -- with names: there are no names of functions, and their part is there all the same
-memory_named : bytes_if_any (Some one_page) [] [] true ≡ 0x00 ∷ 0x61 ∷ 0x73 ∷ 0x6d ∷ 0x01 ∷ 0x00 ∷ 0x00 ∷ 0x00 ∷ 0x01 ∷ 0x01 ∷ 0x00 ∷ 0x05 ∷ 0x03 ∷ 0x01 ∷ 0x00 ∷ 0x01 ∷ 0x07 ∷ 0x0b ∷ 0x01 ∷ 0x07 ∷ 0x24 ∷ 0x6d ∷ 0x65 ∷ 0x6d ∷ 0x6f ∷ 0x72 ∷ 0x79 ∷ 0x02 ∷ 0x00 ∷ 0x00 ∷ 0x1d ∷ 0x04 ∷ 0x6e ∷ 0x61 ∷ 0x6d ∷ 0x65 ∷ 0x00 ∷ 0x13 ∷ 0x12 ∷ 0x77 ∷ 0x69 ∷ 0x74 ∷ 0x2d ∷ 0x63 ∷ 0x6f ∷ 0x6d ∷ 0x70 ∷ 0x6f ∷ 0x6e ∷ 0x65 ∷ 0x6e ∷ 0x74 ∷ 0x3a ∷ 0x73 ∷ 0x68 ∷ 0x69 ∷ 0x6d ∷ 0x01 ∷ 0x01 ∷ 0x00 ∷ []
+memory_named : bytes_if_any (Some one_page) None [] [] true ≡ 0x00 ∷ 0x61 ∷ 0x73 ∷ 0x6d ∷ 0x01 ∷ 0x00 ∷ 0x00 ∷ 0x00 ∷ 0x01 ∷ 0x01 ∷ 0x00 ∷ 0x05 ∷ 0x03 ∷ 0x01 ∷ 0x00 ∷ 0x01 ∷ 0x07 ∷ 0x0b ∷ 0x01 ∷ 0x07 ∷ 0x24 ∷ 0x6d ∷ 0x65 ∷ 0x6d ∷ 0x6f ∷ 0x72 ∷ 0x79 ∷ 0x02 ∷ 0x00 ∷ 0x00 ∷ 0x1d ∷ 0x04 ∷ 0x6e ∷ 0x61 ∷ 0x6d ∷ 0x65 ∷ 0x00 ∷ 0x13 ∷ 0x12 ∷ 0x77 ∷ 0x69 ∷ 0x74 ∷ 0x2d ∷ 0x63 ∷ 0x6f ∷ 0x6d ∷ 0x70 ∷ 0x6f ∷ 0x6e ∷ 0x65 ∷ 0x6e ∷ 0x74 ∷ 0x3a ∷ 0x73 ∷ 0x68 ∷ 0x69 ∷ 0x6d ∷ 0x01 ∷ 0x01 ∷ 0x00 ∷ []
 unfolding leb128 signed_within digits
 memory_named = refl
 
--- neither shims nor a memory
-no_module : (types : List FuncType) (debug_names : Bool) → shim_module None types [] debug_names ≡ None
+-- ---- with a cell
+
+-- the types of the function that reads a cell of 32 bits, and of the one that sets it
+abbrev getter : FuncType
+getter = record { params = []; results = I32 ∷ [] }
+
+abbrev setter : FuncType
+setter = record { params = I32 ∷ []; results = [] }
+
+abbrev cell : ThreadCell
+cell = record { val_type = I32; getter_type = 0; setter_type = 1 }
+
+-- a cell alone: two functions over one global, which is zero at first
+cell_alone : bytes_if_any None (Some cell) (getter ∷ setter ∷ []) [] false ≡ 0x00 ∷ 0x61 ∷ 0x73 ∷ 0x6d ∷ 0x01 ∷ 0x00 ∷ 0x00 ∷ 0x00 ∷ 0x01 ∷ 0x09 ∷ 0x02 ∷ 0x60 ∷ 0x00 ∷ 0x01 ∷ 0x7f ∷ 0x60 ∷ 0x01 ∷ 0x7f ∷ 0x00 ∷ 0x03 ∷ 0x03 ∷ 0x02 ∷ 0x00 ∷ 0x01 ∷ 0x06 ∷ 0x06 ∷ 0x01 ∷ 0x7f ∷ 0x01 ∷ 0x41 ∷ 0x00 ∷ 0x0b ∷ 0x07 ∷ 0x21 ∷ 0x02 ∷ 0x0d ∷ 0x24 ∷ 0x67 ∷ 0x65 ∷ 0x74 ∷ 0x2d ∷ 0x74 ∷ 0x6c ∷ 0x73 ∷ 0x2d ∷ 0x62 ∷ 0x61 ∷ 0x73 ∷ 0x65 ∷ 0x00 ∷ 0x00 ∷ 0x0d ∷ 0x24 ∷ 0x73 ∷ 0x65 ∷ 0x74 ∷ 0x2d ∷ 0x74 ∷ 0x6c ∷ 0x73 ∷ 0x2d ∷ 0x62 ∷ 0x61 ∷ 0x73 ∷ 0x65 ∷ 0x00 ∷ 0x01 ∷ 0x0a ∷ 0x0d ∷ 0x02 ∷ 0x04 ∷ 0x00 ∷ 0x23 ∷ 0x00 ∷ 0x0b ∷ 0x06 ∷ 0x00 ∷ 0x20 ∷ 0x00 ∷ 0x24 ∷ 0x00 ∷ 0x0b ∷ []
+unfolding leb128 signed_within digits
+cell_alone = refl
+
+-- a cell of 64 bits is zero of 64 bits at first
+wide_cell : cell_global (record cell { val_type = I64 }) ≡ record { global_type = record { val_type = I64; mutable = true }; init = constants.I64 (pos 0) }
+wide_cell = refl
+
+-- the cell's functions and names come behind the shims', and their exports behind the table's and the memory's
+cell_comes_last : exports_of (Some one_page) (Some cell) (shim ∷ []) ≡ record { name = decimal 0; kind = kinds.Func; index = 0 } ∷ table_export ∷ memory_export ∷ record { name = codes "$get-tls-base"; kind = kinds.Func; index = 1 } ∷ record { name = codes "$set-tls-base"; kind = kinds.Func; index = 2 } ∷ []
+cell_comes_last = refl
+
+cell_named : shim_names 0 (shim ∷ []) ++ cell_names 1 (Some cell) ≡ record { index = 0; name = codes "indirect-a:b/i-f" } ∷ record { index = 1; name = codes "$get-tls-base" } ∷ record { index = 2; name = codes "$set-tls-base" } ∷ []
+cell_named = refl
+
+-- neither shims nor a memory nor a cell
+no_module : (types : List FuncType) (debug_names : Bool) → shim_module None None types [] debug_names ≡ None
 no_module types debug_names = refl

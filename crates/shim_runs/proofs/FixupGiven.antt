@@ -11,6 +11,7 @@ use Rattle.comp_bytes.specs.Spaces.{is_space}
 use Rattle.comp_bytes.specs.declared.space.Space.TheVariants as spaces
 use Rattle.standard_kinds.specs.declared.kinds.ExportKind.TheVariants as kinds
 use Rattle.core_types.specs.declared.types.FuncType.{FuncType}
+use Rattle.core_types.specs.declared.types.ValType.{ValType}
 use Rattle.core_bytes.specs.declared.entry.Import.{Import}
 use Rattle.core_runs.specs.Store.{Store}
 use Rattle.core_runs.specs.Instances.{Given, FunctionAt, TableAt}
@@ -22,7 +23,7 @@ use Rattle.comp_runs.specs.Instances.{Arguments, argument_for, of_kind, entity_k
 use Rattle.shim_plan.specs.Plans.{AreNumbered}
 use Rattle.shim_plan.specs.declared.shims.Shim.{Shim}
 use Rattle.world_shims.specs.WorldShims.{type_of_shim, types_with}
-use Rattle.shim_runs.specs.ShimRuns.{table_exported, memory_exported, instance_exports, IsActual, AreCalls, fixup_arguments}
+use Rattle.shim_runs.specs.ShimRuns.{table_exported, memory_exported, cell_exported, instance_exports, IsActual, AreCalls, fixup_arguments}
 use Rattle.world_shims.proofs.Digits.{same_name, other_digits}
 use Rattle.shim_runs.proofs.Exported.{behind_shims}
 use Rattle.world_shims.proofs.FixupImports.{imports_of, call_imports, table_imports}
@@ -33,9 +34,9 @@ no_table_name : IsNumeral 10 table_name → ⊥
 no_table_name h = let below : 36 < 10 = h.1.0 in absurd (omega (arith, below))
 
 -- where there are shims, it is found behind them
-table_found : (shims : List Shim) (address table : ℕ) (memory : Option ℕ) → (shims ≡ [] → ⊥) → length shims < 2 ^ 32 → export_named table_name (instance_exports shims address table memory) ≡ Some (record { space = spaces.CoreTable; name = table_name; address = table })
-table_found [] address table memory any room = absurd (any refl)
-table_found (s ∷ ss) address table memory any room = behind_shims table_name no_table_name 0 address (s ∷ ss) (table_exported (s ∷ ss) table ++ memory_exported memory) (omega (arith, room))
+table_found : (shims : List Shim) (address table : ℕ) (memory : Option ℕ) (cell : Option ValType) → (shims ≡ [] → ⊥) → length shims < 2 ^ 32 → export_named table_name (instance_exports shims address table memory cell) ≡ Some (record { space = spaces.CoreTable; name = table_name; address = table })
+table_found [] address table memory cell any room = absurd (any refl)
+table_found (s ∷ ss) address table memory cell any room = behind_shims table_name no_table_name 0 address (s ∷ ss) (table_exported (s ∷ ss) table ++ (memory_exported memory ++ cell_exported cell (address + length (s ∷ ss)))) (omega (arith, room))
 
 -- ---- the functions
 
@@ -102,29 +103,29 @@ things_given shims actual called table = map function_of actual ++ (map function
 abbrev all_imports : List Shim → Option (List ℕ) → List Import
 all_imports shims initialize = imports_of [] shims ++ (call_imports (types_with [] shims) initialize ++ table_imports shims)
 
-pub imports_given : (code : Store) (shims : List Shim) (initialize : Option (List ℕ)) (actual main : List Export) (address table : ℕ) (memory : Option ℕ) (called : List ℕ) → AreNumbered 0 shims → length shims < 2 ^ 32 → AllZip (IsActual code) shims actual → AreCalls code main initialize called →
-    all_some (map (argument_of (fixup_arguments shims initialize actual main address table memory)) (all_imports shims initialize)) ≡ Some (things_given shims actual called table)
-imports_given code [] None [] main address table memory called numbered room each calls = ap (λ l. Some (map function_at l ++ [])) (sym calls)
-imports_given code [] None (e ∷ es) main address table memory called numbered room each calls = absurd each
-imports_given code [] (Some name) (e ∷ es) main address table memory called numbered room each calls = absurd each
-imports_given code [] (Some name) [] main address table memory [] numbered room each calls = absurd calls
-imports_given code [] (Some name) [] main address table memory (a ∷ b ∷ as') numbered room each calls = absurd calls
-imports_given code [] (Some name) [] main address table memory (a ∷ []) numbered room each calls = ap (λ o. all_some (option_and_then (of_kind kinds.Func) o ∷ [])) calls.0
-imports_given code (s ∷ ss) None actual main address table memory called numbered room each calls =
+pub imports_given : (code : Store) (shims : List Shim) (initialize : Option (List ℕ)) (actual main : List Export) (address table : ℕ) (memory : Option ℕ) (cell : Option ValType) (called : List ℕ) → AreNumbered 0 shims → length shims < 2 ^ 32 → AllZip (IsActual code) shims actual → AreCalls code main initialize called →
+    all_some (map (argument_of (fixup_arguments shims initialize actual main address table memory cell)) (all_imports shims initialize)) ≡ Some (things_given shims actual called table)
+imports_given code [] None [] main address table memory cell called numbered room each calls = ap (λ l. Some (map function_at l ++ [])) (sym calls)
+imports_given code [] None (e ∷ es) main address table memory cell called numbered room each calls = absurd each
+imports_given code [] (Some name) (e ∷ es) main address table memory cell called numbered room each calls = absurd each
+imports_given code [] (Some name) [] main address table memory cell [] numbered room each calls = absurd calls
+imports_given code [] (Some name) [] main address table memory cell (a ∷ b ∷ as') numbered room each calls = absurd calls
+imports_given code [] (Some name) [] main address table memory cell (a ∷ []) numbered room each calls = ap (λ o. all_some (option_and_then (of_kind kinds.Func) o ∷ [])) calls.0
+imports_given code (s ∷ ss) None actual main address table memory cell called numbered room each calls =
     let shims = s ∷ ss in
-    let found : export_named table_name (instance_exports shims address table memory) ≡ Some (record { space = spaces.CoreTable; name = table_name; address = table }) = table_found shims address table memory (λ e. cc) room in
-    functions_given code actual ((codes "shim", instance_exports shims address table memory) ∷ []) [] 0 shims actual [] numbered (omega arith) each tt refl
+    let found : export_named table_name (instance_exports shims address table memory cell) ≡ Some (record { space = spaces.CoreTable; name = table_name; address = table }) = table_found shims address table memory cell (λ e. cc) room in
+    functions_given code actual ((codes "shim", instance_exports shims address table memory cell) ∷ []) [] 0 shims actual [] numbered (omega arith) each tt refl
     (table_imports shims) (table_things shims table)
     (ap (λ o. all_some (option_and_then (of_kind kinds.Table) o ∷ [])) found)
     ∙ ap (λ l. Some (map function_of actual ++ (map function_at l ++ table_things shims table))) (sym calls)
-imports_given code (s ∷ ss) (Some name) actual main address table memory [] numbered room each calls = absurd calls
-imports_given code (s ∷ ss) (Some name) actual main address table memory (a ∷ b ∷ as') numbered room each calls = absurd calls
-imports_given code (s ∷ ss) (Some name) actual main address table memory (a ∷ []) numbered room each calls =
+imports_given code (s ∷ ss) (Some name) actual main address table memory cell [] numbered room each calls = absurd calls
+imports_given code (s ∷ ss) (Some name) actual main address table memory cell (a ∷ b ∷ as') numbered room each calls = absurd calls
+imports_given code (s ∷ ss) (Some name) actual main address table memory cell (a ∷ []) numbered room each calls =
     let shims = s ∷ ss in
-    let found : export_named table_name (instance_exports shims address table memory) ≡ Some (record { space = spaces.CoreTable; name = table_name; address = table }) = table_found shims address table memory (λ e. cc) room in
-    functions_given code actual ((codes "main", main) ∷ (codes "shim", instance_exports shims address table memory) ∷ []) [] 0 shims actual [] numbered (omega arith) each tt refl
+    let found : export_named table_name (instance_exports shims address table memory cell) ≡ Some (record { space = spaces.CoreTable; name = table_name; address = table }) = table_found shims address table memory cell (λ e. cc) room in
+    functions_given code actual ((codes "main", main) ∷ (codes "shim", instance_exports shims address table memory cell) ∷ []) [] 0 shims actual [] numbered (omega arith) each tt refl
     (call_imports (types_with [] shims) (Some name) ++ table_imports shims) (function_at a ∷ table_things shims table)
-    (ap (λ o. all_some (option_and_then (of_kind kinds.Func) o ∷ option_and_then (of_kind kinds.Table) (export_named table_name (instance_exports shims address table memory)) ∷ [])) calls.0
+    (ap (λ o. all_some (option_and_then (of_kind kinds.Func) o ∷ option_and_then (of_kind kinds.Table) (export_named table_name (instance_exports shims address table memory cell)) ∷ [])) calls.0
     ∙ ap (λ o. all_some (Some (function_at a) ∷ option_and_then (of_kind kinds.Table) o ∷ [])) found)
 
 -- as external values

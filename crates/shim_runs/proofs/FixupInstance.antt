@@ -208,7 +208,7 @@ types_by calls g = by_calls calls g.types (λ function. g.types) (interned g.typ
 abbrev addresses_of : List Export → List ℕ
 addresses_of actual = map (λ (e : Export). e.address) actual
 
-module _ (shims : List Shim) (initialize : Option (List ℕ)) (debug_names : Bool) (actual main : List Export) (address table : ℕ) (memory : Option ℕ) (called : List ℕ) (m : Machine) (h : CanFix shims initialize actual main table called m.store.code) where
+module _ (shims : List Shim) (initialize : Option (List ℕ)) (debug_names : Bool) (actual main : List Export) (address table : ℕ) (memory : Option ℕ) (cell : Option ValType) (called : List ℕ) (m : Machine) (h : CanFix shims initialize actual main table called m.store.code) where
   -- it makes no function of its own
   few : (o : Option (List ℕ)) (g : Fixup) (calls : List ℕ) → calls ≡ call_indices (length shims) o → (own_type_by calls g ≡ None) × (types_by calls g ≡ g.types)
   few None g calls same = (ap (λ l. own_type_by l g) same, ap (λ l. types_by l g) same)
@@ -286,31 +286,31 @@ same_code : (shims : List Shim) (table : ℕ) (actual : List Export) (code : Sto
 same_code [] table actual code = refl
 same_code (s ∷ ss) table actual code = refl
 
-pub fixup_run : (shims : List Shim) (initialize : Option (List ℕ)) (debug_names : Bool) (actual main : List Export) (address table : ℕ) (memory : Option ℕ) (called : List ℕ) (number : ℕ) (c : Scope) (s : RunStore) → CanFix shims initialize actual main table called s.code →
-    FixupRun shims initialize debug_names actual main address table memory called number c s
-fixup_run shims initialize debug_names actual main address table memory called number c s h =
+pub fixup_run : (shims : List Shim) (initialize : Option (List ℕ)) (debug_names : Bool) (actual main : List Export) (address table : ℕ) (memory : Option ℕ) (cell : Option ValType) (called : List ℕ) (number : ℕ) (c : Scope) (s : RunStore) → CanFix shims initialize actual main table called s.code →
+    FixupRun shims initialize debug_names actual main address table memory cell called number c s
+fixup_run shims initialize debug_names actual main address table memory cell called number c s h =
     let code = s.code in
     let f = fixup_of shims initialize in
     let is = fixup_is shims initialize h.numbered h.room in
     let given = things_given shims actual called table in
     let values = values_given shims actual called table in
-    let arguments = fixup_arguments shims initialize actual main address table memory in
+    let arguments = fixup_arguments shims initialize actual main address table memory cell in
     let tables = (with_slots shims table actual code).tables in
     let made : Now → Made = λ now. made_with f values code now tables in
     let outcome : Now → core.Outcome = λ now. deeds_done (map call_of called) now in
     let made_is : (now : Now) → IsMade (sections_of_fixup shims initialize debug_names) arguments (machine c s now) given (made now) [] (outcome (made now).now) = λ now. record {
       parts = fixup_parts f;
       externals = values;
-      found = ap (λ l. all_some (map (argument_of arguments) l)) (imports_alone f debug_names ∙ is.entries) ∙ imports_given code shims initialize actual main address table memory called h.numbered h.room h.each h.calls;
+      found = ap (λ l. all_some (map (argument_of arguments) l)) (imports_alone f debug_names ∙ is.entries) ∙ imports_given code shims initialize actual main address table memory cell called h.numbered h.room h.each h.calls;
       external_values = values_are shims actual called table;
       parts_are = parts_are f debug_names;
-      is_made = instance_is f values code now tables (matching shims initialize debug_names actual main address table memory called (machine c s now) h) (tables_left shims initialize actual main table called code now h);
+      is_made = instance_is f values code now tables (matching shims initialize debug_names actual main address table memory cell called (machine c s now) h) (tables_left shims initialize actual main table called code now h);
       exported = ap (λ l. all_some (map (export_at (frame_of f values code now)) l)) (no_exports f debug_names);
       starts = starts f values code now tables called (are_called shims initialize actual main table called code h h.calls f.calls is.calls)
-          (counts_given (types_of f) code now (all_imported f).entries values (matching shims initialize debug_names actual main address table memory called (machine c s now) h)).0;
+          (counts_given (types_of f) code now (all_imported f).entries values (matching shims initialize debug_names actual main address table memory cell called (machine c s now) h)).0;
     } in
     let after : Next → List Value → Next = λ next values x. next (with_module_instance (record { module_number = number; given = given; exports = [] }) x) in
-    let none : (now : Now) → own_if (frame_of f values code now) (own_type_at f) f.calls ≡ [] = λ now. ap (λ o. own_if (frame_of f values code now) o f.calls) (none_own shims initialize debug_names actual main address table memory called (machine c s now) h) in
+    let none : (now : Now) → own_if (frame_of f values code now) (own_type_at f) f.calls ≡ [] = λ now. ap (λ o. own_if (frame_of f values code now) o f.calls) (none_own shims initialize debug_names actual main address table memory cell called (machine c s now) h) in
     record {
       given = given;
       runs = λ now next.

@@ -1,12 +1,14 @@
 -- Shims in a store, by their places; and in a store that has more.
-use Rattle.std.proofs.Common.{◌≡◌, ◌+◌, ℕ, zero, suc, List, [], ◌∷◌, Some, subst, arith}
+use Rattle.std.proofs.Common.{◌≡◌, ◌+◌, ℕ, zero, suc, List, [], ◌∷◌, Option, Some, None, subst, arith}
 use Rattle.std.proofs.lemmas.Option.{same_Some, none-some}
 use Rattle.std.specs.List.{slice_get}
 use Rattle.core_types.specs.declared.types.FuncType.{FuncType}
+use Rattle.core_types.specs.declared.types.ValType.{ValType}
+use Rattle.core_runs.specs.Cells.{IsGetter, IsSetter}
 use Rattle.core_runs.specs.Store.{Func, Store}
 use Rattle.shim_plan.specs.declared.shims.Shim.{Shim}
 use Rattle.world_shims.specs.WorldShims.{type_of_shim}
-use Rattle.shim_runs.specs.ShimRuns.{IsShimAt, AreShimsFrom}
+use Rattle.shim_runs.specs.ShimRuns.{IsShimAt, AreShimsFrom, AreOfCell}
 
 -- ---- by place
 
@@ -43,3 +45,14 @@ module _ (code later : Store) (kept : (i : ℕ) (f : Func) → slice_get code.fu
   pub shims_kept : (table place address : ℕ) (shims : List Shim) → AreShimsFrom code table place address shims → AreShimsFrom later table place address shims
   shims_kept table place address [] h = tt
   shims_kept table place address (s ∷ ss) h = (shim_kept table address place (type_of_shim s) h.0, shims_kept table (suc place) (suc address) ss h.1)
+
+  -- so are the functions of the cell
+  pub getter_kept : (type : ValType) (global address : ℕ) → IsGetter code type global address → IsGetter later type global address
+  getter_kept type global address h = record { frame = h.frame; local = h.local; has = kept address _ h.has; names = h.names }
+
+  pub setter_kept : (type : ValType) (global address : ℕ) → IsSetter code type global address → IsSetter later type global address
+  setter_kept type global address h = record { frame = h.frame; local = h.local; has = kept address _ h.has; names = h.names }
+
+  pub cell_kept : (cell : Option ValType) (global address : ℕ) → AreOfCell code cell global address → AreOfCell later cell global address
+  cell_kept None global address h = tt
+  cell_kept (Some type) global address h = (getter_kept type global address h.0, setter_kept type global (address + 1) h.1)

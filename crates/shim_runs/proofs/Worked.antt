@@ -1,5 +1,5 @@
 -- Worked examples: two shims of two types, made after two opaque functions, and the fixup that
--- fills their slots with these; the same with a memory; and a memory alone.
+-- fills their slots with these; the same with a memory; a memory alone; and a cell behind them.
 use Rattle.std.proofs.Common.{◌≡◌, ℕ, pos, Bool, true, false, List, [], ◌∷◌, ◌++◌, Option, Some, None, option_map, codes, refl}
 use Rattle.std.specs.Fmt.{digits}
 use Rattle.comp_bytes.specs.declared.space.Space.TheVariants as spaces
@@ -8,7 +8,7 @@ use Rattle.core_types.specs.declared.types.MemoryType.{MemoryType}
 use Rattle.core_types.specs.declared.types.ValType.TheVariants.{I32}
 use Rattle.core_bytes.specs.declared.code.Instruction.TheVariants as instructions
 use Rattle.core_runs.specs.Values.{I32Value}
-use Rattle.core_runs.specs.Store.{Frame, Func, Generated, Opaque, Store as CodeStore, Answer, Gives, Event, Called, Now, ByCode}
+use Rattle.core_runs.specs.Store.{Frame, Func, Generated, Opaque, Store as CodeStore, Answer, Gives, Event, Called, Cell, Kept, Now, ByCode}
 use Rattle.core_runs.specs.Store as core
 use Rattle.core_runs.specs.Execution.{acts, exec}
 use Rattle.comp_roles.specs.declared.libraries.MainOrAdapter.TheVariants as users
@@ -67,11 +67,11 @@ machine_with functions = record {
 }
 
 abbrev with_shims : Option MemoryType → List Func → Bool → (Machine → Outcome) → Outcome
-with_shims memory functions debug_names next = instantiate_generated (sections_of_shims memory shims debug_names) 1 [] (machine_with functions) next
+with_shims memory functions debug_names next = instantiate_generated (sections_of_shims memory None shims debug_names) 1 [] (machine_with functions) next
 
 -- the fixup after the shims, whose functions are at 2 and 3, with this for `actual`; a memory is at 0
 abbrev with_memory_and_fixup : Option MemoryType → Option ℕ → List Export → Bool → Outcome
-with_memory_and_fixup memory at actual debug_names = with_shims memory opaque debug_names (λ m. instantiate_generated (sections_of_fixup shims None debug_names) 2 (fixup_arguments shims None actual [] 2 0 at) m (λ after. Done after))
+with_memory_and_fixup memory at actual debug_names = with_shims memory opaque debug_names (λ m. instantiate_generated (sections_of_fixup shims None debug_names) 2 (fixup_arguments shims None actual [] 2 0 at None) m (λ after. Done after))
 
 abbrev with_fixup : List Export → Bool → Outcome
 with_fixup actual debug_names = with_memory_and_fixup None None actual debug_names
@@ -228,11 +228,62 @@ memory_alone = Some (record {
   events = [];
 })
 
-memory_alone_made : ended (instantiate_generated (sections_of_shims (Some one_page) [] false) 1 [] (machine_with opaque) (λ m. Done m)) ≡ memory_alone
+memory_alone_made : ended (instantiate_generated (sections_of_shims (Some one_page) None [] false) 1 [] (machine_with opaque) (λ m. Done m)) ≡ memory_alone
 memory_alone_made = refl
 
-memory_alone_with_names : ended (instantiate_generated (sections_of_shims (Some one_page) [] true) 1 [] (machine_with opaque) (λ m. Done m)) ≡ memory_alone
+memory_alone_with_names : ended (instantiate_generated (sections_of_shims (Some one_page) None [] true) 1 [] (machine_with opaque) (λ m. Done m)) ≡ memory_alone
 memory_alone_with_names = refl
+
+-- ---- a cell
+
+-- its functions come behind the shims: the setter shares its type with the destructor
+abbrev getter_core : FuncType
+getter_core = record { params = []; results = I32 ∷ [] }
+
+abbrev cell_frame : Frame
+cell_frame = record { types = realloc_core ∷ destructor_core ∷ getter_core ∷ []; functions = 0 ∷ 1 ∷ 2 ∷ 3 ∷ []; tables = 0 ∷ []; globals = 0 ∷ []; memories = [] }
+
+abbrev cell_code : CodeStore
+cell_code = record {
+  functions = realloc_function cell_frame
+      ∷ destructor_function cell_frame
+      ∷ Generated cell_frame getter_core [] (instructions.GlobalGet 0 ∷ [])
+      ∷ Generated cell_frame destructor_core [] (instructions.LocalGet 0 ∷ instructions.GlobalSet 0 ∷ [])
+      ∷ [];
+  tables = (None ∷ None ∷ []) ∷ [];
+  memories = [];
+}
+
+abbrev cell_exports : List Export
+cell_exports = exported 0 1 ++ function_export (codes "$get-tls-base") 2 ∷ function_export (codes "$set-tls-base") 3 ∷ []
+
+abbrev cell_made : Outcome
+cell_made = instantiate_generated (sections_of_shims None (Some I32) shims false) 1 [] (machine_with []) (λ m. Done m)
+
+shims_and_cell_made : ended cell_made ≡ Some (record { code = cell_code; instances = record { module_number = 1; given = []; exports = cell_exports } ∷ []; core_instances = cell_exports ∷ []; events = [] })
+unfolding digits
+shims_and_cell_made = refl
+
+-- it is zero at first
+abbrev globals_of : Outcome → List Cell
+globals_of (Done m) = m.now.globals
+globals_of outcome = []
+
+cell_is_zero : globals_of cell_made ≡ Kept I32 (I32Value 0) ∷ []
+unfolding digits
+cell_is_zero = refl
+
+-- what was set is read, and nothing is seen of it
+abbrev now_holding : ℕ → Now
+now_holding n = record { globals = Kept I32 (I32Value n) ∷ []; answers = []; events = []; moments = [] }
+
+is_set : acts cell_code 3 (I32Value 7 ∷ []) (now_holding 0) ≡ core.Returned [] (now_holding 7)
+unfolding acts exec
+is_set = refl
+
+is_read : acts cell_code 2 [] (now_holding 7) ≡ core.Returned (I32Value 7 ∷ []) (now_holding 7)
+unfolding acts exec
+is_read = refl
 
 -- ---- main is initialized
 
@@ -246,7 +297,7 @@ main_exports = function_export (codes "start") 2 ∷ []
 abbrev run_initialized : List Shim → List Answer → Outcome
 run_initialized those answers =
     let m : Machine = machine_with with_thunk in
-    instantiate_generated (sections_of_fixup those (Some (codes "start")) false) 2 (fixup_arguments those (Some (codes "start")) [] main_exports 3 0 None) (record m { now = now_with answers [] }) (λ after. Done after)
+    instantiate_generated (sections_of_fixup those (Some (codes "start")) false) 2 (fixup_arguments those (Some (codes "start")) [] main_exports 3 0 None None) (record m { now = now_with answers [] }) (λ after. Done after)
 
 -- it is called once, and nothing else is seen
 called_alone : option_map (λ (e : Ended). e.events) (ended (run_initialized [] (Gives [] 0 ∷ []))) ≡ Some (Called 2 [] ∷ [])

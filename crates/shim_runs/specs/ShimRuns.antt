@@ -1,16 +1,19 @@
 -- What a run does where the two modules that are generated for shims are instantiated, and what the shims do then (core
 -- standard: instantiation, element segments, `call_indirect`).
-use Rattle.std.specs.Prelude.{◌≡◌, ◌<◌, ◌^◌, ◌+◌, ℕ, suc, Bool, true, List, [], ◌∷◌, ◌++◌, length, map, codes, Option, Some, None, option_map, slice_get, slice_set, Contains}
+use Rattle.std.specs.Prelude.{◌≡◌, ◌⊎◌, ◌<◌, ◌^◌, ◌+◌, ℕ, suc, Bool, true, List, [], ◌∷◌, ◌++◌, length, map, codes, Option, Some, None, option_map, slice_get, slice_set, Contains}
 use Rattle.std.specs.Fmt.{decimal}
 use Rattle.std.specs.List.{AllZip}
 use Rattle.comp_bytes.specs.declared.space.Space.TheVariants as spaces
 use Rattle.core_types.specs.declared.types.FuncType.{FuncType}
 use Rattle.core_types.specs.declared.types.MemoryType.{MemoryType}
+use Rattle.core_types.specs.declared.types.ValType.{ValType}
+use Rattle.core_types.specs.declared.types.ValType.TheVariants.{I32, I64}
 use Rattle.core_runs.specs.declared.bracket.AfterHook.TheVariants.{Nothing}
 use Rattle.core_runs.specs.Hooks.{around}
-use Rattle.core_runs.specs.Values.{Value, fit}
-use Rattle.core_runs.specs.Store.{Frame, Func, Opaque, signature_of, Store, Now, ByCode, Trapped}
+use Rattle.core_runs.specs.Values.{Value, fit, zero_of}
+use Rattle.core_runs.specs.Store.{Frame, Func, Opaque, signature_of, Store, Kept, Now, ByCode, Trapped}
 use Rattle.core_runs.specs.Bodies.{table_shim}
+use Rattle.core_runs.specs.Cells.{IsGetter, IsSetter}
 use Rattle.core_runs.specs.Shims.{HasBody}
 use Rattle.core_runs.specs.Execution.{acts}
 use Rattle.core_runs.specs.Expected.{expected, Is as IsOpaqueAt}
@@ -22,6 +25,7 @@ use Rattle.fixup_modules.specs.Laws.{thunk_at, call_of}
 use Rattle.comp_runs.specs.Store.{Thing, Export, Store as RunStore}
 use Rattle.comp_runs.specs.Machine.{Scope, Machine, Next, export_named, export_of, resumed}
 use Rattle.comp_runs.specs.Instances.{Arguments, with_module_instance, instantiate_generated}
+use Rattle.shim_modules.specs.Shims.{getter_name, setter_name}
 use Rattle.shim_plan.specs.Plans.{AreNumbered}
 use Rattle.shim_plan.specs.declared.shims.Shim.{Shim}
 use Rattle.world_shims.specs.WorldShims.{type_of_shim, sections_of_shims, sections_of_fixup, fixup_instances}
@@ -52,10 +56,24 @@ FilledShimsForward =
     (code : Store) (table address place : ℕ) (type : FuncType) (slots : List (Option ℕ)) (function what hook : ℕ) → IsShimAt code table address place type → slice_get code.tables table ≡ Some slots → slice_get slots place ≡ Some (Some function) → slice_get code.functions function ≡ Some (Opaque what type) → place < 2 ^ 32 → (arguments : List Value) (now : Now) → fit type.params arguments ≡ true →
     acts code address arguments now ≡ expected (around None Nothing) hook (record { address = function; signature = type }) arguments now
 
+-- ---- the cell in a store
+
+-- what it holds is an address, of 32 or 64 bits
+abbrev pub IsOfAddresses : Option ValType → Type 0
+IsOfAddresses None = Unit {0}
+IsOfAddresses (Some I32) = Unit {0}
+IsOfAddresses (Some I64) = Unit {0}
+IsOfAddresses (Some type) = ⊥
+
+-- where there is a cell, the function at this address reads the global at that one, and the next function sets it
+abbrev pub AreOfCell : Store → Option ValType → (global address : ℕ) → Type 0
+AreOfCell code None global address = Unit {0}
+AreOfCell code (Some type) global address = IsGetter code type global address × IsSetter code type global (address + 1)
+
 -- ---- the instance of the shims
 
--- what it exports: each shim under the digits of its place; the table, where there are shims; and
--- the memory, where there is one
+-- what it exports: each shim under the digits of its place; the table, where there are shims; the
+-- memory, where there is one; and the functions of the cell, where there is one
 abbrev pub shims_exported : ℕ → ℕ → List Shim → List Export
 shims_exported place address [] = []
 shims_exported place address (s ∷ ss) = record { space = spaces.CoreFunc; name = decimal place; address = address } ∷ shims_exported (suc place) (suc address) ss
@@ -74,8 +92,16 @@ abbrev pub memory_exported : Option ℕ → List Export
 memory_exported None = []
 memory_exported (Some address) = memory_at address ∷ []
 
-abbrev pub instance_exports : List Shim → ℕ → ℕ → Option ℕ → List Export
-instance_exports shims address table memory = shims_exported 0 address shims ++ (table_exported shims table ++ memory_exported memory)
+abbrev pub exported_function : List ℕ → ℕ → Export
+exported_function name address = record { space = spaces.CoreFunc; name = name; address = address }
+
+abbrev pub cell_exported : Option ValType → ℕ → List Export
+cell_exported None address = []
+cell_exported (Some type) address = exported_function getter_name address ∷ exported_function setter_name (address + 1) ∷ []
+
+abbrev pub instance_exports : List Shim → ℕ → ℕ → Option ℕ → Option ValType → List Export
+instance_exports shims address table memory cell =
+    shims_exported 0 address shims ++ (table_exported shims table ++ (memory_exported memory ++ cell_exported cell (address + length shims)))
 
 -- a store with other code, and a machine of these parts
 abbrev pub with_code : RunStore → Store → RunStore
@@ -98,17 +124,24 @@ abbrev pub memory_address : Option MemoryType → Store → Option ℕ
 memory_address None code = None
 memory_address (Some type) code = Some (length code.memories)
 
+-- one more global, where there is a cell: it is zero at first
+abbrev pub with_cell : Option ValType → Now → Now
+with_cell None now = now
+with_cell (Some type) now = record now { globals = now.globals ++ Kept type (zero_of type) ∷ [] }
+
 -- the code with more functions, and with the table and the memory
 abbrev pub with_shims : Option MemoryType → List Shim → List Func → Store → Store
 with_shims memory shims functions code = record { functions = code.functions ++ functions; tables = with_shim_table shims code.tables; memories = with_memory memory code.memories }
 
--- The instance is made, whatever there was: shims with nothing in their slots, and no event. Where
--- there are no shims, the address of the table is that of the next one, and nothing has it.
-pub record ShimsRun (memory : Option MemoryType) (shims : List Shim) (debug_names : Bool) (number : ℕ) (c : Scope) (s : RunStore) : Type 0 where
+-- The instance is made, whatever there was, behind so many globals: shims with nothing in their slots,
+-- a cell that is zero, and no event. Where there are no shims, the address of the table is that of the
+-- next one, and nothing has it.
+pub record ShimsRun (memory : Option MemoryType) (cell : Option ValType) (shims : List Shim) (debug_names : Bool) (globals number : ℕ) (c : Scope) (s : RunStore) : Type 0 where
   pub functions : List Func
   pub are : AreShimsFrom (with_shims memory shims functions s.code) (length s.code.tables) 0 (length s.code.functions) shims
-  pub runs : (now : Now) (arguments : Arguments) (next : Next) → instantiate_generated (sections_of_shims memory shims debug_names) number arguments (machine c s now) next
-      ≡ next (with_module_instance (record { module_number = number; given = []; exports = instance_exports shims (length s.code.functions) (length s.code.tables) (memory_address memory s.code) }) (machine c (with_code s (with_shims memory shims functions s.code)) now))
+  pub of_cell : AreOfCell (with_shims memory shims functions s.code) cell globals (length s.code.functions + length shims)
+  pub runs : (now : Now) (arguments : Arguments) (next : Next) → length now.globals ≡ globals → instantiate_generated (sections_of_shims memory cell shims debug_names) number arguments (machine c s now) next
+      ≡ next (with_module_instance (record { module_number = number; given = []; exports = instance_exports shims (length s.code.functions) (length s.code.tables) (memory_address memory s.code) cell }) (machine c (with_code s (with_shims memory shims functions s.code)) (with_cell cell now)))
 
 -- ---- the instance of the fixup
 
@@ -149,9 +182,9 @@ exports_given actual main shims instances.Main = main
 exports_given actual main shims instances.Shim = shims
 exports_given actual main shims (instances.Adapter name) = []
 
-abbrev pub fixup_arguments : List Shim → Option (List ℕ) → List Export → List Export → ℕ → ℕ → Option ℕ → Arguments
-fixup_arguments shims initialize actual main address table memory =
-    map (λ i. (i.0, exports_given actual main (instance_exports shims address table memory) i.1)) (fixup_instances shims initialize)
+abbrev pub fixup_arguments : List Shim → Option (List ℕ) → List Export → List Export → ℕ → ℕ → Option ℕ → Option ValType → Arguments
+fixup_arguments shims initialize actual main address table memory cell =
+    map (λ i. (i.0, exports_given actual main (instance_exports shims address table memory cell) i.1)) (fixup_instances shims initialize)
 
 -- what is there when it is made: shims, a table with a slot for each of them, what each is to
 -- forward to, and what is called
@@ -164,21 +197,29 @@ pub record CanFix (shims : List Shim) (initialize : Option (List ℕ)) (actual m
 
 -- The instance is made: each slot holds what is given for the shim of its place, and there is no
 -- new function. Then main is initialized, where it has to be, and nothing else is seen.
-pub record FixupRun (shims : List Shim) (initialize : Option (List ℕ)) (debug_names : Bool) (actual main : List Export) (address table : ℕ) (memory : Option ℕ) (called : List ℕ) (number : ℕ) (c : Scope) (s : RunStore) : Type 0 where
+pub record FixupRun (shims : List Shim) (initialize : Option (List ℕ)) (debug_names : Bool) (actual main : List Export) (address table : ℕ) (memory : Option ℕ) (cell : Option ValType) (called : List ℕ) (number : ℕ) (c : Scope) (s : RunStore) : Type 0 where
   pub given : List Thing
-  pub runs : (now : Now) (next : Next) → instantiate_generated (sections_of_fixup shims initialize debug_names) number (fixup_arguments shims initialize actual main address table memory) (machine c s now) next
+  pub runs : (now : Now) (next : Next) → instantiate_generated (sections_of_fixup shims initialize debug_names) number (fixup_arguments shims initialize actual main address table memory cell) (machine c s now) next
       ≡ resumed (deeds_done (map call_of called) now) (machine c (with_code s (with_slots shims table actual s.code)) now)
       (λ values after. next (with_module_instance (record { module_number = number; given = given; exports = [] }) after))
 
 -- ---- the exports of the instance of the shims
 
-pub record ShimsAreFound (shims : List Shim) (address table : ℕ) (memory : Option ℕ) : Type 0 where
+-- a function of the cell, by its name, where the first of the two is at this address
+abbrev pub IsCellFunction : ℕ → List ℕ → ℕ → Type 0
+IsCellFunction first name function = ((name ≡ getter_name) × (function ≡ first)) ⊎ ((name ≡ setter_name) × (function ≡ first + 1))
+
+pub record ShimsAreFound (shims : List Shim) (address table : ℕ) (memory : Option ℕ) (cell : Option ValType) : Type 0 where
   -- a place has the shim of its address
-  pub found : (place : ℕ) → place < length shims → length shims < 2 ^ 32 → export_named (decimal place) (instance_exports shims address table memory) ≡ Some (record { space = spaces.CoreFunc; name = decimal place; address = address + place })
-  -- every function among the exports is the shim of a place
-  pub listed : (name : List ℕ) (function : ℕ) → Contains (instance_exports shims address table memory) (record { space = spaces.CoreFunc; name = name; address = function }) → (place : ℕ) × (place < length shims) × (function ≡ address + place)
+  pub found : (place : ℕ) → place < length shims → length shims < 2 ^ 32 → export_named (decimal place) (instance_exports shims address table memory cell) ≡ Some (exported_function (decimal place) (address + place))
+  -- every function among the exports is the shim of a place, or one of the cell
+  pub listed : (name : List ℕ) (function : ℕ) → Contains (instance_exports shims address table memory cell) (exported_function name function) →
+      ((place : ℕ) × (place < length shims) × (function ≡ address + place)) ⊎ IsCellFunction (address + length shims) name function
   -- the memory is found by its name where there is one, among all exports and among those of memories
-  pub memory_named : length shims < 2 ^ 32 → export_named memory_name (instance_exports shims address table memory) ≡ option_map memory_at memory
-  pub memory_found : export_of spaces.CoreMemory memory_name (instance_exports shims address table memory) ≡ option_map memory_at memory
+  pub memory_named : length shims < 2 ^ 32 → export_named memory_name (instance_exports shims address table memory cell) ≡ option_map memory_at memory
+  pub memory_found : export_of spaces.CoreMemory memory_name (instance_exports shims address table memory cell) ≡ option_map memory_at memory
   -- every memory among the exports is that one
-  pub memory_listed : (name : List ℕ) (at : ℕ) → Contains (instance_exports shims address table memory) (record { space = spaces.CoreMemory; name = name; address = at }) → (name ≡ memory_name) × (memory ≡ Some at)
+  pub memory_listed : (name : List ℕ) (at : ℕ) → Contains (instance_exports shims address table memory cell) (record { space = spaces.CoreMemory; name = name; address = at }) → (name ≡ memory_name) × (memory ≡ Some at)
+  -- the functions of the cell are found by their names, where there is one
+  pub getter_named : length shims < 2 ^ 32 → (type : ValType) → cell ≡ Some type → export_named getter_name (instance_exports shims address table memory cell) ≡ Some (exported_function getter_name (address + length shims))
+  pub setter_named : length shims < 2 ^ 32 → (type : ValType) → cell ≡ Some type → export_named setter_name (instance_exports shims address table memory cell) ≡ Some (exported_function setter_name (address + length shims + 1))

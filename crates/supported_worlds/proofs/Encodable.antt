@@ -60,7 +60,7 @@ whole_is_encodable p present linked encoded apart =
       types = order.types;
       imports = order.imports;
       exports = order.exports;
-      roles = roles_placed p.resolve world.imports p.can_use_context_slot_1 (all_imports p.main p.adapters) (all_pass p encoded);
+      roles = roles_placed p.resolve world.imports (all_imports p.main p.adapters) (all_pass p encoded);
     }
 
 -- the encoder takes the world of these parts

@@ -26,7 +26,7 @@ use Rattle.supported_worlds.specs.Once.{IsRequiredOnce}
 use Rattle.supported_worlds.specs.Sets.{IsSetOf}
 use Rattle.supported_worlds.proofs.Fresh.{added, start, step, stop}
 use Rattle.supported_worlds.proofs.InPlace.{both}
-use Rattle.supported_worlds.proofs.Lists.{neither}
+use Rattle.comp_roles.proofs.Firsts.{neither}
 use Rattle.supported_worlds.proofs.Order.{passes}
 
 -- ---- whether no key occurs twice

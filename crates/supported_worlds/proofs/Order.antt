@@ -169,16 +169,16 @@ module _ (r : Resolve) (es : Entries) where
 
   -- ---- roles
 
-  role_placed : (slot_1 : Bool) (role : Import) → import_left_out slot_1 r.types (places_of r.types es) (length es) role ≡ None → IsRolePlaced r es role
-  role_placed slot_1 (imports.ImportedResourceDrop key interface id) h =
+  role_placed : (role : Import) → import_left_out r.types (places_of r.types es) (length es) role ≡ None → IsRolePlaced r es role
+  role_placed (imports.ImportedResourceDrop key interface id) h =
       let b = both (option_map_or is_resource (slice_get r.types id.index) false) (nat_le (get_or (places_of r.types es) id.index 0) (length es))
       (passes (is_droppable r.types (places_of r.types es) (length es) id) (codes "imported-drop") h) in
       leb-true (get_or (places_of r.types es) id.index 0) (length es) b.1
-  role_placed slot_1 role h = tt
+  role_placed role h = tt
 
-  pub roles_placed : (slot_1 : Bool) (all : List CoreImport) → AllByRecursion (λ i. import_left_out slot_1 r.types (places_of r.types es) (length es) i.role ≡ None) all → AllByRecursion (λ i. IsRolePlaced r es i.role) all
-  roles_placed slot_1 [] h = tt
-  roles_placed slot_1 (i ∷ all) h = (role_placed slot_1 i.role h.0, roles_placed slot_1 all h.1)
+  pub roles_placed : (all : List CoreImport) → AllByRecursion (λ i. import_left_out r.types (places_of r.types es) (length es) i.role ≡ None) all → AllByRecursion (λ i. IsRolePlaced r es i.role) all
+  roles_placed [] h = tt
+  roles_placed (i ∷ all) h = (role_placed i.role h.0, roles_placed all h.1)
 
 -- ---- the world
 

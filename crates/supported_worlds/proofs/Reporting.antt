@@ -32,7 +32,8 @@ use Rattle.supported_worlds.specs.PlaceTables.{ArePlaces}
 use Rattle.supported_worlds.specs.declared.places.Places.{Places}
 use Rattle.supported_worlds.specs.Causes.{role_left_out, own_role_out, IsLeftOut, own_role, imported, exported, twice, names, order, resources, import_role, export_role}
 use Rattle.supported_worlds.proofs.ExportNames.{exports_named, names_pass}
-use Rattle.supported_worlds.proofs.Lists.{nothing, at_front, after, in_flat_map, neither, one_of, none_picked, one_picked}
+use Rattle.comp_roles.proofs.Firsts.{neither, one_of, none_picked, one_picked}
+use Rattle.supported_worlds.proofs.Lists.{nothing, at_front, after, in_flat_map}
 use Rattle.supported_worlds.specs.Lent.{InterfaceSet}
 use Rattle.supported_worlds.specs.Sets.{IsSetOf}
 use Rattle.supported_worlds.proofs.InPlace.{imports_resources, in_place}
@@ -67,7 +68,7 @@ both P (x ∷ xs) ys h k = (h.0, both P xs ys h.1 k)
 
 -- the imports from one module, by the places of the types of the world
 abbrev pub group_out : WorldParts → List ℕ × ImportInstance → Option (List ℕ)
-group_out p group = group_left_out p.can_use_context_slot_1 p.resolve.types (places_of p.resolve.types (items_of p).imports) (length (items_of p).imports) group
+group_out p group = group_left_out p.resolve.types (places_of p.resolve.types (items_of p).imports) (length (items_of p).imports) group
 
 -- by its exported resources, and the keys that the module has to export
 abbrev pub own_group_out : WorldParts → List WorldKey → List ℕ × ImportInstance → Option (List ℕ)
@@ -115,13 +116,13 @@ pub record IsEncoded (p : WorldParts) : Type 0 where
 
 -- what is left out of a module of a world, and of an adapter
 abbrev module_out : WorldParts → UserModule → Option (List ℕ)
-module_out p m = module_left_out p.can_use_context_slot_1 p.resolve.types (items_of p).exports (places_of p.resolve.types (items_of p).imports) (length (items_of p).imports) m.keys m.info
+module_out p m = module_left_out p.resolve.types (items_of p).exports (places_of p.resolve.types (items_of p).imports) (length (items_of p).imports) m.keys m.info
 
 abbrev roles_out : WorldParts → ValidatedModule → Option (List ℕ)
-roles_out p m = roles_left_out p.can_use_context_slot_1 p.resolve.types (places_of p.resolve.types (items_of p).imports) (length (items_of p).imports) m
+roles_out p m = roles_left_out p.resolve.types (places_of p.resolve.types (items_of p).imports) (length (items_of p).imports) m
 
 abbrev adapter_out : WorldParts → List ℕ × WorldAdapter → Option (List ℕ)
-adapter_out p a = adapter_left_out p.can_use_context_slot_1 p.resolve.types (items_of p).exports (places_of p.resolve.types (items_of p).imports) (length (items_of p).imports) a
+adapter_out p a = adapter_left_out p.resolve.types (items_of p).exports (places_of p.resolve.types (items_of p).imports) (length (items_of p).imports) a
 
 module_encoded : (p : WorldParts) (m : UserModule) → module_out p m ≡ None → IsModuleEncoded p m
 module_encoded p m h =

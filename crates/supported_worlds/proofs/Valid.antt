@@ -11,7 +11,7 @@ use Rattle.comp_lists.specs.Found.{found}
 use Rattle.comp_lists.proofs.Lists.{AllByRecursion-front, AllByRecursion-back, AllByRecursion-at, AllByRecursion-contains, AllByRecursion-weaker}
 use Rattle.comp_lists.proofs.Lookups.{some_of}
 use Rattle.wit_data.specs.Keys.{is_same_key}
-use Rattle.wit_data.specs.declared.functions.AbiVariant.TheVariants.{GuestImport, GuestExport, GuestImportAsync}
+use Rattle.wit_data.specs.declared.functions.AbiVariant.TheVariants.{GuestImport, GuestExport, GuestImportAsync, GuestExportAsync, GuestExportAsyncStackful}
 use Rattle.wit_data.specs.declared.functions.Function.{Function}
 use Rattle.wit_data.specs.declared.ids.InterfaceId.{InterfaceId}
 use Rattle.wit_data.specs.declared.ids.TypeId.{TypeId}
@@ -36,6 +36,7 @@ use Rattle.comp_roles.specs.declared.libraries.MainOrAdapter.{MainOrAdapter}
 use Rattle.comp_roles.specs.declared.offered.ExternType.{ExternType}
 use Rattle.comp_roles.specs.declared.offered.ExternType.TheVariants as externs
 use Rattle.comp_roles.specs.declared.offered.ImportType.{ImportType}
+use Rattle.world_values.specs.ExportForms.{IsFormed}
 use Rattle.world_values.specs.Items.{no_items, functions_of, functions_in, function_in, function_of_item, root_function_at}
 use Rattle.world_values.specs.Mentions.{interface_in, interfaces_of, same_interface}
 use Rattle.comp_worlds.specs.Lookups.{found_module}
@@ -62,7 +63,8 @@ use Rattle.supported_worlds.specs.Causes.{role_left_out, own_role_out}
 use Rattle.supported_worlds.specs.Placed.{places_of, is_resource, is_droppable, is_resource_at, is_own_resource}
 use Rattle.supported_worlds.specs.Guarantees.{HasFoundImport, IsUsed, OffersExport, IsSoundModule, HasSoundParts}
 use Rattle.supported_worlds.proofs.Interfaces.{named_interface, own_are, other_key, one_found, entry_there, name_there as function_there, found_there}
-use Rattle.supported_worlds.proofs.Lists.{nothing, at_front, after, none_picked}
+use Rattle.comp_roles.proofs.Firsts.{none_picked}
+use Rattle.supported_worlds.proofs.Lists.{nothing, at_front, after}
 use Rattle.supported_worlds.proofs.InPlace.{both, resource_kind}
 use Rattle.supported_worlds.proofs.Order.{passes}
 use Rattle.supported_worlds.proofs.OwnRoles.{owned_type, required_at, required_key}
@@ -286,7 +288,7 @@ module _ (p : WorldParts) (present : HasSoundParts p) (linked : AreLinked p) (en
   import_role owed known (imports.Item item) h own called there = there
   import_role owed known (imports.WorldFunc (keys.Name text) name abi) h own called there = nothing _ h
   import_role owed known (imports.InterfaceFunc key id name abi) h own called there = nothing _ h
-  import_role owed known role h own called there = passes (is_some (plain_intrinsic p.can_use_context_slot_1 role)) (import_kind role) h
+  import_role owed known role h own called there = passes (is_some (plain_intrinsic true role)) (import_kind role) h
 
   for_own_key : (owed : List WorldKey) (role : Import) → own_role_out p owed role ≡ None → IsForOwnKey owed role
   for_own_key owed (imports.ExportedResourceDrop key id) h = own_key owed key id (codes "exported-drop") h
@@ -348,11 +350,18 @@ module _ (p : WorldParts) (present : HasSoundParts p) (linked : AreLinked p) (en
 
   export_role : (role : Export) → export_left_out p.resolve.types role ≡ None → IsLifted p.resolve p.world role → IsExportRole (whole_of p) role
   export_role (exports.WorldFunc (keys.Name text) name GuestExport) h lifted =
-      (name_there text (items_of p).exports (subst (λ (o : Option Function). IsSome o) (exported_is (keys.Name text)) lifted.1), lifted.0, refl)
-  export_role (exports.WorldFunc (keys.Interface id) name GuestExport) h lifted = nothing _ h
-  export_role (exports.InterfaceFunc key id name GuestExport) h lifted = (has_function key id name lifted.0 lifted.1, refl)
+      (name_there text (items_of p).exports (subst (λ (o : Option Function). IsSome o) (exported_is (keys.Name text)) lifted.1), lifted.0, tt)
+  export_role (exports.WorldFunc (keys.Name text) name GuestExportAsync) h lifted =
+      (name_there text (items_of p).exports (subst (λ (o : Option Function). IsSome o) (exported_is (keys.Name text)) lifted.1), lifted.0, tt)
+  export_role (exports.WorldFunc (keys.Name text) name GuestExportAsyncStackful) h lifted =
+      (name_there text (items_of p).exports (subst (λ (o : Option Function). IsSome o) (exported_is (keys.Name text)) lifted.1), lifted.0, tt)
+  export_role (exports.InterfaceFunc key id name GuestExport) h lifted = (has_function key id name lifted.0 lifted.1, tt)
+  export_role (exports.InterfaceFunc key id name GuestExportAsync) h lifted = (has_function key id name lifted.0 lifted.1, tt)
+  export_role (exports.InterfaceFunc key id name GuestExportAsyncStackful) h lifted = (has_function key id name lifted.0 lifted.1, tt)
   export_role (exports.InterfaceFuncPostReturn key name) h lifted = (lifted.0, has_function key lifted.0 name lifted.1 lifted.2)
   export_role (exports.WorldFuncPostReturn (keys.Name text)) h lifted = name_there text (items_of p).exports (subst (λ (o : Option Function). IsSome o) (exported_is (keys.Name text)) lifted)
+  export_role (exports.InterfaceFuncCallback key name) h lifted = (lifted.0, has_function key lifted.0 name lifted.1 lifted.2)
+  export_role (exports.WorldFuncCallback (keys.Name text)) h lifted = name_there text (items_of p).exports (subst (λ (o : Option Function). IsSome o) (exported_is (keys.Name text)) lifted)
   export_role (exports.ResourceDtor id) h lifted = dropped p.resolve.types id.index (passes (is_resource_at p.resolve.types id) (codes "dtor") h)
   export_role (exports.Memory type) h lifted = tt
   export_role exports.GeneralPurposeRealloc h lifted = tt
@@ -390,7 +399,7 @@ module _ (p : WorldParts) (present : HasSoundParts p) (linked : AreLinked p) (en
   fits_role (imports.AdapterExport adapter name function) type h fits there = of_type (type_of_import p.resolve (items_of p) (imports.AdapterExport adapter name function)) type refl fits
   fits_role (imports.Item item) type h fits there = there
   fits_role (imports.WorldFunc (keys.Interface other) function abi) type h fits there = absurd (true≢false (sym h))
-  fits_role role type h fits there = of_type (type_of_import p.resolve (items_of p) role) type (mapped_there externs.Func (plain_import_type role) (plain_typed p.can_use_context_slot_1 role h)) fits
+  fits_role role type h fits there = of_type (type_of_import p.resolve (items_of p) role) type (mapped_there externs.Func (plain_import_type role) (plain_typed true role h)) fits
 
   found_import : (m : ValidatedModule) → AllByRecursion (IsImportGroup (whole_of p)) m.imports.modules → (i : ImportType) → HasFoundImport p.resolve (items_of p) m i → IsImportLinked (whole_of p) m i → FitsImport (whole_of p) m i
   found_import m groups i (inl h) there =
@@ -416,6 +425,8 @@ module _ (p : WorldParts) (present : HasSoundParts p) (linked : AreLinked p) (en
       (subst (λ (o : Option WorldItem). IsSome (function_of_item p.resolve function o)) (sym there.exported) (function_found key h.0 function there))
   export_typed (exports.WorldFuncPostReturn (keys.Name text)) h =
       mapped_there (post_return_type p.resolve) (root_function_at (items_of p).exports (keys.Name text)) (name_at text (items_of p).exports h.0 apart.items.exports h.1 h.2)
+  export_typed (exports.WorldFuncCallback (keys.Name text)) h = refl
+  export_typed (exports.InterfaceFuncCallback key function) h = refl
   export_typed (exports.ResourceDtor id) h = refl
   export_typed (exports.Memory type) h = refl
   export_typed exports.GeneralPurposeRealloc h = refl
@@ -437,6 +448,8 @@ module _ (p : WorldParts) (present : HasSoundParts p) (linked : AreLinked p) (en
     exported = kept.exported;
     present = subst (λ (names : List (List ℕ)). AllByRecursion (λ name. IsSome (core_name_in m.exports.exports key name)) names)
         (own_are p.resolve (exported_there p.resolve p.world key) present.listed ∙ ap (functions_in p.resolve) (item_is key)) kept.present;
+    formed = subst (λ (names : List (List ℕ)). AllByRecursion (IsFormed m.exports.exports key) names)
+        (own_are p.resolve (exported_there p.resolve p.world key) present.listed ∙ ap (functions_in p.resolve) (item_is key)) kept.formed;
   }
 
   keys_kept : (m : ValidatedModule) (ks : List WorldKey) → AllByRecursion (IsKept p.resolve p.world m.exports.exports) ks → AllByRecursion (IsRequired (whole_of p) m) ks

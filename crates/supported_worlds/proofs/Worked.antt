@@ -3,7 +3,8 @@ use Rattle.std.proofs.Common.{false, ◌≡◌, ℕ, List, [], ◌∷◌, ◌++�
 use Rattle.std.specs.Prelude.{codes, replicate}
 use Rattle.standard_kinds.specs.declared.kinds.Primitive.TheVariants as prims
 use Rattle.standard_kinds.specs.declared.kinds.ExportKind.TheVariants as given
-use Rattle.wit_data.specs.declared.functions.AbiVariant.TheVariants.{GuestImport, GuestExport, GuestImportAsync, GuestExportAsync}
+use Rattle.core_types.specs.declared.types.ValType.TheVariants as core
+use Rattle.wit_data.specs.declared.functions.AbiVariant.TheVariants.{GuestImport, GuestExport, GuestImportAsync, GuestExportAsync, GuestExportAsyncStackful}
 use Rattle.wit_data.specs.declared.functions.Function.{Function}
 use Rattle.wit_data.specs.declared.functions.FunctionKind.{FunctionKind}
 use Rattle.wit_data.specs.declared.functions.FunctionKind.TheVariants.{Freestanding, AsyncFreestanding, Method, AsyncMethod, Static, AsyncStatic, Constructor}
@@ -388,60 +389,92 @@ function_is_no_type = refl
 
 -- ---- roles
 
-call_is_encoded : import_left_out false [] [] 0 (imports.WorldFunc f (codes "f") GuestImport) ≡ None
+call_is_encoded : import_left_out [] [] 0 (imports.WorldFunc f (codes "f") GuestImport) ≡ None
 call_is_encoded = refl
 
-async_call_is_encoded : import_left_out false [] [] 0 (imports.WorldFunc f (codes "f") GuestImportAsync) ≡ None
+async_call_is_encoded : import_left_out [] [] 0 (imports.WorldFunc f (codes "f") GuestImportAsync) ≡ None
 async_call_is_encoded = refl
 
-exported_form_is_none : import_left_out false [] [] 0 (imports.WorldFunc f (codes "f") GuestExport) ≡ Some (codes "world-func")
+exported_form_is_none : import_left_out [] [] 0 (imports.WorldFunc f (codes "f") GuestExport) ≡ Some (codes "world-func")
 exported_form_is_none = refl
 
 -- a function of an interface is called in the same forms
-interface_call_is_encoded : import_left_out false [] [] 0 (imports.InterfaceFunc f an_interface (codes "f") GuestImport) ≡ None
+interface_call_is_encoded : import_left_out [] [] 0 (imports.InterfaceFunc f an_interface (codes "f") GuestImport) ≡ None
 interface_call_is_encoded = refl
 
-async_interface_call_is_encoded : import_left_out false [] [] 0 (imports.InterfaceFunc f an_interface (codes "f") GuestImportAsync) ≡ None
+async_interface_call_is_encoded : import_left_out [] [] 0 (imports.InterfaceFunc f an_interface (codes "f") GuestImportAsync) ≡ None
 async_interface_call_is_encoded = refl
 
-exported_form_of_interface_is_none : import_left_out false [] [] 0 (imports.InterfaceFunc f an_interface (codes "f") GuestExport) ≡ Some (codes "interface-func")
+exported_form_of_interface_is_none : import_left_out [] [] 0 (imports.InterfaceFunc f an_interface (codes "f") GuestExport) ≡ Some (codes "interface-func")
 exported_form_of_interface_is_none = refl
 
 -- what main exports is given to others
-function_of_main_is_encoded : import_left_out false [] [] 0 (imports.MainModuleExport (codes "x") given.Func) ≡ None
+function_of_main_is_encoded : import_left_out [] [] 0 (imports.MainModuleExport (codes "x") given.Func) ≡ None
 function_of_main_is_encoded = refl
 
-memory_of_main_is_encoded : import_left_out false [] [] 0 (imports.MainModuleExport (codes "x") given.Memory) ≡ None
+memory_of_main_is_encoded : import_left_out [] [] 0 (imports.MainModuleExport (codes "x") given.Memory) ≡ None
 memory_of_main_is_encoded = refl
 
-global_of_main_is_encoded : import_left_out false [] [] 0 (imports.MainModuleExport (codes "x") given.Global) ≡ None
+global_of_main_is_encoded : import_left_out [] [] 0 (imports.MainModuleExport (codes "x") given.Global) ≡ None
 global_of_main_is_encoded = refl
 
-table_of_main_is_encoded : import_left_out false [] [] 0 (imports.MainModuleExport (codes "x") given.Table) ≡ None
+table_of_main_is_encoded : import_left_out [] [] 0 (imports.MainModuleExport (codes "x") given.Table) ≡ None
 table_of_main_is_encoded = refl
 
+-- the base of thread-local data is an address, of 32 or 64 bits
+base_is_encoded : import_left_out [] [] 0 (imports.TlsBaseGet core.I32) ≡ None
+base_is_encoded = refl
+
+wide_base_is_encoded : import_left_out [] [] 0 (imports.TlsBaseSet core.I64) ≡ None
+wide_base_is_encoded = refl
+
+base_of_no_address_is_reported : import_left_out [] [] 0 (imports.TlsBaseGet core.F32) ≡ Some (codes "tls-get")
+base_of_no_address_is_reported = refl
+
 -- the drop of a resource, and of what is none
-drop_is_encoded : import_left_out false (of_world kinds.Resource ∷ []) (0 ∷ []) 0 (imports.ImportedResourceDrop f None a_type) ≡ None
+drop_is_encoded : import_left_out (of_world kinds.Resource ∷ []) (0 ∷ []) 0 (imports.ImportedResourceDrop f None a_type) ≡ None
 drop_is_encoded = refl
 
-drop_of_values_is_reported : import_left_out false (of_world (kinds.Stream None) ∷ []) (0 ∷ []) 0 (imports.ImportedResourceDrop f None a_type) ≡ Some (codes "imported-drop")
+drop_of_values_is_reported : import_left_out (of_world (kinds.Stream None) ∷ []) (0 ∷ []) 0 (imports.ImportedResourceDrop f None a_type) ≡ Some (codes "imported-drop")
 drop_of_values_is_reported = refl
 
-drop_behind_the_root_is_reported : import_left_out false (of_world kinds.Resource ∷ []) (1 ∷ []) 0 (imports.ImportedResourceDrop f None a_type) ≡ Some (codes "imported-drop")
+drop_behind_the_root_is_reported : import_left_out (of_world kinds.Resource ∷ []) (1 ∷ []) 0 (imports.ImportedResourceDrop f None a_type) ≡ Some (codes "imported-drop")
 drop_behind_the_root_is_reported = refl
 
-drop_of_nothing_is_reported : import_left_out false (of_world kinds.Resource ∷ []) (0 ∷ []) 0 (imports.ImportedResourceDrop f None another_type) ≡ Some (codes "imported-drop")
+drop_of_nothing_is_reported : import_left_out (of_world kinds.Resource ∷ []) (0 ∷ []) 0 (imports.ImportedResourceDrop f None another_type) ≡ Some (codes "imported-drop")
 drop_of_nothing_is_reported = refl
 
-async_lift_is_reported : export_left_out [] (exports.WorldFunc f (codes "f") GuestExportAsync) ≡ Some (codes "async")
-async_lift_is_reported = refl
+-- an exported function is implemented in one of three forms, and in none of those of imports
+async_lift_is_encoded : export_left_out [] (exports.WorldFunc f (codes "f") GuestExportAsync) ≡ None
+async_lift_is_encoded = refl
 
--- a function of an exported interface is called synchronously, and may have a post-return
+stackful_lift_is_encoded : export_left_out [] (exports.WorldFunc f (codes "f") GuestExportAsyncStackful) ≡ None
+stackful_lift_is_encoded = refl
+
+imported_form_is_reported : export_left_out [] (exports.WorldFunc f (codes "f") GuestImport) ≡ Some (codes "world-func")
+imported_form_is_reported = refl
+
+root_function_of_an_interface_is_reported : export_left_out [] (exports.WorldFunc (keys.Interface an_interface) (codes "f") GuestExportAsync) ≡ Some (codes "world-func")
+root_function_of_an_interface_is_reported = refl
+
+callback_is_encoded : export_left_out [] (exports.WorldFuncCallback f) ≡ None
+callback_is_encoded = refl
+
+-- so is a function of an exported interface, which may have a post-return or a callback
 interface_lift_is_encoded : export_left_out [] (exports.InterfaceFunc f an_interface (codes "f") GuestExport) ≡ None
 interface_lift_is_encoded = refl
 
-async_interface_lift_is_reported : export_left_out [] (exports.InterfaceFunc f an_interface (codes "f") GuestExportAsync) ≡ Some (codes "async")
-async_interface_lift_is_reported = refl
+async_interface_lift_is_encoded : export_left_out [] (exports.InterfaceFunc f an_interface (codes "f") GuestExportAsync) ≡ None
+async_interface_lift_is_encoded = refl
+
+stackful_interface_lift_is_encoded : export_left_out [] (exports.InterfaceFunc f an_interface (codes "f") GuestExportAsyncStackful) ≡ None
+stackful_interface_lift_is_encoded = refl
+
+imported_form_of_interface_is_reported : export_left_out [] (exports.InterfaceFunc f an_interface (codes "f") GuestImportAsync) ≡ Some (codes "interface-func")
+imported_form_of_interface_is_reported = refl
+
+interface_callback_is_encoded : export_left_out [] (exports.InterfaceFuncCallback f (codes "f")) ≡ None
+interface_callback_is_encoded = refl
 
 interface_post_return_is_encoded : export_left_out [] (exports.InterfaceFuncPostReturn f (codes "f")) ≡ None
 interface_post_return_is_encoded = refl
@@ -477,13 +510,13 @@ representation_of_values_is_reported : own_role_left_out (an_interface_type ∷ 
 representation_of_values_is_reported = refl
 
 -- of the imports from one module the first that is left out is reported
-first_field_is_reported : group_left_out false [] [] 0 (codes "$root", instances.Names ((codes "f", imports.WorldFunc f (codes "f") GuestImport) ∷ (codes "i", imports.BackpressureInc) ∷ (codes "s", imports.WaitableSetWait) ∷ (codes "p", imports.WaitableSetPoll) ∷ [])) ≡ Some (codes "waitable-set-wait")
+first_field_is_reported : group_left_out [] [] 0 (codes "$root", instances.Names ((codes "f", imports.WorldFunc f (codes "f") GuestImport) ∷ (codes "i", imports.BackpressureInc) ∷ (codes "s", imports.WaitableSetWait) ∷ (codes "p", imports.WaitableSetPoll) ∷ [])) ≡ Some (codes "waitable-set-wait")
 first_field_is_reported = refl
 
-whole_is_encoded : group_left_out false [] [] 0 (codes "m", instances.Whole modules.Main) ≡ None
+whole_is_encoded : group_left_out [] [] 0 (codes "m", instances.Whole modules.Main) ≡ None
 whole_is_encoded = refl
 
-item_is_encoded : (item : Item) → import_left_out false [] [] 0 (imports.Item item) ≡ None
+item_is_encoded : (item : Item) → import_left_out [] [] 0 (imports.Item item) ≡ None
 item_is_encoded item = refl
 
 -- it has its own kind and no other

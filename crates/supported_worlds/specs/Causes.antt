@@ -18,7 +18,7 @@ use Rattle.supported_worlds.specs.Placed.{places_of}
 
 -- the role of an import, unless it is encoded
 abbrev pub role_left_out : WorldParts → Import → Option (List ℕ)
-role_left_out p role = import_left_out p.can_use_context_slot_1 p.resolve.types (places_of p.resolve.types (items_of p).imports) (length (items_of p).imports) role
+role_left_out p role = import_left_out p.resolve.types (places_of p.resolve.types (items_of p).imports) (length (items_of p).imports) role
 
 -- one of an exported resource, unless its module, which has to export these keys, has to export the interface of that
 abbrev pub own_role_out : WorldParts → List WorldKey → Import → Option (List ℕ)

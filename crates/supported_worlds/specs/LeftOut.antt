@@ -4,16 +4,16 @@
 -- that it imports, in their order and with all resources of the root among them, core imports and
 -- exports with the role of such a function, core imports that drop a resource, or make or read a
 -- handle of one that their module has to export, or are main's memory, an export of main, a
--- function that an adapter exports, an item of an argument of a library or a built-in function
--- without operands, and core exports that are a post-return, a destructor, a memory or a realloc;
--- of main, of adapters and of libraries. All else is left out, and reported by the name of its
--- kind. (The names are those of this project's record.)
-use Rattle.std.specs.Prelude.{ℕ, Bool, ◌++◌, List, length, codes, Option, Some, None, Result, Ok, Err, get_or, is_some, if◌then◌else◌}
+-- function that an adapter exports, an item of an argument of a library, a built-in function
+-- without operands or a function of the thread-local base, and core exports that are a post-return,
+-- a callback, a destructor, a memory or a realloc; of main, of adapters and of libraries. All else
+-- is left out, and reported by the name of its kind. (The names are those of this project's record.)
+use Rattle.std.specs.Prelude.{ℕ, Bool, true, ◌++◌, List, length, codes, Option, Some, None, Result, Ok, Err, get_or, is_some, if◌then◌else◌}
 use Rattle.std.specs.List.{flat_map}
 use Rattle.std.specs.Map.{lookup}
 use Rattle.std.specs.Option.{option_or}
 use Rattle.wit_data.specs.Keys.{is_same_key}
-use Rattle.wit_data.specs.declared.functions.AbiVariant.TheVariants.{GuestImport, GuestExport, GuestImportAsync}
+use Rattle.wit_data.specs.declared.functions.AbiVariant.TheVariants.{GuestImport, GuestExport, GuestImportAsync, GuestExportAsync, GuestExportAsyncStackful}
 use Rattle.wit_data.specs.declared.ids.InterfaceId.{InterfaceId}
 use Rattle.wit_data.specs.declared.resolve.Resolve.{Resolve}
 use Rattle.wit_data.specs.declared.types.TypeDef.{TypeDef}
@@ -107,22 +107,21 @@ resources_left_out types entries = unless (are_in_place types 0 (imported_number
 -- an import of a module, unless it is a function at the root or of an interface, or drops a
 -- resource, by the places of the types, and that of the root; or has a role that an exported
 -- resource may have; or is main's memory, an export of main, a function that an adapter exports, an
--- item of an argument, or a built-in function without operands, by whether context slot 1 can be
--- used
-abbrev pub import_left_out : Bool → List TypeDef → List ℕ → ℕ → Import → Option (List ℕ)
-import_left_out slot_1 types places root (imports.WorldFunc (keys.Name text) name GuestImport) = None
-import_left_out slot_1 types places root (imports.WorldFunc (keys.Name text) name GuestImportAsync) = None
-import_left_out slot_1 types places root (imports.InterfaceFunc key id name GuestImport) = None
-import_left_out slot_1 types places root (imports.InterfaceFunc key id name GuestImportAsync) = None
-import_left_out slot_1 types places root (imports.ImportedResourceDrop key interface id) = unless (is_droppable types places root id) (codes "imported-drop")
-import_left_out slot_1 types places root (imports.ExportedResourceDrop key id) = None
-import_left_out slot_1 types places root (imports.ExportedResourceRep key id) = None
-import_left_out slot_1 types places root (imports.ExportedResourceNew key id) = None
-import_left_out slot_1 types places root (imports.MainModuleMemory type) = None
-import_left_out slot_1 types places root (imports.MainModuleExport name kind) = None
-import_left_out slot_1 types places root (imports.AdapterExport adapter name type) = None
-import_left_out slot_1 types places root (imports.Item item) = None
-import_left_out slot_1 types places root role = unless (is_some (plain_intrinsic slot_1 role)) (import_kind role)
+-- item of an argument, a built-in function without operands, or a function of the thread-local base
+abbrev pub import_left_out : List TypeDef → List ℕ → ℕ → Import → Option (List ℕ)
+import_left_out types places root (imports.WorldFunc (keys.Name text) name GuestImport) = None
+import_left_out types places root (imports.WorldFunc (keys.Name text) name GuestImportAsync) = None
+import_left_out types places root (imports.InterfaceFunc key id name GuestImport) = None
+import_left_out types places root (imports.InterfaceFunc key id name GuestImportAsync) = None
+import_left_out types places root (imports.ImportedResourceDrop key interface id) = unless (is_droppable types places root id) (codes "imported-drop")
+import_left_out types places root (imports.ExportedResourceDrop key id) = None
+import_left_out types places root (imports.ExportedResourceRep key id) = None
+import_left_out types places root (imports.ExportedResourceNew key id) = None
+import_left_out types places root (imports.MainModuleMemory type) = None
+import_left_out types places root (imports.MainModuleExport name kind) = None
+import_left_out types places root (imports.AdapterExport adapter name type) = None
+import_left_out types places root (imports.Item item) = None
+import_left_out types places root role = unless (is_some (plain_intrinsic true role)) (import_kind role)
 
 -- such a role, unless it is of a resource of an interface that the module has to export at the key
 abbrev pub own_role_left_out : List TypeDef → Entries → List InterfaceId → Import → Option (List ℕ)
@@ -131,16 +130,20 @@ own_role_left_out types es required (imports.ExportedResourceRep key id) = unles
 own_role_left_out types es required (imports.ExportedResourceNew key id) = unless (is_own_resource types es required key id) (codes "exported-new")
 own_role_left_out types es required role = None
 
--- an export of a module, unless it is a function at the root or of an interface that is called
--- synchronously, the post-return of one, the destructor of a resource, a memory, or a realloc
+-- an export of a module, unless it is a function at the root or of an interface in one of the forms
+-- of exports, the post-return or the callback of one, the destructor of a resource, a memory, or a
+-- realloc
 abbrev pub export_left_out : List TypeDef → Export → Option (List ℕ)
 export_left_out types (exports.WorldFunc (keys.Name text) name GuestExport) = None
-export_left_out types (exports.WorldFunc (keys.Interface id) name GuestExport) = Some (codes "world-func")
-export_left_out types (exports.WorldFunc key name abi) = Some (codes "async")
+export_left_out types (exports.WorldFunc (keys.Name text) name GuestExportAsync) = None
+export_left_out types (exports.WorldFunc (keys.Name text) name GuestExportAsyncStackful) = None
 export_left_out types (exports.InterfaceFunc key id name GuestExport) = None
-export_left_out types (exports.InterfaceFunc key id name abi) = Some (codes "async")
+export_left_out types (exports.InterfaceFunc key id name GuestExportAsync) = None
+export_left_out types (exports.InterfaceFunc key id name GuestExportAsyncStackful) = None
 export_left_out types (exports.WorldFuncPostReturn (keys.Name text)) = None
 export_left_out types (exports.InterfaceFuncPostReturn key name) = None
+export_left_out types (exports.WorldFuncCallback (keys.Name text)) = None
+export_left_out types (exports.InterfaceFuncCallback key name) = None
 export_left_out types (exports.ResourceDtor id) = unless (is_resource_at types id) (codes "dtor")
 export_left_out types (exports.Memory type) = None
 export_left_out types exports.GeneralPurposeRealloc = None
@@ -151,12 +154,12 @@ export_left_out types exports.Initialize = None
 export_left_out types role = Some (export_kind role)
 
 -- the imports from one module: the first that is left out; none is where a whole instance satisfies them
-abbrev pub instance_left_out : Bool → List TypeDef → List ℕ → ℕ → ImportInstance → Option (List ℕ)
-instance_left_out slot_1 types places root (instances.Names fields) = first_some (λ f. import_left_out slot_1 types places root f.1) fields
-instance_left_out slot_1 types places root (instances.Whole which) = None
+abbrev pub instance_left_out : List TypeDef → List ℕ → ℕ → ImportInstance → Option (List ℕ)
+instance_left_out types places root (instances.Names fields) = first_some (λ f. import_left_out types places root f.1) fields
+instance_left_out types places root (instances.Whole which) = None
 
-abbrev pub group_left_out : Bool → List TypeDef → List ℕ → ℕ → List ℕ × ImportInstance → Option (List ℕ)
-group_left_out slot_1 types places root group = instance_left_out slot_1 types places root group.1
+abbrev pub group_left_out : List TypeDef → List ℕ → ℕ → List ℕ × ImportInstance → Option (List ℕ)
+group_left_out types places root group = instance_left_out types places root group.1
 
 -- the first such role of an exported resource that is left out
 abbrev pub own_instance_left_out : List TypeDef → Entries → List InterfaceId → ImportInstance → Option (List ℕ)
@@ -173,17 +176,17 @@ own_left_out types es keys m = first_some (own_group_left_out types es (required
 -- ---- modules
 
 -- the first import or export of a module that is left out, apart from the roles of exported resources
-abbrev pub roles_left_out : Bool → List TypeDef → List ℕ → ℕ → ValidatedModule → Option (List ℕ)
-roles_left_out slot_1 types places root m =
-    option_or (first_some (group_left_out slot_1 types places root) m.imports.modules) (first_some (λ e. export_left_out types e.1) m.exports.exports)
+abbrev pub roles_left_out : List TypeDef → List ℕ → ℕ → ValidatedModule → Option (List ℕ)
+roles_left_out types places root m =
+    option_or (first_some (group_left_out types places root) m.imports.modules) (first_some (λ e. export_left_out types e.1) m.exports.exports)
 
 -- what of a module is left out that has to export these keys: the roles of exported resources first
-abbrev pub module_left_out : Bool → List TypeDef → Entries → List ℕ → ℕ → List WorldKey → ValidatedModule → Option (List ℕ)
-module_left_out slot_1 types es places root keys m = option_or (own_left_out types es keys m) (roles_left_out slot_1 types places root m)
+abbrev pub module_left_out : List TypeDef → Entries → List ℕ → ℕ → List WorldKey → ValidatedModule → Option (List ℕ)
+module_left_out types es places root keys m = option_or (own_left_out types es keys m) (roles_left_out types places root m)
 
 -- what of an adapter is left out
-abbrev pub adapter_left_out : Bool → List TypeDef → Entries → List ℕ → ℕ → List ℕ × WorldAdapter → Option (List ℕ)
-adapter_left_out slot_1 types es places root a = module_left_out slot_1 types es places root a.1.required_exports a.1.info
+abbrev pub adapter_left_out : List TypeDef → Entries → List ℕ → ℕ → List ℕ × WorldAdapter → Option (List ℕ)
+adapter_left_out types es places root a = module_left_out types es places root a.1.required_exports a.1.info
 
 -- ---- the whole
 
@@ -198,7 +201,7 @@ world_left_out w = option_or (first_some import_item_left_out w.imports) (first_
 -- what of the modules is left out: of main first, then of the adapters in order
 abbrev pub modules_left_out : WorldParts → World → List ℕ → ℕ → Option (List ℕ)
 modules_left_out p w places root =
-    option_or (module_left_out p.can_use_context_slot_1 p.resolve.types w.exports places root p.main_exports p.main) (first_some (adapter_left_out p.can_use_context_slot_1 p.resolve.types w.exports places root) p.adapters)
+    option_or (module_left_out p.resolve.types w.exports places root p.main_exports p.main) (first_some (adapter_left_out p.resolve.types w.exports places root) p.adapters)
 
 -- what is left out of a world whose interfaces are apart: the order of its items first, then its
 -- resources, then its modules

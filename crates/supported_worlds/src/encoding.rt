@@ -69,26 +69,10 @@ fn placed_left_out(
     ensures apart { IfOk result (λ o. option_copied o ≡ None → ModulesApart parts.now) }
 {
     let types = parts.resolve.types.as_slice();
-    let slot_1 = parts.can_use_context_slot_1;
     let keys = parts.main_exports.as_slice();
-    match module_left_out(
-        alloc,
-        slot_1,
-        types,
-        &world.exports,
-        places,
-        keys,
-        &parts.main,
-    )? {
+    match module_left_out(alloc, types, &world.exports, places, keys, &parts.main)? {
         Some(what) => Ok(Some(what)),
-        None => adapters_left_out(
-            alloc,
-            slot_1,
-            types,
-            &world.exports,
-            places,
-            &parts.adapters,
-        ),
+        None => adapters_left_out(alloc, types, &world.exports, places, &parts.adapters),
     }
 }
 
@@ -257,15 +241,15 @@ fn unless_left_out(alloc: Global, parts: WorldParts) -> Result<ComponentWorld, F
 
 /// The world of these parts, where all of it is encoded yet.
 ///
-/// It refuses with `LeftOut` and the kind of something of the world that is not encoded yet: `async`
-/// for a core export that implements a function asynchronously; `type` for an exported type;
-/// `interface` where an interface is imported or exported twice, or both, where one has to be exported
-/// twice, where an exported one has no name or that of another, or uses a named type of the world or a type
-/// of another interface that the world neither imports nor exports, where a type or a function is made of
-/// types that come later in the order of the imports, or where an interface and its types don't name each
-/// other or are out of order; `type` where the imported types are out of order or lack a resource; the kind
-/// of a role of a module's imports or exports; or `world-func` where a function at the root has to be exported
-/// twice.
+/// It refuses with `LeftOut` and the kind of something of the world that is not encoded yet: `type`
+/// for an exported type; `interface` where an interface is imported or exported twice, or both,
+/// where one has to be exported twice, where an exported one has no name or that of another, or
+/// uses a named type of the world or a type of another interface that the world neither imports nor
+/// exports, where a type or a function is made of types that come later in the order of the
+/// imports, or where an interface and its types don't name each other or are out of order; `type`
+/// where the imported types are out of order or lack a resource; the kind of a role of a module's
+/// imports or exports; or `world-func` where a function at the root has to be exported twice.
+///
 /// A function at the root or of an imported interface is encoded whatever its types are. The
 /// only other refusal is out of memory. On top of `world_of_parts` it takes time linear in the number of
 /// items, of interfaces' types and functions, of the parameters of functions, of types and their parts,

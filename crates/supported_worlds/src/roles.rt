@@ -1,6 +1,6 @@
 //! What of a user module's imports and exports is not encoded yet, by their roles.
 
-ghost use Rattle.std.specs.Prelude.{◌≡◌, None, codes, is_some};
+ghost use Rattle.std.specs.Prelude.{true, ◌≡◌, None, codes, is_some};
 ghost use Rattle.std.specs.List.{IsDistinct};
 ghost use Rattle.std.specs.Map.{keys_of};
 ghost use Rattle.std.specs.Option.{option_copied};
@@ -34,25 +34,21 @@ fn drop_left_out(types: &[TypeDef], places: &Places, id: TypeId) -> Option<&'sta
     }
 }
 
-/// A role of another kind, unless it is a built-in function without operands, by whether context slot 1 can be used.
-fn built_in_left_out(slot_1: bool, role: &Import) -> Option<&'static str>
+/// A role of another kind, unless it is a built-in function without operands, or one of the
+/// thread-local base, which has such a function where context slot 1 can be used.
+fn built_in_left_out(role: &Import) -> Option<&'static str>
     ensures { option_copied result ≡
-        unless (is_some (plain_intrinsic slot_1 role.now)) (import_kind role.now) }
+        unless (is_some (plain_intrinsic true role.now)) (import_kind role.now) }
 {
-    match plain_intrinsic(slot_1, role) {
+    match plain_intrinsic(true, role) {
         Some(_) => None,
         None => Some(import_kind(role)),
     }
 }
 
-fn import_left_out(
-    slot_1: bool,
-    types: &[TypeDef],
-    places: &Places,
-    role: &Import,
-) -> Option<&'static str>
+fn import_left_out(types: &[TypeDef], places: &Places, role: &Import) -> Option<&'static str>
     ensures { option_copied result
-        ≡ import_left_out slot_1 types.now places.now.types places.now.interfaces.root role.now }
+        ≡ import_left_out types.now places.now.types places.now.interfaces.root role.now }
 {
     match role {
         Import::WorldFunc(WorldKey::Name(_), _, AbiVariant::GuestImport) => None,
@@ -67,7 +63,7 @@ fn import_left_out(
         | Import::MainModuleExport { .. }
         | Import::Item(_)
         | Import::AdapterExport { .. } => None,
-        _ => built_in_left_out(slot_1, role),
+        _ => built_in_left_out(role),
     }
 }
 
@@ -87,13 +83,16 @@ fn export_left_out(types: &[TypeDef], role: &Export) -> Option<&'static str>
 {
     match role {
         Export::WorldFunc(WorldKey::Name(_), _, AbiVariant::GuestExport) => None,
-        Export::WorldFunc(_, _, AbiVariant::GuestExport) => Some("world-func"),
-        Export::WorldFunc(..) => Some("async"),
+        Export::WorldFunc(WorldKey::Name(_), _, AbiVariant::GuestExportAsync) => None,
+        Export::WorldFunc(WorldKey::Name(_), _, AbiVariant::GuestExportAsyncStackful) => None,
         Export::InterfaceFunc(_, _, _, AbiVariant::GuestExport) => None,
-        Export::InterfaceFunc(..) => Some("async"),
+        Export::InterfaceFunc(_, _, _, AbiVariant::GuestExportAsync) => None,
+        Export::InterfaceFunc(_, _, _, AbiVariant::GuestExportAsyncStackful) => None,
         Export::ResourceDtor(id) => destructor_left_out(types, *id),
         Export::WorldFuncPostReturn(WorldKey::Name(_))
         | Export::InterfaceFuncPostReturn(..)
+        | Export::WorldFuncCallback(WorldKey::Name(_))
+        | Export::InterfaceFuncCallback(..)
         | Export::Memory(_)
         | Export::GeneralPurposeRealloc
         | Export::GeneralPurposeImportRealloc
@@ -106,19 +105,18 @@ fn export_left_out(types: &[TypeDef], role: &Export) -> Option<&'static str>
 
 /// What of the fields that are imported from one module is left out.
 fn fields_left_out(
-    slot_1: bool,
     types: &[TypeDef],
     places: &Places,
     fields: &Keyed<Text, Import>,
 ) -> Option<&'static str>
     ensures reported { option_copied result
         ≡ first_some
-        (λ f. import_left_out slot_1 types.now places.now.types places.now.interfaces.root f.1)
+        (λ f. import_left_out types.now places.now.types places.now.interfaces.root f.1)
         fields.now }
     ensures apart { IsDistinct bytes_eq (keys_of fields.now) }
 {
     for (_, role) in fields.iter() {
-        if let Some(what) = import_left_out(slot_1, types, places, role) {
+        if let Some(what) = import_left_out(types, places, role) {
             return Some(what);
         }
     }
@@ -127,18 +125,17 @@ fn fields_left_out(
 
 /// What of the imports from one module is left out; its fields are apart.
 fn instance_left_out(
-    slot_1: bool,
     types: &[TypeDef],
     places: &Places,
     instance: &ImportInstance,
 ) -> Option<&'static str>
     ensures reported { option_copied result
-        ≡ instance_left_out slot_1 types.now places.now.types places.now.interfaces.root
+        ≡ instance_left_out types.now places.now.types places.now.interfaces.root
         instance.now }
     ensures apart { FieldsApart instance.now }
 {
     match instance {
-        ImportInstance::Names(fields) => fields_left_out(slot_1, types, places, fields),
+        ImportInstance::Names(fields) => fields_left_out(types, places, fields),
         ImportInstance::Whole(_) => None,
     }
 }
@@ -146,18 +143,17 @@ fn instance_left_out(
 /// What of all imports is left out; where nothing is, no module and no field of one occurs twice.
 #[tactic(auto, using(crate::proofs::Walking::start, crate::proofs::Walking::step, crate::proofs::Walking::end))]
 fn groups_left_out(
-    slot_1: bool,
     types: &[TypeDef],
     places: &Places,
     groups: &Keyed<Text, ImportInstance>,
 ) -> Option<&'static str>
     ensures reported { option_copied result
-        ≡ first_some (group_left_out slot_1 types.now places.now.types places.now.interfaces.root)
+        ≡ first_some (group_left_out types.now places.now.types places.now.interfaces.root)
         groups.now }
     ensures apart { option_copied result ≡ None → GroupsApart groups.now }
 {
     for (_, instance) in groups.iter() {
-        if let Some(what) = instance_left_out(slot_1, types, places, instance) {
+        if let Some(what) = instance_left_out(types, places, instance) {
             return Some(what);
         }
     }
@@ -177,16 +173,15 @@ fn exports_left_out(types: &[TypeDef], exports: &Keyed<Text, Export>) -> Option<
 
 /// What of a module's imports and exports is left out, by their roles; where nothing is, no import occurs twice.
 pub(crate) fn roles_left_out(
-    slot_1: bool,
     types: &[TypeDef],
     places: &Places,
     info: &ValidatedModule,
 ) -> Option<&'static str>
     ensures reported { option_copied result
-        ≡ roles_left_out slot_1 types.now places.now.types places.now.interfaces.root info.now }
+        ≡ roles_left_out types.now places.now.types places.now.interfaces.root info.now }
     ensures apart { option_copied result ≡ None → GroupsApart info.now.imports.modules }
 {
-    match groups_left_out(slot_1, types, places, &info.imports.modules) {
+    match groups_left_out(types, places, &info.imports.modules) {
         Some(what) => Some(what),
         None => exports_left_out(types, &info.exports.exports),
     }

@@ -1,6 +1,6 @@
 //! The modules that are generated for shims: that each call succeeds. The bytes of the modules of
 //! one shim, and of two with a memory, are those of `crates/world_shims/proofs/Worked.antt`; those
-//! of a memory alone are in the crate `shim_modules`.
+//! of a memory alone, and of a cell alone, are in the crate `shim_modules`.
 
 ghost use Rattle.std.specs.Prelude.{◌≡◌};
 
@@ -8,7 +8,7 @@ use byte_encoding::BuildFault;
 use comp_lists::{Seq, Text};
 use comp_options::RequiredOptions;
 use core_bytes::Module;
-use core_types::MemoryType;
+use core_types::{MemoryType, ValType};
 use shim_plan::{Shim, ShimKind, Shims};
 use std::alloc::{AllocError, Global};
 use wit_data::{WasmSignature, WasmType};
@@ -81,6 +81,19 @@ fn bytes_of(
     }
 }
 
+/// The bytes of the module of so many shims, with this memory, and with a cell of this type.
+fn module_bytes(
+    alloc: Global,
+    memory: Option<MemoryType>,
+    cell: Option<ValType>,
+    count: u32,
+    debug_names: bool,
+) -> Result<Vec<u8>, AllocError> {
+    let shims = some_shims(alloc, count)?;
+    let made = module_of_shims(alloc, memory, cell, &shims, debug_names);
+    bytes_of(alloc, made)
+}
+
 /// The bytes of the module of so many shims, with this memory.
 fn memory_bytes(
     alloc: Global,
@@ -88,8 +101,7 @@ fn memory_bytes(
     count: u32,
     debug_names: bool,
 ) -> Result<Vec<u8>, AllocError> {
-    let shims = some_shims(alloc, count)?;
-    bytes_of(alloc, module_of_shims(alloc, memory, &shims, debug_names))
+    module_bytes(alloc, memory, None, count, debug_names)
 }
 
 /// The bytes of the module of so many shims, without a memory.
@@ -183,4 +195,34 @@ fn a_memory_follows_the_table_of_shims(rt: HostRuntime) {
     let expected =
         b"\x00asm\x01\x00\x00\x00\x01\x06\x01\x60\x02\x7f\x7f\x00\x03\x03\x02\x00\x00\x04\x05\x01\x70\x01\x02\x02\x05\x04\x01\x01\x02\x11\x07\x1e\x04\x010\x00\x00\x011\x00\x01\x08$imports\x01\x00\x07$memory\x02\x00\x0a\x19\x02\x0b\x00\x20\x00\x20\x01\x41\x00\x11\x00\x00\x0b\x0b\x00\x20\x00\x20\x01\x41\x01\x11\x00\x00\x0b";
     assert_eq!(rt; bytes.as_slice(), expected.as_slice());
+}
+
+#[test]
+fn a_cell_alone_is_a_module(rt: HostRuntime) {
+    let cell = Some(ValType::I32);
+    let bytes = module_bytes(rt.alloc(), None, cell, 0, false).expect(&rt, "memory");
+    let expected =
+        b"\x00asm\x01\x00\x00\x00\x01\x09\x02\x60\x00\x01\x7f\x60\x01\x7f\x00\x03\x03\x02\x00\x01\x06\x06\x01\x7f\x01\x41\x00\x0b\x07\x21\x02\x0d$get-tls-base\x00\x00\x0d$set-tls-base\x00\x01\x0a\x0d\x02\x04\x00\x23\x00\x0b\x06\x00\x20\x00\x24\x00\x0b";
+    assert_eq!(rt; bytes.as_slice(), expected.as_slice());
+}
+
+#[test]
+fn a_cell_follows_a_shim_and_a_memory(rt: HostRuntime) {
+    let memory = Some(MemoryType {
+        minimum: 2,
+        maximum: Some(17),
+    });
+    let cell = Some(ValType::I64);
+    let bytes = module_bytes(rt.alloc(), memory, cell, 1, false).expect(&rt, "memory");
+    let expected =
+        b"\x00asm\x01\x00\x00\x00\x01\x0e\x03\x60\x02\x7f\x7f\x00\x60\x00\x01\x7e\x60\x01\x7e\x00\x03\x04\x03\x00\x01\x02\x04\x05\x01\x70\x01\x01\x01\x05\x04\x01\x01\x02\x11\x06\x06\x01\x7e\x01\x42\x00\x0b\x07\x3a\x05\x010\x00\x00\x08$imports\x01\x00\x07$memory\x02\x00\x0d$get-tls-base\x00\x01\x0d$set-tls-base\x00\x02\x0a\x19\x03\x0b\x00\x20\x00\x20\x01\x41\x00\x11\x00\x00\x0b\x04\x00\x23\x00\x0b\x06\x00\x20\x00\x24\x00\x0b";
+    assert_eq!(rt; bytes.as_slice(), expected.as_slice());
+}
+
+#[test]
+fn the_functions_of_a_cell_have_their_names(rt: HostRuntime) {
+    let cell = Some(ValType::I32);
+    let bytes = module_bytes(rt.alloc(), None, cell, 1, true).expect(&rt, "memory");
+    let names = b"\x00\x10indirect-a:b/i-f\x01\x0d$get-tls-base\x02\x0d$set-tls-base";
+    assert!(rt; bytes.len() == 201 && bytes.ends_with(names));
 }

@@ -1,5 +1,5 @@
 -- What can't be counted: shims, or the parameters of one.
-use Rattle.std.proofs.Common.{inl, inr, ◌≡◌, ◌∙◌, ◌+◌, ◌≤◌, ◌^◌, ℕ, Bool, true, false, List, [], ◌∷◌, ◌++◌, length, if◌then◌else◌, ap, subst, arith}
+use Rattle.std.proofs.Common.{inl, inr, ◌≡◌, ◌∙◌, ◌+◌, ◌≤◌, ◌^◌, ℕ, Bool, true, false, List, [], ◌∷◌, ◌++◌, length, if◌then◌else◌, ap, sym, subst, arith}
 use Rattle.std.specs.List.{list_any}
 use Rattle.std.proofs.lemmas.List.{length-map, length_push}
 use Rattle.byte_encoding.specs.declared.fault.BuildFault.{BuildFault}
@@ -31,3 +31,17 @@ pub beyond_more : (few many : ℕ) (s : Shim) (e : BuildFault) → few ≤ many 
 beyond_more few many s build.Memory le h = tt
 beyond_more few many s (build.TooMany n) le (inl h) = inl (omega (arith, le, h))
 beyond_more few many s (build.TooMany n) le (inr h) = inr h
+
+-- a type that can't be interned behind so many functions, or behind them and one more
+pub getter_beyond : (types : List FuncType) (type : FuncType) (count : ℕ) (e : BuildFault) → length types ≤ count → IsFull types type e → HasTooMany (count + 2) e
+getter_beyond types type count build.Memory le h = tt
+getter_beyond types type count (build.TooMany n) le h = let few = interned_few types type in let is = h.0 in let many = h.1 in omega (arith, le, few, is, many)
+
+pub setter_beyond : (types more : List FuncType) (first type : FuncType) (count : ℕ) (e : BuildFault) → length types ≤ count → more ≡ interned types first → IsFull more type e → HasTooMany (count + 2) e
+setter_beyond types more first type count build.Memory le is h = tt
+setter_beyond types more first type count (build.TooMany n) le is h =
+    let few = interned_few more type in
+    let one : length more ≤ length types + 1 = subst (λ (ts : List FuncType). length ts ≤ length types + 1) (sym is) (interned_few types first) in
+    let counted = h.0 in
+    let many = h.1 in
+    omega (arith, le, few, one, counted, many)

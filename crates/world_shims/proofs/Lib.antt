@@ -9,3 +9,4 @@ pub mod Arguments
 pub mod Worked
 pub mod Digits
 pub mod FixupImports
+pub mod Bases

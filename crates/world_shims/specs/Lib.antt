@@ -1,3 +1,4 @@
 pub mod WorldShims
 pub mod Refusals
 pub mod Fixing
+pub mod Cells

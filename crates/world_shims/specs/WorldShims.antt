@@ -4,6 +4,8 @@ use Rattle.std.specs.Prelude.{ℕ, Bool, List, [], ◌∷◌, ◌++◌, length, 
 use Rattle.std.specs.List.{flat_map}
 use Rattle.core_types.specs.declared.types.FuncType.{FuncType}
 use Rattle.core_types.specs.declared.types.MemoryType.{MemoryType}
+use Rattle.core_types.specs.declared.types.ValType.{ValType}
+use Rattle.core_runs.specs.Cells.{getter_type, setter_type}
 use Rattle.core_bytes.specs.declared.section.Section.{Section}
 use Rattle.comp_roles.specs.CoreTypes.{core_type}
 use Rattle.comp_roles.specs.Lookups.{first_export, is_initialize}
@@ -17,6 +19,7 @@ use Rattle.shim_plan.specs.Plans.{with_needed}
 use Rattle.shim_plan.specs.declared.shims.Shim.{Shim}
 use Rattle.shim_modules.specs.Shims.{shim_sections}
 use Rattle.shim_modules.specs.declared.shims.ShimFunction.{ShimFunction}
+use Rattle.shim_modules.specs.declared.shims.ThreadCell.{ThreadCell}
 use Rattle.fixup_modules.specs.declared.instances.ImportedInstance.{ImportedInstance}
 use Rattle.fixup_modules.specs.declared.instances.ImportedInstance.TheVariants as instances
 use Rattle.fixup_modules.specs.Fixups.{Fixup, nothing_fixed, with_shim, with_initialize}
@@ -52,9 +55,19 @@ abbrev pub functions_of : List FuncType → List Shim → List ShimFunction
 functions_of types [] = []
 functions_of types (s ∷ ss) = function_of types s ∷ functions_of (interned types (type_of_shim s)) ss
 
--- with the memory that main imports, where it imports one
-abbrev pub sections_of_shims : Option MemoryType → List Shim → Bool → List Section
-sections_of_shims memory shims debug_names = shim_sections memory (types_with [] shims) (functions_of [] shims) debug_names
+-- the types of the functions of a cell of this type, interned behind these, and the cell by their indices
+abbrev pub with_cell_types : Option ValType → List FuncType → List FuncType
+with_cell_types None types = types
+with_cell_types (Some t) types = interned (interned types (getter_type t)) (setter_type t)
+
+abbrev pub cell_of : Option ValType → List FuncType → Option ThreadCell
+cell_of None types = None
+cell_of (Some t) types = Some (record { val_type = t; getter_type = type_index types (getter_type t); setter_type = type_index (interned types (getter_type t)) (setter_type t) })
+
+-- with the memory that main imports, where it imports one, and the cell of the thread-local base, where a module uses it
+abbrev pub sections_of_shims : Option MemoryType → Option ValType → List Shim → Bool → List Section
+sections_of_shims memory cell shims debug_names =
+    let types = types_with [] shims in shim_sections memory (cell_of cell types) (with_cell_types cell types) (functions_of [] shims) debug_names
 
 -- ---- the fixup
 

@@ -2,9 +2,10 @@
 
 ghost use Rattle.std.specs.Prelude.{◌≡◌, ◌+◌, ◌<◌, ◌≤◌, ◌^◌, [], ◌∷◌, ◌++◌, length, IfOk, OnOk, IfErr};
 ghost use Rattle.interned_types.specs.Interning.{interned};
-ghost use Rattle.world_shims.specs.Refusals.{IsFullOrMemory, HasTooMany, IsBeyond, AreTooMany, if_needed};
+ghost use Rattle.world_shims.specs.Refusals.{IsFullOrMemory, HasTooMany, IsBeyond, AreTooMany, if_needed, cell_count};
 ghost use Rattle.world_shims.specs.WorldShims.{type_of_shim, types_with, function_of, functions_of, sections_of_shims};
 
+use crate::cell::thread_cell;
 use crate::core_type::core_type;
 use byte_encoding::{BuildFault, count_of, next_count};
 use core_bytes::Module;
@@ -82,8 +83,10 @@ fn shim_functions(
     ensures ok { IfOk result (λ functions. functions.items ≡ functions_of [] shims.now) }
     ensures count { OnOk result (length shims.now < 2 ^ 32) }
     ensures room { IfOk result (λ functions. length functions.items < 2 ^ 32) }
+    ensures counted { IfOk result (λ functions. length functions.items ≡ length shims.now) }
+    ensures few { IfOk result (λ functions. length types.new ≤ length functions.items) }
     ensures cause { IfErr result IsFullOrMemory }
-    ensures many { IfErr result (AreTooMany shims.now) }
+    ensures many { IfErr result (AreTooMany (length shims.now) shims.now) }
 {
     let mut functions = Vec::new(alloc);
     for shim in shims.iter() {
@@ -92,28 +95,40 @@ fn shim_functions(
     Ok(functions)
 }
 
-/// The module of shims, or `None` where there are no shims and no memory: their types, each once,
-/// and a function for each shim, in order, which forwards through the slot of its place; and the
-/// memory, for the module that imports it.
+/// The module of shims, or `None` where there are no shims, no memory and no cell: the types of its
+/// functions, each once; a function for each shim, in order, which forwards through the slot of its
+/// place; the memory, for the module that imports it; and the cell of the thread-local base, of
+/// this type, for all modules that use it, with the two functions that read and set it.
 ///
-/// It is refused with [`BuildFault::TooMany`] only where there are more than 2^32 - 1 shims, or
+/// It is refused with [`BuildFault::TooMany`] only where there are more than 2^32 - 1 functions, or
 /// parameters of a shim, and with [`BuildFault::Memory`] when out of memory.
 ///
 /// Core standard, structure: modules.
+#[tactic(auto, using(crate::proofs::Listing::made_if_needed, crate::proofs::Listing::shims_too_many, crate::proofs::Listing::cell_too_many))]
 pub fn module_of_shims(
     alloc: Global,
     memory: Option<MemoryType>,
+    cell: Option<ValType>,
     shims: &Shims,
     debug_names: bool,
 ) -> Result<Option<Module>, BuildFault>
     ensures ok { IfOk result (λ made. made
-        ≡ if_needed memory shims.now (sections_of_shims memory shims.now debug_names)) }
+        ≡ if_needed memory cell shims.now
+        (sections_of_shims memory cell shims.now debug_names)) }
     ensures count { OnOk result (length shims.now < 2 ^ 32) }
     ensures cause { IfErr result IsFullOrMemory }
-    ensures many { IfErr result (AreTooMany shims.now) }
+    ensures many { IfErr result (AreTooMany (length shims.now + cell_count cell) shims.now) }
 {
     let mut types = CoreTypes::new(alloc);
     let functions = shim_functions(alloc, &mut types, shims)?;
-    let module = shim_module(alloc, memory, &types, functions.as_slice(), debug_names)?;
+    let made = thread_cell(alloc, &mut types, cell, functions.len() as u32)?;
+    let module = shim_module(
+        alloc,
+        memory,
+        made,
+        &types,
+        functions.as_slice(),
+        debug_names,
+    )?;
     Ok(module)
 }

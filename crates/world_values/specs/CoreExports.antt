@@ -38,7 +38,12 @@ callback_function (exports.WorldFuncCallback key) = at_root key
 callback_function (exports.InterfaceFuncCallback key name) = Some (function_key key name)
 callback_function role = None
 
--- ---- the functions of all exports, with the names of the exports
+-- ---- the functions of all exports, with the forms in which they are called
+
+abbrev pub lifted_functions : Exports → List (FunctionKey × AbiVariant)
+lifted_functions all = flat_map (λ e. lifted_function e.1) all
+
+-- ---- with the names of the exports
 
 abbrev pub implemented_by : List ℕ × Export → List (FunctionKey × List ℕ)
 implemented_by (name, role) = map (λ f. (f.0, name)) (lifted_function role)
@@ -55,3 +60,9 @@ returned_by (name, role) = under name (post_return_function role)
 
 abbrev pub post_returns : Exports → List (FunctionKey × List ℕ)
 post_returns all = flat_map returned_by all
+
+abbrev pub called_back_by : List ℕ × Export → List (FunctionKey × List ℕ)
+called_back_by (name, role) = under name (callback_function role)
+
+abbrev pub callbacks : Exports → List (FunctionKey × List ℕ)
+callbacks all = flat_map called_back_by all

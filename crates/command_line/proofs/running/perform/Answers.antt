@@ -59,11 +59,11 @@ returns-in-Ok-Some-Explain-clause-performed g c =
 pub returns-in-Ok-Some-Help-clause-performed : goal.returns-in-Ok-Some-Help-clause-performed
 returns-in-Ok-Some-Help-clause-performed g c =
     let before = g.W.Write.contents c.args.out.now in
-    let after = g.W.Write.contents c.print.new.out in
+    let after = g.W.Write.contents c.print-in-Ok-Some-Help.new.out in
     let events = g.S.Store.events c.args.store.now in
     let asked : request_of (map string_bytes c.args.words.now) ≡ Some requests.Help = search rules in
-    subst (λ request. Performed g.L.Lower c.args.lower request events events before after c.print.result) (sym asked)
-    (record { events = []; happened = nothing_happened events; did = (refl, c.print.ensures); counted = reported_text help_text before after c.print.result c.print.ensures })
+    subst (λ request. Performed g.L.Lower c.args.lower request events events before after c.print-in-Ok-Some-Help.result) (sym asked)
+    (record { events = []; happened = nothing_happened events; did = (refl, c.print-in-Ok-Some-Help.ensures); counted = reported_text help_text before after c.print-in-Ok-Some-Help.result c.print-in-Ok-Some-Help.ensures })
 
 pub returns-in-Err-clause-performed : goal.returns-in-Err-clause-performed
 returns-in-Err-clause-performed g c =

@@ -27,6 +27,7 @@ returns-clause-refused c =
       memory = c.in_ok-component.ensures.memory refl;
       realloc = c.in_ok-component.ensures.realloc refl;
       encodings = c.in_ok-component.ensures.refused refl;
+      bases = c.in_ok-component.ensures.bases refl;
       made = c.in_ok-component.ensures.made refl;
       order = c.in_ok-component.ensures.order refl;
       names = λ on fault. no_name_cause (naming_of c.args.names) c.args.world.now c.in_ok-component.component.defs c.requires.valid made.1 (modules_of c.args.world.now (naming_of c.args.names).debug_names made.1.generated) (composed (naming_of c.args.names) c.args.world.now c.in_ok-component.component.defs made.1)

@@ -6,7 +6,7 @@ use Rattle.std.proofs.lemmas.Result.{IfOk-weaker}
 use Rattle.comp_imports.specs.Names.{naming_of}
 use Rattle.comp_terms.specs.Rules.{IsUnnamed, IsBuilt}
 use Rattle.comp_state.specs.Encoding.{Encoding, naming_in}
-use Rattle.comp_state.proofs.Building.{built_named, encoded_lacks, encoded_made, encoded_memory, encoded_order, encoded_realloc}
+use Rattle.comp_state.proofs.Building.{built_named, encoded_bases, encoded_lacks, encoded_made, encoded_memory, encoded_order, encoded_realloc}
 use Rattle.comp_state.proofs.Scoping.{built_scoped}
 use Rattle.comp_state.proofs.encode.encode_world.Goals as goal
 
@@ -31,6 +31,9 @@ returns-clause-realloc c = λ _. encoded_realloc c.args.world.now (search rules)
 
 pub returns-clause-order : goal.returns-clause-order
 returns-clause-order c = λ _. encoded_order c.args.world.now (search rules)
+
+pub returns-clause-bases : goal.returns-clause-bases
+returns-clause-bases c = λ _. encoded_bases c.args.world.now (search rules)
 
 pub returns-clause-made : goal.returns-clause-made
 returns-clause-made c = λ _. encoded_made c.args.world.now (search rules)

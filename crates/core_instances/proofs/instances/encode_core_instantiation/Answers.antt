@@ -179,7 +179,7 @@ returns-clause-added c =
     let k : RootMoved w c.args.root.now c.define_exported_types.new.root = typed c.args.root.now c.encode_shim_instantiation.new.root c.define_exported_types.new.root c.requires.made.tables c.in_ok-generated.ensures.same c.in_ok-generated.ensures.extends c.in_ok-define_exported_types.ensures.moved in
     let world : c.instantiate_users.new.root.world ≡ c.args.root.now.world = ap (λ (r : Root). r.world) c.in_ok-instances.ensures.same ∙ k.world in
     let filled : MayAddFixup w d late new = subst (λ x. MayAddFixup x.now d late new) world c.in_ok-encode_indirect_lowerings.ensures.added in
-    all_added w d old mid late new o c.in_ok-generated.ensures.added (users_grow c.args.root.now c.encode_shim_instantiation.new.root c.define_exported_types.new.root c.instantiate_users.new.root c.in_ok-generated.ensures.same k c.in_ok-define_exported_types.ensures.grows c.in_ok-instances.ensures.grows) filled
+    all_added w d old mid late new o c.in_ok-generated.ensures.added c.in_ok-cell.ensures.alike (users_grow c.args.root.now c.encode_shim_instantiation.new.root c.define_exported_types.new.root c.instantiate_users.new.root c.in_ok-generated.ensures.same k c.in_ok-define_exported_types.ensures.grows c.in_ok-instances.ensures.grows) filled
 
 pub returns-clause-made : goal.returns-clause-made
 returns-clause-made c =

@@ -7,6 +7,7 @@ use Rattle.comp_bytes.specs.declared.def.Def.{Def}
 use Rattle.comp_bytes.specs.declared.def.Def.TheVariants as defs
 use Rattle.comp_bytes.specs.declared.def.Item.TheVariants as items
 use Rattle.comp_items.specs.Items.{Extends}
+use Rattle.comp_worlds.specs.Bases.{cell_type}
 use Rattle.comp_worlds.specs.Offered.{shared_memory}
 use Rattle.comp_items.proofs.Extending.{extends_then}
 use Rattle.world_shims.specs.WorldShims.{shims_of, sections_of_shims}
@@ -28,7 +29,7 @@ returns-clause-added c =
     let mid : List Def = c.core_module-2.new.self.defs in
     let new : List Def = c.core_instance.new.self.defs in
     let index = c.in_ok-index.index in
-    let ss : List Section = sections_of_shims (shared_memory w) (shims_of w) c.args.debug_names in
+    let ss : List Section = sections_of_shims (shared_memory w) (cell_type w) (shims_of w) c.args.debug_names in
     let encodes : Encodes c.bytes.result.now ss = subst (λ b. Encodes b ss) (sym c.bytes.ensures) (subst (λ (s : List Section). Encodes c.in_ok-module.module s) c.requires.module c.in_ok-module.ensures.ok) in
     let added : new ≡ mid ++ defs.Item (items.CoreInstantiate index []) ∷ [] =
     subst (λ (as' : List CoreArgument). new ≡ mid ++ defs.Item (items.CoreInstantiate index as') ∷ []) c.new.ensures (ap (λ (b : Built). b.defs) c.in_ok-instance.ensures.adds.1) in

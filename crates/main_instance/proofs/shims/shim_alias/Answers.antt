@@ -10,7 +10,14 @@ use Rattle.shim_plan.specs.Plans.{shim_of}
 use Rattle.world_shims.specs.WorldShims.{shims_of}
 use Rattle.main_instance.specs.Sources.{IsShimInstance}
 use Rattle.main_instance.proofs.Giving.{shim_alias_grows}
+use Rattle.main_instance.proofs.Instantiating.{has_by_kind, instance_there}
 use Rattle.main_instance.proofs.shims.shim_alias.Goals as goal
+
+pub unwrap-instance-requires : goal.unwrap-instance-requires
+unwrap-instance-requires c =
+    let w = c.args.root.now.world.now in
+    let there : shim_of c.args.kind.now (shims_of w) ≡ Some c.in-Some.shim.now = ap (shim_of c.args.kind.now) (sym c.requires.shims) ∙ search rules in
+    instance_there w c.args.root.now.items.defs c.args.shim_instance c.requires.made (has_by_kind w c.args.kind.now c.in-Some.shim.now there)
 
 pub returns-clause-grows : goal.returns-clause-grows
 returns-clause-grows c =

@@ -10,5 +10,5 @@ abbrev pub invariant-loop-role : goal.invariant-loop-role
 invariant-loop-role l =
     goal.iterator-loop-role.can_next l.role-iterator ×
     goal.iterator-loop-role.is_finite l.role-iterator ×
-    (first_some (λ f. import_left_out l.slot_1 l.types l.places.types l.places.interfaces.root f.1) l.role-iterator ≡ first_some (λ f. import_left_out l.slot_1 l.types l.places.types l.places.interfaces.root f.1) l.fields) ×
+    (first_some (λ f. import_left_out l.types l.places.types l.places.interfaces.root f.1) l.role-iterator ≡ first_some (λ f. import_left_out l.types l.places.types l.places.interfaces.root f.1) l.fields) ×
     IsDistinct bytes_eq (keys_of l.fields)

@@ -11,6 +11,6 @@ abbrev pub invariant-loop-instance : goal.invariant-loop-instance
 invariant-loop-instance l =
     goal.iterator-loop-instance.can_next l.instance-iterator ×
     goal.iterator-loop-instance.is_finite l.instance-iterator ×
-    (first_some (group_left_out l.slot_1 l.types l.places.types l.places.interfaces.root) l.instance-iterator ≡ first_some (group_left_out l.slot_1 l.types l.places.types l.places.interfaces.root) l.groups) ×
+    (first_some (group_left_out l.types l.places.types l.places.interfaces.root) l.instance-iterator ≡ first_some (group_left_out l.types l.places.types l.places.interfaces.root) l.groups) ×
     IsDistinct bytes_eq (keys_of l.groups) ×
     StillApart l.instance-iterator l.groups

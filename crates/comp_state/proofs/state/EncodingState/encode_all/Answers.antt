@@ -59,4 +59,4 @@ returns-clause-encoded c =
     let first : c.encode_imports.new.self.world ≡ w = c.in_ok-encode_imports.ensures.world in
     let second : c.encode_core_modules.new.self.world ≡ w = ap (λ (e : Encoding). e.world) c.in_ok-encode_core_modules.ensures.same ∙ first in
     let third : c.encode_core_instantiation.new.self.world ≡ w = c.in_ok-encode_core_instantiation.ensures.world ∙ second in
-    record { imports = rw (← second) c.in_ok-encode_core_instantiation.ensures.encoded; exports = rw (← third) c.in_ok-encode_exports.ensures.encoded; lowered = rw (← second) c.in_ok-encode_core_instantiation.ensures.lowered; lifted = rw (← third) c.in_ok-encode_exports.ensures.has; made = rw (← second) c.in_ok-encode_core_instantiation.ensures.in_order; ordered = rw (← second) c.in_ok-encode_core_instantiation.ensures.ordered }
+    record { imports = rw (← second) c.in_ok-encode_core_instantiation.ensures.encoded; exports = rw (← third) c.in_ok-encode_exports.ensures.encoded; lowered = rw (← second) c.in_ok-encode_core_instantiation.ensures.lowered; lifted = rw (← third) c.in_ok-encode_exports.ensures.has; alike = rw (← second) c.in_ok-encode_core_instantiation.ensures.alike; made = rw (← second) c.in_ok-encode_core_instantiation.ensures.in_order; ordered = rw (← second) c.in_ok-encode_core_instantiation.ensures.ordered }

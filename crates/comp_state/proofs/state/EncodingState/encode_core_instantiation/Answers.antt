@@ -10,6 +10,7 @@ use Rattle.comp_state.specs.Encoding.{Encoding, AreImported}
 use Rattle.comp_state.specs.Tables.{IsEncoding}
 use Rattle.comp_state.specs.declared.state.Step.TheVariants.{Imported, Instantiated}
 use Rattle.comp_terms.specs.Exports.{exports_in}
+use Rattle.comp_worlds.specs.Bases.{AreBasesAlike}
 use Rattle.comp_worlds.specs.ExportOrder.{AreExportsInOrder}
 use Rattle.comp_worlds.specs.Made.{AreMadeInOrder}
 use Rattle.main_exports.proofs.AtHand.{at_hand_start}
@@ -62,6 +63,9 @@ returns-clause-encoded c = subst (λ (e : Encoding). AllByRecursion (λ (i : Use
 
 pub returns-clause-lowered : goal.returns-clause-lowered
 returns-clause-lowered c = subst (λ (e : Encoding). AllByRecursion (HasLowerOptions e.world) (user_imports e.world)) c.self.view_is c.in_ok-users.ensures.lowered
+
+pub returns-clause-alike : goal.returns-clause-alike
+returns-clause-alike c = subst (λ (e : Encoding). AreBasesAlike e.world) c.self.view_is c.in_ok-users.ensures.alike
 
 pub returns-clause-in_order : goal.returns-clause-in_order
 returns-clause-in_order c = subst (λ (e : Encoding). AreMadeInOrder e.world) c.self.view_is c.in_ok-users.ensures.in_order

@@ -14,7 +14,7 @@ unwrap-name-requires c =
     let f = c.args.required.now in
     let e = c.args.self.now in
     let there = core_there w c.args.root.now.items.defs e.user c.requires.exports.user f in
-    copied_there c.implementation.result (subst (λ o. IsSome o) (there ∙ (sym (c.requires.exports.tabled.implementations f) ∙ sym c.implementation.ensures)) c.requires.present)
+    copied_there c.implementation.result (subst (λ o. IsSome o) (there ∙ (sym (c.requires.exports.tabled.entries.implementations f) ∙ sym c.implementation.ensures)) c.requires.present)
 
 pub alias_of-requires : goal.alias_of-requires
 alias_of-requires c =
@@ -22,7 +22,7 @@ alias_of-requires c =
     let f = c.args.required.now in
     let e = c.args.self.now in
     let name = c.unwrap-name.result.now in
-    let said : core_name_in e.user.found.now.exports.exports f.key f.function ≡ Some name = sym (c.requires.exports.tabled.implementations f) ∙ (sym c.implementation.ensures ∙ unwrapped c.implementation.result c.unwrap-name.result c.unwrap-name.ensures) in
+    let said : core_name_in e.user.found.now.exports.exports f.key f.function ≡ Some name = sym (c.requires.exports.tabled.entries.implementations f) ∙ (sym c.implementation.ensures ∙ unwrapped c.implementation.result c.unwrap-name.result c.unwrap-name.ensures) in
     record {
       made = own_instance w c.args.root.now.items.defs e c.requires.exports.user name c.own_export.result c.own_export.ensures
           (core_offered w e.user.found.now (is_user w c.args.root.now.items.defs e.user c.requires.exports.user c.requires.exports.valid.valid) f.key f.function name said);
@@ -36,6 +36,6 @@ returns-clause-entry c =
     let new = c.alias_of.new.root.items.defs in
     record {
       name = name;
-      said = core_there w c.args.root.now.items.defs c.args.self.now.user c.requires.exports.user f ∙ (sym (c.requires.exports.tabled.implementations f) ∙ (sym c.implementation.ensures ∙ unwrapped c.implementation.result c.unwrap-name.result c.unwrap-name.ensures));
+      said = core_there w c.args.root.now.items.defs c.args.self.now.user c.requires.exports.user f ∙ (sym (c.requires.exports.tabled.entries.implementations f) ∙ (sym c.implementation.ensures ∙ unwrapped c.implementation.result c.unwrap-name.result c.unwrap-name.ensures));
       alias = subst (λ (x : ExportRef). IsAliasOf w new c.in_ok-core.core x) (own_ref c.args.self.now name c.own_export.result c.own_export.ensures) c.in_ok-core.ensures.alias;
     }

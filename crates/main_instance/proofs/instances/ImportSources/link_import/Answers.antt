@@ -1,7 +1,9 @@
-use Rattle.std.proofs.Common.{Contains, ◌∷◌, [], refl, ap, subst, rules}
+use Rattle.std.proofs.Common.{Contains, ◌∷◌, [], true, IsSome, refl, sym, ap, subst, rules}
+use Rattle.built_ins.specs.BuiltIns.{plain_intrinsic}
 use Rattle.comp_lists.proofs.Lists.{AllByRecursion-contains}
 use Rattle.comp_links.specs.Modules.{UserImport}
 use Rattle.comp_links.specs.Roles.{field_path, is_main_memory}
+use Rattle.comp_worlds.specs.Bases.{base_of_role}
 use Rattle.comp_worlds.specs.Made.{modules_of_imports}
 use Rattle.comp_worlds.specs.Uses.{imports_of}
 use Rattle.comp_worlds.specs.Worlds.{IsImportRole, IsNotOfMain}
@@ -10,11 +12,13 @@ use Rattle.core_options.specs.Causes.{IsCauseAmong}
 use Rattle.shim_targets.proofs.AdapterShims.{adapter_shim_there}
 use Rattle.interface_needs.proofs.RootItems.{drop_known}
 use Rattle.comp_roles.specs.declared.imports.Import.{Import}
+use Rattle.comp_roles.specs.declared.imports.Import.TheVariants as imports
 use Rattle.comp_roles.specs.CoreImports.{CoreImport}
 use Rattle.core_options.specs.MainOptions.{user_of}
 use Rattle.shim_targets.proofs.Users.{among_all}
 use Rattle.main_instance.specs.Sources.{IsMade}
 use Rattle.main_instance.proofs.BuiltIns.{IsLinked, linked_role}
+use Rattle.main_instance.proofs.Cells.{cell_there, getter_given, setter_given}
 use Rattle.main_instance.proofs.OfMain.{behind, item_named, memory_for_import}
 use Rattle.main_instance.proofs.Serving.{handed_on, import_role, user_import}
 use Rattle.main_instance.proofs.instances.ImportSources.link_import.Goals as goal
@@ -89,6 +93,34 @@ adapter_export-requires-clause-needed c =
     adapter_shim_there w (user_of u.which) u.found.now named c.args.module.now c.args.field.now it.adapter it.func it.ty
     (subst (λ (role : Import). IsImportRole w role) it.is (import_role w (user_of u.which) u.found.now named c.requires.sources.valid i c.requires.present))
     (subst (λ (role : Import). Contains (imports_of u.found.now) (record { module_name = c.args.module.now; field = c.args.field.now; role = role })) it.is c.requires.present)
+
+pub cell_getter-requires-clause-there : goal.cell_getter-requires-clause-there
+cell_getter-requires-clause-there c =
+    let w = c.args.root.now.world.now in
+    let u = c.args.self.now.user in
+    let it = c.in-TlsBaseGet in
+    let i : CoreImport = record { module_name = c.args.module.now; field = c.args.field.now; role = c.args.import.now } in
+    let all = among_all w (record { of = user_of u.which; core = i }) (user_import w (user_of u.which) u.found.now c.requires.sources.user.named i c.requires.present) in
+    let right : IsImportRole w (imports.TlsBaseGet it.ty) = subst (λ (role : Import). IsImportRole w role) it.is (import_role w (user_of u.which) u.found.now c.requires.sources.user.named c.requires.sources.valid i c.requires.present) in
+    cell_there w i it.ty all (ap base_of_role it.is) (subst (λ (role : Import). IsSome (plain_intrinsic true role)) (sym it.is) right) c.requires.linked
+
+pub cell_setter-requires-clause-there : goal.cell_setter-requires-clause-there
+cell_setter-requires-clause-there c =
+    let w = c.args.root.now.world.now in
+    let u = c.args.self.now.user in
+    let it = c.in-TlsBaseSet in
+    let i : CoreImport = record { module_name = c.args.module.now; field = c.args.field.now; role = c.args.import.now } in
+    let all = among_all w (record { of = user_of u.which; core = i }) (user_import w (user_of u.which) u.found.now c.requires.sources.user.named i c.requires.present) in
+    let right : IsImportRole w (imports.TlsBaseSet it.ty) = subst (λ (role : Import). IsImportRole w role) it.is (import_role w (user_of u.which) u.found.now c.requires.sources.user.named c.requires.sources.valid i c.requires.present) in
+    cell_there w i it.ty all (ap base_of_role it.is) (subst (λ (role : Import). IsSome (plain_intrinsic true role)) (sym it.is) right) c.requires.linked
+
+pub returns-in_ok-index-in-TlsBaseGet-clause-made : goal.returns-in_ok-index-in-TlsBaseGet-clause-made
+returns-in_ok-index-in-TlsBaseGet-clause-made c =
+    getter_given c.args.root.now.world.now (user_of c.args.self.now.user.which) c.cell_getter.new.root.items.defs c.in_ok-index-in-TlsBaseGet.index c.args.import.now c.in-TlsBaseGet.ty c.in-TlsBaseGet.is c.requires.linked c.in_ok-index-in-TlsBaseGet.ensures.given
+
+pub returns-in_ok-index-in-TlsBaseSet-clause-made : goal.returns-in_ok-index-in-TlsBaseSet-clause-made
+returns-in_ok-index-in-TlsBaseSet-clause-made c =
+    setter_given c.args.root.now.world.now (user_of c.args.self.now.user.which) c.cell_setter.new.root.items.defs c.in_ok-index-in-TlsBaseSet.index c.args.import.now c.in-TlsBaseSet.ty c.in-TlsBaseSet.is c.requires.linked c.in_ok-index-in-TlsBaseSet.ensures.given
 
 pub returns-in_err-index-in-MainModuleMemory-clause-cause : goal.returns-in_err-index-in-MainModuleMemory-clause-cause
 returns-in_err-index-in-MainModuleMemory-clause-cause c =

@@ -1,0 +1,11 @@
+use Rattle.std.proofs.Common.{◌≡◌, []}
+use Rattle.comp_roles.specs.Functions.{is_same_function}
+use Rattle.world_values.specs.CoreExports.{post_returns}
+use Rattle.world_values.specs.Tables.{with_all}
+use Rattle.world_values.proofs.core_exports.post_returns.Given as goal
+
+abbrev pub invariant-loop-name : goal.invariant-loop-name
+invariant-loop-name l =
+    goal.iterator-loop-name.can_next l.name-iterator ×
+    goal.iterator-loop-name.is_finite l.name-iterator ×
+    (with_all is_same_function l.table (post_returns l.name-iterator) ≡ with_all is_same_function [] (post_returns l.exports))
