@@ -9,11 +9,11 @@ use Rattle.found_links.specs.Forms.{entity}
 high_is_no_entity : (b : ℕ) → 128 ≤ b → entity b ≡ b ∷ []
 high_is_no_entity b h = grind arith
 
-wide_is_no_entity : (c : ℕ) → 128 ≤ c → flat_map entity (encode c) ≡ encode c
+pub wide_is_no_entity : (c : ℕ) → 128 ≤ c → flat_map entity (encode c) ≡ encode c
 unfolding encode
 wide_is_no_entity c h = grind (arith, high_is_no_entity)
 
-ascii_entity : (c : ℕ) → c < 128 → flat_map entity (encode c) ≡ entity c
+pub ascii_entity : (c : ℕ) → c < 128 → flat_map entity (encode c) ≡ entity c
 ascii_entity c h = rw (encode_ascii c h) (append-nil (entity c))
 
 pub entity_next : (done rest now after : List ℕ) (c : ℕ) → rest ≡ encode c ++ after → now ≡ done ++ flat_map entity (encode c) → now ++ flat_map entity after ≡ done ++ flat_map entity rest
