@@ -81,7 +81,7 @@ fn return_name(alloc: Global, returned: &ReturnedFunction<'_>) -> Result<Text, A
     ensures { IfOk result
         (λ name. name ≡ specs.return_name (specs.returned_function returned.now)) }
 {
-    let name = &returned.function.name;
+    let name = returned.function.name.as_str();
     Ok(Text::from_string(format!(in alloc; "task-return-{name}")?))
 }
 
