@@ -49,7 +49,7 @@ from verdicts import NAME as REFUSED  # noqa: E402
 
 SUM = re.compile(r"(\d+) passed, (\d+) failed(?:, (\d+) skipped)?")
 # The minutes after which no further crate's wrong bodies are begun.
-MINUTES = 40
+MINUTES = 30
 SKIPPED = 77
 PYTHON = [sys.executable, "-u"]
 QUICK = ["graph", "documents", "tools", "edits", "cases"]

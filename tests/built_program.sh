@@ -51,7 +51,7 @@ holds() {
     if cmp -s "$2" "$3"; then echo "ok: $1"; else echo "FAILED: $1"; failed=1; fi
 }
 
-usage='usage: component_new new OUT MAIN [options] | record OUT MODULE | defs FILE | explain CODE'
+usage='usage: component_new new OUT MAIN [options] | record OUT MODULE | defs FILE | links FILE | explain CODE'
 expect 'a module with its record' 0 '' new made.wasm main.wasm
 holds 'its component' made.wasm "$top/examples/component.wasm"
 expect 'the empty module' 0 '' new empty_made.wasm empty.wasm
@@ -203,9 +203,10 @@ if [ "$got" -eq 1 ] && cmp -s err line; then echo 'ok: a full output'; else echo
 if [ "$(cat status)" -eq 1 ] && [ ! -s err ]; then echo 'ok: an output that nobody reads'; else echo 'FAILED: an output that nobody reads'; failed=1; fi
 
 cat >help <<'HELP'
-usage: component_new new OUT MAIN [options] | record OUT MODULE | defs FILE | explain CODE
+usage: component_new new OUT MAIN [options] | record OUT MODULE | defs FILE | links FILE | explain CODE
   --adapt NAME=FILE  new: add the adapter in FILE under this name; any number of times
   --canonical        new: have the canonical part of versions in names, and the rest as suffixes
+  --dot, --mermaid   links: print a graph, in the language of Graphviz or of Mermaid
   --no-merge         new: don't merge imports of compatible versions
   --no-names         new: don't name the functions of the core modules that are generated
   --validate         new: check the names of the component's imports and exports
@@ -238,7 +239,7 @@ recorded() {
     expect "$example: that of the module with its record" 0 '' new again.wasm recorded.wasm "$@"
     holds "$example: they are the same" made.wasm again.wasm
 }
-for example in main counters/main log/main people/main search/main squares/main store/main strings/main; do
+for example in main counters/main downloads/main log/main people/main search/main squares/main store/main strings/main; do
     recorded "$example.wasm"
 done
 expect 'an adapter with its record' 0 '' record adapter.wasm "$top/examples/lines/adapter.wasm"
@@ -250,6 +251,33 @@ expect 'no such MODULE' 1 'error: read "none.wasm"' record kept.wasm none.wasm
 expect 'no such folder of OUT for a record' 1 'error: write "none/made.wasm"' record none/made.wasm main.wasm
 expect 'no MODULE' 2 "$usage" record kept.wasm
 expect 'a flag of another command behind MODULE' 2 "$usage" record kept.wasm main.wasm --validate
+
+# What each module is given, and what the exports are.
+cat >links <<'LINKS'
+module 0 "a:b/i" "f" = module 1 "0"
+module 1 "0" = import "a:b/i" "f", lowered, memory=module 0 "memory", utf8
+module 2 "shim" = module 1
+LINKS
+prints 'the links of a component' 0 links '' links "$shims"
+for example in lines store; do
+    picture=$top/examples/$example/links.md
+    sed -n '/^```mermaid$/,/^```$/p' "$picture" | grep -v '^```' >graph
+    sed -n 's/^    //p' "$picture" >links
+    prints "$example: the links of its picture" 0 links '' links "$top/examples/$example/component.wasm"
+    prints "$example: its picture" 0 graph '' links "$top/examples/$example/component.wasm" --mermaid
+done
+cat >graph <<'GRAPH'
+digraph links {
+  rankdir=LR;
+  "module 0" -> "import \"f\"" [label=" \"$root\" \"f\", lowered"];
+  "exports" -> "module 0 \"g\"" [label=" \"g\", lifted"];
+}
+GRAPH
+prints 'links for Graphviz' 0 graph '' links "$top/examples/component.wasm" --dot
+prints 'the links of a core module' 1 none 'error: C2 Grammar place=0' links main.wasm
+prints 'the links of no file' 1 none 'error: read "none.wasm"' links none.wasm
+expect 'no FILE of links' 2 "$usage" links
+expect 'another form of links' 2 "$usage" links main.wasm --text
 
 not_text=$(printf 'a\377b')
 expect 'a FILE that is not UTF-8' 2 'error: argument 2 is not UTF-8' defs "$not_text"

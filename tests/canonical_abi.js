@@ -1,4 +1,4 @@
-// Calls between JavaScript and core functions, by the Canonical ABI: synchronous, with at most 16 core values as parameters. A
+// Calls between JavaScript and core functions, by the Canonical ABI: synchronous ones, and what event_loop.js has in common with them. A
 // type is the name of a primitive one, or an object with one member that says its form: `list`, `option`, `own` and `borrow`
 // have one type or resource, `tuple` a list of types, `record` and `variant` a list of `{ name, type }`, `enum` and `flags` a
 // list of labels, and `result` has `{ ok, err }`, each a type or null. The type of a function is
@@ -228,25 +228,37 @@ const lower = (options, type, value) => {
 
 // ---- functions
 
-const hasResultInMemory = type => type.result !== null && flatTypes(type.result).length > MOST_RESULTS;
-const checkType = (type, options) => {
-  const count = type.params.reduce((sum, param) => sum + flatTypes(param.type).length, 0);
-  if (count > MOST_PARAMETERS) throw new Error('no parameters are passed in memory here');
+const flatCount = types => types.reduce((sum, type) => sum + flatTypes(type).length, 0);
+const paramTypes = type => type.params.map(param => param.type);
+const hasResultInMemory = type => type.result !== null && flatCount([type.result]) > MOST_RESULTS;
+const checkEncoding = options => {
   if (options.encoding !== 'utf8') throw new Error('strings are passed in UTF-8 here');
 };
 
+// The values of these types that core values say, of which the first ones are taken away. Where they are more than the most, the
+// first one is the address of all.
+const liftFlatValues = (options, most, values, types) => {
+  if (flatCount(types) <= most) return types.map(type => lift(options, type, values));
+  const all = { tuple: types };
+  return read(options, all, checked(options, values.shift(), alignmentOf(all), sizeOf(all)));
+};
+const lowerFlatValues = (options, most, given, types) => {
+  if (flatCount(types) <= most) return types.flatMap((type, i) => lower(options, type, given[i]));
+  const all = { tuple: types };
+  const at = allocated(options, alignmentOf(all), sizeOf(all));
+  write(options, all, at, given);
+  return [at];
+};
+const store = (options, type, address, value) =>
+  write(options, type, checked(options, address, alignmentOf(type), sizeOf(type)), value);
+
 // `canon lift`: the function of JavaScript that calls a core function.
 const lifted = (core, options, type) => {
-  checkType(type, options);
+  checkEncoding(options);
   return (...given) => {
-    const answer = core(...type.params.flatMap((param, i) => lower(options, param.type, given[i])));
+    const answer = core(...lowerFlatValues(options, MOST_PARAMETERS, given, paramTypes(type)));
     const answers = type.result === null ? [] : [answer];
-    let result;
-    if (hasResultInMemory(type)) {
-      result = read(options, type.result, checked(options, answer, alignmentOf(type.result), sizeOf(type.result)));
-    } else if (type.result !== null) {
-      result = lift(options, type.result, [answer]);
-    }
+    const [result] = type.result === null ? [] : liftFlatValues(options, MOST_RESULTS, [answer], [type.result]);
     if (options.postReturn !== undefined) options.postReturn(...answers);
     return result;
   };
@@ -254,17 +266,13 @@ const lifted = (core, options, type) => {
 
 // `canon lower`: the core function that calls a function of JavaScript.
 const lowered = (call, options, type) => {
-  checkType(type, options);
+  checkEncoding(options);
   return (...values) => {
-    const area = hasResultInMemory(type) ? values.pop() : null;
-    const result = call(...type.params.map(param => lift(options, param.type, values)));
-    if (area !== null) {
-      write(options, type.result, checked(options, area, alignmentOf(type.result), sizeOf(type.result)), result);
-    } else if (type.result !== null) {
-      return lower(options, type.result, result)[0];
-    }
+    const result = call(...liftFlatValues(options, MOST_PARAMETERS, values, paramTypes(type)));
+    if (hasResultInMemory(type)) store(options, type.result, values.shift(), result);
+    else if (type.result !== null) return lower(options, type.result, result)[0];
     return undefined;
   };
 };
 
-module.exports = { lifted, lowered };
+module.exports = { MOST_PARAMETERS, checkEncoding, lifted, liftFlatValues, lowered, lowerFlatValues, paramTypes, store };

@@ -8,6 +8,16 @@ const holds = (what, got, wanted) => {
   console.log(text === want ? `ok: ${what}` : `FAILED: ${what}: got ${text}, not ${want}`);
 };
 
+// Whether a call traps.
+const traps = call => {
+  try {
+    call();
+    return false;
+  } catch (fault) {
+    return fault instanceof WebAssembly.RuntimeError;
+  }
+};
+
 // Calls the function of each word NAME=FILE, by its name, and sets the exit status.
 const runAll = (functions, words) => {
   for (const word of words) {
@@ -22,4 +32,4 @@ const runAll = (functions, words) => {
   process.exitCode = failed === 0 ? 0 : 1;
 };
 
-module.exports = { holds, runAll };
+module.exports = { holds, runAll, traps };

@@ -1,6 +1,7 @@
 // Makes an instance of a component: its definitions, in their order, as the component model says.
 'use strict';
 const { lifted, lowered } = require('./canonical_abi.js');
+const { BUILT_INS, ComponentInstance, Store, canonLift, canonLower, canonTaskReturn } = require('./event_loop.js');
 
 // The handles of a resource that a component has, by their numbers, each with what it represents. None has the number 0.
 class Handles {
@@ -93,7 +94,7 @@ const resolved = (type, types) => {
   if (type.record !== undefined) return { record: fields(type.record) };
   if (type.own !== undefined) return { own: types[type.own] };
   if (type.borrow !== undefined) return { borrow: types[type.borrow] };
-  if (type.params !== undefined) return { params: fields(type.params), result: resolved(type.result, types) };
+  if (type.params !== undefined) return { params: fields(type.params), result: resolved(type.result, types), async: type.async };
   if (type.result !== undefined) return { result: { ok: resolved(type.result.ok, types), err: resolved(type.result.err, types) } };
   if (type.members !== undefined) return instanceType(type.members, types);
   throw new Error(`the type ${JSON.stringify(type)} isn't linked here`);
@@ -143,12 +144,20 @@ const nested = (definitions, given) => {
   return exported;
 };
 
+// Whether a lift or lowering is asynchronous: as its function is.
+const isAsync = (options, type) => {
+  if (options.async !== type.async) throw new Error('a function is called, and implemented, here as its type says');
+  return type.async;
+};
+
 const callsOf = functions => Object.fromEntries(Object.entries(functions).map(([name, { call }]) => [name, call]));
 
 // `outside` has the functions that are imported by name, and an object of such for an imported instance. `seen` is called
 // with each core module's number, its imports and its exports, once it is instantiated. The answer is the component's exported
-// functions by name, an object of such for an exported instance, and the functions that were lowered.
-const linked = (definitions, outside, seen = () => {}) => {
+// functions by name, an object of such for an exported instance, and the functions that were lowered. Asynchronous functions, of
+// both sides, are called as event_loop.js says, and go on by the ticks of `store`.
+const linked = (definitions, outside, seen = () => {}, store = new Store()) => {
+  const inst = new ComponentInstance(store);
   const modules = [];
   const coreInstances = [];
   const core = { func: [], table: [], memory: [], global: [] };
@@ -163,8 +172,10 @@ const linked = (definitions, outside, seen = () => {}) => {
   const { items, exported, steps } = scope(importOf);
 
   // the functions and the memory that options name
-  const named = ({ encoding, memory, realloc, postReturn }) =>
-    ({ encoding, memory: core.memory[memory], realloc: core.func[realloc], postReturn: core.func[postReturn] });
+  const named = ({ memory, realloc, postReturn, callback, ...others }) => {
+    const functions = { realloc: core.func[realloc], postReturn: core.func[postReturn], callback: core.func[callback] };
+    return { memory: core.memory[memory], ...functions, ...others };
+  };
 
   const coreSteps = {
     'core-module': ({ bytes }) => modules.push(new WebAssembly.Module(bytes)),
@@ -179,7 +190,7 @@ const linked = (definitions, outside, seen = () => {}) => {
     'core-alias': ({ sort, instance, name }) => core[sort].push(coreInstances[instance][name]),
     lower: ({ func, options }) => {
       const { type, call } = items.func[func];
-      core.func.push(lowered(call, named(options), type));
+      core.func.push(isAsync(options, type) ? canonLower(inst, call, named(options), type) : lowered(call, named(options), type));
       lowerings.add(core.func[core.func.length - 1]);
     },
     'resource-new': ({ type }) => core.func.push(represents => items.type[type].added(represents)),
@@ -190,10 +201,15 @@ const linked = (definitions, outside, seen = () => {}) => {
       if (destructor === undefined) steps.type(definition);
       else items.type.push(new Resource(destructor === null ? null : core.func[destructor]));
     },
-    lift: ({ func, options, type }) =>
-      items.func.push({ type: items.type[type], call: lifted(core.func[func], named(options), items.type[type]) }),
+    'task-return': ({ result, options }) => core.func.push(canonTaskReturn(inst, resolved(result, items.type), named(options))),
+    lift: ({ func, options, type: index }) => {
+      const [callee, type] = [core.func[func], items.type[index]];
+      const call = isAsync(options, type) ? canonLift(inst, callee, named(options), type) : lifted(callee, named(options), type);
+      items.func.push({ type, call });
+    },
   };
-  const all = { ...steps, ...coreSteps };
+  const builtIns = Object.entries(BUILT_INS).map(([name, of]) => [name, definition => core.func.push(of(inst, definition))]);
+  const all = { ...steps, ...coreSteps, ...Object.fromEntries(builtIns) };
   for (const definition of definitions) all[definition.define](definition);
   const instances = Object.entries(exported.instance).map(([name, { func }]) => [name, callsOf(func)]);
   return { exports: { ...callsOf(exported.func), ...Object.fromEntries(instances) }, lowerings };

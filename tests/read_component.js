@@ -1,4 +1,4 @@
-// Reads a component, as far as components of synchronous functions need it: a list of definitions in their order. It
+// Reads a component, as far as the components of the tests need it: a list of definitions in their order. It
 // follows the component model's binary format; what it doesn't know is an error.
 'use strict';
 
@@ -104,7 +104,7 @@ const definedType = from => {
   if (form === 0x6b) return { option: valueType(from) };
   if (form === 0x71) return { variant: from.list(variantCase) };
   if (form === 0x6a) return { result: { ok: optionalType(from), err: optionalType(from) } };
-  if (form === 0x40) return { params: from.list(field), result: resultType(from) };
+  if (form === 0x40 || form === 0x43) return { params: from.list(field), result: resultType(from), async: form === 0x43 };
   if (form === 0x42) return { members: from.list(member) };
   if (form === 0x3f) return resourceType(from);
   throw new Error(`a type of the form ${form} isn't read`);
@@ -152,20 +152,37 @@ const instance = from => {
   return { define: 'instantiate', component: from.number(), args: from.list(argument) };
 };
 
-const OPTIONS = ['utf8', 'utf16', 'compact', 'memory', 'realloc', 'postReturn'];
+const OPTIONS = ['utf8', 'utf16', 'compact', 'memory', 'realloc', 'postReturn', 'async', 'callback'];
 const options = from => {
-  const read = { encoding: 'utf8' };
+  const read = { encoding: 'utf8', async: false };
   from.list(() => {
     const option = from.among(OPTIONS, 'option');
     if (OPTIONS.indexOf(option) < 3) read.encoding = option;
-    else read[option] = from.number();
+    else read[option] = option === 'async' ? true : from.number();
   });
   return read;
 };
-const CANONICAL = ['lift', 'lower', 'resource-new', 'resource-drop', 'resource-rep'];
+const CANONICAL = {
+  0x00: 'lift', 0x01: 'lower', 0x02: 'resource-new', 0x03: 'resource-drop', 0x04: 'resource-rep', 0x09: 'task-return',
+  0x0a: 'context-get', 0x0b: 'context-set', 0x0d: 'subtask-drop', 0x1f: 'waitable-set-new', 0x22: 'waitable-set-drop',
+  0x23: 'waitable-join',
+};
+const slot = from => {
+  from.expect(0x7f);
+  return { slot: from.number() };
+};
+// what a canonical function has behind its byte, where it has anything
+const OPERANDS = {
+  'resource-new': from => ({ type: from.number() }),
+  'resource-drop': from => ({ type: from.number() }),
+  'resource-rep': from => ({ type: from.number() }),
+  'task-return': from => ({ result: resultType(from), options: options(from) }),
+  'context-get': slot,
+  'context-set': slot,
+};
 const canonical = from => {
   const define = from.among(CANONICAL, 'canonical function');
-  if (CANONICAL.indexOf(define) > 1) return { define, type: from.number() };
+  if (define !== 'lift' && define !== 'lower') return { define, ...OPERANDS[define]?.(from) };
   from.expect(0);
   const func = from.number();
   const read = { define, func, options: options(from) };

@@ -3,28 +3,22 @@
 'use strict';
 const fs = require('fs');
 const { readComponent } = require('./read_component.js');
+const { Store } = require('./event_loop.js');
 const { linked } = require('./link_component.js');
-const { holds, runAll } = require('./checks.js');
+const { runDownloads } = require('./run_downloads.js');
+const { holds, runAll, traps } = require('./checks.js');
 
 const MAIN = 0;
-const traps = call => {
-  try {
-    call();
-    return false;
-  } catch (fault) {
-    return fault instanceof WebAssembly.RuntimeError;
-  }
-};
 
 // The exports of a component, of whose import the core module main is given a shim: an export of another core module, which
 // traps until the fixup has filled it.
-const withShim = (name, file, outside, module, field) => {
+const withShim = (name, file, outside, module, field, store = new Store()) => {
   let shim = null;
   const { exports, lowerings } = linked(readComponent(fs.readFileSync(file)), outside, (number, imports) => {
     if (number !== MAIN) return;
     shim = imports[module][field];
     holds(`${name}: main's import traps before the fixup`, traps(shim), true);
-  });
+  }, store);
   holds(`${name}: main's import is not the lowered function`, lowerings.has(shim), false);
   holds(`${name}: one function is lowered`, lowerings.size, 1);
   return exports;
@@ -163,5 +157,10 @@ const runStore = (name, file) => {
   holds(`${name}: the other bucket is there`, get(other, 'key'), []);
 };
 
-const RUNS = { main: runMain, strings: runStrings, log: runLog, squares: runSquares, people: runPeople, search: runSearch, counters: runCounters, lines: runLines, store: runStore };
+const runAsynchronous = (name, file) => runDownloads(name, (outside, store) => withShim(name, file, outside, '$root', 'fetch', store));
+
+const RUNS = {
+  main: runMain, strings: runStrings, log: runLog, squares: runSquares, people: runPeople, search: runSearch, counters: runCounters,
+  lines: runLines, store: runStore, downloads: runAsynchronous,
+};
 runAll(RUNS, process.argv.slice(2));

@@ -1,4 +1,4 @@
-// Runs components of C programs in Node, over a host of WASI 0.2, and compares what they write and answer. Each argument is
+// Runs components of C and Rust programs in Node, over a host of WASI 0.2, and compares what they write and answer. Each argument is
 // NAME=FILE, a component of the example NAME. Run by tests/run_programs.sh.
 'use strict';
 const fs = require('fs');
@@ -11,7 +11,7 @@ const NOON = 1700049600n;
 
 // A command runs once, in an instance of its own: its exit status, and what it wrote.
 const ran = (definitions, args, environment, input) => {
-  const host = hostOf({ args: ['hello', ...args], environment, input, seconds: NOON });
+  const host = hostOf({ args: ['program', ...args], environment, input, seconds: NOON });
   const { exports } = linked(definitions, host.outside);
   const [name] = Object.keys(exports).filter(one => one.startsWith('wasi:cli/run@'));
   try {
@@ -34,6 +34,19 @@ const runHello = (name, file) => {
   holds(`${name}: a long argument and a long input`, long.output, `Hello, world!\n1: ${'x'.repeat(3000)}\n1000 lines\n`);
 };
 
+const runWords = (name, file) => {
+  const definitions = readComponent(fs.readFileSync(file));
+  const hamlet = ran(definitions, ['or'], {}, 'To be, or not to be,\nthat is the question\n');
+  holds(`${name}: the most frequent first`, hamlet, { status: 0, output: '2 be,\n2 to\n1 is\n1 not\n1 question\n1 that\n1 the\n', error: '' });
+  const letters = ran(definitions, [], {}, 'Ärger ärger 世界\n');
+  holds(`${name}: letters of other languages`, letters, { status: 0, output: '2 ärger\n1 世界\n', error: '' });
+  holds(`${name}: no words`, ran(definitions, ['a'], {}, 'a A\n'), { status: 1, output: '', error: 'no words\n' });
+  const told = ran(definitions, [], { NOTHING: 'nichts' }, '');
+  holds(`${name}: an environment`, told, { status: 1, output: '', error: 'nichts\n' });
+  const long = ran(definitions, [], {}, 'a line of words\n'.repeat(5000));
+  holds(`${name}: a long input`, long.output, '5000 a\n5000 line\n5000 of\n5000 words\n');
+};
+
 // A reactor has state between calls.
 const runVisitors = (name, file) => {
   const host = hostOf({ args: ['visitors'], environment: {}, input: '', seconds: NOON });
@@ -47,5 +60,5 @@ const runVisitors = (name, file) => {
   holds(`${name}: it is initialized once`, host.texts().error, 'the book is open\n');
 };
 
-const RUNS = { hello: runHello, visitors: runVisitors };
+const RUNS = { hello: runHello, visitors: runVisitors, words: runWords };
 runAll(RUNS, process.argv.slice(2));

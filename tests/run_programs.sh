@@ -1,12 +1,13 @@
 #!/bin/sh
-# Makes components of the C programs of examples/hello and examples/visitors, which know nothing of components but by the adapters of
-# WASI, and runs them in Node: of the modules that are kept, and of those compiled anew. What they print is compared with what the
-# components print that Rust's linker of components makes of the same modules.
+# Makes components of the C programs of examples/hello and examples/visitors and of the Rust program of examples/words, which know
+# nothing of components but by the adapters of WASI, and runs them in Node: of the modules that are kept, and of those compiled anew.
+# What they print is compared with what the components print that Rust's linker of components makes of the same modules.
 #
 # Needs Node (Debian's package nodejs), and adapters: those in the folder that WASI_ADAPTERS names, command.wasm and reactor.wasm, or
 # else those of a Rust toolchain (wasi_adapters.py). Compiling needs clang, wasm-ld, llvm-objcopy and wasi-libc, Debian's packages
-# clang, lld, llvm, wasi-libc and libclang-rt-14-dev-wasm32; WASI_CFLAGS may say where wasi-libc is. What can't be done is said, and
-# the status is then 77. program.sh says which program is run.
+# clang, lld, llvm, wasi-libc and libclang-rt-14-dev-wasm32; WASI_CFLAGS may say where wasi-libc is. The Rust program needs a compiler with
+# a target for WASI's first preview, `rustc` or RUSTC. What can't be done is said, and the status is then 77. program.sh says which
+# program is run.
 set -eu
 
 here=$(cd "$(dirname "$0")" && pwd)
@@ -48,7 +49,12 @@ linked() {
 
 # what an example is: a command or a reactor
 kind_of() {
-    case $1 in hello) echo command ;; *) echo reactor ;; esac
+    case $1 in visitors) echo reactor ;; *) echo command ;; esac
+}
+
+# lacks EXAMPLE: what there is not to compile it
+lacks() {
+    case $1 in words) echo "$lacking_rust" ;; *) echo "$lacking" ;; esac
 }
 
 lacking=
@@ -59,11 +65,14 @@ if [ -z "$lacking" ]; then
     echo 'int main(void) { return 0; }' >"$folder/empty.c"
     clang --target=wasm32-wasi ${WASI_CFLAGS:-} -o "$folder/empty.wasm" "$folder/empty.c" 2>/dev/null || lacking=' wasi-libc'
 fi
-[ -z "$lacking" ] || skip "nothing is compiled, since there is no$lacking"
+[ -z "$lacking" ] || skip "no C is compiled, since there is no$lacking"
+lacking_rust=
+sh "$top/examples/words/build.sh" "$folder" >/dev/null 2>&1 || lacking_rust='target of rustc for WASI'
+[ -z "$lacking_rust" ] || skip "no Rust is compiled, since there is no $lacking_rust"
 [ -n "$linker" ] || skip 'nothing is compared with the components of Rust, since it has no linker of them here'
 
 kept= anew= theirs=
-for example in hello visitors; do
+for example in hello visitors words; do
     kind=$(kind_of "$example") from=$top/examples/$example made=$folder/$example
     adapter=wasi_snapshot_preview1=$adapters/$kind.wasm
     mkdir "$made"
@@ -73,7 +82,7 @@ for example in hello visitors; do
         check "$example: Rust makes one" linked "$kind" "$from/main.wasm" "$made/theirs.wasm"
         theirs="$theirs $example=$made/theirs.wasm"
     fi
-    if [ -z "$lacking" ]; then
+    if [ -z "$(lacks "$example")" ]; then
         check "$example: its source is compiled" sh "$from/build.sh" "$made"
         check "$example: a component is made of that" "$program" new "$made/component.wasm" "$made/main.wasm" --adapt "$adapter"
         anew="$anew $example=$made/component.wasm"

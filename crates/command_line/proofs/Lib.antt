@@ -5,3 +5,4 @@ mod Lines
 mod Words
 mod Refusing
 mod Recorded
+mod Shown

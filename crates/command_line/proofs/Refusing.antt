@@ -38,6 +38,8 @@ module _ {L B F : Type 0} (l : lower.Ghosts L B F) where
   }
   none_performed layer (Some (requests.Defs file)) events out h =
       record { events = []; happened = nothing_happened events; did = (refl, refl); counted = refl }
+  none_performed layer (Some (requests.Links file form)) events out h =
+      record { events = []; happened = nothing_happened events; did = (refl, refl); counted = refl }
   none_performed layer (Some (requests.Explain text)) events out h =
       record { events = []; happened = nothing_happened events; did = (refl, inr (refl, refl)); counted = refl }
   none_performed layer (Some requests.Help) events out h = absurd h

@@ -4,10 +4,17 @@ use Rattle.std.specs.Str.{IsUtf8, is_utf8}
 use Rattle.std.proofs.lemmas.List.{drop_more, take_more, map-append}
 use Rattle.std.proofs.lemmas.Bool.{false_from_ne_true}
 use Rattle.std.proofs.lemmas.Str.{IsUtf8-from_is_utf8, is_utf8-from_IsUtf8}
-use Rattle.std.specs.Prelude.{Bool, codes, Option, None, option_map, if◌then◌else◌}
+use Rattle.std.specs.Prelude.{Bool, codes, Option, None, option_map, option_and_then, if◌then◌else◌}
 use Rattle.std.specs.Str.{bytes_eq}
 use Rattle.explanations.specs.Codes.{explanation}
-use Rattle.command_line.specs.Arguments.{of_two_words, request_of, is_listing}
+use Rattle.found_links.specs.declared.forms.Form.{Form}
+use Rattle.found_links.specs.declared.forms.Form.TheVariants as forms
+use Rattle.command_line.specs.Adapters.{adapter_words, flag_words, adapters_of}
+use Rattle.command_line.specs.Arguments.{of_two_words, request_of, making, form_of, of_new, of_record, of_links, of_files, is_listing}
+use Rattle.command_line.specs.Flags.{flags_of}
+use Rattle.command_line.specs.declared.adapters.Adapter.{Adapter}
+use Rattle.command_line.specs.declared.arguments.Request.{Request}
+use Rattle.command_line.specs.declared.flags.Flags.{Flags}
 use Rattle.command_line.specs.Starting.{first_not_text}
 use Rattle.command_line.specs.declared.arguments.Request.TheVariants as requests
 
@@ -15,17 +22,51 @@ explained_is_none : (o : Option (List ℕ)) → is_listing (option_map requests.
 explained_is_none (Some text) = refl
 explained_is_none None = refl
 
-other_is_none : (b : Bool) (o : Option (List ℕ)) → is_listing (if b then option_map requests.Explain o else None) ≡ false
-other_is_none true o = explained_is_none o
-other_is_none false o = refl
+explain_is_none : (b : Bool) (o : Option (List ℕ)) → is_listing (if b then option_map requests.Explain o else None) ≡ false
+explain_is_none true o = explained_is_none o
+explain_is_none false o = refl
 
-first_decides : (a b : Bool) (word : List ℕ) (o : Option (List ℕ)) → is_listing (if a then Some (requests.Defs word) else (if b then option_map requests.Explain o else None)) ≡ a
-first_decides true b word o = refl
-first_decides false b word o = other_is_none b o
+other_is_none : (l b : Bool) (word : List ℕ) (o : Option (List ℕ)) → is_listing (if l then Some (requests.Links word forms.Text) else (if b then option_map requests.Explain o else None)) ≡ false
+other_is_none true b word o = refl
+other_is_none false b word o = explain_is_none b o
+
+first_decides : (a l b : Bool) (word : List ℕ) (o : Option (List ℕ)) →
+    is_listing (if a then Some (requests.Defs word) else (if l then Some (requests.Links word forms.Text) else (if b then option_map requests.Explain o else None))) ≡ a
+first_decides true l b word o = refl
+first_decides false l b word o = other_is_none l b word o
 
 -- two words ask for the definitions of a component where the first one is `defs`
 listed : (command word : List ℕ) → is_listing (of_two_words command word) ≡ bytes_eq command (codes "defs")
-listed command word = first_decides (bytes_eq command (codes "defs")) (bytes_eq command (codes "explain")) word (explanation word)
+listed command word = first_decides (bytes_eq command (codes "defs")) (bytes_eq command (codes "links")) (bytes_eq command (codes "explain")) word (explanation word)
+
+new_is_none : (out main : List ℕ) (flags : Option Flags) (adapters : Option (List Adapter)) → is_listing (option_and_then (λ a. option_map (making out main a) flags) adapters) ≡ false
+new_is_none out main (Some f) (Some a) = refl
+new_is_none out main None (Some a) = refl
+new_is_none out main flags None = refl
+
+record_is_none : (out file : List ℕ) (words : List (List ℕ)) → is_listing (of_record out file words) ≡ false
+record_is_none out file [] = refl
+record_is_none out file (word ∷ words) = refl
+
+form_is_none : (file : List ℕ) (form : Option Form) → is_listing (option_map (requests.Links file) form) ≡ false
+form_is_none file (Some form) = refl
+form_is_none file None = refl
+
+links_is_none : (file flag : List ℕ) (words : List (List ℕ)) → is_listing (of_links file flag words) ≡ false
+links_is_none file flag [] = form_is_none file (form_of flag)
+links_is_none file flag (word ∷ words) = refl
+
+one_of_three : (a b c : Bool) (x y z : Option Request) → is_listing x ≡ false → is_listing y ≡ false → is_listing z ≡ false → is_listing (if a then x else (if b then y else (if c then z else None))) ≡ false
+one_of_three true b c x y z h k n = h
+one_of_three false true c x y z h k n = k
+one_of_three false false true x y z h k n = n
+one_of_three false false false x y z h k n = refl
+
+-- three words and more don't
+pub not_listed : (command first second : List ℕ) (words : List (List ℕ)) → is_listing (of_files command first second words) ≡ false
+not_listed command first second words =
+    one_of_three (bytes_eq command (codes "new")) (bytes_eq command (codes "record")) (bytes_eq command (codes "links")) (of_new first second words) (of_record first second words) (of_links first second words)
+    (new_is_none first second (flags_of (flag_words words)) (adapters_of (adapter_words words))) (record_is_none first second words) (links_is_none first second words)
 
 pub both_listed : {X : Type 0} (f : X → List ℕ) (words : List X) (command : X) → 2 ≤ length words → length words < 3 → command ≡ get_or words 0 command
     → is_listing (request_of (map f words)) ≡ bytes_eq (f command) (codes "defs")

@@ -2,6 +2,8 @@
 use Rattle.std.specs.Prelude.{ℕ, Bool, true, false, List, [], ◌∷◌, codes, ⊤, Option, Some, None, option_map, option_and_then, if◌then◌else◌}
 use Rattle.std.specs.Str.{bytes_eq}
 use Rattle.explanations.specs.Codes.{explanation}
+use Rattle.found_links.specs.declared.forms.Form.{Form}
+use Rattle.found_links.specs.declared.forms.Form.TheVariants as forms
 use Rattle.command_line.specs.Adapters.{adapter_words, flag_words, adapters_of}
 use Rattle.command_line.specs.Flags.{flags_of}
 use Rattle.command_line.specs.declared.adapters.Adapter.{Adapter}
@@ -26,30 +28,42 @@ of_one_word word =
     else (if bytes_eq word (codes "help") then Some requests.Help
     else (if bytes_eq word (codes "--version") then Some requests.Version else None)))
 
--- what `defs` asks for with a file, and `explain` with a code that has a text
+-- the form of links that a flag names
+abbrev pub form_of : List ℕ → Option Form
+form_of flag = if bytes_eq flag (codes "--mermaid") then Some forms.Mermaid else (if bytes_eq flag (codes "--dot") then Some forms.Dot else None)
+
+-- what `defs` and `links` ask for with a file, and `explain` with a code that has a text
 abbrev pub of_two_words : List ℕ → List ℕ → Option Request
 of_two_words command word =
     if bytes_eq command (codes "defs") then Some (requests.Defs word)
-    else (if bytes_eq command (codes "explain") then option_map requests.Explain (explanation word) else None)
+    else (if bytes_eq command (codes "links") then Some (requests.Links word forms.Text)
+    else (if bytes_eq command (codes "explain") then option_map requests.Explain (explanation word) else None))
 
 -- what `record` asks for with the file that is written, the module's, and no words behind them
 abbrev pub of_record : List ℕ → List ℕ → List (List ℕ) → Option Request
 of_record out file [] = Some (requests.Record out file)
 of_record out file _ = None
 
--- what a command asks for with two files, and these words behind them
+-- what `links` asks for with a file, the flag of a form, and no words behind them
+abbrev pub of_links : List ℕ → List ℕ → List (List ℕ) → Option Request
+of_links file flag [] = option_map (requests.Links file) (form_of flag)
+of_links file flag _ = None
+
+-- what a command asks for with two words, and these behind them
 abbrev pub of_files : List ℕ → List ℕ → List ℕ → List (List ℕ) → Option Request
-of_files command out file words =
-    if bytes_eq command (codes "new") then of_new out file words
-    else (if bytes_eq command (codes "record") then of_record out file words else None)
+of_files command first second words =
+    if bytes_eq command (codes "new") then of_new first second words
+    else (if bytes_eq command (codes "record") then of_record first second words
+    else (if bytes_eq command (codes "links") then of_links first second words else None))
 
 -- what the words after the program's name ask for: help or the version; or `defs` with a file, or
 -- `explain` with a code; or `new` with the component's file and the module's, and then flags and
--- adapters; or `record` with the file that is written and the module's
+-- adapters; or `record` with the file that is written and the module's; or `links` with a file, and
+-- the flag of a form
 abbrev pub request_of : List (List ℕ) → Option Request
 request_of (word ∷ []) = of_one_word word
 request_of (command ∷ word ∷ []) = of_two_words command word
-request_of (command ∷ out ∷ file ∷ words) = of_files command out file words
+request_of (command ∷ first ∷ second ∷ words) = of_files command first second words
 request_of _ = None
 
 -- files are named, or a text is asked for, so that memory is needed for the names or the text
@@ -57,6 +71,7 @@ abbrev pub NeedsMemory : Option Request → Type 0
 NeedsMemory (Some (requests.New names)) = ⊤
 NeedsMemory (Some (requests.Defs file)) = ⊤
 NeedsMemory (Some (requests.Record out file)) = ⊤
+NeedsMemory (Some (requests.Links file form)) = ⊤
 NeedsMemory (Some (requests.Explain text)) = ⊤
 NeedsMemory _ = ⊥
 

@@ -1,5 +1,6 @@
 -- Why a run fails, and with which exit status. (The program's own.)
 use Rattle.std.specs.Prelude.{ℕ, Bool, true, false, List, ⊤, Result, Ok, Err, if◌then◌else◌}
+use Rattle.comp_check.specs.declared.fault.CheckFault.{CheckFault}
 use Rattle.comp_check.specs.declared.fault.CheckFault.TheVariants as checks
 use Rattle.comp_encoder.specs.declared.fault.EncodeFault.TheVariants as encode_faults
 use Rattle.fitted_modules.specs.declared.fault.ModulesFault.{ModulesFault}
@@ -15,7 +16,7 @@ use Rattle.command_line.specs.declared.fault.Written.TheVariants as written
 use Rattle.std.specs.declared.io.ErrorKind.{ErrorKind}
 use Rattle.std.specs.declared.io.ErrorKind.TheVariants as kinds
 
--- out of memory where a file is made, or a code is explained
+-- out of memory where a file is made, links are shown, or a code is explained
 abbrev pub no_memory : {F : Type 0} → RunFault F
 no_memory = Encode encode_faults.Memory
 
@@ -36,6 +37,11 @@ of_fit f = Fit f
 abbrev pub of_recording : {F : Type 0} → RecordingFault → RunFault F
 of_recording recordings.Memory = no_memory
 of_recording f = Record f
+
+-- out of memory, or why a component whose links are asked for can't be read
+abbrev pub of_unread : {F : Type 0} → CheckFault → RunFault F
+of_unread checks.Memory = no_memory
+of_unread f = Check f
 
 abbrev pub of_put : {F : Type 0} → List ℕ → StoreFault → RunFault F
 of_put name store_faults.Device = Write name

@@ -8,5 +8,6 @@ pub mod Making
 pub mod Recording
 pub mod Messages
 pub mod Listing
+pub mod Linking
 pub mod Running
 pub mod Starting

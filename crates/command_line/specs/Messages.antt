@@ -12,13 +12,14 @@ use Rattle.command_line.specs.declared.fault.RunFault.{RunFault}
 use Rattle.command_line.specs.declared.fault.RunFault.TheVariants.{Usage, Read, Write, Out, Closed, Fit, Record, Encode, Check}
 
 abbrev pub usage_line : List ℕ
-usage_line = codes "usage: component_new new OUT MAIN [options] | record OUT MODULE | defs FILE | explain CODE\n"
+usage_line = codes "usage: component_new new OUT MAIN [options] | record OUT MODULE | defs FILE | links FILE | explain CODE\n"
 
 -- a line for each option
 abbrev pub option_lines : List ℕ
 option_lines =
     codes "  --adapt NAME=FILE  new: add the adapter in FILE under this name; any number of times\n"
-    ++ codes "  --canonical        new: have the canonical part of versions in names, and the rest as suffixes\n" ++ codes "  --no-merge         new: don't merge imports of compatible versions\n"
+    ++ codes "  --canonical        new: have the canonical part of versions in names, and the rest as suffixes\n" ++ codes "  --dot, --mermaid   links: print a graph, in the language of Graphviz or of Mermaid\n"
+    ++ codes "  --no-merge         new: don't merge imports of compatible versions\n"
     ++ codes "  --no-names         new: don't name the functions of the core modules that are generated\n" ++ codes "  --validate         new: check the names of the component's imports and exports\n"
     ++ codes "  -h, --help         print this text\n" ++ codes "  --version          print the version of the program, and the logic that it is proved with\n"
 

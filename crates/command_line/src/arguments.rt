@@ -3,13 +3,14 @@
 ghost use Rattle.std.specs.Prelude.{◌≡◌, map, filter_map, option_map, string_bytes, IfOk, IfErr};
 ghost use Rattle.explanations.specs.Codes.{explanation as text_of};
 ghost use Rattle.command_line.specs.Adapters.{adapter_of, adapter_words};
-ghost use Rattle.command_line.specs.Arguments.{NeedsMemory, request_of, of_new, of_record, of_files, of_one_word, making, is_listing};
+ghost use Rattle.command_line.specs.Arguments.{NeedsMemory, request_of, form_of as form_named, of_new, of_record, of_links, of_files, of_one_word, making, is_listing};
 ghost use Rattle.command_line.specs.declared.arguments.Request.TheVariants as requests;
 
 use crate::adapters::{Adapter, adapters, are_adapters};
 use crate::flags::Flags;
 use comp_lists::{Seq, Text};
 use explanations::explanation;
+use found_links::Form;
 use std::alloc::{AllocError, Global};
 
 /// The names of the files of a run of `new`: the file for the component, the module's, and those of
@@ -31,12 +32,25 @@ pub(crate) enum Request {
     Defs { file: Text },
     /// A module with its record in the place of its package.
     Record { out: Text, file: Text },
+    /// The links of the component in a file, in a form.
+    Links { file: Text, form: Form },
     /// What a code means, and what to do: this text.
     Explain { text: Text },
     /// How the program is used.
     Help,
     /// Which version of the program this is.
     Version,
+}
+
+/// The form of links that a flag names.
+fn form_of(flag: &str) -> Option<Form>
+    ensures { result ≡ form_named flag.now }
+{
+    match flag {
+        "--mermaid" => Some(Form::Mermaid),
+        "--dot" => Some(Form::Dot),
+        _ => None,
+    }
 }
 
 impl Request {
@@ -116,22 +130,59 @@ impl Request {
         }
     }
 
-    /// What a command asks for with two files, and these words after them.
-    fn of_files(
+    fn linking(alloc: Global, file: &str, form: Form) -> Result<Request, AllocError>
+        ensures { IfOk result (λ r. r ≡ requests.Links file.now form) }
+    {
+        let file = Text::from_str(alloc, file)?;
+        Ok(Request::Links { file, form })
+    }
+
+    /// What `links` asks for in a form, where there is one.
+    fn of_form(alloc: Global, file: &str, form: Option<Form>) -> Result<Option<Request>, AllocError>
+        ensures ok { IfOk result (λ r. r ≡ option_map (requests.Links file.now) form) }
+        ensures err { IfErr result (λ _. NeedsMemory (option_map (requests.Links file.now) form)) }
+    {
+        match form {
+            Some(form) => Ok(Some(Request::linking(alloc, file, form)?)),
+            None => Ok(None),
+        }
+    }
+
+    /// What `links` asks for with a flag, and these words after it: none.
+    fn of_links(
         alloc: Global,
-        command: &str,
-        out: &str,
         file: &str,
+        flag: &str,
         words: &[String],
     ) -> Result<Option<Request>, AllocError>
         ensures ok { IfOk result
-            (λ r. r ≡ of_files command.now out.now file.now (map string_bytes words.now)) }
+            (λ r. r ≡ of_links file.now flag.now (map string_bytes words.now)) }
+        ensures err { IfErr result
+            (λ _. NeedsMemory (of_links file.now flag.now (map string_bytes words.now))) }
+    {
+        match words {
+            [] => Request::of_form(alloc, file, form_of(flag)),
+            _ => Ok(None),
+        }
+    }
+
+    /// What a command asks for with two words, and these after them.
+    fn of_files(
+        alloc: Global,
+        command: &str,
+        first: &str,
+        second: &str,
+        words: &[String],
+    ) -> Result<Option<Request>, AllocError>
+        ensures ok { IfOk result
+            (λ r. r ≡ of_files command.now first.now second.now (map string_bytes words.now)) }
         ensures err { IfErr result (λ _. NeedsMemory
-            (of_files command.now out.now file.now (map string_bytes words.now))) }
+            (of_files command.now first.now second.now (map string_bytes words.now))) }
     {
         match command {
-            "new" => Request::of_new(alloc, out, file, words),
-            "record" => Request::of_record(alloc, out, file, words),
+            "new" => Request::of_new(alloc, first, second, words),
+            "record" => Request::of_record(alloc, first, second, words),
+            "links" => Request::of_links(alloc, first, second, words),
             _ => Ok(None),
         }
     }
@@ -177,11 +228,14 @@ impl Request {
             [command, file] if command.as_str() == "defs" => {
                 Ok(Some(Request::listing(alloc, file.as_str())?))
             }
+            [command, file] if command.as_str() == "links" => {
+                Ok(Some(Request::linking(alloc, file.as_str(), Form::Text)?))
+            }
             [command, code] if command.as_str() == "explain" => {
                 Request::of_code(alloc, code.as_str())
             }
-            [command, out, file, words @ ..] => {
-                Request::of_files(alloc, command.as_str(), out, file, words)
+            [command, first, second, words @ ..] => {
+                Request::of_files(alloc, command.as_str(), first, second, words)
             }
             _ => Ok(None),
         }
@@ -189,6 +243,7 @@ impl Request {
 }
 
 /// Whether the words ask for the definitions of a component.
+#[tactic(auto, using(crate::proofs::Words::not_listed))]
 pub(crate) fn is_listing(words: &[String]) -> bool
     ensures { result ≡ is_listing (request_of (map string_bytes words.now)) }
 {

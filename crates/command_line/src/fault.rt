@@ -2,7 +2,7 @@
 
 ghost use Rattle.std.specs.Prelude.{◌≡◌, false};
 ghost use Rattle.std.specs.IoError.{error_kind};
-ghost use Rattle.command_line.specs.Faults.{is_whole, of_read, of_fit, of_recording, of_put, out_of_memory, run_written, written_of};
+ghost use Rattle.command_line.specs.Faults.{is_whole, of_read, of_fit, of_recording, of_unread, of_put, out_of_memory, run_written, written_of};
 
 use crate::store::StoreFault;
 use comp_check::CheckFault;
@@ -117,6 +117,16 @@ pub(crate) fn recording_fault<F>(fault: RecordingFault) -> RunFault<F>
     match fault {
         RecordingFault::Memory => out_of_memory(false),
         fault => RunFault::Record(fault),
+    }
+}
+
+/// The fault of the run where a component whose links are asked for can't be read.
+pub(crate) fn unread_fault<F>(fault: CheckFault) -> RunFault<F>
+    ensures { result ≡ of_unread fault }
+{
+    match fault {
+        CheckFault::Memory => out_of_memory(false),
+        fault => RunFault::Check(fault),
     }
 }
 

@@ -14,13 +14,14 @@ use std::io::Write;
 
 /// The line for arguments that are not those of the program.
 const USAGE: &[u8] =
-    b"usage: component_new new OUT MAIN [options] | record OUT MODULE | defs FILE | explain CODE\n";
+    b"usage: component_new new OUT MAIN [options] | record OUT MODULE | defs FILE | links FILE | explain CODE\n";
 
 /// The text for `--help`: the usage line, and a line for each option.
 pub(crate) const HELP: &[u8] =
-    b"usage: component_new new OUT MAIN [options] | record OUT MODULE | defs FILE | explain CODE\n\
+    b"usage: component_new new OUT MAIN [options] | record OUT MODULE | defs FILE | links FILE | explain CODE\n\
     \x20 --adapt NAME=FILE  new: add the adapter in FILE under this name; any number of times\n\
     \x20 --canonical        new: have the canonical part of versions in names, and the rest as suffixes\n\
+    \x20 --dot, --mermaid   links: print a graph, in the language of Graphviz or of Mermaid\n\
     \x20 --no-merge         new: don't merge imports of compatible versions\n\
     \x20 --no-names         new: don't name the functions of the core modules that are generated\n\
     \x20 --validate         new: check the names of the component's imports and exports\n\

@@ -3,6 +3,7 @@ pub mod Grammar
 pub mod Spaces
 pub mod ItemIndices
 pub mod References
+pub mod Parts
 pub mod Scopes
 pub mod ScopeNames
 pub mod DebugNames

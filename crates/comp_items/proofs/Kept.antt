@@ -5,6 +5,7 @@ use Rattle.std.specs.List.{AllZip, slice_get}
 use Rattle.std.proofs.lemmas.Option.{slice_get_within}
 use Rattle.comp_lists.proofs.Lists.{AllZip-weaker}
 use Rattle.comp_bytes.specs.ItemIndices.{IsAt}
+use Rattle.comp_bytes.specs.Parts.{parts_of}
 use Rattle.comp_bytes.specs.Spaces.{items_in}
 use Rattle.comp_bytes.proofs.ItemIndices.{IsAt-append, in_range}
 use Rattle.comp_bytes.specs.declared.canon.Intrinsic.{Intrinsic}
@@ -12,15 +13,18 @@ use Rattle.comp_bytes.specs.declared.canon.CanonicalOption.{CanonicalOption}
 use Rattle.comp_bytes.specs.declared.canon.CanonicalOption.TheVariants as options
 use Rattle.comp_bytes.specs.declared.space.Space.{Space}
 use Rattle.comp_bytes.specs.declared.space.Space.TheVariants as spaces
+use Rattle.comp_bytes.specs.declared.types.ComponentValType.{ComponentValType}
+use Rattle.comp_bytes.specs.declared.types.ComponentValType.TheVariants as values
 use Rattle.comp_bytes.specs.declared.types.ExternName.{ExternName}
 use Rattle.comp_bytes.specs.declared.types.Description.TheVariants as descriptions
 use Rattle.comp_bytes.specs.declared.def.Def.{Def}
 use Rattle.comp_bytes.specs.declared.def.Def.TheVariants as defs
 use Rattle.comp_bytes.specs.declared.def.Item.TheVariants as items
 use Rattle.standard_kinds.specs.declared.kinds.ExportKind.TheVariants as kinds
-use Rattle.comp_trees.specs.Trees.{Origin, Resource, FunctionTree}
+use Rattle.comp_trees.specs.Trees.{Tree, Origin, Resource, FunctionTree}
 use Rattle.comp_trees.specs.DefinedTrees.{TypeTree, OfFunctions, OfOthers}
 use Rattle.comp_trees.specs.DefinedScopes.{Denotes}
+use Rattle.comp_trees.specs.Operands.{IsOperand}
 use Rattle.comp_inventories.specs.Inventories.{TypeEntry, entry_tree, types_made, inventory, scope_of}
 use Rattle.comp_inventories.proofs.InventoryGrowth.{denotes_kept, function_kept, scope_counted, denotes_made, function_made}
 use Rattle.comp_inventories.proofs.Counting.{functions-counted}
@@ -74,8 +78,22 @@ module _ (old new : List Def) (g : Longer old new) where
   of_resource-kept : {i : ℕ} {function : ResourceFunction} {resource : Resource} → IsOfResource old i function resource → IsOfResource new i function resource
   of_resource-kept h = record { type = h.type; made = at-kept g h.made; of = resource-kept g h.of }
 
-  built_in-kept : {i : ℕ} {intrinsic : Intrinsic} → IsBuiltIn old i intrinsic → IsBuiltIn new i intrinsic
-  built_in-kept h = record { made = at-kept g h.made; plain = h.plain }
+  -- the operand of a built-in function denotes the same
+  operand-kept : (written : Option ComponentValType) (operand : Option Tree) → IsOperand (scope_of old) written operand → IsOperand (scope_of new) written operand
+  operand-kept None None h = tt
+  operand-kept (Some (values.Primitive p)) (Some t) h = h
+  operand-kept (Some (values.Defined index)) (Some t) h = denotes-kept g h
+  operand-kept None (Some t) h = absurd h
+  operand-kept (Some v) None h = absurd h
+
+  built_in-kept : {i : ℕ} {name : Intrinsic} {operand : Option Tree} {os : List TermOption} → IsBuiltIn old i name operand os → IsBuiltIn new i name operand os
+  built_in-kept {i} {name} {operand} {os} h = record {
+    intrinsic = h.intrinsic;
+    made = at-kept g h.made;
+    named = h.named;
+    of = operand-kept (parts_of h.intrinsic).operand operand h.of;
+    with_options = options-kept (parts_of h.intrinsic).options os h.with_options;
+  }
 
   lifting-kept : {i : ℕ} {e : CoreExport} {os : List TermOption} {type : FunctionTree} → IsLifting old i e os type → IsLifting new i e os type
   lifting-kept {i} {e} {os} {type} h = record {
@@ -95,7 +113,7 @@ module _ (old new : List Def) (g : Longer old new) where
   term-kept spaces.CoreInstance i (terms.InstanceOf number) h = instance-kept g h
   term-kept spaces.CoreFunc i (terms.Lowering origin type os) h = lowering-kept h
   term-kept spaces.CoreFunc i (terms.OfResource function resource) h = of_resource-kept h
-  term-kept spaces.CoreFunc i (terms.BuiltIn intrinsic) h = built_in-kept h
+  term-kept spaces.CoreFunc i (terms.BuiltIn name operand os) h = built_in-kept h
   term-kept spaces.Func i (terms.Lifting entry os type) h = lifting-kept h
   term-kept space i (terms.Exported e) h = (h.0, exported-kept g h.1)
   term-kept space i t h = h
@@ -114,12 +132,12 @@ term_in_range ds spaces.Func index (terms.ImportedFunction origin type) h = func
 term_in_range ds spaces.CoreInstance index (terms.InstanceOf number) h = in_range h.made
 term_in_range ds spaces.CoreFunc index (terms.Lowering origin type os) h = in_range h.made
 term_in_range ds spaces.CoreFunc index (terms.OfResource function resource) h = in_range h.made
-term_in_range ds spaces.CoreFunc index (terms.BuiltIn intrinsic) h = in_range h.made
+term_in_range ds spaces.CoreFunc index (terms.BuiltIn name operand os) h = in_range h.made
 term_in_range ds spaces.Func index (terms.Lifting entry os type) h = in_range h.made
 term_in_range ds space index (terms.Exported e) h = subst (λ s. index < items_in s ds) (sym h.0) (in_range h.1.made)
 term_in_range ds space index t h = absurd h
 
--- ---- what a lowering and a lift are, where their functions are known
+-- ---- what a lowering, a built-in function and a lift are, where what they are of is known
 
 pub lowers : (old new : List Def) (index function : ℕ) (written : List CanonicalOption) → new ≡ old ++ defs.Item (items.Lower function written) ∷ [] → IsAt new spaces.CoreFunc index (defs.Item (items.Lower function written)) →
     (origin : Origin) (type : FunctionTree) (os : List TermOption) → IsImportedFunction old function origin type → AllZip (IsOption old) written os → IsLowering new index origin type os
@@ -131,6 +149,18 @@ pub acts_on_resource : (old new : List Def) (index : ℕ) (function : ResourceFu
     IsAt new spaces.CoreFunc index (defs.Item (items.Intrinsic (intrinsic_of function type))) → (resource : Resource) → IsResource old type resource → IsOfResource new index function resource
 acts_on_resource old new index function type grown at resource of =
     let g : Longer old new = record { more = defs.Item (items.Intrinsic (intrinsic_of function type)) ∷ []; grown = grown } in record { type = type; made = at; of = resource-kept g of }
+
+pub makes_built_in : (old new : List Def) (index : ℕ) (intrinsic : Intrinsic) → new ≡ old ++ defs.Item (items.Intrinsic intrinsic) ∷ [] → IsAt new spaces.CoreFunc index (defs.Item (items.Intrinsic intrinsic)) →
+    (operand : Option Tree) (os : List TermOption) → IsOperand (scope_of old) (parts_of intrinsic).operand operand → AllZip (IsOption old) (parts_of intrinsic).options os → IsBuiltIn new index (parts_of intrinsic).name operand os
+makes_built_in old new index intrinsic grown at operand os of with_options =
+    let g : Longer old new = record { more = defs.Item (items.Intrinsic intrinsic) ∷ []; grown = grown } in
+    record {
+      intrinsic = intrinsic;
+      made = at;
+      named = refl;
+      of = operand-kept old new g (parts_of intrinsic).operand operand of;
+      with_options = options-kept old new g (parts_of intrinsic).options os with_options;
+    }
 
 pub lifts : (old new : List Def) (index core kind : ℕ) (written : List CanonicalOption) → new ≡ old ++ defs.Item (items.Lift core written kind) ∷ [] → IsAt new spaces.Func index (defs.Item (items.Lift core written kind)) →
     (entry : CoreExport) (os : List TermOption) (type : FunctionTree) → entry.kind ≡ kinds.Func → IsExported old core entry → AllZip (IsOption old) written os → IsFunctionType old kind type → IsLifting new index entry os type

@@ -1,12 +1,15 @@
 //! Built-in functions.
 #![tactic(auto, using(crate::proofs::Extending::extending))]
 
-ghost use Rattle.std.specs.Prelude.{◌≡◌, ℕ, IfOk, IsSome, None};
-ghost use Rattle.built_ins.specs.BuiltIns.{plain_type};
+ghost use Rattle.std.specs.Prelude.{◌≡◌, ℕ, List, IfOk, Option, None};
+ghost use Rattle.std.specs.List.{AllZip};
 ghost use Rattle.comp_builder.specs.Built.{Adds};
-ghost use Rattle.comp_trees.specs.Trees.{Resource};
+ghost use Rattle.comp_bytes.specs.Parts.{parts_of};
+ghost use Rattle.comp_inventories.specs.Inventories.{scope_of};
+ghost use Rattle.comp_trees.specs.Operands.{IsOperand};
+ghost use Rattle.comp_trees.specs.Trees.{Tree, Resource};
 ghost use Rattle.comp_links.specs.Targets.{New, Rep, Drop};
-ghost use Rattle.comp_terms.specs.Terms.{IsResource, IsOfResource, IsBuiltIn};
+ghost use Rattle.comp_terms.specs.Terms.{TermOption, IsOption, IsResource, IsOfResource, IsBuiltIn};
 
 use crate::items::ComponentItems;
 use byte_encoding::BuildFault;
@@ -51,12 +54,15 @@ impl ComponentItems {
         Ok(index)
     }
 
-    /// Adds a built-in function without operands and options (`canon task.cancel` and its neighbours).
+    /// Adds a built-in function (`canon task.cancel` and its neighbours). It is of what its operand
+    /// denotes, and has the options that are written.
     pub fn built_in(&mut self, intrinsic: Intrinsic) -> Result<u32, BuildFault>
-        requires plain { IsSome (plain_type intrinsic) }
         ensures adds { Adds self.old self.new result Space.CoreFunc
             (Def.Item (Item.Intrinsic intrinsic)) None }
-        ensures made { IfOk result (λ index. IsBuiltIn self.new.defs index intrinsic) }
+        ensures made { IfOk result (λ index. (operand : Option Tree) (written : List TermOption)
+            → IsOperand (scope_of self.old.defs) (parts_of intrinsic).operand operand
+            → AllZip (IsOption self.old.defs) (parts_of intrinsic).options written
+            → IsBuiltIn self.new.defs index (parts_of intrinsic).name operand written) }
     {
         let index = self.component.intrinsic(intrinsic)?;
         Ok(index)

@@ -212,8 +212,8 @@ fn space_of_alias(aliased: &Alias) -> Space
     }
 }
 
-/// The space in which an item is made.
-pub(crate) fn space_of_item(item: &Item) -> Option<Space>
+/// The space in which an item is made; a custom section makes none.
+pub fn space_of_item(item: &Item) -> Option<Space>
     ensures { result ≡ item_space item.now }
 {
     match item {

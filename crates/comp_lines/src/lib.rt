@@ -9,6 +9,9 @@
 //! except out of memory is a count or a size in the bytes that are shown that passes 2^32 - 1 (`Refused` of
 //! `comp_bytes`). Worked examples are in `proofs/Worked.antt`.
 //!
+//! [`put_number`], [`put_hex`], [`put_quoted`] and [`put_item`] write these forms for other crates that
+//! show components; [`space_of_item`] says in which space an item is.
+//!
 //! In reading order: `texts` (numbers, bytes, names), `parts` (words, options, arguments), `items`
 //! (what an item is made of, and its line), `listing` (the lines of a scope).
 #![tactic(auto)]
@@ -18,4 +21,7 @@ mod listing;
 mod parts;
 mod texts;
 
+pub use items::space_of_item;
 pub use listing::describe;
+pub use parts::put_item;
+pub use texts::{put_hex, put_number, put_quoted};

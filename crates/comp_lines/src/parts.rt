@@ -53,7 +53,9 @@ pub(crate) fn put_numbered(out: &mut String, word: &str, number: u32) -> Result<
 }
 
 /// Writes the word of an item's space and its index there.
-pub(crate) fn put_item(out: &mut String, space: Space, index: u64) -> Result<(), AllocError>
+///
+/// It refuses only when out of memory.
+pub fn put_item(out: &mut String, space: Space, index: u64) -> Result<(), AllocError>
     ensures { OnOk result (string_bytes out.new
         ≡ string_bytes out.old ++ (space_word space ++ codes " " ++ decimal index)) }
 {

@@ -11,7 +11,9 @@ use std::alloc::AllocError;
 use std::fmt::Write;
 
 /// Writes a number in decimal digits.
-pub(crate) fn put_number(out: &mut String, number: u64) -> Result<(), AllocError>
+///
+/// It refuses only when out of memory.
+pub fn put_number(out: &mut String, number: u64) -> Result<(), AllocError>
     ensures { OnOk result (string_bytes out.new ≡ string_bytes out.old ++ decimal number) }
 {
     if write!(out, "{number}").is_err() {
@@ -21,7 +23,9 @@ pub(crate) fn put_number(out: &mut String, number: u64) -> Result<(), AllocError
 }
 
 /// Writes bytes as hexadecimal digits.
-pub(crate) fn put_hex(out: &mut String, bytes: &[u8]) -> Result<(), AllocError>
+///
+/// It refuses only when out of memory.
+pub fn put_hex(out: &mut String, bytes: &[u8]) -> Result<(), AllocError>
     ensures { OnOk result (string_bytes out.new ≡ string_bytes out.old ++ encode_lower bytes.now) }
 {
     let digits = hex::encode(*out.allocator(), bytes)?;
@@ -70,8 +74,10 @@ fn put_escaped_all(out: &mut String, text: &str) -> Result<(), AllocError>
     Ok(())
 }
 
-/// Writes a text in quotes.
-pub(crate) fn put_quoted(out: &mut String, text: &str) -> Result<(), AllocError>
+/// Writes a text in quotes: quotes, backslashes and control characters in it get a backslash.
+///
+/// It refuses only when out of memory.
+pub fn put_quoted(out: &mut String, text: &str) -> Result<(), AllocError>
     ensures { OnOk result (string_bytes out.new ≡ string_bytes out.old ++ quoted text.now) }
 {
     out.push('"')?;

@@ -15,8 +15,9 @@ use Rattle.wit_data.specs.declared.functions.AbiVariant.TheVariants.{GuestExport
 use Rattle.wit_data.specs.declared.worlds.WorldKey.{WorldKey}
 use Rattle.wit_data.specs.declared.worlds.WorldKey.TheVariants as keys
 use Rattle.comp_bytes.specs.declared.canon.Intrinsic.{Intrinsic}
+use Rattle.comp_bytes.specs.declared.canon.Intrinsic.TheVariants as intrinsics
 use Rattle.built_ins.specs.BuiltIns.{plain_intrinsic}
-use Rattle.comp_options.specs.Options.{needs, import_set, export_set, memory_bit, realloc_bit, encoding_bit, async_bit}
+use Rattle.comp_options.specs.Options.{needs, import_set, export_set, task_return_set, wait_set, error_new_set, error_message_set, memory_bit, realloc_bit, encoding_bit, async_bit}
 use Rattle.comp_roles.specs.FunctionExports.{is_dtor}
 use Rattle.comp_roles.specs.Functions.{of_function}
 use Rattle.comp_roles.specs.Lookups.{first_export}
@@ -30,7 +31,7 @@ use Rattle.comp_roles.specs.declared.libraries.MainOrAdapter.TheVariants as modu
 use Rattle.comp_worlds.specs.declared.world.ComponentWorld.{ComponentWorld}
 use Rattle.comp_worlds.specs.declared.world.ValidatedModule.{ValidatedModule}
 use Rattle.comp_roles.specs.declared.exports.Export.{Export}
-use Rattle.comp_links.specs.Targets.{UserModule, Main, Adapter, ExportRef, TargetOption, Memory, Realloc, Encoding, Async, PostReturn, Callback, Target, OfRoot, OfInterface, Lowered, ExportOf, MainMemory, New, Rep, Drop, OfResource, BuiltIn, TlsGet, TlsSet, Lifted, Unlinked}
+use Rattle.comp_links.specs.Targets.{UserModule, Main, Adapter, ExportRef, TargetOption, Memory, Realloc, Encoding, Async, PostReturn, Callback, Target, OfRoot, OfInterface, NoType, operand_if_any, Lowered, ExportOf, MainMemory, New, Rep, Drop, OfResource, BuiltIn, TlsGet, TlsSet, Lifted, Unlinked}
 use Rattle.comp_links.specs.Modules.{WorldModule, module_found}
 use Rattle.comp_links.specs.Lists.{RequiredFunction, ProvidedType}
 use Rattle.comp_links.specs.Roles.{import_encoding, export_encoding}
@@ -47,10 +48,16 @@ options_in set realloc encoding =
 
 -- ---- lowerings
 
--- the set of options that a call of the function of a role needs
+-- the set of options that a call of the function of a role needs: of `task.return`, those of the
+-- function whose result it returns; of a wait, and of the functions of error contexts, their own
 abbrev pub lower_needs : ComponentWorld → Import → ℕ
 lower_needs w (imports.WorldFunc key function abi) = option_map_or (import_set abi w.resolve.types) (root_function_at (items_of w).imports key) 0
 lower_needs w (imports.InterfaceFunc key id function abi) = option_map_or (import_set abi w.resolve.types) (found function (functions_of w.resolve id)) 0
+lower_needs w (imports.ExportedTaskReturn key interface f) = task_return_set w.resolve.types f
+lower_needs w imports.WaitableSetWait = wait_set
+lower_needs w imports.WaitableSetPoll = wait_set
+lower_needs w (imports.ErrorContextNew encoding) = error_new_set
+lower_needs w (imports.ErrorContextDebugMessage encoding) = error_message_set
 lower_needs w role = 0
 
 -- a module by its name, which main has none of
@@ -71,7 +78,7 @@ realloc_of w of test = option_and_then (λ (m : ValidatedModule). option_map exp
 abbrev pub lower_realloc : ComponentWorld → UserModule → Option ExportRef
 lower_realloc w of = realloc_of w of is_import_realloc
 
--- the options with which the function of a role is lowered: those that its type needs
+-- the options with which the function of a role is lowered, a result returned, or another built-in function called
 abbrev pub lower_options : ComponentWorld → UserModule → Import → List TargetOption
 lower_options w m role = options_in (lower_needs w role) (lower_realloc w m) (import_encoding w m role)
 
@@ -136,14 +143,31 @@ link_of_cell (imports.TlsBaseGet type) = TlsGet
 link_of_cell (imports.TlsBaseSet type) = TlsSet
 link_of_cell role = Unlinked
 
+-- the built-in functions that have options, by their names
+abbrev pub task_return : Intrinsic
+task_return = intrinsics.TaskReturn None []
+
+abbrev pub set_wait : Intrinsic
+set_wait = intrinsics.WaitableSetWait 0
+
+abbrev pub set_poll : Intrinsic
+set_poll = intrinsics.WaitableSetPoll 0
+
+abbrev pub error_new : Intrinsic
+error_new = intrinsics.ErrorContextNew []
+
+abbrev pub error_message : Intrinsic
+error_message = intrinsics.ErrorContextDebugMessage []
+
 -- a built-in function without operands, where the role has one
 abbrev pub link_of_intrinsic : Import → Option Intrinsic → Target
-link_of_intrinsic role (Some i) = BuiltIn i
+link_of_intrinsic role (Some i) = BuiltIn i NoType []
 link_of_intrinsic role None = link_of_cell role
 
 -- what an import of a user module is to be given, by its role: a function of the world is lowered,
--- a resource has functions for its handles, what another module exports is given as it is, and a
--- built-in function, or one of the cell, is that
+-- a resource has functions for its handles, the result of an exported function is returned, a wait
+-- and a function of error contexts have their options, what another module exports is given as it
+-- is, and another built-in function, or one of the cell, is that
 abbrev pub link_of : ComponentWorld → UserModule → Import → Target
 link_of w m (imports.WorldFunc (keys.Name text) function abi) = Lowered (OfRoot text) (lower_options w m (imports.WorldFunc (keys.Name text) function abi))
 link_of w m (imports.InterfaceFunc key id function abi) = Lowered (OfInterface id function) (lower_options w m (imports.InterfaceFunc key id function abi))
@@ -151,6 +175,11 @@ link_of w m (imports.ImportedResourceDrop key interface id) = OfResource Drop id
 link_of w m (imports.ExportedResourceDrop key id) = OfResource Drop id
 link_of w m (imports.ExportedResourceRep key id) = OfResource Rep id
 link_of w m (imports.ExportedResourceNew key id) = OfResource New id
+link_of w m (imports.ExportedTaskReturn key interface f) = BuiltIn task_return (operand_if_any f.result) (lower_options w m (imports.ExportedTaskReturn key interface f))
+link_of w m imports.WaitableSetWait = BuiltIn set_wait NoType (lower_options w m imports.WaitableSetWait)
+link_of w m imports.WaitableSetPoll = BuiltIn set_poll NoType (lower_options w m imports.WaitableSetPoll)
+link_of w m (imports.ErrorContextNew encoding) = BuiltIn error_new NoType (lower_options w m (imports.ErrorContextNew encoding))
+link_of w m (imports.ErrorContextDebugMessage encoding) = BuiltIn error_message NoType (lower_options w m (imports.ErrorContextDebugMessage encoding))
 link_of w m (imports.MainModuleMemory type) = MainMemory
 link_of w m (imports.MainModuleExport name kind) = ExportOf (record { of = Main; name = name })
 link_of w m (imports.AdapterExport adapter name type) = ExportOf (record { of = Adapter adapter; name = name })

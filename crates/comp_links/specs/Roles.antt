@@ -11,6 +11,7 @@ use Rattle.wit_data.specs.declared.ids.InterfaceId.{InterfaceId}
 use Rattle.wit_data.specs.declared.worlds.WorldKey.{WorldKey}
 use Rattle.world_values.specs.Items.{functions_of}
 use Rattle.standard_kinds.specs.declared.kinds.StringEncoding.{StringEncoding}
+use Rattle.standard_kinds.specs.declared.kinds.StringEncoding.TheVariants.{UTF8}
 use Rattle.comp_roles.specs.declared.imports.Import.{Import}
 use Rattle.comp_roles.specs.declared.imports.Import.TheVariants as imports
 use Rattle.comp_roles.specs.declared.imports.ImportInstance.{ImportInstance}
@@ -59,14 +60,26 @@ needs_encoding (imports.InterfaceFunc key interface function abi) = true
 needs_encoding (imports.ExportedTaskReturn key interface function) = true
 needs_encoding role = false
 
--- the encoding with which a module calls an import of this role
+-- the encoding with which a module calls an import of this role: that of the function, or the
+-- role's own. A wait passes no text, so that any would do
 abbrev pub encoding_in : Import → ValidatedModule → Option StringEncoding
 encoding_in (imports.WorldFunc key function abi) m = of_function key function m.metadata.import_encodings
 encoding_in (imports.InterfaceFunc key interface function abi) m = of_function key function m.metadata.import_encodings
+encoding_in (imports.ExportedTaskReturn key interface f) m = of_function key f.name m.metadata.export_encodings
+encoding_in imports.WaitableSetWait m = Some UTF8
+encoding_in imports.WaitableSetPoll m = Some UTF8
+encoding_in (imports.ErrorContextNew encoding) m = Some encoding
+encoding_in (imports.ErrorContextDebugMessage encoding) m = Some encoding
 encoding_in role m = None
 
 abbrev pub import_encoding : ComponentWorld → UserModule → Import → Option StringEncoding
 import_encoding w of role = option_and_then (encoding_in role) (module_found w of)
+
+-- whether the function of an import is made behind its module, also where main imports its memory: the
+-- text of an error context is put where the module's realloc says
+abbrev pub is_always_shimmed : Import → Bool
+is_always_shimmed (imports.ErrorContextDebugMessage encoding) = true
+is_always_shimmed role = false
 
 -- whether an import is main's memory
 abbrev pub is_main_memory : Import → Bool

@@ -29,7 +29,7 @@ fn is_member(kind: &str, name: &str) -> bool
     }
 }
 
-fn is_plain(name: &str) -> bool
+pub(crate) fn is_plain(name: &str) -> bool
     ensures { IsTrue result ↔ IsPlainName name.now }
 {
     is_label(name)
@@ -38,7 +38,7 @@ fn is_plain(name: &str) -> bool
         || is_member("[static]", name)
 }
 
-fn is_unversioned(name: &str) -> bool
+pub(crate) fn is_unversioned(name: &str) -> bool
     ensures { IsTrue result ↔ IsUnversioned name.now }
 {
     match split_once(name, ':') {

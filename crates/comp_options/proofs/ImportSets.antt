@@ -2,10 +2,11 @@
 -- call is asynchronous by its form alone.
 use Rattle.std.proofs.Common.{◌≡◌, ◌∙◌, ℕ, Bool, true, false, true≢false, List, [], ◌∷◌, refl, sym, ap, ◌||◌}
 use Rattle.wit_data.specs.declared.functions.AbiVariant.{AbiVariant}
+use Rattle.wit_data.specs.declared.functions.AbiVariant.TheVariants as abis
 use Rattle.wit_data.specs.declared.functions.Function.{Function}
 use Rattle.wit_data.specs.declared.types.TypeDef.{TypeDef}
 use Rattle.wit_data.specs.Contents.{contents_bits}
-use Rattle.comp_options.specs.Options.{needs, with_if, lifted, lowered, pass_all, param_contents, passes_memory, is_async_import, import_set}
+use Rattle.comp_options.specs.Options.{needs, with_if, lifted, lowered, pass_all, param_contents, passes_memory, is_async_import, import_set, without_realloc, task_return_set}
 use Rattle.comp_options.specs.Payloads.{way_of}
 use Rattle.comp_roles.specs.declared.payloads.PayloadFuncKind.TheVariants as ends
 
@@ -123,3 +124,21 @@ pub async_by_form : (abi : AbiVariant) (types : List TypeDef) (f : Function) →
 async_by_form abi types f =
     let is = reached abi types f in
     ap (λ (set : ℕ). needs set 8) is.1 ∙ own_bit (is_async_import abi) is.0
+
+-- ---- returns
+
+cleared : (a : Bool) (r : Reached) → needs (without_realloc (with_if a 8 (bits r))) 2 ≡ false
+cleared true none = refl
+cleared false none = refl
+cleared true memory = refl
+cleared false memory = refl
+cleared true text = refl
+cleared false text = refl
+cleared true allocated = refl
+cleared false allocated = refl
+cleared true allocated_text = refl
+cleared false allocated_text = refl
+
+-- a return needs no realloc
+pub no_realloc_returned : (types : List TypeDef) (f : Function) → needs (task_return_set types f) 2 ≡ false
+no_realloc_returned types f = let is = reached abis.GuestImport types f in ap (λ (set : ℕ). needs (without_realloc set) 2) is.1 ∙ cleared (is_async_import abis.GuestImport) is.0

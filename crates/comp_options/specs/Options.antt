@@ -93,6 +93,17 @@ without_realloc set = bit_and set 13
 abbrev pub task_return_set : List TypeDef → Function → ℕ
 task_return_set types f = without_realloc (import_set abis.GuestImport types f)
 
+-- a wait puts what happened into memory; the debug message of an error context is a text, which is
+-- lifted where the context is made, and lowered where it is asked for
+abbrev pub wait_set : ℕ
+wait_set = memory_bit
+
+abbrev pub error_new_set : ℕ
+error_new_set = lifted text_inside 0
+
+abbrev pub error_message_set : ℕ
+error_message_set = lowered text_inside 0
+
 -- a call of an exported function lowers its parameters, into memory where they are many, and lifts its result
 abbrev pub export_set : AbiVariant → List TypeDef → Function → ℕ
 export_set abi types f =

@@ -8,7 +8,7 @@ ghost use Rattle.std.specs.Iterator.{YieldsFirst, item_count};
 ghost use Rattle.std.specs.List.{AllByRecursion};
 ghost use Rattle.wit_data.specs.Contents.{contents_bits};
 ghost use Rattle.wit_data.specs.Sound.{IsSound, HasFunction, HasType};
-ghost use Rattle.comp_options.specs.Options.{lifted, lowered, passed, pass_all, param_contents, passes_memory, is_async_export, import_set, export_set, task_return_set};
+ghost use Rattle.comp_options.specs.Options.{lifted, lowered, passed, pass_all, param_contents, passes_memory, is_async_export, import_set, export_set, task_return_set, wait_set, error_new_set, error_message_set};
 ghost use Rattle.comp_options.specs.OptionLists.{options_of, encoding_option, lacks_memory, lacks_realloc};
 ghost use Rattle.comp_options.specs.Payloads.{way_of, carried, payload_set, HasPayload};
 ghost use Rattle.comp_options.specs.declared.required.OptionFault.TheVariants.{NoMemory, NoRealloc};
@@ -141,6 +141,31 @@ impl RequiredOptions {
     {
         let set = RequiredOptions::for_import(resolve, function, AbiVariant::GuestImport);
         RequiredOptions(set.0 & 13)
+    }
+
+    /// The options of waiting on a set of waitables, and of polling it.
+    pub fn for_wait() -> RequiredOptions
+        ensures { result.0 ≡ wait_set }
+    {
+        RequiredOptions::MEMORY
+    }
+
+    /// The options of making an error context, whose debug message is lifted.
+    pub fn for_error_new() -> RequiredOptions
+        ensures { result.0 ≡ error_new_set }
+    {
+        let mut set = RequiredOptions::empty();
+        set.add_lift(TypeContents::STRING);
+        set
+    }
+
+    /// The options of reading the debug message of an error context, which is lowered.
+    pub fn for_error_message() -> RequiredOptions
+        ensures { result.0 ≡ error_message_set }
+    {
+        let mut set = RequiredOptions::empty();
+        set.add_lower(TypeContents::STRING);
+        set
     }
 
     /// The options of reading from a stream or a future, or of writing to it. It allocates nothing.

@@ -4,14 +4,11 @@ use Rattle.std.specs.Prelude.{ℕ, suc, List, [], ◌∷◌, Option, Some, None,
 use Rattle.std.specs.Option.{option_map, option_and_then}
 use Rattle.comp_bytes.specs.Spaces.{kind_space, sort_space, description_space}
 use Rattle.comp_bytes.specs.References.{Reference, where_some, description_references}
+use Rattle.comp_bytes.specs.Parts.{parts_of}
 use Rattle.comp_bytes.specs.declared.space.Space.TheVariants as spaces
-use Rattle.comp_bytes.specs.declared.types.ComponentValType.{ComponentValType}
-use Rattle.comp_bytes.specs.declared.types.ComponentValType.TheVariants as values
 use Rattle.comp_bytes.specs.declared.types.Description.{Description}
 use Rattle.comp_bytes.specs.declared.canon.CanonicalOption.{CanonicalOption}
 use Rattle.comp_bytes.specs.declared.canon.CanonicalOption.TheVariants as canonical
-use Rattle.comp_bytes.specs.declared.canon.Intrinsic.{Intrinsic}
-use Rattle.comp_bytes.specs.declared.canon.Intrinsic.TheVariants as intrinsics
 use Rattle.comp_bytes.specs.declared.def.Argument.{Argument}
 use Rattle.comp_bytes.specs.declared.def.CoreArgument.{CoreArgument}
 use Rattle.comp_bytes.specs.declared.def.CoreInlineExport.{CoreInlineExport}
@@ -22,9 +19,9 @@ use Rattle.comp_bytes.specs.declared.def.Def.TheVariants as defs
 use Rattle.standard_kinds.specs.declared.kinds.StringEncoding.TheVariants as encodings
 use Rattle.core_types.specs.declared.types.FuncType.{FuncType}
 use Rattle.core_runs.specs.Store.{Answer}
-use Rattle.comp_trees.specs.Trees.{DefinedAt, ResourceAt, FunctionTree}
-use Rattle.comp_trees.specs.DefinedTrees.{TypeTree, OfValues, value_tree}
-use Rattle.comp_runs.specs.Store.{Thing, Export, HeldOption, HeldEncoding, HeldMemory, HeldRealloc, HeldPostReturn, HeldAsync, HeldCallback, Lowering, IntrinsicOf, tree_held, Function, Imported, Lifting, InstanceTypeOf, ComponentItem}
+use Rattle.comp_trees.specs.Trees.{FunctionTree}
+use Rattle.comp_trees.specs.Operands.{operand_of}
+use Rattle.comp_runs.specs.Store.{Thing, Export, HeldOption, HeldEncoding, HeldMemory, HeldRealloc, HeldPostReturn, HeldAsync, HeldCallback, Lowering, IntrinsicOf, Function, Imported, Lifting, InstanceTypeOf, ComponentItem}
 use Rattle.comp_runs.specs.Machine.{Machine, Outcome, Done, Stuck, Next, with_some, all_some, address_at, export_of, with_item, new_core_module, new_core_instance, new_core_function, new_function, new_type, new_component, new_instance}
 use Rattle.comp_runs.specs.Instances.{ModuleMeaning, instantiate_module, aliased, type_scope, type_item, with_function_type, announced, described, instance_of_type}
 use Rattle.comp_runs.specs.Signatures.{core_signature, intrinsic_signature}
@@ -61,58 +58,6 @@ type_of_function (Lifting core options type) = type
 abbrev pub lowered_signature : Machine → ℕ → List HeldOption → Option FuncType
 lowered_signature m function options = option_map (λ f. core_signature (type_of_function f) options) (slice_get m.store.functions function)
 
--- an address, where the type there is a resource that the component defines
-abbrev pub if_own : ℕ → TypeTree → Option ℕ
-if_own address (OfValues (ResourceAt (DefinedAt number))) = Some address
-if_own address tree = None
-
--- an intrinsic, with the addresses of what it names in the place of its indices
-module _ (m : Machine) where
-  abbrev type_address : ℕ → Option ℕ
-  type_address index = address_at spaces.Type index m.scope.items
-
-  abbrev pub own_address : ℕ → Option ℕ
-  own_address index = option_and_then (λ a. if_own a (tree_held m.store.types a)) (type_address index)
-
-  abbrev addressed_option : CanonicalOption → Option CanonicalOption
-  addressed_option (canonical.Memory index) = option_map (λ a. canonical.Memory a) (address_at spaces.CoreMemory index m.scope.items)
-  addressed_option (canonical.Realloc index) = option_map (λ a. canonical.Realloc a) (address_at spaces.CoreFunc index m.scope.items)
-  addressed_option (canonical.PostReturn index) = option_map (λ a. canonical.PostReturn a) (address_at spaces.CoreFunc index m.scope.items)
-  addressed_option (canonical.Callback index) = option_map (λ a. canonical.Callback a) (address_at spaces.CoreFunc index m.scope.items)
-  addressed_option option = Some option
-
-  abbrev addressed_options : List CanonicalOption → Option (List CanonicalOption)
-  addressed_options options = all_some (map addressed_option options)
-
-  abbrev addressed_value : Option ComponentValType → Option (Option ComponentValType)
-  addressed_value (Some (values.Defined index)) = option_map (λ a. Some (values.Defined a)) (type_address index)
-  addressed_value value = Some value
-
-  abbrev pub addressed : Intrinsic → Option Intrinsic
-  addressed (intrinsics.ResourceNew type) = option_map (λ a. intrinsics.ResourceNew a) (own_address type)
-  addressed (intrinsics.ResourceDrop type) = option_map (λ a. intrinsics.ResourceDrop a) (type_address type)
-  addressed (intrinsics.ResourceRep type) = option_map (λ a. intrinsics.ResourceRep a) (own_address type)
-  addressed (intrinsics.TaskReturn result options) = option_and_then (λ r. option_map (λ os. intrinsics.TaskReturn r os) (addressed_options options)) (addressed_value result)
-  addressed (intrinsics.StreamNew type) = option_map (λ a. intrinsics.StreamNew a) (type_address type)
-  addressed (intrinsics.StreamRead type options) = option_and_then (λ a. option_map (λ os. intrinsics.StreamRead a os) (addressed_options options)) (type_address type)
-  addressed (intrinsics.StreamWrite type options) = option_and_then (λ a. option_map (λ os. intrinsics.StreamWrite a os) (addressed_options options)) (type_address type)
-  addressed (intrinsics.StreamCancelRead type async_) = option_map (λ a. intrinsics.StreamCancelRead a async_) (type_address type)
-  addressed (intrinsics.StreamCancelWrite type async_) = option_map (λ a. intrinsics.StreamCancelWrite a async_) (type_address type)
-  addressed (intrinsics.StreamDropReadable type) = option_map (λ a. intrinsics.StreamDropReadable a) (type_address type)
-  addressed (intrinsics.StreamDropWritable type) = option_map (λ a. intrinsics.StreamDropWritable a) (type_address type)
-  addressed (intrinsics.FutureNew type) = option_map (λ a. intrinsics.FutureNew a) (type_address type)
-  addressed (intrinsics.FutureRead type options) = option_and_then (λ a. option_map (λ os. intrinsics.FutureRead a os) (addressed_options options)) (type_address type)
-  addressed (intrinsics.FutureWrite type options) = option_and_then (λ a. option_map (λ os. intrinsics.FutureWrite a os) (addressed_options options)) (type_address type)
-  addressed (intrinsics.FutureCancelRead type async_) = option_map (λ a. intrinsics.FutureCancelRead a async_) (type_address type)
-  addressed (intrinsics.FutureCancelWrite type async_) = option_map (λ a. intrinsics.FutureCancelWrite a async_) (type_address type)
-  addressed (intrinsics.FutureDropReadable type) = option_map (λ a. intrinsics.FutureDropReadable a) (type_address type)
-  addressed (intrinsics.FutureDropWritable type) = option_map (λ a. intrinsics.FutureDropWritable a) (type_address type)
-  addressed (intrinsics.ErrorContextNew options) = option_map (λ os. intrinsics.ErrorContextNew os) (addressed_options options)
-  addressed (intrinsics.ErrorContextDebugMessage options) = option_map (λ os. intrinsics.ErrorContextDebugMessage os) (addressed_options options)
-  addressed (intrinsics.WaitableSetWait memory) = option_map (λ a. intrinsics.WaitableSetWait a) (address_at spaces.CoreMemory memory m.scope.items)
-  addressed (intrinsics.WaitableSetPoll memory) = option_map (λ a. intrinsics.WaitableSetPoll a) (address_at spaces.CoreMemory memory m.scope.items)
-  addressed i = Some i
-
 -- what a reference to the own scope names
 abbrev pub named : Machine → Reference → Option Thing
 named m r = option_map (λ (a : ℕ). record { space = r.space; address = a }) (address_at r.space r.index m.scope.items)
@@ -138,7 +83,9 @@ module _ (modules : List ModuleMeaning) (met : List ℕ → Description → Mach
       with_some (address_at spaces.Func index m.scope.items)
       (λ function. with_some (options_held m options) (λ os. with_some (lowered_signature m function os) (λ signature. next (new_core_function (Lowering function os) signature m))))
   item_effect (items.Intrinsic i) m next =
-      with_some (addressed m i) (λ held. next (new_core_function (IntrinsicOf held) (intrinsic_signature (value_tree (type_scope m)) i) m))
+      with_some (operand_of (type_scope m) i)
+      (λ operand. with_some (options_held m (parts_of i).options)
+      (λ os. next (new_core_function (IntrinsicOf (parts_of i).name operand os) (intrinsic_signature (parts_of i).name operand) m)))
   item_effect (items.Import name description) m next = met name.name description m next
   item_effect (items.Export name sort index description) m next =
       with_some (address_at (sort_space sort) index m.scope.items)

@@ -3,7 +3,6 @@ use Rattle.std.specs.Prelude.{Bool, true, false, List, [], ◌∷◌, Option, So
 use Rattle.std.specs.List.{list_any}
 use Rattle.std.specs.Option.{unwrap_or}
 use Rattle.built_ins.specs.BuiltIns.{plain_type}
-use Rattle.comp_bytes.specs.declared.types.ComponentValType.{ComponentValType}
 use Rattle.comp_bytes.specs.declared.canon.Intrinsic.{Intrinsic}
 use Rattle.comp_bytes.specs.declared.canon.Intrinsic.TheVariants as intrinsics
 use Rattle.core_types.specs.declared.types.ValType.TheVariants.{I32, I64}
@@ -27,36 +26,35 @@ form_of options = if list_any is_async options then abis.GuestImportAsync else a
 abbrev pub core_signature : FunctionTree → List HeldOption → FuncType
 core_signature f options = core_type (tree_signature (form_of options) f)
 
--- The core type of `task.return`, which takes the result's core values as a function takes its parameters.
-module _ (tree_of : ComponentValType → Tree) where
-  abbrev pub returned : Option ComponentValType → FunctionTree
-  returned None = record { is_async = false; params = []; result = None }
-  returned (Some result) = record { is_async = false; params = record { name = []; tree = tree_of result } ∷ []; result = None }
+-- the core type of `task.return`, which takes the result's core values as a function takes its parameters
+abbrev pub returned : Option Tree → FunctionTree
+returned None = record { is_async = false; params = []; result = None }
+returned (Some result) = record { is_async = false; params = record { name = []; tree = result } ∷ []; result = None }
 
--- The core type of an intrinsic, where `tree_of` is what a type of values denotes. Handles,
--- pointers, lengths and codes are `i32`; both ends of a new stream or future are packed in one
--- `i64`. Functions without operands have a table of their own.
-abbrev pub intrinsic_signature : (ComponentValType → Tree) → Intrinsic → FuncType
-intrinsic_signature tree_of (intrinsics.ResourceNew type) = function_type (I32 ∷ []) (I32 ∷ [])
-intrinsic_signature tree_of (intrinsics.ResourceDrop type) = function_type (I32 ∷ []) []
-intrinsic_signature tree_of (intrinsics.ResourceRep type) = function_type (I32 ∷ []) (I32 ∷ [])
-intrinsic_signature tree_of (intrinsics.TaskReturn result options) = core_signature (returned tree_of result) []
-intrinsic_signature tree_of (intrinsics.StreamNew type) = function_type [] (I64 ∷ [])
-intrinsic_signature tree_of (intrinsics.StreamRead type options) = function_type (I32 ∷ I32 ∷ I32 ∷ []) (I32 ∷ [])
-intrinsic_signature tree_of (intrinsics.StreamWrite type options) = function_type (I32 ∷ I32 ∷ I32 ∷ []) (I32 ∷ [])
-intrinsic_signature tree_of (intrinsics.StreamCancelRead type async_) = function_type (I32 ∷ []) (I32 ∷ [])
-intrinsic_signature tree_of (intrinsics.StreamCancelWrite type async_) = function_type (I32 ∷ []) (I32 ∷ [])
-intrinsic_signature tree_of (intrinsics.StreamDropReadable type) = function_type (I32 ∷ []) []
-intrinsic_signature tree_of (intrinsics.StreamDropWritable type) = function_type (I32 ∷ []) []
-intrinsic_signature tree_of (intrinsics.FutureNew type) = function_type [] (I64 ∷ [])
-intrinsic_signature tree_of (intrinsics.FutureRead type options) = function_type (I32 ∷ I32 ∷ []) (I32 ∷ [])
-intrinsic_signature tree_of (intrinsics.FutureWrite type options) = function_type (I32 ∷ I32 ∷ []) (I32 ∷ [])
-intrinsic_signature tree_of (intrinsics.FutureCancelRead type async_) = function_type (I32 ∷ []) (I32 ∷ [])
-intrinsic_signature tree_of (intrinsics.FutureCancelWrite type async_) = function_type (I32 ∷ []) (I32 ∷ [])
-intrinsic_signature tree_of (intrinsics.FutureDropReadable type) = function_type (I32 ∷ []) []
-intrinsic_signature tree_of (intrinsics.FutureDropWritable type) = function_type (I32 ∷ []) []
-intrinsic_signature tree_of (intrinsics.ErrorContextNew options) = function_type (I32 ∷ I32 ∷ []) (I32 ∷ [])
-intrinsic_signature tree_of (intrinsics.ErrorContextDebugMessage options) = function_type (I32 ∷ I32 ∷ []) []
-intrinsic_signature tree_of (intrinsics.WaitableSetWait memory) = function_type (I32 ∷ I32 ∷ []) (I32 ∷ [])
-intrinsic_signature tree_of (intrinsics.WaitableSetPoll memory) = function_type (I32 ∷ I32 ∷ []) (I32 ∷ [])
-intrinsic_signature tree_of i = unwrap_or (plain_type i) (function_type [] [])
+-- The core type of an intrinsic of this name, with this operand. Handles, pointers, lengths and
+-- codes are `i32`; both ends of a new stream or future are packed in one `i64`. Functions without
+-- operands and options have a table of their own.
+abbrev pub intrinsic_signature : Intrinsic → Option Tree → FuncType
+intrinsic_signature (intrinsics.ResourceNew type) operand = function_type (I32 ∷ []) (I32 ∷ [])
+intrinsic_signature (intrinsics.ResourceDrop type) operand = function_type (I32 ∷ []) []
+intrinsic_signature (intrinsics.ResourceRep type) operand = function_type (I32 ∷ []) (I32 ∷ [])
+intrinsic_signature (intrinsics.TaskReturn result options) operand = core_signature (returned operand) []
+intrinsic_signature (intrinsics.StreamNew type) operand = function_type [] (I64 ∷ [])
+intrinsic_signature (intrinsics.StreamRead type options) operand = function_type (I32 ∷ I32 ∷ I32 ∷ []) (I32 ∷ [])
+intrinsic_signature (intrinsics.StreamWrite type options) operand = function_type (I32 ∷ I32 ∷ I32 ∷ []) (I32 ∷ [])
+intrinsic_signature (intrinsics.StreamCancelRead type async_) operand = function_type (I32 ∷ []) (I32 ∷ [])
+intrinsic_signature (intrinsics.StreamCancelWrite type async_) operand = function_type (I32 ∷ []) (I32 ∷ [])
+intrinsic_signature (intrinsics.StreamDropReadable type) operand = function_type (I32 ∷ []) []
+intrinsic_signature (intrinsics.StreamDropWritable type) operand = function_type (I32 ∷ []) []
+intrinsic_signature (intrinsics.FutureNew type) operand = function_type [] (I64 ∷ [])
+intrinsic_signature (intrinsics.FutureRead type options) operand = function_type (I32 ∷ I32 ∷ []) (I32 ∷ [])
+intrinsic_signature (intrinsics.FutureWrite type options) operand = function_type (I32 ∷ I32 ∷ []) (I32 ∷ [])
+intrinsic_signature (intrinsics.FutureCancelRead type async_) operand = function_type (I32 ∷ []) (I32 ∷ [])
+intrinsic_signature (intrinsics.FutureCancelWrite type async_) operand = function_type (I32 ∷ []) (I32 ∷ [])
+intrinsic_signature (intrinsics.FutureDropReadable type) operand = function_type (I32 ∷ []) []
+intrinsic_signature (intrinsics.FutureDropWritable type) operand = function_type (I32 ∷ []) []
+intrinsic_signature (intrinsics.ErrorContextNew options) operand = function_type (I32 ∷ I32 ∷ []) (I32 ∷ [])
+intrinsic_signature (intrinsics.ErrorContextDebugMessage options) operand = function_type (I32 ∷ I32 ∷ []) []
+intrinsic_signature (intrinsics.WaitableSetWait memory) operand = function_type (I32 ∷ I32 ∷ []) (I32 ∷ [])
+intrinsic_signature (intrinsics.WaitableSetPoll memory) operand = function_type (I32 ∷ I32 ∷ []) (I32 ∷ [])
+intrinsic_signature i operand = unwrap_or (plain_type i) (function_type [] [])

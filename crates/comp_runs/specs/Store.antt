@@ -8,7 +8,7 @@ use Rattle.comp_bytes.specs.declared.canon.Intrinsic.{Intrinsic}
 use Rattle.comp_bytes.specs.declared.def.Item.{Item}
 use Rattle.standard_kinds.specs.declared.kinds.StringEncoding.{StringEncoding}
 use Rattle.core_runs.specs.Store.{Store as CodeStore}
-use Rattle.comp_trees.specs.Trees.{Origin, ImportedAt, DefinedAt, ResourceAt, FunctionTree}
+use Rattle.comp_trees.specs.Trees.{Tree, Origin, ImportedAt, DefinedAt, ResourceAt, FunctionTree}
 use Rattle.comp_trees.specs.DefinedTrees.{TypeTree, OfValues, OfOthers}
 
 -- an item of an index space: the address of its entry in the store
@@ -31,11 +31,11 @@ pub data HeldOption : Type 0 where
   HeldAsync : HeldOption
   HeldCallback : (function : ℕ) → HeldOption
 
--- An opaque core item, by what it is: a lowering of a function; an intrinsic, with addresses in the place of its
--- indices; or what a user instance exports under a name.
+-- An opaque core item, by what it is: a lowering of a function; an intrinsic by its name, what its
+-- operand is, and its options; or what a user instance exports under a name.
 pub data CoreItem : Type 0 where
   Lowering : (function : ℕ) (options : List HeldOption) → CoreItem
-  IntrinsicOf : (intrinsic : Intrinsic) → CoreItem
+  IntrinsicOf : (name : Intrinsic) (operand : Option Tree) (options : List HeldOption) → CoreItem
   ExportedBy : (instance : ℕ) (name : List ℕ) → CoreItem
 
 -- a function, by what it is, with its type: an import, or a lift of a core function

@@ -1,6 +1,6 @@
 -- A list that keeps the rules names earlier items, each by its index and space.
 use Rattle.comp_links.specs.Naming.{Naming}
-use Rattle.std.proofs.Common.{ℕ, ◌<◌, length, List, [], ◌∷◌, ◌++◌, sym, subst, append-nil, Option, Some, None, inl, inr, true≢false}
+use Rattle.std.proofs.Common.{ℕ, ◌<◌, length, List, [], ◌∷◌, ◌++◌, sym, subst, append-nil, Option, Some, None, inl, inr, IsSome}
 use Rattle.std.specs.List.{AllByRecursion, AllZip, flat_map}
 use Rattle.std.proofs.lemmas.List.{length-map}
 use Rattle.std.proofs.lemmas.Option.{slice_get_within}
@@ -17,6 +17,7 @@ use Rattle.comp_bytes.specs.declared.space.Space.TheVariants as spaces
 use Rattle.comp_bytes.specs.declared.space.ComponentExportKind.TheVariants as exports
 use Rattle.comp_bytes.specs.declared.space.Sort.{Sort}
 use Rattle.comp_bytes.specs.declared.space.Sort.TheVariants as sorts
+use Rattle.comp_bytes.specs.declared.types.ComponentValType.TheVariants as values
 use Rattle.comp_bytes.specs.declared.types.TypeDef.{TypeDef}
 use Rattle.comp_bytes.specs.declared.types.TypeDef.TheVariants as types
 use Rattle.comp_bytes.specs.declared.types.Alias.TheVariants as aliases
@@ -38,7 +39,9 @@ use Rattle.comp_inventories.specs.Inventories as inventories
 use Rattle.comp_inventories.specs.Inventories.{surroundings_of}
 use Rattle.comp_inventories.proofs.Counting.{instances-counted}
 use Rattle.comp_inventories.proofs.InventoryGrowth.{scope_counted}
-use Rattle.comp_trees.proofs.KnownScopes.{known_defined, known_function_names}
+use Rattle.comp_trees.proofs.KnownScopes.{known_in_range, operand_known, known_defined, known_function_names}
+use Rattle.comp_trees.specs.DefinedTrees.{tree_at}
+use Rattle.comp_trees.specs.Operands.{operand_in}
 use Rattle.comp_trees.proofs.MemberScopes.{members_scoped}
 use Rattle.comp_items.proofs.Kept.{function_in_range}
 use Rattle.comp_state.proofs.Nesting.{nested_scoped}
@@ -124,22 +127,37 @@ destructor_within w earlier (Some index) (Some name) h = (in_range h.is.made, tt
 destructor_within w earlier None (Some name) h = absurd h
 destructor_within w earlier (Some index) None h = absurd h
 
+-- the operand of an intrinsic is a type of the list, since it is known
+operand_named : (earlier : List Def) (type : ℕ) → IsSome (operand_in (inventories.scope_of earlier) (Some (values.Defined type))) → Within earlier (own spaces.Type type)
+operand_named earlier type h =
+    let scope = inventories.scope_of earlier in type_named earlier type (known_in_range scope type (operand_known (tree_at scope type) h))
+
 intrinsic_within : (earlier : List Def) (i : Intrinsic) → IsIntrinsicRight earlier i → AllByRecursion (Within earlier) (intrinsic_references i)
 intrinsic_within earlier (intrinsics.ResourceNew type) h = (type_named earlier type h.is.denotes.within, tt)
 intrinsic_within earlier (intrinsics.ResourceRep type) h = (type_named earlier type h.is.denotes.within, tt)
 intrinsic_within earlier (intrinsics.ResourceDrop type) h = (type_named earlier type h.is.denotes.within, tt)
-intrinsic_within earlier intrinsics.TaskCancel h = tt
-intrinsic_within earlier intrinsics.BackpressureInc h = tt
-intrinsic_within earlier intrinsics.BackpressureDec h = tt
-intrinsic_within earlier intrinsics.WaitableSetNew h = tt
-intrinsic_within earlier intrinsics.WaitableSetDrop h = tt
-intrinsic_within earlier intrinsics.WaitableJoin h = tt
-intrinsic_within earlier intrinsics.SubtaskDrop h = tt
-intrinsic_within earlier (intrinsics.SubtaskCancel is_async) h = tt
-intrinsic_within earlier intrinsics.ErrorContextDrop h = tt
-intrinsic_within earlier (intrinsics.ContextGet type slot) h = tt
-intrinsic_within earlier (intrinsics.ContextSet type slot) h = tt
-intrinsic_within earlier i h = absurd (true≢false (sym h))
+intrinsic_within earlier (intrinsics.TaskReturn None options) h = lower_within earlier options h.options
+intrinsic_within earlier (intrinsics.TaskReturn (Some (values.Primitive p)) options) h = lower_within earlier options h.options
+intrinsic_within earlier (intrinsics.TaskReturn (Some (values.Defined type)) options) h = (operand_named earlier type h.operand, lower_within earlier options h.options)
+intrinsic_within earlier (intrinsics.StreamNew type) h = (operand_named earlier type h.operand, tt)
+intrinsic_within earlier (intrinsics.StreamRead type options) h = (operand_named earlier type h.operand, lower_within earlier options h.options)
+intrinsic_within earlier (intrinsics.StreamWrite type options) h = (operand_named earlier type h.operand, lower_within earlier options h.options)
+intrinsic_within earlier (intrinsics.StreamCancelRead type is_async) h = (operand_named earlier type h.operand, tt)
+intrinsic_within earlier (intrinsics.StreamCancelWrite type is_async) h = (operand_named earlier type h.operand, tt)
+intrinsic_within earlier (intrinsics.StreamDropReadable type) h = (operand_named earlier type h.operand, tt)
+intrinsic_within earlier (intrinsics.StreamDropWritable type) h = (operand_named earlier type h.operand, tt)
+intrinsic_within earlier (intrinsics.FutureNew type) h = (operand_named earlier type h.operand, tt)
+intrinsic_within earlier (intrinsics.FutureRead type options) h = (operand_named earlier type h.operand, lower_within earlier options h.options)
+intrinsic_within earlier (intrinsics.FutureWrite type options) h = (operand_named earlier type h.operand, lower_within earlier options h.options)
+intrinsic_within earlier (intrinsics.FutureCancelRead type is_async) h = (operand_named earlier type h.operand, tt)
+intrinsic_within earlier (intrinsics.FutureCancelWrite type is_async) h = (operand_named earlier type h.operand, tt)
+intrinsic_within earlier (intrinsics.FutureDropReadable type) h = (operand_named earlier type h.operand, tt)
+intrinsic_within earlier (intrinsics.FutureDropWritable type) h = (operand_named earlier type h.operand, tt)
+intrinsic_within earlier (intrinsics.ErrorContextNew options) h = lower_within earlier options h.options
+intrinsic_within earlier (intrinsics.ErrorContextDebugMessage options) h = lower_within earlier options h.options
+intrinsic_within earlier (intrinsics.WaitableSetWait memory) h = (h.options.0, tt)
+intrinsic_within earlier (intrinsics.WaitableSetPoll memory) h = (h.options.0, tt)
+intrinsic_within earlier i h = tt
 
 -- an alias names an instance of the list, since one is imported there
 instance_in_range : (earlier : List Def) (space : Space) (instance : ℕ) (name : List ℕ) → AliasesImported earlier space instance name → instance < items_in spaces.Instance earlier

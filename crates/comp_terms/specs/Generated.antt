@@ -1,6 +1,6 @@
 -- The core modules that are generated for a component: their numbers, their bytes, and what each shim stands for (this
 -- project's own; component model, explainer: core instances).
-use Rattle.std.specs.Prelude.{◌≡◌, ◌<◌, ◌^◌, ℕ, suc, Bool, true, false, List, [], ◌∷◌, length, Option, Some, None, Contains}
+use Rattle.std.specs.Prelude.{◌≡◌, ◌<◌, ◌==◌, ◌^◌, ℕ, suc, Bool, true, false, List, [], ◌∷◌, length, Option, Some, None, Contains, if◌then◌else◌}
 use Rattle.std.specs.Map.{lookup}
 use Rattle.std.specs.Option.{option_map, option_and_then}
 use Rattle.comp_lists.specs.Found.{found}
@@ -19,12 +19,12 @@ use Rattle.comp_roles.specs.declared.offered.ExternType.TheVariants as externs
 use Rattle.comp_worlds.specs.Bases.{cell_type, AreBasesAlike}
 use Rattle.comp_worlds.specs.Offered.{shared_memory}
 use Rattle.comp_worlds.specs.Typed.{type_of_import}
-use Rattle.comp_worlds.specs.WorldContents.{items_of}
+use Rattle.comp_worlds.specs.WorldContents.{items_of, function_exported}
 use Rattle.comp_worlds.specs.Worlds.{IsImportRole}
 use Rattle.comp_worlds.specs.declared.world.ComponentWorld.{ComponentWorld}
 use Rattle.comp_links.specs.Links.{link_of, module_of}
 use Rattle.comp_links.specs.Modules.{WorldModule, user_modules}
-use Rattle.comp_links.specs.Targets.{UserModule, Adapter, ExportRef, Target, ExportOf}
+use Rattle.comp_links.specs.Targets.{UserModule, Main, Adapter, ExportRef, Target, ExportOf}
 use Rattle.shim_plan.specs.declared.kinds.ShimKind.{ShimKind}
 use Rattle.shim_plan.specs.declared.kinds.ShimKind.TheVariants as kinds
 use Rattle.shim_plan.specs.declared.shims.Shim.{Shim}
@@ -93,10 +93,29 @@ interface_in item = None
 abbrev pub interface_imported : ComponentWorld → WorldKey → Option InterfaceId
 interface_imported w key = option_and_then interface_in (lookup (is_same_key key) (items_of w).imports)
 
--- the module and the role of the imports that are given a shim of this kind
+-- the key at which the world exports an interface, or, where it is none, a function of this name
+abbrev pub key_of_export : InterfaceId → List (WorldKey × WorldItem) → Option WorldKey
+key_of_export id [] = None
+key_of_export id ((key, items.Interface other) ∷ es) = if id.index == other.index then Some key else key_of_export id es
+key_of_export id (e ∷ es) = key_of_export id es
+
+abbrev pub export_key : ComponentWorld → Option InterfaceId → List ℕ → Option WorldKey
+export_key w None name = Some (keys.Name name)
+export_key w (Some id) name = key_of_export id (items_of w).exports
+
+-- `task.return`, in a module, of the function of this name at a key
+abbrev pub returning_at : ComponentWorld → UserModule → Option InterfaceId → List ℕ → WorldKey → Option (UserModule × Import)
+returning_at w of interface name key = option_map (λ f. (of, imports.ExportedTaskReturn key interface f)) (function_exported w key name)
+
+-- the module and the role of the imports that are given a shim of this kind: main, where those of all modules are
 abbrev pub role_of_kind : ComponentWorld → ShimKind → Option (UserModule × Import)
 role_of_kind w (kinds.IndirectLowering None function which encoding) = Some (module_of which, imports.WorldFunc (keys.Name function.name) function.name function.abi)
 role_of_kind w (kinds.IndirectLowering (Some key) function which encoding) = option_map (λ id. (module_of which, imports.InterfaceFunc key id function.name function.abi)) (interface_imported w key)
+role_of_kind w (kinds.TaskReturn interface name result which encoding) = option_and_then (returning_at w (module_of which) interface name) (export_key w interface name)
+role_of_kind w kinds.WaitableSetWait = Some (Main, imports.WaitableSetWait)
+role_of_kind w kinds.WaitableSetPoll = Some (Main, imports.WaitableSetPoll)
+role_of_kind w (kinds.ErrorContextNew encoding) = Some (Main, imports.ErrorContextNew encoding)
+role_of_kind w (kinds.ErrorContextDebugMessage which encoding) = Some (module_of which, imports.ErrorContextDebugMessage encoding)
 role_of_kind w kind = None
 
 -- the shim stands for what imports of this role in a module are to be given, and has their core type

@@ -22,9 +22,10 @@ use Rattle.comp_roles.specs.declared.imports.ImportInstance.TheVariants as insta
 use Rattle.comp_roles.specs.declared.libraries.MainOrAdapter.{MainOrAdapter}
 use Rattle.comp_worlds.specs.declared.world.ComponentWorld.{ComponentWorld}
 use Rattle.wit_data.specs.declared.functions.Function.{Function as WitFunction}
-use Rattle.comp_trees.specs.Trees.{FunctionTree}
+use Rattle.wit_data.specs.declared.types.Type.{«Type» as Ty}
+use Rattle.comp_trees.specs.Trees.{Tree, FunctionTree}
 use Rattle.comp_trees.specs.WitTrees.{wit_function_tree}
-use Rattle.comp_links.specs.Targets.{UserModule, ExportRef, WorldFunction, TargetOption, Target}
+use Rattle.comp_links.specs.Targets.{UserModule, ExportRef, WorldFunction, TargetOption, operand_if_any, operand_tree, Target}
 use Rattle.comp_links.specs.Targets as targets
 use Rattle.comp_links.specs.Modules.{IsModule, function_imported}
 use Rattle.comp_links.specs.Lists.{IsOriginOf, resource_of}
@@ -36,7 +37,7 @@ use Rattle.shim_plan.specs.declared.kinds.ShimKind.TheVariants as shim_kinds
 use Rattle.shim_plan.specs.declared.shims.Shim.{Shim}
 use Rattle.world_shims.specs.WorldShims.{shims_of}
 use Rattle.comp_terms.specs.Generated.{shims_number, role_of_kind, Purpose, target_of, HasPurpose}
-use Rattle.comp_terms.specs.Shimmed.{has_shim}
+use Rattle.comp_terms.specs.Shimmed.{has_shim, shim_owner}
 use Rattle.comp_worlds.specs.Offered.{shared_memory}
 use Rattle.comp_terms.specs.Terms.{CoreExport, TermOption, Term, IsInstanceOf, IsExported, IsLifting, Is}
 use Rattle.comp_terms.specs.Terms as terms
@@ -99,6 +100,10 @@ IsOptionFor w term option = ⊥
 abbrev pub type_of_function : ComponentWorld → WitFunction → FunctionTree
 type_of_function w f = wit_function_tree (resource_of w) w.resolve.types f
 
+-- what the result of one is, if it has one
+abbrev pub result_tree : ComponentWorld → Option Ty → Option Tree
+result_tree w result = operand_tree (resource_of w) w.resolve.types (operand_if_any result)
+
 -- this is the type of a function that the world imports
 pub record IsTypeOf (w : ComponentWorld) (function : WorldFunction) (type : FunctionTree) : Type 0 where
   pub wit : WitFunction
@@ -111,7 +116,7 @@ IsTermFor w (targets.Lowered function options) (terms.Lowering origin type writt
 IsTermFor w (targets.ExportOf export_ref) (terms.Exported e) = IsExportFor w e export_ref
 IsTermFor w targets.MainMemory (terms.Exported e) = IsMemoryFor w e × (e.kind ≡ kinds.Memory)
 IsTermFor w (targets.OfResource function id) (terms.OfResource same resource) = (same ≡ function) × (resource ≡ resource_of w id)
-IsTermFor w (targets.BuiltIn intrinsic) (terms.BuiltIn same) = same ≡ intrinsic
+IsTermFor w (targets.BuiltIn name operand options) (terms.BuiltIn same tree written) = (same ≡ name) × (tree ≡ operand_tree (resource_of w) w.resolve.types operand) × AllZip (IsOptionFor w) written options
 IsTermFor w targets.TlsGet (terms.Exported e) = e ≡ cell_export w getter_name
 IsTermFor w targets.TlsSet (terms.Exported e) = e ≡ cell_export w setter_name
 IsTermFor w (targets.Lifted entry options) (terms.Lifting e written type) = IsExportFor w e entry × AllZip (IsOptionFor w) written options
@@ -138,7 +143,7 @@ pub record IsShimOfKind (w : ComponentWorld) (ds : List Def) (space : Space) (in
 -- a shim of the kind of an import's role, which has one
 pub record IsCallShim (w : ComponentWorld) (of : UserModule) (ds : List Def) (space : Space) (index : ℕ) (role : Import) : Type 0 where
   pub shim : IsShimFor w ds space index (link_of w of role)
-  pub of_kind : role_of_kind w shim.stands.shim.kind ≡ Some (of, role)
+  pub of_kind : role_of_kind w shim.stands.shim.kind ≡ Some (shim_owner of role, role)
   pub shimmed : IsTrue (has_shim w role)
 
 -- the item of this index is the shim of an import: that of the function which an adapter exports,

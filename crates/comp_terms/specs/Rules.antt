@@ -5,6 +5,7 @@ use Rattle.std.specs.Prelude.{◌≡◌, ◌<◌, ◌⊎◌, ℕ, Bool, codes, L
 use Rattle.std.specs.Fmt.{decimal}
 use Rattle.std.specs.List.{AllByRecursion, AllZip, IsDistinct, flat_map, filter_map, list_any, range_with_len}
 use Rattle.std.specs.Str.{bytes_eq}
+use Rattle.comp_bytes.specs.Parts.{Parts, parts_of}
 use Rattle.comp_bytes.specs.Spaces.{items_in, kind_space}
 use Rattle.comp_bytes.specs.ScopeNames.{member_export, item_export}
 use Rattle.comp_bytes.specs.declared.space.Space.{Space}
@@ -31,12 +32,12 @@ use Rattle.comp_bytes.specs.declared.def.Item.{Item}
 use Rattle.comp_bytes.specs.declared.def.Item.TheVariants as items
 use Rattle.comp_bytes.specs.declared.def.Def.{Def}
 use Rattle.comp_bytes.specs.declared.def.Def.TheVariants as defs
-use Rattle.built_ins.specs.BuiltIns.{plain_type}
 use Rattle.comp_lists.specs.Found.{found}
 use Rattle.wit_data.specs.declared.ids.TypeId.{TypeId}
 use Rattle.comp_trees.specs.Trees.{Origin, Resource, ImportedAt, DefinedAt, ResourceAt, FunctionTree, is_known, is_known_function}
 use Rattle.comp_trees.specs.DefinedTrees.{TypeTree, OfValues, OfOthers, defined_tree, function_tree}
 use Rattle.comp_trees.specs.Members.{AreMembersRight, exports_name}
+use Rattle.comp_trees.specs.Operands.{operand_in}
 use Rattle.comp_inventories.specs.Inventories.{ImportedInstance, NestedInstance, surroundings_of, inventory, scope_of}
 use Rattle.comp_roles.specs.Matching.{kind_of}
 use Rattle.comp_roles.specs.declared.offered.ExternType.{ExternType}
@@ -290,13 +291,18 @@ IsOptionRight earlier (options.PostReturn index) = index < items_in spaces.CoreF
 IsOptionRight earlier (options.Callback index) = index < items_in spaces.CoreFunc earlier
 IsOptionRight earlier option = Unit {0}
 
--- an intrinsic: so far, a function of the handles of a resource, or one without operands and
--- options. `resource.new` and `resource.rep` are of one that the component defines
+-- the operand of an intrinsic, if it has one, is known, and its options name earlier items
+pub record ArePartsRight (earlier : List Def) (parts : Parts) : Type 0 where
+  pub operand : IsSome (operand_in (scope_of earlier) parts.operand)
+  pub options : AllByRecursion (IsOptionRight earlier) parts.options
+
+-- an intrinsic: a function of the handles of a resource, or another one. `resource.new` and
+-- `resource.rep` are of a resource that the component defines
 abbrev pub IsIntrinsicRight : List Def → Intrinsic → Type 0
 IsIntrinsicRight earlier (intrinsics.ResourceNew type) = HasOwnResource earlier type
 IsIntrinsicRight earlier (intrinsics.ResourceRep type) = HasOwnResource earlier type
 IsIntrinsicRight earlier (intrinsics.ResourceDrop type) = HasResource earlier type
-IsIntrinsicRight earlier i = IsSome (plain_type i)
+IsIntrinsicRight earlier i = ArePartsRight earlier (parts_of i)
 
 -- an export is the next required one; its name is a landmark
 abbrev pub IsExportRight : ComponentWorld → List Def → Sort → ℕ → Option Description → Type 0

@@ -1,8 +1,9 @@
 -- What an item of a list of definitions is, as a value that holds no index (component model, explainer: core instances,
 -- aliases, `canon lower`, `canon lift`). Core modules and imports of the component are named by their numbers.
-use Rattle.std.specs.Prelude.{◌≡◌, ℕ, List, Some, IsSome, slice_get}
+use Rattle.std.specs.Prelude.{◌≡◌, ℕ, List, Option, Some, slice_get}
 use Rattle.std.specs.List.{AllZip}
 use Rattle.comp_bytes.specs.ItemIndices.{IsAt}
+use Rattle.comp_bytes.specs.Parts.{parts_of}
 use Rattle.comp_bytes.specs.Spaces.{kind_space}
 use Rattle.comp_bytes.specs.declared.space.Space.{Space}
 use Rattle.comp_bytes.specs.declared.space.Space.TheVariants as spaces
@@ -19,10 +20,10 @@ use Rattle.comp_bytes.specs.declared.def.CoreArgument.{CoreArgument}
 use Rattle.comp_bytes.specs.declared.def.Item.TheVariants as items
 use Rattle.comp_bytes.specs.declared.def.Def.{Def}
 use Rattle.comp_bytes.specs.declared.def.Def.TheVariants as defs
-use Rattle.built_ins.specs.BuiltIns.{plain_type}
-use Rattle.comp_trees.specs.Trees.{Origin, Resource, ResourceAt, FunctionTree}
+use Rattle.comp_trees.specs.Trees.{Tree, Origin, Resource, ResourceAt, FunctionTree}
 use Rattle.comp_trees.specs.DefinedTrees.{OfValues, OfFunctions}
 use Rattle.comp_trees.specs.DefinedScopes.{Denotes}
+use Rattle.comp_trees.specs.Operands.{IsOperand}
 use Rattle.comp_inventories.specs.Inventories.{inventory, scope_of}
 use Rattle.comp_links.specs.Targets.{ResourceFunction, New, Rep, Drop}
 
@@ -32,7 +33,7 @@ pub record CoreExport : Type 0 where
   pub kind : ExportKind
   pub name : List ℕ
 
--- an option of a lowering or a lift
+-- an option of a lowering, a lift or a built-in function
 pub data TermOption : Type 0 where
   Encoding : (encoding : StringEncoding) → TermOption
   Memory : (memory : CoreExport) → TermOption
@@ -53,8 +54,8 @@ pub data Term : Type 0 where
   Lowering : (origin : Origin) (type : FunctionTree) (options : List TermOption) → Term
   -- a function of the handles of a resource
   OfResource : (function : ResourceFunction) (resource : Resource) → Term
-  -- a built-in function without operands and options
-  BuiltIn : (intrinsic : Intrinsic) → Term
+  -- a built-in function, by its name, what its operand is, and its options
+  BuiltIn : (name : Intrinsic) (operand : Option Tree) (options : List TermOption) → Term
   -- a lift of a core function, with its type
   Lifting : (entry : CoreExport) (options : List TermOption) (type : FunctionTree) → Term
 
@@ -111,9 +112,12 @@ pub record IsOfResource (ds : List Def) (index : ℕ) (function : ResourceFuncti
   pub made : IsAt ds spaces.CoreFunc index (defs.Item (items.Intrinsic (intrinsic_of function type)))
   pub of : IsResource ds type resource
 
-pub record IsBuiltIn (ds : List Def) (index : ℕ) (intrinsic : Intrinsic) : Type 0 where
+pub record IsBuiltIn (ds : List Def) (index : ℕ) (name : Intrinsic) (operand : Option Tree) (options : List TermOption) : Type 0 where
+  pub intrinsic : Intrinsic
   pub made : IsAt ds spaces.CoreFunc index (defs.Item (items.Intrinsic intrinsic))
-  pub plain : IsSome (plain_type intrinsic)
+  pub named : (parts_of intrinsic).name ≡ name
+  pub of : IsOperand (scope_of ds) (parts_of intrinsic).operand operand
+  pub with_options : AllZip (IsOption ds) (parts_of intrinsic).options options
 
 pub record IsLifting (ds : List Def) (index : ℕ) (entry : CoreExport) (options : List TermOption) (type : FunctionTree) : Type 0 where
   pub core : ℕ
@@ -133,6 +137,6 @@ Is ds spaces.CoreInstance index (InstanceOf number) = IsInstanceOf ds index numb
 Is ds space index (Exported e) = (space ≡ kind_space e.kind) × IsExported ds index e
 Is ds spaces.CoreFunc index (Lowering origin type options) = IsLowering ds index origin type options
 Is ds spaces.CoreFunc index (OfResource function resource) = IsOfResource ds index function resource
-Is ds spaces.CoreFunc index (BuiltIn intrinsic) = IsBuiltIn ds index intrinsic
+Is ds spaces.CoreFunc index (BuiltIn name operand options) = IsBuiltIn ds index name operand options
 Is ds spaces.Func index (Lifting entry options type) = IsLifting ds index entry options type
 Is ds space index term = ⊥

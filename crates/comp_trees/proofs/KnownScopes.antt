@@ -1,5 +1,7 @@
 -- A type in which nothing is unknown names types of its scope alone.
-use Rattle.std.proofs.Common.{◌≡◌, ◌<◌, ℕ, zero, suc, Bool, true, false, ◌&&◌, List, [], ◌∷◌, ◌++◌, length, map, refl, Option, Some, None, arith}
+use Rattle.std.proofs.Common.{◌≡◌, ◌∙◌, ◌<◌, ℕ, zero, suc, Bool, true, false, true≢false, ◌&&◌, List, [], ◌∷◌, ◌++◌, length, map, get_or, refl, sym, ap, subst, Option, Some, None, is_some, IsSome, arith}
+use Rattle.std.proofs.lemmas.Option.{none-some, same_Some}
+use Rattle.std.specs.Prelude.{if◌then◌else◌}
 use Rattle.std.specs.List.{AllByRecursion, flat_map, list_all}
 use Rattle.comp_bytes.specs.References.{Reference, own, type_at, where_some, value_references, fields_references, defined_references}
 use Rattle.comp_bytes.specs.declared.space.Space.TheVariants as spaces
@@ -10,8 +12,10 @@ use Rattle.comp_bytes.specs.declared.types.DefinedType.{DefinedType}
 use Rattle.comp_bytes.specs.declared.types.DefinedType.TheVariants as defined
 use Rattle.comp_bytes.specs.declared.types.Field.{Field}
 use Rattle.comp_bytes.specs.declared.types.FuncTypeDef.{FuncTypeDef}
-use Rattle.comp_trees.specs.Trees.{ParamTree, is_known, are_known, is_known_function, trees_of}
-use Rattle.comp_trees.specs.DefinedTrees.{TypeTree, tree_at, value_tree, payload_tree, defined_tree, function_tree}
+use Rattle.comp_trees.specs.Trees.{Tree, ParamTree, is_known, are_known, is_known_function, trees_of}
+use Rattle.comp_trees.specs.Operands.{known_tree, operand_in, IsOperand}
+use Rattle.comp_trees.specs.DefinedScopes.{Denotes, IsValue}
+use Rattle.comp_trees.specs.DefinedTrees.{TypeTree, OfValues, OfFunctions, OfOthers, values_of, tree_at, value_tree, payload_tree, defined_tree, function_tree}
 
 left_of : (b c : Bool) → (b && c) ≡ true → b ≡ true
 left_of true c e = refl
@@ -30,6 +34,41 @@ pub known_in_range : (scope : List TypeTree) (index : ℕ) → is_known (tree_at
 known_in_range [] index e = cc
 known_in_range (t ∷ ts) zero e = omega arith
 known_in_range (t ∷ ts) (suc n) e = let rest = known_in_range ts n e in omega (arith, rest)
+
+-- what may be an operand is known
+pub operand_known : (tree : Tree) → IsSome (known_tree tree) → is_known tree ≡ true
+operand_known tree h = by (is_known tree) h
+  where
+    by : (b : Bool) → IsSome (if b then Some (Some tree) else None) → b ≡ true
+    by true h = refl
+    by false h = absurd (true≢false (sym h))
+
+-- and the other way round
+pub known_operand : (tree : Tree) → is_known tree ≡ true → known_tree tree ≡ Some (Some tree)
+known_operand tree h = ap (λ b. if b then Some (Some tree) else None) h
+
+-- an index whose tree is known denotes it
+pub known_denotes : (scope : List TypeTree) (index : ℕ) → is_known (tree_at scope index) ≡ true → Denotes scope index (OfValues (tree_at scope index))
+known_denotes scope index h = record { within = known_in_range scope index h; tree = by (get_or scope index OfOthers) h }
+  where
+    by : (t : TypeTree) → is_known (values_of t) ≡ true → t ≡ OfValues (values_of t)
+    by (OfValues t) h = refl
+    by (OfFunctions f) h = absurd (true≢false (sym h))
+    by OfOthers h = absurd (true≢false (sym h))
+
+-- so a value type that is known is what it denotes
+pub known_value : (scope : List TypeTree) (v : ComponentValType) → is_known (value_tree scope v) ≡ true → IsValue scope v (value_tree scope v)
+known_value scope (values.Primitive p) h = refl
+known_value scope (values.Defined index) h = known_denotes scope index h
+
+-- an operand, where it may be one, is what it denotes
+pub operand_is : (scope : List TypeTree) (written : Option ComponentValType) (operand : Option Tree) → operand_in scope written ≡ Some operand → IsOperand scope written operand
+operand_is scope None None h = tt
+operand_is scope None (Some t) h = absurd (none-some t (same_Some None (Some t) h))
+operand_is scope (Some v) operand h =
+    let known : is_known (value_tree scope v) ≡ true = operand_known (value_tree scope v) (ap is_some h) in
+    let same : Some (value_tree scope v) ≡ operand = same_Some (Some (value_tree scope v)) operand (sym (known_operand (value_tree scope v) known) ∙ h) in
+    subst (IsOperand scope (Some v)) same (known_value scope v known)
 
 module _ (P : Reference → Type 0) (scope : List TypeTree) (named : (index : ℕ) → index < length scope → P (own spaces.Type index)) where
   at_index : (index : ℕ) → is_known (tree_at scope index) ≡ true → AllByRecursion P (type_at index)

@@ -1,9 +1,11 @@
 -- What the types of a component denote that are defined one after the other (component model,
 -- explainer: type definitions).
 use Rattle.std.specs.Prelude.{ℕ, ◌≡◌, ◌<◌, List, [], ◌∷◌, ◌++◌, length, get_or}
+use Rattle.comp_bytes.specs.declared.types.ComponentValType.{ComponentValType}
+use Rattle.comp_bytes.specs.declared.types.ComponentValType.TheVariants as values
 use Rattle.comp_bytes.specs.declared.types.TypeDef.{TypeDef}
 use Rattle.comp_bytes.specs.declared.types.TypeDef.TheVariants as types
-use Rattle.comp_trees.specs.Trees.{Resource, ResourceAt}
+use Rattle.comp_trees.specs.Trees.{Tree, PrimitiveOf, Resource, ResourceAt}
 use Rattle.comp_trees.specs.DefinedTrees.{TypeTree, OfValues, OfFunctions, OfOthers, defined_tree, function_tree}
 
 -- what the definition of a type makes, and which resource, if it makes one
@@ -22,3 +24,8 @@ type_trees resource_of scope (t ∷ ts) = type_trees resource_of (scope ++ type_
 pub record Denotes (scope : List TypeTree) (index : ℕ) (t : TypeTree) : Type 0 where
   pub within : index < length scope
   pub tree : get_or scope index OfOthers ≡ t
+
+-- the value type is this: a primitive one, or one of the types of the scope
+abbrev pub IsValue : List TypeTree → ComponentValType → Tree → Type 0
+IsValue scope (values.Primitive p) t = PrimitiveOf p ≡ t
+IsValue scope (values.Defined index) t = Denotes scope index (OfValues t)

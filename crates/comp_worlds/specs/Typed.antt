@@ -8,8 +8,8 @@ use Rattle.wit_data.specs.Keys.{is_same_key}
 use Rattle.wit_data.specs.declared.worlds.World.{World}
 use Rattle.wit_data.specs.declared.resolve.Resolve.{Resolve}
 use Rattle.wit_data.specs.declared.functions.Function.{Function}
-use Rattle.wit_data.specs.declared.functions.AbiVariant.TheVariants.{GuestExport}
-use Rattle.wit_data.specs.Signatures.{signature}
+use Rattle.wit_data.specs.declared.functions.AbiVariant.TheVariants.{GuestImport, GuestExport}
+use Rattle.wit_data.specs.Signatures.{signature, returning}
 use Rattle.built_ins.specs.BuiltIns.{plain_import_type}
 use Rattle.comp_roles.specs.CoreImports.{role_at}
 use Rattle.comp_roles.specs.CoreTypes.{function_type, value_type, called_type}
@@ -36,6 +36,15 @@ drop_type = externs.Func (function_type (I32 ∷ []) [])
 -- the type of `resource.rep` and `resource.new`: a handle and the representation of a resource are numbers
 abbrev pub handle_type : ExternType
 handle_type = externs.Func (function_type (I32 ∷ []) (I32 ∷ []))
+
+-- the type of a wait, of a set of waitables, which writes at an address, and returns the kind of the event; and of making
+-- an error context, of a text at an address, with a length
+abbrev pub wait_type : ExternType
+wait_type = externs.Func (function_type (I32 ∷ I32 ∷ []) (I32 ∷ []))
+
+-- the type of reading the debug message of an error context, which writes at an address where it is
+abbrev pub message_type : ExternType
+message_type = externs.Func (function_type (I32 ∷ I32 ∷ []) [])
 
 -- the type of a realloc: the old address, the old size, the alignment and the new size; the new address
 abbrev pub realloc_type : ExternType
@@ -67,6 +76,11 @@ type_of_import r items (imports.ImportedResourceDrop key interface id) = Some dr
 type_of_import r items (imports.ExportedResourceDrop key id) = Some drop_type
 type_of_import r items (imports.ExportedResourceRep key id) = Some handle_type
 type_of_import r items (imports.ExportedResourceNew key id) = Some handle_type
+type_of_import r items (imports.ExportedTaskReturn key interface f) = Some (called_type r GuestImport (returning f))
+type_of_import r items imports.WaitableSetWait = Some wait_type
+type_of_import r items imports.WaitableSetPoll = Some wait_type
+type_of_import r items (imports.ErrorContextNew encoding) = Some wait_type
+type_of_import r items (imports.ErrorContextDebugMessage encoding) = Some message_type
 type_of_import r items (imports.MainModuleMemory type) = Some (externs.Memory type)
 type_of_import r items (imports.AdapterExport adapter name type) = Some (externs.Func type)
 type_of_import r items role = option_map externs.Func (plain_import_type role)

@@ -1,8 +1,9 @@
 -- What holds of a validated world (component model: the imports and exports of a world; core standard, binary format:
 -- the preamble of a module).
-use Rattle.std.specs.Prelude.{◌≡◌, ◌<◌, ◌==◌, ℕ, true, false, List, [], ◌∷◌, Some, map, length, Contains, IsSome}
+use Rattle.std.specs.Prelude.{◌≡◌, ◌<◌, ◌==◌, ℕ, true, false, List, [], ◌∷◌, Option, Some, map, length, Contains, IsSome}
 use Rattle.std.specs.List.{IsDistinct, AllByRecursion, list_any, flat_map}
 use Rattle.std.specs.Map.{keys_of}
+use Rattle.std.specs.Option.{option_and_then}
 use Rattle.std.specs.Str.{bytes_eq}
 use Rattle.core_types.specs.Core.{IsCoreModule}
 use Rattle.wit_data.specs.declared.functions.Function.{Function}
@@ -29,12 +30,13 @@ use Rattle.comp_worlds.specs.declared.world.ComponentWorld.{ComponentWorld}
 use Rattle.comp_worlds.specs.declared.world.ValidatedModule.{ValidatedModule}
 use Rattle.world_values.specs.ExportForms.{IsExportForm, IsFormed}
 use Rattle.world_values.specs.Items.{functions_of, functions_in}
+use Rattle.world_values.specs.Mentions.{interface_in}
 use Rattle.comp_worlds.specs.Lookups.{found_module}
 use Rattle.comp_worlds.specs.Lowerings.{IsImportForm}
 use Rattle.comp_worlds.specs.Offered.{OffersItem, NamedOffers, AdapterOffers, MemoryMatches}
 use Rattle.comp_worlds.specs.Typed.{FitsImport, FitsExport}
 use Rattle.comp_worlds.specs.Uses.{imports_of}
-use Rattle.comp_worlds.specs.WorldContents.{items_of, imported_functions, exported_functions, exported_item, core_name_in, interface_at, keys_required}
+use Rattle.comp_worlds.specs.WorldContents.{items_of, imported_functions, exported_functions, exported_item, function_exported, core_name_in, interface_at, keys_required}
 
 -- a function under its name
 abbrev pub IsNamedFunction : List ℕ × Function → Type 0
@@ -79,10 +81,17 @@ pub record IsOwnResource (w : ComponentWorld) (key : WorldKey) (id : TypeId) : T
   pub exported : exported_item w key ≡ Some (items.Interface interface)
   pub required : Contains (keys_required w) key
 
+-- the function is what the world exports at a key: at its root, or in this interface, which a user
+-- module has to export there
+pub record IsOwnFunction (w : ComponentWorld) (key : WorldKey) (interface : Option InterfaceId) (f : Function) : Type 0 where
+  pub exported : function_exported w key f.name ≡ Some f
+  pub of : option_and_then interface_in (exported_item w key) ≡ interface
+  pub required : IsSome interface → Contains (keys_required w) key
+
 -- the role of an import is a function that the world imports, at its root or in an interface,
 -- called in either form, the drop of a resource, `resource.drop`, `resource.rep` or `resource.new`
--- of a resource of an exported interface, main's memory, what main or an adapter offers, an item of
--- an argument of a library, a built-in function without operands, or a function of the thread-local base
+-- of a resource of an exported interface, `task.return` of an exported function, a wait, a function of error contexts, main's memory, what main
+-- or an adapter offers, an item of an argument of a library, a built-in function without operands, or a function of the thread-local base
 abbrev pub IsImportRole : ComponentWorld → Import → Type 0
 IsImportRole w (imports.WorldFunc (keys.Name text) function abi) = Contains (imported_functions w) text × (function ≡ text) × IsImportForm abi
 IsImportRole w (imports.InterfaceFunc key id function abi) = Contains (items_of w).imports (key, items.Interface id) × Contains (map (λ e. e.0) (functions_of w.resolve id)) function × IsImportForm abi
@@ -90,6 +99,11 @@ IsImportRole w (imports.ImportedResourceDrop key interface id) = IsResource w.re
 IsImportRole w (imports.ExportedResourceDrop key id) = IsOwnResource w key id
 IsImportRole w (imports.ExportedResourceRep key id) = IsOwnResource w key id
 IsImportRole w (imports.ExportedResourceNew key id) = IsOwnResource w key id
+IsImportRole w (imports.ExportedTaskReturn key interface f) = IsOwnFunction w key interface f
+IsImportRole w imports.WaitableSetWait = Unit {0}
+IsImportRole w imports.WaitableSetPoll = Unit {0}
+IsImportRole w (imports.ErrorContextNew encoding) = Unit {0}
+IsImportRole w (imports.ErrorContextDebugMessage encoding) = Unit {0}
 IsImportRole w (imports.MainModuleMemory type) = MemoryMatches w type
 IsImportRole w (imports.MainModuleExport name kind) = OffersItem w.main name kind
 IsImportRole w (imports.AdapterExport adapter name type) = AdapterOffers w adapter name type

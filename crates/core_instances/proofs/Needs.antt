@@ -5,6 +5,7 @@ use Rattle.std.specs.List.{AllByRecursion}
 use Rattle.std.specs.Option.{option_map, option_or}
 use Rattle.core_types.specs.declared.types.MemoryType.{MemoryType}
 use Rattle.standard_kinds.specs.declared.kinds.StringEncoding.{StringEncoding}
+use Rattle.standard_kinds.specs.declared.kinds.StringEncoding.TheVariants.{UTF8}
 use Rattle.comp_lists.proofs.Lists.{AllByRecursion-contains}
 use Rattle.interface_needs.proofs.Lists.{all_of_each}
 use Rattle.comp_options.specs.Options.{needs}
@@ -17,16 +18,20 @@ use Rattle.comp_worlds.specs.declared.world.ComponentWorld.{ComponentWorld}
 use Rattle.comp_links.specs.Links.{lower_needs, lower_realloc}
 use Rattle.comp_links.specs.Modules.{UserImport, user_imports}
 use Rattle.comp_links.specs.Targets.{UserModule}
-use Rattle.comp_links.specs.Roles.{import_encoding}
+use Rattle.comp_links.specs.Roles.{encoding_in, import_encoding, is_always_shimmed}
 use Rattle.comp_links.specs.Supplied.{IsSuppliedImport}
 use Rattle.shim_plan.specs.Plans.{shim_of}
 use Rattle.shim_plan.specs.declared.kinds.ShimKind.{ShimKind}
-use Rattle.shim_targets.specs.ShimTargets.{kind_of_import, StandsFor, StandsForOne}
+use Rattle.shim_plan.specs.declared.kinds.ShimKind.TheVariants as kinds
+use Rattle.comp_terms.specs.Shimmed.{shim_owner}
+use Rattle.shim_targets.specs.ShimTargets.{which_of, kind_of_import, StandsFor, StandsForOne}
 use Rattle.shim_targets.proofs.ByKind.{for_role}
 use Rattle.shim_targets.proofs.EachShim.{each_stands}
 use Rattle.shim_targets.proofs.FoundShims.{found_shim}
 use Rattle.shim_targets.proofs.GivenShims.{given_shim}
-use Rattle.shim_targets.proofs.NeededShims.{shim_there}
+use Rattle.shim_targets.proofs.NeededShims.{message_there, shim_there}
+use Rattle.shim_targets.proofs.Owners.{import_found, message_of, owner_by_realloc, role_encoded}
+use Rattle.shim_targets.proofs.Users.{import_of}
 use Rattle.shim_targets.proofs.NoOptions.{role_without}
 use Rattle.world_shims.specs.WorldShims.{shims_of}
 use Rattle.core_options.specs.MainOptions.{HasLowerOptions}
@@ -49,20 +54,32 @@ module _ (w : ComponentWorld) (ok : IsEncodable w) (has : AllByRecursion (HasShi
       record { memory = λ h. absurd (true≢false (sym h ∙ e)); realloc = λ h. absurd (true≢false (sym h ∙ none.realloc)) }
 
   -- those of a shim
-  through : shared_memory w ≡ None → (i : UserImport) → Contains (user_imports w) i → needs (lower_needs w i.core.role) 1 ≡ true → (encoding : StringEncoding) → import_encoding w i.of i.core.role ≡ Some encoding → (kind : ShimKind) → kind_of_import i.of i.core.role encoding ≡ Some kind → HasLowerOptions w i
-  through unshared i there e encoding encoded kind is =
-      let s = known (shim_of kind (shims_of w)) (shim_there w ok unshared i there encoding encoded e kind is) in
+  by_shim : (i : UserImport) → Contains (user_imports w) i → (encoding : StringEncoding) → import_encoding w i.of i.core.role ≡ Some encoding → (kind : ShimKind) → kind_of_import i.of i.core.role encoding ≡ Some kind → IsSome (shim_of kind (shims_of w)) → HasLowerOptions w i
+  by_shim i there encoding encoded kind is has_one =
+      let s = known (shim_of kind (shims_of w)) has_one in
       let at = found_shim w ok kind s.0 s.1 in
       let own : kind_of_import i.of i.core.role encoding ≡ Some s.0.kind = is ∙ ap Some (sym at.2) in
       let j : (j : UserImport) × StandsFor w s.0 j = for_role w s.0 i.of i.core.role encoding own (all_at (StandsForOne w) (shims_of w) at.0 s.0 (each_stands w ok) at.1) in
       let given = given_shim w ok i there encoding encoded kind is s.0 s.1 in
-      let same : (j.0.of, j.0.core.role) ≡ (i.of, i.core.role) = same_Some (j.0.of, j.0.core.role) (i.of, i.core.role) (sym j.1.is.of_kind ∙ given.of_kind) in
+      let same : (shim_owner j.0.of j.0.core.role, j.0.core.role) ≡ (shim_owner i.of i.core.role, i.core.role) =
+      same_Some (shim_owner j.0.of j.0.core.role, j.0.core.role) (shim_owner i.of i.core.role, i.core.role) (sym j.1.is.of_kind ∙ given.of_kind) in
       let offered : HasLowerOptions w j.0 = all_at (HasShimOptions w) (shims_of w) at.0 s.0 has at.1 j.0 j.1 in
       record {
         memory = λ h. offered.memory (subst (λ (p : UserModule × Import). IsTrue (needs (lower_needs w p.1) 1)) (sym same) h);
         realloc = λ h.
-            subst (λ (p : UserModule × Import). IsSome (lower_realloc w p.0)) same (offered.realloc (subst (λ (p : UserModule × Import). IsTrue (needs (lower_needs w p.1) 2)) (sym same) h));
+            let asked : IsTrue (needs (lower_needs w j.0.core.role) 2) = subst (λ (p : UserModule × Import). IsTrue (needs (lower_needs w p.1) 2)) (sym same) h in
+            let of : j.0.of ≡ i.of = sym (owner_by_realloc w j.0.of j.0.core.role asked) ∙ (ap (λ (p : UserModule × Import). p.0) same ∙ owner_by_realloc w i.of i.core.role h) in
+            subst (λ (m : UserModule). IsSome (lower_realloc w m)) of (offered.realloc asked);
       }
+
+  through : shared_memory w ≡ None → (i : UserImport) → Contains (user_imports w) i → needs (lower_needs w i.core.role) 1 ≡ true → (encoding : StringEncoding) → import_encoding w i.of i.core.role ≡ Some encoding → (kind : ShimKind) → kind_of_import i.of i.core.role encoding ≡ Some kind → HasLowerOptions w i
+  through unshared i there e encoding encoded kind is = by_shim i there encoding encoded kind is (shim_there w ok unshared i there encoding encoded e kind is)
+
+  -- those of a function that always has one
+  message_one : (i : UserImport) → Contains (user_imports w) i → (encoding : StringEncoding) → i.core.role ≡ imports.ErrorContextDebugMessage encoding → HasLowerOptions w i
+  message_one i there encoding is =
+      by_shim i there encoding (role_encoded w ok i there encoding (λ m. ap (λ (r : Import). encoding_in r m) is)) (kinds.ErrorContextDebugMessage (which_of i.of) encoding) (ap (λ (r : Import). kind_of_import i.of r encoding) is)
+      (message_there w i.of (import_of w i there).world_module.found (import_found w ok i there) i.core (import_of w i there).there encoding is)
 
   -- where main imports no memory
   unshared_one : shared_memory w ≡ None → (of : UserModule) (name field : List ℕ) (role : Import) → Contains (user_imports w) (record { of = of; core = record { module_name = name; field = field; role = role } }) → IsSuppliedImport w of role → (b : Bool) →
@@ -76,17 +93,36 @@ module _ (w : ComponentWorld) (ok : IsEncodable w) (has : AllByRecursion (HasShi
       let i : UserImport = record { of = of; core = record { module_name = name; field = field; role = imports.InterfaceFunc key id function abi } } in
       let n = known (import_encoding w of i.core.role) (encoded.encoding refl) in
       through unshared i there e n.0 n.1 _ refl
+  unshared_one unshared of name field (imports.ExportedTaskReturn key interface f) there encoded true e =
+      let i : UserImport = record { of = of; core = record { module_name = name; field = field; role = imports.ExportedTaskReturn key interface f } } in
+      let n = known (import_encoding w of i.core.role) (encoded.encoding refl) in
+      through unshared i there e n.0 n.1 _ refl
+  unshared_one unshared of name field imports.WaitableSetWait there encoded true e =
+      let i : UserImport = record { of = of; core = record { module_name = name; field = field; role = imports.WaitableSetWait } } in
+      through unshared i there e UTF8 (role_encoded w ok i there UTF8 (λ m. refl)) _ refl
+  unshared_one unshared of name field imports.WaitableSetPoll there encoded true e =
+      let i : UserImport = record { of = of; core = record { module_name = name; field = field; role = imports.WaitableSetPoll } } in
+      through unshared i there e UTF8 (role_encoded w ok i there UTF8 (λ m. refl)) _ refl
+  unshared_one unshared of name field (imports.ErrorContextNew own) there encoded true e =
+      let i : UserImport = record { of = of; core = record { module_name = name; field = field; role = imports.ErrorContextNew own } } in
+      through unshared i there e own (role_encoded w ok i there own (λ m. refl)) _ refl
+  unshared_one unshared of name field (imports.ErrorContextDebugMessage own) there encoded true e =
+      message_one (record { of = of; core = record { module_name = name; field = field; role = imports.ErrorContextDebugMessage own } }) there own refl
   unshared_one unshared of name field role there encoded true e = absurd (true≢false (sym e))
 
   -- where main imports its memory, that is there, and so is the realloc with which the function was lowered
   one : (i : UserImport) → Contains (user_imports w) i → IsSuppliedImport w i.of i.core.role → HasLowerOptions w i
   one i there supplied = by (shared_memory w) refl
     where
+      asked : IsSome (shared_memory w) → (b : Bool) → is_always_shimmed i.core.role ≡ b → IsTrue (needs (lower_needs w i.core.role) 2) → IsSome (lower_realloc w i.of)
+      asked shared true is h = let m = message_of i.core.role is in (message_one i there m.0 m.1).realloc h
+      asked shared false apart h = supplied.realloc shared apart h
+
       by : (o : Option MemoryType) → shared_memory w ≡ o → HasLowerOptions w i
       by None e = unshared_one e i.of i.core.module_name i.core.field i.core.role there supplied (needs (lower_needs w i.core.role) 1) refl
       by (Some type) e = record {
         memory = λ h. ap is_some (ap (λ o. option_or o (option_map (λ m. m.1) (first_memory w.main.exports.exports))) e);
-        realloc = supplied.realloc (ap is_some e);
+        realloc = asked (ap is_some e) (is_always_shimmed i.core.role) refl;
       }
 
 pub all_lowered : (w : ComponentWorld) → IsEncodable w → AllByRecursion (HasShimOptions w) (shims_of w) → AllByRecursion (λ (i : UserImport). IsSuppliedImport w i.of i.core.role) (user_imports w) → AllByRecursion (HasLowerOptions w) (user_imports w)

@@ -493,6 +493,7 @@ own_sources {w} {s} {met} {old} {new} {maps} {instances} g h own user functions 
       tables = k.tables;
       passed = k.passed;
       exports = k.exports;
+      ordered = k.ordered;
     }
 
 -- ---- main's instance

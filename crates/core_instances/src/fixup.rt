@@ -1,12 +1,12 @@
 //! The fixup, which puts lowerings behind the shims, and initializes main.
-#![tactic(auto, using(comp_items::proofs::Extending::extends_none, comp_items::proofs::Extending::extends_same, comp_items::proofs::Extending::extends_then))]
+#![tactic(auto, using(comp_items::proofs::Extending::extends_none, comp_items::proofs::Extending::extends_same, comp_items::proofs::Extending::extends_then, main_fixup::proofs::Filled::kept_as_is, main_fixup::proofs::Filled::kept_added))]
 
 ghost use Rattle.std.specs.Prelude.{◌≡◌, IfErr, OnOk};
 ghost use Rattle.std.specs.List.{AllByRecursion};
-ghost use Rattle.comp_items.specs.Items.{Extends};
 ghost use Rattle.core_instances.specs.Instances.{MayAddFixup, IsFixupNext};
 ghost use Rattle.core_options.specs.Causes.{IsCause};
 ghost use Rattle.main_fixup.specs.Filling.{AreFillSources, HasShimOptions};
+ghost use Rattle.root_imports.specs.Keeping.{RootKept};
 ghost use Rattle.world_shims.specs.WorldShims.{shims_of};
 
 use comp_worlds::ComponentWorld;
@@ -31,8 +31,7 @@ pub(crate) fn encode_indirect_lowerings(
         root.old.items.defs root.old.maps root.old.instances }
     requires shims { shims.now ≡ shims_of root.old.world.now }
     requires next { IsFixupNext root.old.world.now root.old.items.defs shim_instance }
-    ensures same { root.new ≡ record root.old { items = root.new.items } }
-    ensures extends { Extends root.old.items root.new.items }
+    ensures kept { RootKept root.old.world.now root.old root.new }
     ensures added { OnOk result
         (MayAddFixup root.old.world.now debug_names root.old.items.defs root.new.items.defs) }
     ensures offered { OnOk result

@@ -1,5 +1,5 @@
 //! The instances of the user modules: main's, and then those of the adapters in order.
-#![tactic(auto, using(comp_items::proofs::Extending::extends_none, comp_items::proofs::Extending::extends_same, comp_items::proofs::Extending::extends_then))]
+#![tactic(auto, using(comp_items::proofs::Extending::extends_none, comp_items::proofs::Extending::extends_same, comp_items::proofs::Extending::extends_then, main_instance::proofs::Growth::kept_as_is, main_instance::proofs::Growth::kept_added))]
 
 ghost use Rattle.std.specs.Prelude.{◌≡◌, ◌<◌, ◌+◌, ◌^◌, [], ◌∷◌, IfOk, IfErr, OnOk, Some};
 ghost use Rattle.std.specs.List.{AllByRecursion};
@@ -19,6 +19,7 @@ ghost use Rattle.core_instances.specs.Instances.{HasUserModules, IsMainUser, IsS
 ghost use Rattle.core_options.specs.Causes.{IsCause};
 ghost use Rattle.core_options.specs.MainOptions.{user_of, AreUserInstances, IsMemoryIf};
 ghost use Rattle.main_instance.specs.Sources.{AreSources, shared_export};
+ghost use Rattle.root_imports.specs.Keeping.{RootKept};
 ghost use Rattle.root_imports.specs.RootScopes.{IsRefusal};
 
 use byte_encoding::BuildFault;
@@ -97,8 +98,7 @@ fn instantiate_user(
     requires sources { AreSources root.old.world.now sources.now root.old.met root.old.items.defs
         root.old.maps root.old.instances }
     requires there { sources.now.user.number < items_in spaces.CoreModule root.old.items.defs }
-    ensures same { root.new ≡ record root.old { items = root.new.items } }
-    ensures extends { Extends root.old.items root.new.items }
+    ensures kept { RootKept root.old.world.now root.old root.new }
     ensures grows { OnOk result (Grows root.old.world.now root.old.items.defs root.new.items.defs
         (InstanceOf sources.now.user.number ∷ [])) }
     ensures made { IfOk result
@@ -156,8 +156,7 @@ fn instantiate_main(
         root.old.maps root.old.instances }
     requires main { IsMainUser root.old.world.now sources.now.user }
     requires there { HasUserModules root.old.world.now root.old.items.defs }
-    ensures same { root.new ≡ record root.old { items = root.new.items } }
-    ensures extends { Extends root.old.items root.new.items }
+    ensures kept { RootKept root.old.world.now root.old root.new }
     ensures grows { OnOk result
         (Grows root.old.world.now root.old.items.defs root.new.items.defs (InstanceOf 0 ∷ [])) }
     ensures made { IfOk result (λ main. IsInstanceOf root.new.items.defs main.index 0) }
@@ -185,8 +184,7 @@ fn instantiate_adapters(
     requires made { IsInstanceOf root.old.items.defs main.index 0 }
     requires memory { IsMemoryIf root.old.items.defs (main_memory root.old.world.now) main.memory }
     requires there { HasUserModules root.old.world.now root.old.items.defs }
-    ensures same { root.new ≡ record root.old { items = root.new.items } }
-    ensures extends { Extends root.old.items root.new.items }
+    ensures kept { RootKept root.old.world.now root.old root.new }
     ensures all { IfOk result
         (AllAdapters root.old.world.now root.old.items.defs root.new.items.defs) }
     ensures cause { IfErr result (IsCause root.old.world.now) }
@@ -233,8 +231,7 @@ pub(crate) fn instantiate_users(
         root.old.maps root.old.instances }
     requires main { IsMainUser root.old.world.now sources.now.user }
     requires there { HasUserModules root.old.world.now root.old.items.defs }
-    ensures same { root.new ≡ record root.old { items = root.new.items } }
-    ensures extends { Extends root.old.items root.new.items }
+    ensures kept { RootKept root.old.world.now root.old root.new }
     ensures grows { OnOk result (Grows root.old.world.now root.old.items.defs root.new.items.defs
         (users_marked root.old.world.now)) }
     ensures made { IfOk result (AreUserInstances root.old.world.now root.new.items.defs) }

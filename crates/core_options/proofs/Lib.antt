@@ -4,3 +4,5 @@ pub mod OptionTerms
 pub mod Aliases
 pub mod Memories
 pub mod Reallocs
+pub mod Returning
+pub mod MemoryFunctions

@@ -4,7 +4,7 @@
 -- base, which one cell has to hold, where an adapter is instantiated before one that it names, where
 -- an interface is exported before one that it uses, and where a count passes 32 bits (core standard,
 -- binary format: vectors).
-use Rattle.std.specs.Prelude.{◌≡◌, ◌≤◌, ◌^◌, ◌⊎◌, ◌++◌, ℕ, true, codes, List, Option, Some, None, is_some, if◌then◌else◌, Contains, IsSome, IsTrue}
+use Rattle.std.specs.Prelude.{◌≡◌, ◌≤◌, ◌^◌, ◌⊎◌, ◌&&◌, ℕ, true, List, Option, Some, None, is_some, not, if◌then◌else◌, Contains, IsSome, IsTrue}
 use Rattle.std.specs.List.{AllByRecursion}
 use Rattle.comp_roles.specs.CoreImports.{CoreImport}
 use Rattle.comp_worlds.specs.Absent.{absent_adapter}
@@ -28,11 +28,12 @@ use Rattle.comp_options.specs.OptionLists.{lacks_memory, lacks_realloc}
 use Rattle.comp_options.specs.declared.required.OptionFault.{OptionFault}
 use Rattle.comp_options.specs.declared.required.OptionFault.TheVariants as missing
 use Rattle.comp_links.specs.Targets.{ExportRef}
+use Rattle.comp_terms.specs.Shimmed.{shim_name}
 use Rattle.comp_links.specs.Modules.{UserImport, user_imports}
 use Rattle.comp_links.specs.Lists.{RequiredFunction, required_functions}
 use Rattle.comp_links.specs.Links.{lower_needs, lower_realloc, lift_needs, lift_realloc}
 use Rattle.core_options.specs.MainOptions.{HasLowerOptions, HasLiftOptions}
-use Rattle.comp_links.specs.Roles.{needs_encoding, import_encoding, is_main_memory, export_encoding, field_path}
+use Rattle.comp_links.specs.Roles.{needs_encoding, import_encoding, is_always_shimmed, is_main_memory, export_encoding, field_path}
 use Rattle.comp_links.specs.Supplied.{IsSuppliedImport}
 
 -- a fault of the builder, as one of the state
@@ -60,16 +61,13 @@ pub record LacksExportEncoding (w : ComponentWorld) (functions : List RequiredFu
   pub none : export_encoding w required.of required.key required.function ≡ None
   pub at : place ≡ required.function
 
--- the name of the shim of a core import
-abbrev pub indirect_name : CoreImport → List ℕ
-indirect_name i = codes "indirect-" ++ (i.module_name ++ (codes "-" ++ i.field))
-
--- what names the lowering of a core import in faults: the import, where main imports its memory, so
--- that the function is lowered before main is instantiated; else its shim
+-- what names the function that a core import calls with options in faults: the import, where main
+-- imports its memory, so that the function is made before main is instantiated, unless it has a
+-- shim always; else its shim
 abbrev pub lowering_place : ComponentWorld → CoreImport → List ℕ
-lowering_place w i = if is_some (shared_memory w) then field_path i.module_name i.field else indirect_name i
+lowering_place w i = if not (is_always_shimmed i.role) && is_some (shared_memory w) then field_path i.module_name i.field else shim_name i i.role
 
--- one of these core imports is lowered with an option of this bit
+-- one of these core imports is lowered, or returns, with an option of this bit
 pub record NeedsLowering (w : ComponentWorld) (bit : ℕ) (imports : List UserImport) (place : List ℕ) : Type 0 where
   pub given : UserImport
   pub present : Contains imports given

@@ -6,7 +6,11 @@ use denote.Ref.{Bor}
 use Rattle.standard_kinds.specs.declared.kinds.ExportKind.TheVariants as kinds
 use Rattle.comp_lists.specs.Found.{found}
 use Rattle.comp_bytes.specs.declared.canon.CanonicalOption.{CanonicalOption}
+use Rattle.comp_bytes.specs.declared.canon.Intrinsic.{Intrinsic}
+use Rattle.comp_bytes.specs.declared.canon.Intrinsic.TheVariants as intrinsics
 use Rattle.comp_bytes.specs.declared.def.Def.{Def}
+use Rattle.comp_bytes.specs.declared.space.Space.TheVariants as spaces
+use Rattle.wit_data.specs.declared.types.Type.{«Type» as Ty}
 use Rattle.core_types.specs.declared.types.FuncType.{FuncType}
 use Rattle.core_types.specs.declared.types.MemoryType.{MemoryType}
 use Rattle.comp_options.specs.Options.{needs, memory_bit, realloc_bit}
@@ -18,13 +22,18 @@ use Rattle.comp_worlds.specs.Lookups.{module_name}
 use Rattle.comp_worlds.specs.Offered.{memory_of_main}
 use Rattle.comp_worlds.specs.declared.modules.CustomModule.{CustomModule}
 use Rattle.comp_worlds.specs.declared.modules.CustomModule.TheVariants as named
-use Rattle.comp_links.specs.Targets.{UserModule as User, Main, Adapter, ExportRef, WorldFunction, TargetOption}
+use Rattle.comp_links.specs.Targets.{UserModule as User, Main, Adapter, ExportRef, WorldFunction, TargetOption, NoType, operand_if_any, BuiltIn}
 use Rattle.comp_links.specs.Modules.{WorldModule, user_modules, module_found, UserImport}
 use Rattle.comp_links.specs.Lists.{IsOriginOf, RequiredFunction}
 use Rattle.comp_trees.specs.Trees.{Origin, FunctionTree}
-use Rattle.comp_links.specs.Links.{lower_needs, lower_realloc, lift_needs, lift_realloc}
+use Rattle.comp_links.specs.Links.{task_return, set_wait, set_poll, error_new, error_message, options_in, lower_needs, lower_realloc, lift_needs, lift_realloc}
 use Rattle.comp_terms.specs.Terms.{CoreExport, TermOption, IsImportedFunction, IsInstanceOf, IsExported, IsOption}
-use Rattle.comp_terms.specs.Planned.{IsTypeOf, IsExportFor, memory_from, main_memory, IsReallocFor, IsOptionFor}
+use Rattle.comp_terms.specs.Planned.{IsItemFor, IsTypeOf, IsExportFor, memory_from, main_memory, IsReallocFor, IsOptionFor}
+use Rattle.shim_plan.specs.Needed.{function_options, function_encoding}
+use Rattle.shim_plan.specs.declared.memory_functions.MemoryFunction.{MemoryFunction}
+use Rattle.shim_plan.specs.declared.memory_functions.MemoryFunction.TheVariants as functions
+use Rattle.core_options.specs.declared.fault.StateFault.{StateFault}
+use Rattle.core_options.specs.declared.fault.StateFault.TheVariants as faults
 use Rattle.core_options.specs.declared.modules.UserModule.{UserModule}
 use Rattle.core_options.specs.declared.modules.InstanceExport.{InstanceExport}
 use Rattle.core_options.specs.declared.modules.UserInstances.{UserInstances}
@@ -160,3 +169,39 @@ pub record HasLiftOptions (w : ComponentWorld) (r : RequiredFunction) : Type 0 w
 pub record HasLowerOptions (w : ComponentWorld) (i : UserImport) : Type 0 where
   pub memory : IsTrue (needs (lower_needs w i.core.role) memory_bit) → IsSome (memory_of_main w.main)
   pub realloc : IsTrue (needs (lower_needs w i.core.role) realloc_bit) → IsSome (lower_realloc w i.of)
+
+-- ---- returns
+
+-- the core function of this index returns a result of this type, with these options
+abbrev pub IsReturn : ComponentWorld → List Def → Option Ty → List TargetOption → ℕ → Type 0
+IsReturn w ds result options index = IsItemFor w ds spaces.CoreFunc index (BuiltIn task_return (operand_if_any result) options)
+
+-- ---- waits and error contexts
+
+-- a built-in function that works on a memory, by its name
+abbrev pub function_name : MemoryFunction → Intrinsic
+function_name functions.Wait = set_wait
+function_name functions.Poll = set_poll
+function_name (functions.NewError encoding) = error_new
+function_name (functions.ErrorMessage encoding) = error_message
+
+-- with this memory, where it waits, and else with these options
+abbrev pub intrinsic_for : MemoryFunction → ℕ → List CanonicalOption → Intrinsic
+intrinsic_for functions.Wait memory options = intrinsics.WaitableSetWait memory
+intrinsic_for functions.Poll memory options = intrinsics.WaitableSetPoll memory
+intrinsic_for (functions.NewError encoding) memory options = intrinsics.ErrorContextNew options
+intrinsic_for (functions.ErrorMessage encoding) memory options = intrinsics.ErrorContextDebugMessage options
+
+-- the options that it has by the link table, with this realloc
+abbrev pub function_wanted : MemoryFunction → Option ExportRef → List TargetOption
+function_wanted function realloc = options_in (function_options function).0 realloc (Some (function_encoding function))
+
+-- the core function of this index is it, with these options
+abbrev pub IsMemoryFunction : ComponentWorld → List Def → MemoryFunction → List TargetOption → ℕ → Type 0
+IsMemoryFunction w ds function options index = IsItemFor w ds spaces.CoreFunc index (BuiltIn (function_name function) NoType options)
+
+-- the cause of a fault where a memory is asked for under this name
+abbrev pub IsNoMemory : Option ℕ → List ℕ → StateFault → Type 0
+IsNoMemory memory name faults.Memory = Unit {0}
+IsNoMemory memory name (faults.NoMemory place) = (memory ≡ None) × (place ≡ name)
+IsNoMemory memory name fault = ⊥

@@ -7,18 +7,23 @@
 //!
 //! In reading order: `fault` (why a step is refused), `modules` (user modules, and aliases of what
 //! their instances export), `made` (which adapters have to be instantiated before another one),
-//! `options` (the options of a function).
+//! `options` (the options of a function), `returns` (`task.return`, with its options),
+//! `memory_functions` (waits, and functions of error contexts, with theirs).
 #![tactic(auto)]
 
 mod fault;
 mod made;
+mod memory_functions;
 mod modules;
 mod options;
+mod returns;
 
 pub use fault::StateFault;
 pub use made::check_made;
+pub use memory_functions::{memory_for, memory_function};
 pub use modules::{
     InstanceExport, UserInstances, UserModule, alias_if, alias_of, export_realloc_of,
     import_realloc_of,
 };
 pub use options::{OptionSources, encoding_of, exported_memory, list_options, options_for};
+pub use returns::return_from;

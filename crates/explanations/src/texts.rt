@@ -1,8 +1,8 @@
 //! What codes mean, and what to do. `tests/docs.py --write` writes this file, after docs/ERRORS.md.
 
 pub(crate) const E1: &str = "\
-    E1: out of memory, wherever in `new`, `record` or `explain`; or before the program's own\n\
-    arguments were read.\n\
+    E1: out of memory, wherever in `new`, `record`, `links` or `explain`; or before the\n\
+    program's own arguments were read.\n\
     Example: `E1 Memory`\n\
     What to do: about two copies of the module have to fit in memory.\n";
 
@@ -27,13 +27,16 @@ pub(crate) const E6: &str = "\
     slot 1 for the base, say so by `context-slot-1`.\n";
 
 pub(crate) const E7: &str = "\
-    E7: a function is lowered or lifted with a memory, or an adapter or a library imports\n\
-    main's memory, and main neither imports nor exports one that has the role `memory`. For an\n\
-    imported function `place` is the name of its shim, `indirect-MODULE-FIELD` with the module\n\
-    and field of the core import; for an exported one it is the function's name; for an\n\
-    imported memory it is `MODULE::FIELD`. A function needs a memory where it has a string or\n\
-    a list in a parameter or its result, more than 16 core values as parameters, or more than\n\
-    one as the result.\n\
+    E7: a function is lowered or lifted with a memory, or its `task.return` needs one, or a\n\
+    module imports a wait, a poll or a function of error contexts, or an adapter or a library\n\
+    imports main's memory, and main neither imports nor exports one that has the role\n\
+    `memory`. For an imported function `place` is the name of its shim,\n\
+    `indirect-MODULE-FIELD` with the module and field of the core import; for a `task.return`\n\
+    it is `task-return-FUNCTION`; for the others of these `waitable-set.wait`,\n\
+    `waitable-set.poll`, `error-new` and `error-debug-message`; for an exported one it is the\n\
+    function's name; for an imported memory it is `MODULE::FIELD`. A function needs a memory\n\
+    where it has a string or a list in a parameter or its result, more than 16 core values as\n\
+    parameters, or more than one as the result.\n\
     Example: `E7 NoMemory place=\"indirect-$root-log\"`, `E7 NoMemory place=\"g\"`, `E7 NoMemory\n\
     place=\"env::memory\"`\n\
     What to do: export a memory from main, and give it the role `memory`.\n";
@@ -42,9 +45,10 @@ pub(crate) const E8: &str = "\
     E8: a call needs a realloc that its module doesn't export. Imports take the export with\n\
     the role `import-realloc`, or else `realloc`; exports `export-realloc`, or else `realloc`;\n\
     a library that has none takes main's `realloc`. An import needs it for a string or a list\n\
-    in its result, an export for one in a parameter, or for more than 16 core values as\n\
-    parameters. `place` is as for E7, but `MODULE::FIELD` of the import where main imports its\n\
-    memory, since it has no shim then.\n\
+    in its result, or where it reads the debug message of an error context, an export for one\n\
+    in a parameter, or for more than 16 core values as parameters. `place` is as for E7, but\n\
+    `MODULE::FIELD` of the import where main imports its memory, since it has no shim then; a\n\
+    debug message has one there too.\n\
     Example: `E8 NoRealloc place=\"indirect-a:b/i-f\"`, `E8 NoRealloc place=\"g\"`\n\
     What to do: export a realloc, and give it its role.\n";
 
@@ -138,7 +142,7 @@ pub(crate) const P7: &str = "\
 pub(crate) const P8: &str = "\
     P8: something that can't be encoded yet, by its kind, or a type that passes a limit;\n\
     docs/ERRORS.md lists the kinds.\n\
-    Example: `P8 LeftOut what=\"task-return\"`\n\
+    Example: `P8 LeftOut what=\"stream-new\"`\n\
     What to do: leave it out of the world, or wait.\n";
 
 pub(crate) const P9: &str = "\

@@ -22,9 +22,9 @@ use Rattle.core_types.specs.declared.types.ValType.{ValType}
 use Rattle.core_types.specs.declared.types.ValType.TheVariants as types
 use Rattle.core_types.specs.contracts.types.MemoryTypePartialEq.TheImpl as same_memory
 use Rattle.wit_data.specs.Keys.{is_same_key}
-use Rattle.wit_data.specs.Signatures.{signature}
+use Rattle.wit_data.specs.Signatures.{signature, returning as called_with}
 use Rattle.wit_data.specs.declared.functions.AbiVariant.{AbiVariant}
-use Rattle.wit_data.specs.declared.functions.AbiVariant.TheVariants.{GuestExport}
+use Rattle.wit_data.specs.declared.functions.AbiVariant.TheVariants.{GuestImport, GuestExport}
 use Rattle.wit_data.specs.declared.functions.Function.{Function}
 use Rattle.wit_data.specs.declared.resolve.Resolve.{Resolve}
 use Rattle.wit_data.specs.declared.signatures.WasmSignature.{WasmSignature}
@@ -129,9 +129,13 @@ calling_back = record { params = numbers.I32 ∷ numbers.I32 ∷ numbers.I32 ∷
 abbrev initializing : WasmSignature
 initializing = record { params = []; results = []; indirect_params = false; retptr = false }
 
--- `waitable.join` takes a waitable and a set
+-- `waitable.join` takes a waitable and a set, and reading a debug message an error context and an address
 abbrev joining : WasmSignature
 joining = record { params = numbers.I32 ∷ numbers.I32 ∷ []; results = []; indirect_params = false; retptr = false }
+
+-- a wait takes a set and an address, and making an error context an address and a length
+abbrev waiting : WasmSignature
+waiting = record { params = numbers.I32 ∷ numbers.I32 ∷ []; results = numbers.I32 ∷ []; indirect_params = false; retptr = false }
 
 -- what returns a set or the contents of a slot, and what sets a slot
 abbrev getting : WasmType → WasmSignature
@@ -189,6 +193,11 @@ module _ (r : Resolve) (present : 0 < length r.worlds) (core : CoreModule) where
   import_typed (imports.ExportedResourceDrop key id) e ty fits is = entity_of core e dropping fits ∙ is
   import_typed (imports.ExportedResourceRep key id) e ty fits is = entity_of core e handling fits ∙ is
   import_typed (imports.ExportedResourceNew key id) e ty fits is = entity_of core e handling fits ∙ is
+  import_typed (imports.ExportedTaskReturn key interface f) e ty fits is = entity_of core e (signature GuestImport r.types (called_with f)) fits ∙ is
+  import_typed imports.WaitableSetWait e ty fits is = entity_of core e waiting fits ∙ is
+  import_typed imports.WaitableSetPoll e ty fits is = entity_of core e waiting fits ∙ is
+  import_typed (imports.ErrorContextNew encoding) e ty fits is = entity_of core e waiting fits ∙ is
+  import_typed (imports.ErrorContextDebugMessage encoding) e ty fits is = entity_of core e joining fits ∙ is
   import_typed (imports.MainModuleMemory type) e ty fits is = memory_typed core e type fits ∙ is
   import_typed (imports.AdapterExport adapter name type) e ty fits is = function_is (extern_type core e) type fits ∙ is
   import_typed imports.ExportedTaskCancel e ty fits is = entity_of core e initializing fits ∙ is

@@ -18,3 +18,4 @@ pub mod RootItems
 pub mod Usable
 pub mod OwnResources
 pub mod InterfaceTypes
+pub mod OwnFunctions

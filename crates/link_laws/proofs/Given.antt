@@ -13,6 +13,9 @@ use Rattle.comp_lists.proofs.Lookups.{some_of}
 use Rattle.comp_lists.proofs.Lists.{AllZip-at, AllZip-weaker, there}
 use Rattle.comp_bytes.specs.Spaces.{kind_space, is_space, space_of, items_in}
 use Rattle.comp_bytes.specs.ItemIndices.{in_space, IsAt}
+use Rattle.comp_bytes.specs.Parts.{Parts, parts_of, parts_of_type}
+use Rattle.comp_bytes.specs.declared.types.ComponentValType.{ComponentValType}
+use Rattle.comp_bytes.specs.declared.types.ComponentValType.TheVariants as values
 use Rattle.core_types.specs.declared.types.FuncType.{FuncType}
 use Rattle.core_types.specs.declared.types.ValType.{ValType}
 use Rattle.core_types.specs.declared.types.MemoryType.{MemoryType}
@@ -23,7 +26,6 @@ use Rattle.comp_bytes.specs.declared.space.Space.TheVariants as spaces
 use Rattle.standard_kinds.specs.declared.kinds.ExportKind.{ExportKind}
 use Rattle.standard_kinds.specs.declared.kinds.ExportKind.TheVariants as kinds
 use Rattle.comp_bytes.specs.declared.types.Member.{Member}
-use Rattle.built_ins.specs.BuiltIns.{plain_type}
 use Rattle.comp_bytes.specs.declared.canon.Intrinsic.{Intrinsic}
 use Rattle.comp_bytes.specs.declared.canon.CanonicalOption.{CanonicalOption}
 use Rattle.comp_bytes.specs.declared.canon.CanonicalOption.TheVariants as options
@@ -31,18 +33,19 @@ use Rattle.standard_kinds.specs.declared.kinds.StringEncoding.{StringEncoding}
 use Rattle.comp_bytes.specs.declared.def.Item.TheVariants as items
 use Rattle.comp_bytes.specs.declared.def.Def.{Def}
 use Rattle.comp_bytes.specs.declared.def.Def.TheVariants as defs
-use Rattle.comp_trees.specs.Trees.{Origin, Resource, ResourceAt, FunctionTree}
-use Rattle.comp_trees.specs.DefinedTrees.{TypeTree, OfValues, OfFunctions}
+use Rattle.comp_trees.specs.Trees.{Tree, Origin, Resource, ResourceAt, FunctionTree}
+use Rattle.comp_trees.specs.DefinedTrees.{TypeTree, OfValues, OfFunctions, values_of}
+use Rattle.comp_trees.specs.Operands.{IsOperand}
 use Rattle.comp_trees.specs.DefinedScopes.{Denotes}
 use Rattle.comp_inventories.specs.Inventories.{TypeEntry, OfInstances, FunctionEntry, InstanceEntry, entry_tree, no_function, inventory, scope_of}
 use Rattle.comp_worlds.specs.Bases.{cell_type}
 use Rattle.comp_worlds.specs.declared.world.ComponentWorld.{ComponentWorld}
-use Rattle.comp_runs.specs.Store.{Thing, Export, HeldOption, HeldEncoding, HeldMemory, HeldRealloc, HeldPostReturn, HeldAsync, HeldCallback, Lowering, ExportedBy, Function, Imported, Lifting, TypeItem, TreeOf, tree_held, ModuleInstance, Store}
+use Rattle.comp_runs.specs.Store.{Thing, Export, HeldOption, HeldEncoding, HeldMemory, HeldRealloc, HeldPostReturn, HeldAsync, HeldCallback, Lowering, IntrinsicOf, ExportedBy, Function, Imported, Lifting, TypeItem, TreeOf, item_tree, tree_held, ModuleInstance, Store}
 use Rattle.comp_roles.specs.Matching.{kind_of}
 use Rattle.comp_roles.specs.declared.offered.ExternType.{ExternType}
 use Rattle.comp_roles.specs.declared.offered.ExternType.TheVariants as externs
 use Rattle.wit_data.specs.declared.ids.TypeId.{TypeId}
-use Rattle.comp_links.specs.Targets.{WorldFunction, ExportRef, TargetOption, Lowered, ExportOf, MainMemory, Unlinked, OfResource, BuiltIn, TlsGet, TlsSet, ResourceFunction, New, Rep, Drop, Lifted, Target}
+use Rattle.comp_links.specs.Targets.{WorldFunction, ExportRef, TargetOption, Lowered, ExportOf, MainMemory, Unlinked, OfResource, BuiltIn, TlsGet, TlsSet, ResourceFunction, Operand, operand_tree, Lifted, Target}
 use Rattle.comp_links.specs.Targets as targets
 use Rattle.comp_links.specs.Modules.{WorldModule, user_modules}
 use Rattle.comp_links.specs.Lists.{IsOriginOf, resource_of}
@@ -57,20 +60,20 @@ use Rattle.link_laws.specs.Composition.{at_root, item_instantiates}
 use Rattle.comp_terms.proofs.HasShims.{has_by_place, has_by_memory, has_by_cell}
 use Rattle.comp_terms.specs.Generated.{has_shim_module, shims_number, number_behind, fixup_number}
 use Rattle.comp_worlds.specs.Offered.{shared_memory}
-use Rattle.comp_terms.specs.Terms.{CoreExport, TermOption, Term, Is, IsFunctionType, IsImportedFunction, IsInstanceOf, IsExported, IsOption, IsLowering, IsOfResource, intrinsic_of, IsBuiltIn, IsLifting}
+use Rattle.comp_terms.specs.Terms.{CoreExport, TermOption, Term, Is, IsFunctionType, IsImportedFunction, IsInstanceOf, IsExported, IsOption, IsResource, IsLowering, IsOfResource, intrinsic_of, IsLifting}
 use Rattle.comp_terms.specs.Terms as terms
 use Rattle.comp_terms.specs.Planned.{IsExportFor, memory_from, IsMemoryFor, IsShimPlace, shim_export, cell_export, IsReallocFor, IsOptionFor, IsTypeOf, IsTermFor, IsItemFor, IsShimFor, IsLiftFor}
 use Rattle.comp_runs.specs.Machine.{Scope, address_at, is_of, export_named, export_in, export_of}
 use Rattle.comp_runs.specs.Instances.{type_space, type_at}
-use Rattle.comp_runs.specs.Signatures.{core_signature}
+use Rattle.comp_runs.specs.Signatures.{core_signature, intrinsic_signature}
 use Rattle.instance_laws.specs.Instantiated.{IsHeldAs, AreHeldAs}
 use Rattle.instance_laws.specs.InstanceEntries.{IsInstanceType, IsInstanceEntry}
 use Rattle.instance_laws.proofs.Held.{trees_of_held, held_of_entries, IsTypeThere, type_there as held_at, item_of_functions}
 use Rattle.link_laws.proofs.Zips.{AllZip-filter, AllZip-back, mapped_some, filter-both, found-zip, found-each}
 use Rattle.link_laws.proofs.BaseRoles.{NeedsCell}
 use Rattle.link_laws.proofs.Plain.{named_main}
-use Rattle.link_laws.proofs.BuiltIns.{plain_item}
-use Rattle.link_laws.proofs.Stores.{IsOpaqueOf, IsUserItem, IsUserExport, IsUserInstance, ShimsAt, exports_of_shims, AreModuleExports, IsModuleInstance, NamesUser, IsLoweredItem, IsTypeAt, IsResourceItem, IsLiftedItem, IsAliasedItem, DefIs, Means, makes, IsTypeEntry, entry_of, IsFunctionEntry, IsInstanceThing, IsLoweredFor, IsFunctionOf, IsPlainItem, IsBuiltInAt, IsCellGetter, IsCellSetter, ItemIs, IsFunctionExported, IsItemTyped, IsItemExported, IsServedAs, IsServedIn, main_module, IsShimGivenAt, IsShimGiven, MayHaveShims, AreShims, IsMemoryExported, IsTypeOfMemory, IsMemoryOfMain, IsShimExported, IsReallocHeld, HasSharedMemory, IsHeldOption, IsOptionHeld, IsCoreExportAt, IsLiftedFrom, Agrees}
+use Rattle.link_laws.proofs.BuiltIns.{resource_signature, resource_parts}
+use Rattle.link_laws.proofs.Stores.{IsOpaqueOf, IsUserItem, IsUserExport, IsUserInstance, ShimsAt, exports_of_shims, AreModuleExports, IsModuleInstance, NamesUser, IsLoweredItem, IsTypeAt, IsHeldOperand, IsIntrinsicItem, IsLiftedItem, IsAliasedItem, DefIs, Means, makes, IsTypeEntry, entry_of, IsFunctionEntry, IsInstanceThing, IsLoweredFor, IsFunctionOf, IsBuiltInAt, IsCellGetter, IsCellSetter, IsFunctionExported, IsItemTyped, IsItemExported, IsServedAs, IsServedIn, main_module, IsShimGivenAt, IsShimGiven, MayHaveShims, AreShims, IsMemoryExported, IsTypeOfMemory, IsMemoryOfMain, IsShimExported, IsReallocHeld, HasSharedMemory, IsHeldOption, IsOptionHeld, IsCoreExportAt, IsLiftedFrom, Agrees}
 
 makes-space : (space : Space) (d : Def) → is_space space (space_of d) ≡ true → makes d ≡ true
 makes-space space d e = by (space_of d) e
@@ -352,26 +355,43 @@ module _ {w : ComponentWorld} {earlier : List Def} {c : Scope} {s : Store} {g : 
       let x = function_there index (record { origin = Some origin; type = OfFunctions type }) h.is in
       (x.0, x.1, x.2.present ∙ ap (λ (f : Function). Some f) (imported_of_entry x.2.function origin type x.2.same))
 
-  -- the item of a function of a resource's handles
-  resource_item_there : (function : ResourceFunction) {index type : ℕ} → IsAt earlier spaces.CoreFunc index (defs.Item (items.Intrinsic (intrinsic_of function type))) →
-      (x : ℕ) × (address_at spaces.CoreFunc index c.items ≡ Some x) × IsResourceItem c.items s function type x
-  resource_item_there New made = thing_there made
-  resource_item_there Rep made = thing_there made
-  resource_item_there Drop made = thing_there made
+  -- the item of an intrinsic
+  intrinsic_there : {index : ℕ} (i : Intrinsic) → IsAt earlier spaces.CoreFunc index (defs.Item (items.Intrinsic i)) → (x : ℕ) × (address_at spaces.CoreFunc index c.items ≡ Some x) × IsIntrinsicItem c.items s (parts_of i) x
+  intrinsic_there i made = thing_there made
+
+  -- what its operand is held as, it denotes
+  operand_there : (written : Option ComponentValType) (held operand : Option Tree) → IsHeldOperand c.items s written held → IsOperand (scope_of earlier) written operand → held ≡ operand
+  operand_there None None None h of = refl
+  operand_there (Some (values.Primitive p)) (Some t) (Some u) h of = ap (λ (x : Tree). Some x) (sym h ∙ of)
+  operand_there (Some (values.Defined index)) (Some t) (Some u) h of =
+      let x : (x : ℕ) × (address_at spaces.Type index c.items ≡ Some x) × IsHeldAs s.types (OfValues u) x = held_there of in
+      let at : x.0 ≡ h.address = same_Some x.0 h.address (sym x.1 ∙ h.at) in
+      let here : IsHeldAs s.types (OfValues u) h.address = subst (IsHeldAs s.types (OfValues u)) at x.2 in
+      let item : h.is.item ≡ here.item = same_Some h.is.item here.item (sym h.is.present ∙ here.present) in
+      ap (λ (t : TypeTree). Some (values_of t)) (sym h.is.denotes ∙ (ap item_tree item ∙ here.denotes))
+  operand_there None None (Some u) h of = absurd of
+  operand_there None (Some t) operand h of = absurd h
+  operand_there (Some (values.Primitive p)) None operand h of = absurd h
+  operand_there (Some (values.Defined index)) None operand h of = absurd h
+  operand_there (Some v) (Some t) None h of = absurd of
+
+  -- so a function of a resource's handles is of that resource
+  of_resource_at : (function : ResourceFunction) (type : ℕ) (resource : Resource) (x : ℕ) → IsIntrinsicItem c.items s (parts_of_type (intrinsic_of function 0) type) x → IsResource earlier type resource → IsFunctionOf s x function resource
+  of_resource_at function type resource x h of =
+      let operand : h.operand ≡ Some (ResourceAt resource) = operand_there (Some (values.Defined type)) h.operand (Some (ResourceAt resource)) h.of of.denotes in
+      let name : Intrinsic = intrinsic_of function 0 in
+      let is : IsOpaqueOf s x (intrinsic_signature name (Some (ResourceAt resource))) (IntrinsicOf name (Some (ResourceAt resource)) []) =
+      subst (λ (o : Option Tree). IsOpaqueOf s x (intrinsic_signature name o) (IntrinsicOf name o [])) operand (subst (λ (os : List HeldOption). IsOpaqueOf s x (intrinsic_signature name h.operand) (IntrinsicOf name h.operand os)) (none_held h.held h.with_options) h.is) in
+      record { is = subst (λ (t : FuncType). IsOpaqueOf s x t (IntrinsicOf name (Some (ResourceAt resource)) [])) (resource_signature function (Some (ResourceAt resource))) is }
+    where
+      none_held : (held : List HeldOption) → AllZip (IsHeldOption c.items) [] held → held ≡ []
+      none_held [] h = refl
+      none_held (o ∷ os) h = absurd h
 
   pub of_resource_there : {index : ℕ} {function : ResourceFunction} {resource : Resource} → IsOfResource earlier index function resource → (x : ℕ) × (address_at spaces.CoreFunc index c.items ≡ Some x) × IsFunctionOf s x function resource
   of_resource_there {index} {function} {resource} h =
-      let l : (x : ℕ) × (address_at spaces.CoreFunc index c.items ≡ Some x) × IsResourceItem c.items s function h.type x = resource_item_there function h.made in
-      let t : (x : ℕ) × (address_at spaces.Type h.type c.items ≡ Some x) × IsHeldAs s.types (OfValues (ResourceAt resource)) x = held_there h.of.denotes in
-      let same : t.0 ≡ l.2.of = same_Some t.0 l.2.of (sym t.1 ∙ l.2.at) in
-      (l.0, l.1, record { of = l.2.of; is = l.2.is; held = subst (IsHeldAs s.types (OfValues (ResourceAt resource))) same t.2 })
-
-  -- a built-in function without operands
-  pub built_in_at : {index : ℕ} {intrinsic : Intrinsic} → IsBuiltIn earlier index intrinsic → (x : ℕ) × (address_at spaces.CoreFunc index c.items ≡ Some x) × IsBuiltInAt s x intrinsic
-  built_in_at {index} {intrinsic} h =
-      let l : (x : ℕ) × (address_at spaces.CoreFunc index c.items ≡ Some x) × ItemIs w a.shims earlier c.items s (items.Intrinsic intrinsic) x = thing_there h.made in
-      let t : (t : FuncType) × (plain_type intrinsic ≡ Some t) = some_of (plain_type intrinsic) h.plain in
-      (l.0, l.1, record { type = t.0; typed = t.1; is = subst (λ o. IsPlainItem s intrinsic o l.0) t.1 (plain_item w a.shims earlier c.items s intrinsic l.0 l.2) })
+      let l : (x : ℕ) × (address_at spaces.CoreFunc index c.items ≡ Some x) × IsIntrinsicItem c.items s (parts_of (intrinsic_of function h.type)) x = intrinsic_there (intrinsic_of function h.type) h.made in
+      (l.0, l.1, of_resource_at function h.type resource l.0 (subst (λ (p : Parts). IsIntrinsicItem c.items s p l.0) (resource_parts function h.type) l.2) h.of)
 
   -- the instance of a module, and of a user module
   pub module_there : {index number : ℕ} → IsInstanceOf earlier index number → (x : ℕ) × (address_at spaces.CoreInstance index c.items ≡ Some x) × IsModuleInstance w a.shims s number x
@@ -770,12 +790,23 @@ module _ {w : ComponentWorld} {earlier : List Def} {c : Scope} {s : Store} {g : 
       (l.0, l.1, subst (λ f. IsFunctionOf s l.0 f (resource_of w id)) asked.0 (subst (IsFunctionOf s l.0 same) asked.1 l.2))
   resource_function_there index function id term is asked = absurd asked
 
-  built_in_there : (index : ℕ) (intrinsic : Intrinsic) (term : Term) → Is earlier spaces.CoreFunc index term → IsTermFor w (BuiltIn intrinsic) term →
-      (x : ℕ) × (address_at spaces.CoreFunc index c.items ≡ Some x) × IsBuiltInAt s x intrinsic
-  built_in_there index intrinsic (terms.BuiltIn same) is asked =
-      let l : (x : ℕ) × (address_at spaces.CoreFunc index c.items ≡ Some x) × IsBuiltInAt s x same = built_in_at is in
-      (l.0, l.1, subst (IsBuiltInAt s l.0) asked l.2)
-  built_in_there index intrinsic term is asked = absurd asked
+  built_in_there : (index : ℕ) (name : Intrinsic) (operand : Operand) (options : List TargetOption) (term : Term) → Is earlier spaces.CoreFunc index term → IsTermFor w (BuiltIn name operand options) term →
+      (x : ℕ) × (address_at spaces.CoreFunc index c.items ≡ Some x) × IsBuiltInAt w s x name (operand_tree (resource_of w) w.resolve.types operand) options
+  built_in_there index name operand options (terms.BuiltIn same tree written) is asked =
+      let parts : Parts = parts_of is.intrinsic in
+      let l : (x : ℕ) × (address_at spaces.CoreFunc index c.items ≡ Some x) × IsIntrinsicItem c.items s parts x = intrinsic_there is.intrinsic is.made in
+      let denoted : l.2.operand ≡ operand_tree (resource_of w) w.resolve.types operand = operand_there parts.operand l.2.operand tree l.2.of is.of ∙ asked.1 in
+      let named : parts.name ≡ name = is.named ∙ asked.0 in
+      let here : IsOpaqueOf s l.0 (intrinsic_signature name l.2.operand) (IntrinsicOf name l.2.operand l.2.held) = subst (λ (n : Intrinsic). IsOpaqueOf s l.0 (intrinsic_signature n l.2.operand) (IntrinsicOf n l.2.operand l.2.held)) named l.2.is in (
+        l.0,
+        l.1,
+        record {
+          held = l.2.held;
+          with_options = options_there parts.options l.2.held written options l.2.with_options is.with_options asked.2;
+          is = subst (λ (o : Option Tree). IsOpaqueOf s l.0 (intrinsic_signature name o) (IntrinsicOf name o l.2.held)) denoted here;
+        },
+      )
+  built_in_there index name operand options term is asked = absurd asked
 
   getter_target : (index : ℕ) → IsSome (cell_type w) → (term : Term) → Is earlier spaces.CoreFunc index term → IsTermFor w TlsGet term → (x : ℕ) × (address_at spaces.CoreFunc index c.items ≡ Some x) × IsCellGetter w s x
   getter_target index needed (terms.Exported e) is asked =
@@ -814,7 +845,7 @@ module _ {w : ComponentWorld} {earlier : List Def} {c : Scope} {s : Store} {g : 
   pub target_there : (index : ℕ) (target : Target) → NeedsCell w target → IsItemFor w earlier spaces.CoreFunc index target → (x : ℕ) × (address_at spaces.CoreFunc index c.items ≡ Some x) × IsServedAs w s x target
   target_there index (Lowered function options) needed h = lowering_there index function options h.term h.is h.asked
   target_there index (OfResource function id) needed h = resource_function_there index function id h.term h.is h.asked
-  target_there index (BuiltIn intrinsic) needed h = built_in_there index intrinsic h.term h.is h.asked
+  target_there index (BuiltIn name operand options) needed h = built_in_there index name operand options h.term h.is h.asked
   target_there index TlsGet needed h = getter_target index needed h.term h.is h.asked
   target_there index TlsSet needed h = setter_target index needed h.term h.is h.asked
   target_there index (ExportOf export_ref) needed h = export_there index export_ref h.term h.is h.asked
@@ -828,7 +859,7 @@ module _ {w : ComponentWorld} {earlier : List Def} {c : Scope} {s : Store} {g : 
   memory_target_there index MainMemory (terms.Exported e) is asked = memory_exported asked.0 is.1
   memory_target_there index (Lowered function options) (terms.Lowering origin type written) is asked = absurd is
   memory_target_there index (OfResource function id) (terms.OfResource same resource) is asked = absurd is
-  memory_target_there index (BuiltIn intrinsic) (terms.BuiltIn same) is asked = absurd is
+  memory_target_there index (BuiltIn name operand options) (terms.BuiltIn same tree written) is asked = absurd is
   memory_target_there index (Lifted entry options) (terms.Lifting e written type) is asked = absurd is
   memory_target_there index TlsGet (terms.Exported e) is asked = absurd (memory_apart (is.0 ∙ ap (λ (e : CoreExport). kind_space e.kind) asked))
   memory_target_there index TlsSet (terms.Exported e) is asked = absurd (memory_apart (is.0 ∙ ap (λ (e : CoreExport). kind_space e.kind) asked))
@@ -839,7 +870,7 @@ module _ {w : ComponentWorld} {earlier : List Def} {c : Scope} {s : Store} {g : 
   table_target_there index MainMemory (terms.Exported e) is asked = absurd (no_table_memory e.kind asked.1 is.0)
   table_target_there index (Lowered function options) (terms.Lowering origin type written) is asked = absurd is
   table_target_there index (OfResource function id) (terms.OfResource same resource) is asked = absurd is
-  table_target_there index (BuiltIn intrinsic) (terms.BuiltIn same) is asked = absurd is
+  table_target_there index (BuiltIn name operand options) (terms.BuiltIn same tree written) is asked = absurd is
   table_target_there index (Lifted entry options) (terms.Lifting e written type) is asked = absurd is
   table_target_there index TlsGet (terms.Exported e) is asked = absurd (table_apart (is.0 ∙ ap (λ (e : CoreExport). kind_space e.kind) asked))
   table_target_there index TlsSet (terms.Exported e) is asked = absurd (table_apart (is.0 ∙ ap (λ (e : CoreExport). kind_space e.kind) asked))
@@ -850,7 +881,7 @@ module _ {w : ComponentWorld} {earlier : List Def} {c : Scope} {s : Store} {g : 
   global_target_there index MainMemory (terms.Exported e) is asked = absurd (no_global_memory e.kind asked.1 is.0)
   global_target_there index (Lowered function options) (terms.Lowering origin type written) is asked = absurd is
   global_target_there index (OfResource function id) (terms.OfResource same resource) is asked = absurd is
-  global_target_there index (BuiltIn intrinsic) (terms.BuiltIn same) is asked = absurd is
+  global_target_there index (BuiltIn name operand options) (terms.BuiltIn same tree written) is asked = absurd is
   global_target_there index (Lifted entry options) (terms.Lifting e written type) is asked = absurd is
   global_target_there index TlsGet (terms.Exported e) is asked = absurd (global_apart (is.0 ∙ ap (λ (e : CoreExport). kind_space e.kind) asked))
   global_target_there index TlsSet (terms.Exported e) is asked = absurd (global_apart (is.0 ∙ ap (λ (e : CoreExport). kind_space e.kind) asked))

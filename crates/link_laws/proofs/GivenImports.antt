@@ -1,15 +1,16 @@
 -- What the arguments of a user module's instantiation are, and what its imports find among them.
-use Rattle.std.proofs.Common.{◌≡◌, ◌∙◌, inl, inr, ℕ, List, [], ◌∷◌, map, refl, sym, ap, subst, Option, Some, None, true, false, true≢false, IsTrue, Contains}
+use Rattle.std.proofs.Common.{◌≡◌, ◌∙◌, inl, inr, ℕ, List, [], ◌∷◌, map, refl, sym, ap, subst, Option, Some, None, true, false, true≢false, is_some, IsSome, IsTrue, Contains}
 use Rattle.standard_kinds.specs.declared.kinds.StringEncoding.{StringEncoding}
 use Rattle.std.proofs.lemmas.Option.{same_Some, none-some}
 use Rattle.std.specs.List.{AllZip, AllByRecursion}
 use Rattle.std.specs.Option.{option_map, option_map_or, option_and_then}
 use Rattle.comp_lists.specs.Found.{found}
 use Rattle.comp_lists.proofs.Lists.{AllZip-weaker}
-use Rattle.built_ins.proofs.Typed.{usable_too}
+use Rattle.built_ins.proofs.Typed.{usable_too, plain_typed}
 use Rattle.built_ins.specs.BuiltIns.{plain_intrinsic, plain_type, plain_import_type}
 use Rattle.comp_bytes.specs.Spaces.{kind_space}
 use Rattle.comp_bytes.specs.declared.canon.Intrinsic.{Intrinsic}
+use Rattle.comp_bytes.specs.declared.canon.Intrinsic.TheVariants as intrinsics
 use Rattle.core_types.specs.declared.types.FuncType.{FuncType}
 use Rattle.core_types.specs.declared.types.ValType.{ValType}
 use Rattle.core_runs.specs.Bodies.{tls_get, tls_set}
@@ -21,12 +22,15 @@ use Rattle.standard_kinds.specs.declared.kinds.ExportKind.{ExportKind}
 use Rattle.comp_bytes.specs.declared.def.CoreArgument.{CoreArgument}
 use Rattle.comp_bytes.specs.declared.def.CoreInlineExport.{CoreInlineExport}
 use Rattle.comp_bytes.specs.declared.def.Def.{Def}
+use Rattle.wit_data.specs.declared.worlds.WorldKey.{WorldKey}
 use Rattle.wit_data.specs.declared.worlds.WorldKey.TheVariants as keys
+use Rattle.wit_data.specs.declared.types.Type.{«Type» as Ty}
 use Rattle.wit_data.specs.declared.functions.AbiVariant.{AbiVariant}
+use Rattle.wit_data.specs.declared.functions.AbiVariant.TheVariants.{GuestImport}
 use Rattle.wit_data.specs.declared.functions.Function.{Function}
 use Rattle.wit_data.specs.declared.ids.InterfaceId.{InterfaceId}
-use Rattle.wit_data.specs.Signatures.{signature}
-use Rattle.comp_trees.specs.Trees.{Resource}
+use Rattle.wit_data.specs.Signatures.{signature, returning}
+use Rattle.comp_trees.specs.Trees.{Resource, ResourceAt, Tree}
 use Rattle.world_values.specs.Items.{functions_of, root_function_at}
 use Rattle.comp_roles.specs.CoreImports.{fields_of}
 use Rattle.comp_roles.specs.CoreTypes.{called_type, core_type}
@@ -35,8 +39,8 @@ use Rattle.comp_worlds.proofs.Matched.{matched_function}
 use Rattle.comp_options.specs.Options.{import_set}
 use Rattle.comp_worlds.specs.Bases.{base_of_role}
 use Rattle.comp_worlds.specs.Lowerings.{IsImportForm}
-use Rattle.comp_worlds.specs.Typed.{drop_type, handle_type, type_of_import, FitsRole, FitsInstance}
-use Rattle.comp_worlds.specs.WorldContents.{items_of}
+use Rattle.comp_worlds.specs.Typed.{drop_type, handle_type, wait_type, message_type, type_of_import, FitsRole, FitsInstance}
+use Rattle.comp_worlds.specs.WorldContents.{function_exported, items_of}
 use Rattle.comp_worlds.specs.Worlds.{IsWorld, IsImportRole, IsImportGroup}
 use Rattle.comp_roles.specs.declared.imports.Import.{Import}
 use Rattle.comp_roles.specs.declared.imports.Import.TheVariants as imports
@@ -49,23 +53,24 @@ use Rattle.comp_runs.specs.Store.{Thing, Export, CoreItem, Lowering, IntrinsicOf
 use Rattle.comp_roles.specs.declared.offered.ExternType.{ExternType}
 use Rattle.comp_roles.specs.declared.offered.ExternType.TheVariants as externs
 use Rattle.comp_roles.specs.declared.offered.ImportType.{ImportType}
-use Rattle.comp_links.specs.Targets.{UserModule, Main, Adapter, ExportRef, WorldFunction, TargetOption, Target, OfRoot, OfInterface, Lowered, ResourceFunction, New, Rep, Drop, ExportOf, Unlinked}
+use Rattle.comp_links.specs.Targets.{UserModule, Main, Adapter, ExportRef, WorldFunction, TargetOption, Target, OfRoot, OfInterface, Lowered, BuiltIn, Operand, NoType, operand_if_any, operand_tree, ResourceFunction, New, Rep, Drop, ExportOf, Unlinked}
 use Rattle.comp_links.specs.Modules.{WorldModule, user_modules, IsModule, function_imported}
 use Rattle.comp_links.specs.Roles.{import_encoding}
 use Rattle.comp_links.specs.Lists.{resource_of}
-use Rattle.comp_links.specs.Links.{options_in, lower_realloc, lower_options, link_of_intrinsic, link_of, link_in, link_at, module_of}
+use Rattle.comp_links.specs.Links.{options_in, lower_realloc, lower_options, link_of_intrinsic, link_of, link_in, link_at, module_of, task_return, set_wait, set_poll, error_new, error_message}
 use Rattle.shim_plan.specs.declared.kinds.ShimKind.{ShimKind}
 use Rattle.shim_plan.specs.declared.kinds.ShimKind.TheVariants as shim_kinds
 use Rattle.shim_plan.specs.declared.shims.Shim.{Shim}
 use Rattle.world_shims.specs.WorldShims.{type_of_shim}
-use Rattle.comp_terms.specs.Generated.{interface_imported, role_of_kind, export_of_kind, IsShimOf, Purpose, OfImport, OfExport, target_of, HasPurpose}
+use Rattle.comp_terms.specs.Generated.{interface_imported, export_key, returning_at, role_of_kind, export_of_kind, IsShimOf, Purpose, OfImport, OfExport, target_of, HasPurpose}
 use Rattle.comp_terms.specs.Terms.{intrinsic_of}
 use Rattle.comp_terms.specs.Shimmed.{has_shim, has_shim_in, has_shim_at}
-use Rattle.comp_terms.specs.Planned.{IsItemFor, IsShimFor, IsOwnShim, IsGivenFor, IsEntryFor, IsArgumentFor}
+use Rattle.comp_terms.specs.Planned.{type_of_function, IsItemFor, IsShimFor, IsOwnShim, IsGivenFor, IsEntryFor, IsArgumentFor}
 use Rattle.comp_runs.specs.Machine.{Scope, Machine, address_at, all_some, export_named}
 use Rattle.comp_runs.specs.Instances.{given_to, type_space}
-use Rattle.comp_runs.specs.Signatures.{form_of, core_signature}
+use Rattle.comp_runs.specs.Signatures.{form_of, core_signature, intrinsic_signature, returned}
 use Rattle.comp_runs.specs.Running.{core_argument}
+use Rattle.link_laws.proofs.BuiltIns.{plain_signature}
 use Rattle.link_laws.proofs.Zips.{all_some-zip, found-zip, mapped_some}
 use Rattle.comp_worlds.proofs.Roles.{bound_some}
 use Rattle.link_laws.proofs.BaseRoles.{IsAgreed, IsAgreedGroup, NeedsCell, getter_fits, setter_fits, cell_of_role, cell_needed, no_cell}
@@ -82,22 +87,23 @@ use Rattle.link_laws.proofs.Stores.{IsOpaqueOf, IsLoweredFor, IsItemTyped, IsUse
 resource_opaque : (s : Store) (address : ℕ) (function : ResourceFunction) (resource : Resource) (type : FuncType) → Some (externs.Func (resource_core function)) ≡ Some (externs.Func type) → IsFunctionOf s address function resource →
     (item : CoreItem) × IsOpaqueOf s address type item
 resource_opaque s address function resource type fits h =
-    let item : CoreItem = IntrinsicOf (intrinsic_of function h.of) in
+    let item : CoreItem = IntrinsicOf (intrinsic_of function 0) (Some (ResourceAt resource)) [] in
     (item, subst (λ t. IsOpaqueOf s address t item) (ap (function_type_in type) (same_Some (externs.Func (resource_core function)) (externs.Func type) fits)) h.is)
 
 -- so is a built-in function without operands, where slot 1 can be used is given the same
-intrinsic_opaque : (s : Store) (address : ℕ) (i : Intrinsic) (usable : Option Intrinsic) (type : FuncType) → usable ≡ Some i → option_map externs.Func (option_and_then plain_type usable) ≡ Some (externs.Func type) → IsBuiltInAt s address i →
-    (item : CoreItem) × IsOpaqueOf s address type item
-intrinsic_opaque s address i usable type same fits h =
+intrinsic_opaque : (w : ComponentWorld) (s : Store) (address : ℕ) (i : Intrinsic) (usable : Option Intrinsic) (type : FuncType) → usable ≡ Some i → option_map externs.Func (option_and_then plain_type usable) ≡ Some (externs.Func type) →
+    IsBuiltInAt w s address i None [] → (item : CoreItem) × IsOpaqueOf s address type item
+intrinsic_opaque w s address i usable type same fits h =
     let asked : option_map externs.Func (plain_type i) ≡ Some (externs.Func type) = ap (λ o. option_map externs.Func (option_and_then plain_type o)) (sym same) ∙ fits in
-    let typed : externs.Func h.type ≡ externs.Func type = same_Some (externs.Func h.type) (externs.Func type) (sym (ap (option_map externs.Func) h.typed) ∙ asked) in
-    (IntrinsicOf i, subst (λ t. IsOpaqueOf s address t (IntrinsicOf i)) (ap (function_type_in type) typed) h.is)
+    let x : (t : FuncType) × (plain_type i ≡ Some t) × (externs.Func t ≡ externs.Func type) = mapped_some externs.Func (plain_type i) (externs.Func type) asked in
+    let typed : intrinsic_signature i None ≡ type = plain_signature i None x.0 x.1 ∙ ap (function_type_in type) x.2 in
+    (IntrinsicOf i None h.held, subst (λ t. IsOpaqueOf s address t (IntrinsicOf i None h.held)) typed h.is)
 
 -- where the role has one, and is none of a base
 built_in_opaque : (w : ComponentWorld) (s : Store) (address : ℕ) (role : Import) (o usable : Option Intrinsic) (type : FuncType) → base_of_role role ≡ None → ((i : Intrinsic) → o ≡ Some i → usable ≡ Some i) →
     option_map externs.Func (option_and_then plain_type usable) ≡ Some (externs.Func type) → IsServedAs w s address (link_of_intrinsic role o) → (item : CoreItem) × IsOpaqueOf s address type item
 built_in_opaque w s address role None usable type none same fits h = let no : IsServedAs w s address Unlinked = subst (IsServedAs w s address) (no_cell role none) h in absurd no
-built_in_opaque w s address role (Some i) usable type none same fits h = intrinsic_opaque s address i usable type (same i refl) fits h
+built_in_opaque w s address role (Some i) usable type none same fits h = intrinsic_opaque w s address i usable type (same i refl) fits h
 
 -- neither it nor a function of the cell is a table, a memory or a global
 no_table : (w : ComponentWorld) (s : Store) (address : ℕ) (role : Import) (o : Option Intrinsic) → IsServedIn w s spaces.CoreTable address (link_of_intrinsic role o) → ⊥
@@ -138,55 +144,109 @@ called_opaque w s address function abi form type realloc encoding fits h =
     let typed : externs.Func (core_signature h.type h.held) ≡ externs.Func type = lowered_type w h.type h.typed.wit h.held h.typed.typed ∙ (ap (λ (a : AbiVariant). called_type w.resolve a h.typed.wit) same ∙ asked) in
     (Lowering h.lowered.of h.held, subst (λ t. IsOpaqueOf s address t (Lowering h.lowered.of h.held)) (ap (function_type_in type) typed) h.lowered.is)
 
+-- the core type of a return is that of a function of the result
+returned_tree : (w : ComponentWorld) (f : Function) → returned (operand_tree (resource_of w) w.resolve.types (operand_if_any f.result)) ≡ type_of_function w (returning f)
+returned_tree w f = by f.result refl
+  where
+    by : (o : Option Ty) → f.result ≡ o → returned (operand_tree (resource_of w) w.resolve.types (operand_if_any o)) ≡ type_of_function w (returning (record f { result = o }))
+    by None is = refl
+    by (Some ty) is = refl
+
+returned_type : (w : ComponentWorld) (f : Function) → externs.Func (intrinsic_signature task_return (operand_tree (resource_of w) w.resolve.types (operand_if_any f.result))) ≡ called_type w.resolve GuestImport (returning f)
+returned_type w f = lowered_type w (returned (operand_tree (resource_of w) w.resolve.types (operand_if_any f.result))) (returning f) [] (returned_tree w f)
+
+return_opaque : (w : ComponentWorld) (s : Store) (address : ℕ) (f : Function) (options : List TargetOption) (type : FuncType) → Some (called_type w.resolve GuestImport (returning f)) ≡ Some (externs.Func type) →
+    IsBuiltInAt w s address task_return (operand_tree (resource_of w) w.resolve.types (operand_if_any f.result)) options → (item : CoreItem) × IsOpaqueOf s address type item
+return_opaque w s address f options type fits h =
+    let tree : Option Tree = operand_tree (resource_of w) w.resolve.types (operand_if_any f.result) in
+    let typed : externs.Func (intrinsic_signature task_return tree) ≡ externs.Func type = returned_type w f ∙ same_Some (called_type w.resolve GuestImport (returning f)) (externs.Func type) fits in
+    (IntrinsicOf task_return tree h.held, subst (λ t. IsOpaqueOf s address t (IntrinsicOf task_return tree h.held)) (ap (function_type_in type) typed) h.is)
+
+-- so is a built-in function of no type, with options
+abbrev wait_core : FuncType
+wait_core = intrinsic_signature set_wait None
+
+abbrev message_core : FuncType
+message_core = intrinsic_signature error_message None
+
+memory_opaque : (w : ComponentWorld) (s : Store) (address : ℕ) (name : Intrinsic) (options : List TargetOption) (type : FuncType) → Some (externs.Func (intrinsic_signature name None)) ≡ Some (externs.Func type) → IsBuiltInAt w s address name None options →
+    (item : CoreItem) × IsOpaqueOf s address type item
+memory_opaque w s address name options type fits h =
+    let typed : externs.Func (intrinsic_signature name None) ≡ externs.Func type = same_Some (externs.Func (intrinsic_signature name None)) (externs.Func type) fits in
+    (IntrinsicOf name None h.held, subst (λ t. IsOpaqueOf s address t (IntrinsicOf name None h.held)) (ap (function_type_in type) typed) h.is)
+
 -- ---- what a shim stands for as an import
 
--- the role of a call of a function of the world
-abbrev IsCall : Import → Type 0
-IsCall (imports.WorldFunc (keys.Name text) function abi) = Unit {0}
-IsCall (imports.InterfaceFunc key id function abi) = Unit {0}
-IsCall role = ⊥
+-- the role of a call of a function of the world, or of a built-in function with options
+abbrev IsThrough : Import → Type 0
+IsThrough (imports.WorldFunc (keys.Name text) function abi) = Unit {0}
+IsThrough (imports.InterfaceFunc key id function abi) = Unit {0}
+IsThrough (imports.ExportedTaskReturn key interface f) = Unit {0}
+IsThrough imports.WaitableSetWait = Unit {0}
+IsThrough imports.WaitableSetPoll = Unit {0}
+IsThrough (imports.ErrorContextNew encoding) = Unit {0}
+IsThrough (imports.ErrorContextDebugMessage encoding) = Unit {0}
+IsThrough role = ⊥
 
--- a shim stands for calls alone, as an import
-shim_calls : (w : ComponentWorld) (shim : Shim) (from : UserModule) (other : Import) → IsShimOf w shim from other → IsCall other
-shim_calls w shim from other h = by shim.kind h.of_kind
+-- a shim stands for these alone, as an import
+shim_through : (w : ComponentWorld) (shim : Shim) (from : UserModule) (other : Import) → IsShimOf w shim from other → IsThrough other
+shim_through w shim from other h = by shim.kind h.of_kind
   where
-    by : (kind : ShimKind) → role_of_kind w kind ≡ Some (from, other) → IsCall other
+    by : (kind : ShimKind) → role_of_kind w kind ≡ Some (from, other) → IsThrough other
     by (shim_kinds.IndirectLowering None f which encoding) k =
-        subst IsCall (ap (λ (x : UserModule × Import). x.1) (same_Some (module_of which, imports.WorldFunc (keys.Name f.name) f.name f.abi) (from, other) k)) tt
+        subst IsThrough (ap (λ (x : UserModule × Import). x.1) (same_Some (module_of which, imports.WorldFunc (keys.Name f.name) f.name f.abi) (from, other) k)) tt
     by (shim_kinds.IndirectLowering (Some key) f which encoding) k = among (interface_imported w key) k
       where
-        among : (o : Option InterfaceId) → option_map {U = UserModule × Import} (λ id. (module_of which, imports.InterfaceFunc key id f.name f.abi)) o ≡ Some (from, other) → IsCall other
+        among : (o : Option InterfaceId) → option_map {U = UserModule × Import} (λ id. (module_of which, imports.InterfaceFunc key id f.name f.abi)) o ≡ Some (from, other) → IsThrough other
         among None k = absurd (none-some (from, other) k)
-        among (Some id) k = subst IsCall (ap (λ (x : UserModule × Import). x.1) (same_Some (module_of which, imports.InterfaceFunc key id f.name f.abi) (from, other) k)) tt
+        among (Some id) k = subst IsThrough (ap (λ (x : UserModule × Import). x.1) (same_Some (module_of which, imports.InterfaceFunc key id f.name f.abi) (from, other) k)) tt
+    by (shim_kinds.TaskReturn interface name result which encoding) k = keyed (export_key w interface name) k
+      where
+        held : (key : WorldKey) (o : Option Function) → option_map {U = UserModule × Import} (λ f. (module_of which, imports.ExportedTaskReturn key interface f)) o ≡ Some (from, other) → IsThrough other
+        held key None k = absurd (none-some (from, other) k)
+        held key (Some f) k = subst IsThrough (ap (λ (x : UserModule × Import). x.1) (same_Some (module_of which, imports.ExportedTaskReturn key interface f) (from, other) k)) tt
+
+        keyed : (o : Option WorldKey) → option_and_then (returning_at w (module_of which) interface name) o ≡ Some (from, other) → IsThrough other
+        keyed None k = absurd (none-some (from, other) k)
+        keyed (Some key) k = held key (function_exported w key name) k
+    by shim_kinds.WaitableSetWait k = subst IsThrough (ap (λ (x : UserModule × Import). x.1) (same_Some (Main, imports.WaitableSetWait) (from, other) k)) tt
+    by shim_kinds.WaitableSetPoll k = subst IsThrough (ap (λ (x : UserModule × Import). x.1) (same_Some (Main, imports.WaitableSetPoll) (from, other) k)) tt
+    by (shim_kinds.ErrorContextNew encoding) k = subst IsThrough (ap (λ (x : UserModule × Import). x.1) (same_Some (Main, imports.ErrorContextNew encoding) (from, other) k)) tt
+    by (shim_kinds.ErrorContextDebugMessage which encoding) k = subst IsThrough (ap (λ (x : UserModule × Import). x.1) (same_Some (module_of which, imports.ErrorContextDebugMessage encoding) (from, other) k)) tt
     by kind k = absurd (none-some (from, other) k)
 
--- a call is lowered
-record IsLoweredTarget (target : Target) : Type 0 where
-  function : WorldFunction
-  options : List TargetOption
-  is : target ≡ Lowered function options
-
-call_lowered : (w : ComponentWorld) (from : UserModule) (other : Import) → IsCall other → IsLoweredTarget (link_of w from other)
-call_lowered w from (imports.WorldFunc (keys.Name text) function abi) call = record { function = OfRoot text; options = lower_options w from (imports.WorldFunc (keys.Name text) function abi); is = refl }
-call_lowered w from (imports.InterfaceFunc key id function abi) call = record { function = OfInterface id function; options = lower_options w from (imports.InterfaceFunc key id function abi); is = refl }
-call_lowered w from other call = absurd call
+-- a call is lowered, and a function with options is the built-in function
+through_target : (P : Target → Type 0) → ((function : WorldFunction) (options : List TargetOption) → P (Lowered function options)) → ((name : Intrinsic) → plain_type name ≡ None → (operand : Operand) (options : List TargetOption) → P (BuiltIn name operand options)) →
+    (w : ComponentWorld) (from : UserModule) (other : Import) → IsThrough other → P (link_of w from other)
+through_target P of_lowered of_built_in w from (imports.WorldFunc (keys.Name text) function abi) h = of_lowered (OfRoot text) (lower_options w from (imports.WorldFunc (keys.Name text) function abi))
+through_target P of_lowered of_built_in w from (imports.InterfaceFunc key id function abi) h = of_lowered (OfInterface id function) (lower_options w from (imports.InterfaceFunc key id function abi))
+through_target P of_lowered of_built_in w from (imports.ExportedTaskReturn key interface f) h = of_built_in task_return refl (operand_if_any f.result) (lower_options w from (imports.ExportedTaskReturn key interface f))
+through_target P of_lowered of_built_in w from imports.WaitableSetWait h = of_built_in set_wait refl NoType (lower_options w from imports.WaitableSetWait)
+through_target P of_lowered of_built_in w from imports.WaitableSetPoll h = of_built_in set_poll refl NoType (lower_options w from imports.WaitableSetPoll)
+through_target P of_lowered of_built_in w from (imports.ErrorContextNew encoding) h = of_built_in error_new refl NoType (lower_options w from (imports.ErrorContextNew encoding))
+through_target P of_lowered of_built_in w from (imports.ErrorContextDebugMessage encoding) h = of_built_in error_message refl NoType (lower_options w from (imports.ErrorContextDebugMessage encoding))
+through_target P of_lowered of_built_in w from other h = absurd h
 
 -- and has no base
-call_no_base : (role : Import) → IsCall role → base_of_role role ≡ None
-call_no_base (imports.WorldFunc (keys.Name text) function abi) call = refl
-call_no_base (imports.InterfaceFunc key id function abi) call = refl
-call_no_base role call = absurd call
+through_no_base : (role : Import) → IsThrough role → base_of_role role ≡ None
+through_no_base (imports.WorldFunc (keys.Name text) function abi) h = refl
+through_no_base (imports.InterfaceFunc key id function abi) h = refl
+through_no_base (imports.ExportedTaskReturn key interface f) h = refl
+through_no_base imports.WaitableSetWait h = refl
+through_no_base imports.WaitableSetPoll h = refl
+through_no_base (imports.ErrorContextNew encoding) h = refl
+through_no_base (imports.ErrorContextDebugMessage encoding) h = refl
+through_no_base role h = absurd h
 
--- so a shim stands for a lowering, or for an export
-pub of_purpose : (P : Target → Type 0) → ((function : WorldFunction) (options : List TargetOption) → P (Lowered function options)) → ((e : ExportRef) → P (ExportOf e)) → (w : ComponentWorld) (shim : Shim) (p : Purpose) → HasPurpose w shim p → P (target_of w p)
-of_purpose P of_lowered of_export w shim (OfImport of role) stands =
-    let lowered : IsLoweredTarget (link_of w of role) = call_lowered w of role (shim_calls w shim of role stands) in
-    subst P (sym lowered.is) (of_lowered lowered.function lowered.options)
-of_purpose P of_lowered of_export w shim (OfExport e) stands = of_export e
+-- so a shim stands for a lowering, for a built-in function, or for an export
+pub of_purpose : (P : Target → Type 0) → ((function : WorldFunction) (options : List TargetOption) → P (Lowered function options)) → ((name : Intrinsic) → plain_type name ≡ None → (operand : Operand) (options : List TargetOption) → P (BuiltIn name operand options)) → ((e : ExportRef) → P (ExportOf e)) →
+    (w : ComponentWorld) (shim : Shim) (p : Purpose) → HasPurpose w shim p → P (target_of w p)
+of_purpose P of_lowered of_built_in of_export w shim (OfImport of role) stands = through_target P of_lowered of_built_in w of role (shim_through w shim of role stands)
+of_purpose P of_lowered of_built_in of_export w shim (OfExport e) stands = of_export e
 
 -- which needs no cell
 pub needs_none : (w : ComponentWorld) (shim : Shim) (p : Purpose) → HasPurpose w shim p → NeedsCell w (target_of w p)
-needs_none w shim p stands = of_purpose (NeedsCell w) (λ function options. tt) (λ e. tt) w shim p stands
+needs_none w shim p stands = of_purpose (NeedsCell w) (λ function options. tt) (λ name with_options operand options. tt) (λ e. tt) w shim p stands
 
 -- ---- what serves a role
 
@@ -202,6 +262,11 @@ module _ (w : ComponentWorld) (ok : IsWorld w) (s : Store) (of : UserModule) whe
   served_opaque address (imports.ExportedResourceDrop key id) type right none fits h = resource_opaque s address Drop (resource_of w id) type fits h
   served_opaque address (imports.ExportedResourceRep key id) type right none fits h = resource_opaque s address Rep (resource_of w id) type fits h
   served_opaque address (imports.ExportedResourceNew key id) type right none fits h = resource_opaque s address New (resource_of w id) type fits h
+  served_opaque address (imports.ExportedTaskReturn key interface f) type right none fits h = return_opaque w s address f (lower_options w of (imports.ExportedTaskReturn key interface f)) type fits h
+  served_opaque address imports.WaitableSetWait type right none fits h = memory_opaque w s address set_wait (lower_options w of imports.WaitableSetWait) type fits h
+  served_opaque address imports.WaitableSetPoll type right none fits h = memory_opaque w s address set_poll (lower_options w of imports.WaitableSetPoll) type fits h
+  served_opaque address (imports.ErrorContextNew encoding) type right none fits h = memory_opaque w s address error_new (lower_options w of (imports.ErrorContextNew encoding)) type fits h
+  served_opaque address (imports.ErrorContextDebugMessage encoding) type right none fits h = memory_opaque w s address error_message (lower_options w of (imports.ErrorContextDebugMessage encoding)) type fits h
   served_opaque address (imports.MainModuleMemory memory) type right none fits h = absurd h
   served_opaque address (imports.MainModuleExport name kind) type right none fits h = absurd (none-some (externs.Func type) fits)
   served_opaque address (imports.Item item) type right none fits h = absurd (none-some (externs.Func type) fits)
@@ -224,7 +289,7 @@ module _ (w : ComponentWorld) (ok : IsWorld w) (s : Store) (globals : List ValTy
   getter_typed : (address : ℕ) (t : ValType) (type : FuncType) (o : Option Intrinsic) → plain_intrinsic w.can_use_context_slot_1 (imports.TlsBaseGet t) ≡ o → IsImportRole w (imports.TlsBaseGet t) → IsAgreed w (imports.TlsBaseGet t) →
       option_map externs.Func (plain_import_type (imports.TlsBaseGet t)) ≡ Some (externs.Func type) → IsServedAs w s address (link_of_intrinsic (imports.TlsBaseGet t) o) → IsFunctionTyped s address type
   getter_typed address t type (Some i) given right agreed fits h =
-      opaque_typed address type (intrinsic_opaque s address i (plain_intrinsic true (imports.TlsBaseGet t)) type (usable_too w.can_use_context_slot_1 (imports.TlsBaseGet t) i given) fits h)
+      opaque_typed address type (intrinsic_opaque w s address i (plain_intrinsic true (imports.TlsBaseGet t)) type (usable_too w.can_use_context_slot_1 (imports.TlsBaseGet t) i given) fits h)
   getter_typed address t type None given right agreed fits h =
       let same : h.type ≡ t = same_Some h.type t (sym h.named ∙ cell_of_role w (imports.TlsBaseGet t) t refl right agreed given) in
       let typed : externs.Func (getter_type t) ≡ externs.Func type = same_Some (externs.Func (getter_type t)) (externs.Func type) (sym (ap (option_map externs.Func) (getter_fits t right)) ∙ fits) in
@@ -233,7 +298,7 @@ module _ (w : ComponentWorld) (ok : IsWorld w) (s : Store) (globals : List ValTy
   setter_typed : (address : ℕ) (t : ValType) (type : FuncType) (o : Option Intrinsic) → plain_intrinsic w.can_use_context_slot_1 (imports.TlsBaseSet t) ≡ o → IsImportRole w (imports.TlsBaseSet t) → IsAgreed w (imports.TlsBaseSet t) →
       option_map externs.Func (plain_import_type (imports.TlsBaseSet t)) ≡ Some (externs.Func type) → IsServedAs w s address (link_of_intrinsic (imports.TlsBaseSet t) o) → IsFunctionTyped s address type
   setter_typed address t type (Some i) given right agreed fits h =
-      opaque_typed address type (intrinsic_opaque s address i (plain_intrinsic true (imports.TlsBaseSet t)) type (usable_too w.can_use_context_slot_1 (imports.TlsBaseSet t) i given) fits h)
+      opaque_typed address type (intrinsic_opaque w s address i (plain_intrinsic true (imports.TlsBaseSet t)) type (usable_too w.can_use_context_slot_1 (imports.TlsBaseSet t) i given) fits h)
   setter_typed address t type None given right agreed fits h =
       let same : h.type ≡ t = same_Some h.type t (sym h.named ∙ cell_of_role w (imports.TlsBaseSet t) t refl right agreed given) in
       let typed : externs.Func (setter_type t) ≡ externs.Func type = same_Some (externs.Func (setter_type t)) (externs.Func type) (sym (ap (option_map externs.Func) (setter_fits t right)) ∙ fits) in
@@ -278,6 +343,16 @@ module _ (w : ComponentWorld) (ok : IsWorld w) (s : Store) (globals : List ValTy
       subst (HasType s globals space address) (same_Some handle_type type fits) (function_typed space address (imports.ExportedResourceRep key id) (resource_core Rep) right agreed refl (λ no. no) (λ no. no) (λ no. no) h)
   role_typed space address (imports.ExportedResourceNew key id) type right agreed fits h =
       subst (HasType s globals space address) (same_Some handle_type type fits) (function_typed space address (imports.ExportedResourceNew key id) (resource_core New) right agreed refl (λ no. no) (λ no. no) (λ no. no) h)
+  role_typed space address (imports.ExportedTaskReturn key interface f) type right agreed fits h =
+      subst (HasType s globals space address) (same_Some (called_type w.resolve GuestImport (returning f)) type fits) (function_typed space address (imports.ExportedTaskReturn key interface f) (core_type (signature GuestImport w.resolve.types (returning f))) right agreed refl (λ no. no) (λ no. no) (λ no. no) h)
+  role_typed space address imports.WaitableSetWait type right agreed fits h =
+      subst (HasType s globals space address) (same_Some wait_type type fits) (function_typed space address imports.WaitableSetWait wait_core right agreed refl (λ no. no) (λ no. no) (λ no. no) h)
+  role_typed space address imports.WaitableSetPoll type right agreed fits h =
+      subst (HasType s globals space address) (same_Some wait_type type fits) (function_typed space address imports.WaitableSetPoll wait_core right agreed refl (λ no. no) (λ no. no) (λ no. no) h)
+  role_typed space address (imports.ErrorContextNew encoding) type right agreed fits h =
+      subst (HasType s globals space address) (same_Some wait_type type fits) (function_typed space address (imports.ErrorContextNew encoding) wait_core right agreed refl (λ no. no) (λ no. no) (λ no. no) h)
+  role_typed space address (imports.ErrorContextDebugMessage encoding) type right agreed fits h =
+      subst (HasType s globals space address) (same_Some message_type type fits) (function_typed space address (imports.ErrorContextDebugMessage encoding) message_core right agreed refl (λ no. no) (λ no. no) (λ no. no) h)
   role_typed space address (imports.MainModuleMemory memory) type right agreed fits h =
       subst (HasType s globals space address) (same_Some (externs.Memory memory) type fits) (main_memory_typed w ok s globals typed space address memory right h)
   role_typed space address (imports.MainModuleExport name kind) type right agreed fits h =
@@ -297,7 +372,7 @@ module _ (w : ComponentWorld) (ok : IsWorld w) (s : Store) (globals : List ValTy
 
 -- what a shim hands on to is opaque, and has the shim's core type
 pub purpose_opaque : (w : ComponentWorld) → IsWorld w → (s : Store) (address : ℕ) (shim : Shim) (p : Purpose) → HasPurpose w shim p → IsServedAs w s address (target_of w p) → (item : CoreItem) × IsOpaqueOf s address (type_of_shim shim) item
-purpose_opaque w ok s address shim (OfImport of role) stands h = served_opaque w ok s of address role (type_of_shim shim) stands.right (call_no_base role (shim_calls w shim of role stands)) stands.typed h
+purpose_opaque w ok s address shim (OfImport of role) stands h = served_opaque w ok s of address role (type_of_shim shim) stands.right (through_no_base role (shim_through w shim of role stands)) stands.typed h
 purpose_opaque w ok s address shim (OfExport e) stands h =
     let exporting : h.of.world_module ≡ stands.exporting = one_module w ok h.number h.of.world_module stands.exporting h.of.listed stands.listed (h.of.same ∙ sym stands.same) in
     let offered : found e.name stands.exporting.found.offered ≡ Some (externs.Func h.type) = subst (λ (o : WorldModule). found e.name o.found.offered ≡ Some (externs.Func h.type)) exporting h.offered in
@@ -320,46 +395,92 @@ one_purpose w shim (OfExport e) (OfExport other) h k = ap OfExport (same_Some e 
 
 -- ---- shims for what imports are given
 
--- what is given the same as a call is called too
-lowered_call : (w : ComponentWorld) (of : UserModule) (role : Import) → IsImportRole w role → (function : WorldFunction) (options : List TargetOption) → link_of w of role ≡ Lowered function options → IsCall role
-lowered_call w of (imports.WorldFunc (keys.Name text) function abi) right f options is = tt
-lowered_call w of (imports.InterfaceFunc key id function abi) right f options is = tt
-lowered_call w of (imports.ImportedResourceDrop key interface id) right f options is = cc
-lowered_call w of (imports.ExportedResourceDrop key id) right f options is = cc
-lowered_call w of (imports.ExportedResourceRep key id) right f options is = cc
-lowered_call w of (imports.ExportedResourceNew key id) right f options is = cc
-lowered_call w of (imports.MainModuleMemory memory) right f options is = cc
-lowered_call w of (imports.MainModuleExport name kind) right f options is = cc
-lowered_call w of (imports.AdapterExport adapter name function) right f options is = cc
-lowered_call w of (imports.Item item) right f options is = cc
-lowered_call w of role right f options is = absurd (not_lowered role (plain_intrinsic w.can_use_context_slot_1 role) f options is)
+-- what is given the same as a call is called too, and what is given the same as a built-in function with options is one
+lowered_through : (w : ComponentWorld) (of : UserModule) (role : Import) → IsImportRole w role → (function : WorldFunction) (options : List TargetOption) → link_of w of role ≡ Lowered function options → IsThrough role
+lowered_through w of (imports.WorldFunc (keys.Name text) function abi) right f options is = tt
+lowered_through w of (imports.InterfaceFunc key id function abi) right f options is = tt
+lowered_through w of (imports.ExportedTaskReturn key interface g) right f options is = tt
+lowered_through w of imports.WaitableSetWait right f options is = tt
+lowered_through w of imports.WaitableSetPoll right f options is = tt
+lowered_through w of (imports.ErrorContextNew encoding) right f options is = tt
+lowered_through w of (imports.ErrorContextDebugMessage encoding) right f options is = tt
+lowered_through w of (imports.ImportedResourceDrop key interface id) right f options is = cc
+lowered_through w of (imports.ExportedResourceDrop key id) right f options is = cc
+lowered_through w of (imports.ExportedResourceRep key id) right f options is = cc
+lowered_through w of (imports.ExportedResourceNew key id) right f options is = cc
+lowered_through w of (imports.MainModuleMemory memory) right f options is = cc
+lowered_through w of (imports.MainModuleExport name kind) right f options is = cc
+lowered_through w of (imports.AdapterExport adapter name function) right f options is = cc
+lowered_through w of (imports.Item item) right f options is = cc
+lowered_through w of role right f options is = absurd (not_lowered role (plain_intrinsic w.can_use_context_slot_1 role) f options is)
 
--- the core type of calls of what a target names
+-- no built-in function without operands has options
+abbrev name_in : Target → Intrinsic
+name_in (BuiltIn name operand options) = name
+name_in target = intrinsics.TaskCancel
+
+not_optional : (w : ComponentWorld) (role : Import) (o : Option Intrinsic) → plain_intrinsic w.can_use_context_slot_1 role ≡ o → (name : Intrinsic) → plain_type name ≡ None → (operand : Operand) (options : List TargetOption) → link_of_intrinsic role o ≡ BuiltIn name operand options → ⊥
+not_optional w (imports.TlsBaseGet type) None e name with_options operand options is = cc
+not_optional w (imports.TlsBaseSet type) None e name with_options operand options is = cc
+not_optional w role None e name with_options operand options is = cc
+not_optional w role (Some i) e name with_options operand options is =
+    let typed : IsSome (plain_type i) = ap is_some (ap (option_and_then plain_type) (sym (usable_too w.can_use_context_slot_1 role i e))) ∙ plain_typed w.can_use_context_slot_1 role (ap is_some e) in
+    true≢false (sym typed ∙ ap (λ (t : Target). is_some (plain_type (name_in t))) is ∙ ap is_some with_options)
+
+built_in_through : (w : ComponentWorld) (of : UserModule) (role : Import) → IsImportRole w role → (name : Intrinsic) → plain_type name ≡ None → (operand : Operand) (options : List TargetOption) → link_of w of role ≡ BuiltIn name operand options → IsThrough role
+built_in_through w of (imports.WorldFunc (keys.Name text) function abi) right name with_options operand options is = tt
+built_in_through w of (imports.InterfaceFunc key id function abi) right name with_options operand options is = tt
+built_in_through w of (imports.ExportedTaskReturn key interface g) right name with_options operand options is = tt
+built_in_through w of imports.WaitableSetWait right name with_options operand options is = tt
+built_in_through w of imports.WaitableSetPoll right name with_options operand options is = tt
+built_in_through w of (imports.ErrorContextNew encoding) right name with_options operand options is = tt
+built_in_through w of (imports.ErrorContextDebugMessage encoding) right name with_options operand options is = tt
+built_in_through w of (imports.ImportedResourceDrop key interface id) right name with_options operand options is = cc
+built_in_through w of (imports.ExportedResourceDrop key id) right name with_options operand options is = cc
+built_in_through w of (imports.ExportedResourceRep key id) right name with_options operand options is = cc
+built_in_through w of (imports.ExportedResourceNew key id) right name with_options operand options is = cc
+built_in_through w of (imports.MainModuleMemory memory) right name with_options operand options is = cc
+built_in_through w of (imports.MainModuleExport field kind) right name with_options operand options is = cc
+built_in_through w of (imports.AdapterExport adapter field function) right name with_options operand options is = cc
+built_in_through w of (imports.Item item) right name with_options operand options is = cc
+built_in_through w of role right name with_options operand options is = absurd (not_optional w role (plain_intrinsic w.can_use_context_slot_1 role) refl name with_options operand options is)
+
+-- the core type of what a target names
 abbrev type_of_target : ComponentWorld → Target → Option ExternType
 type_of_target w (Lowered function options) = option_map (called_type w.resolve (form_asked options)) (function_imported w function)
+type_of_target w (BuiltIn name operand options) = Some (externs.Func (intrinsic_signature name (operand_tree (resource_of w) w.resolve.types operand)))
 type_of_target w target = None
 
-call_typed : (w : ComponentWorld) (of : UserModule) (role : Import) → IsImportRole w role → IsCall role → type_of_import w.resolve (items_of w) role ≡ type_of_target w (link_of w of role)
-call_typed w of (imports.WorldFunc (keys.Name text) function abi) right call =
+through_typed : (w : ComponentWorld) (of : UserModule) (role : Import) → IsImportRole w role → IsThrough role → type_of_import w.resolve (items_of w) role ≡ type_of_target w (link_of w of role)
+through_typed w of (imports.WorldFunc (keys.Name text) function abi) right h =
     own_type w abi right.2 (function_imported w (OfRoot text)) (lower_realloc w of) (import_encoding w of (imports.WorldFunc (keys.Name text) function abi))
-call_typed w of (imports.InterfaceFunc key id function abi) right call =
+through_typed w of (imports.InterfaceFunc key id function abi) right h =
     own_type w abi right.2 (function_imported w (OfInterface id function)) (lower_realloc w of) (import_encoding w of (imports.InterfaceFunc key id function abi))
-call_typed w of role right call = absurd call
+through_typed w of (imports.ExportedTaskReturn key interface f) right h = ap Some (sym (returned_type w f))
+through_typed w of imports.WaitableSetWait right h = refl
+through_typed w of imports.WaitableSetPoll right h = refl
+through_typed w of (imports.ErrorContextNew encoding) right h = refl
+through_typed w of (imports.ErrorContextDebugMessage encoding) right h = refl
+through_typed w of role right h = absurd h
 
-call_fits : (w : ComponentWorld) (role : Import) → IsCall role → (type : ExternType) → FitsRole w role type → type_of_import w.resolve (items_of w) role ≡ Some type
-call_fits w (imports.WorldFunc (keys.Name text) function abi) call type fits = fits
-call_fits w (imports.InterfaceFunc key id function abi) call type fits = fits
-call_fits w role call type fits = absurd call
+through_fits : (w : ComponentWorld) (role : Import) → IsThrough role → (type : ExternType) → FitsRole w role type → type_of_import w.resolve (items_of w) role ≡ Some type
+through_fits w (imports.WorldFunc (keys.Name text) function abi) h type fits = fits
+through_fits w (imports.InterfaceFunc key id function abi) h type fits = fits
+through_fits w (imports.ExportedTaskReturn key interface f) h type fits = fits
+through_fits w imports.WaitableSetWait h type fits = fits
+through_fits w imports.WaitableSetPoll h type fits = fits
+through_fits w (imports.ErrorContextNew encoding) h type fits = fits
+through_fits w (imports.ErrorContextDebugMessage encoding) h type fits = fits
+through_fits w role h type fits = absurd h
 
 -- a shim for what an import of a role is to be given has the core type of each import that fits the role
 shim_fits : (w : ComponentWorld) → IsWorld w → (shim : Shim) (p : Purpose) → HasPurpose w shim p → (of : UserModule) (role : Import) → IsImportRole w role → target_of w p ≡ link_of w of role → (type : ExternType) → FitsRole w role type →
     type ≡ externs.Func (type_of_shim shim)
 shim_fits w ok shim (OfImport from other) stands of role right same type fits =
-    let call : IsCall other = shim_calls w shim from other stands in
-    let lowered : IsLoweredTarget (link_of w from other) = call_lowered w from other call in
-    let called : IsCall role = lowered_call w of role right lowered.function lowered.options (sym same ∙ lowered.is) in
-    let shim_type : type_of_target w (link_of w from other) ≡ Some (externs.Func (type_of_shim shim)) = sym (call_typed w from other stands.right call) ∙ stands.typed in
-    let own_type : type_of_target w (link_of w of role) ≡ Some type = sym (call_typed w of role right called) ∙ call_fits w role called type fits in
+    let through : IsThrough other = shim_through w shim from other stands in
+    let given : IsThrough role = through_target (λ t. link_of w of role ≡ t → IsThrough role) (lowered_through w of role right) (built_in_through w of role right) w from other through (sym same) in
+    let shim_type : type_of_target w (link_of w from other) ≡ Some (externs.Func (type_of_shim shim)) = sym (through_typed w from other stands.right through) ∙ stands.typed in
+    let own_type : type_of_target w (link_of w of role) ≡ Some type = sym (through_typed w of role right given) ∙ through_fits w role given type fits in
     same_Some type (externs.Func (type_of_shim shim)) (sym own_type ∙ (ap (type_of_target w) (sym same) ∙ shim_type))
 shim_fits w ok shim (OfExport e) stands of role right same type fits =
     matched_function type (type_of_shim shim) (offered_matches w ok of role e right (sym same) stands.exporting stands.listed stands.same (externs.Func (type_of_shim shim)) stands.typed type fits)

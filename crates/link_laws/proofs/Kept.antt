@@ -13,20 +13,20 @@ use Rattle.comp_bytes.specs.declared.space.Space.TheVariants as spaces
 use Rattle.comp_bytes.specs.declared.canon.CanonicalOption.{CanonicalOption}
 use Rattle.comp_bytes.specs.declared.canon.CanonicalOption.TheVariants as options
 use Rattle.comp_bytes.specs.declared.types.Alias.TheVariants as aliases
-use Rattle.built_ins.specs.BuiltIns.{plain_type}
-use Rattle.comp_bytes.specs.declared.canon.Intrinsic.{Intrinsic}
-use Rattle.comp_bytes.specs.declared.canon.Intrinsic.TheVariants as intrinsics
+use Rattle.comp_bytes.specs.declared.types.ComponentValType.{ComponentValType}
+use Rattle.comp_bytes.specs.declared.types.ComponentValType.TheVariants as values
 use Rattle.comp_bytes.specs.declared.def.CoreInlineExport.{CoreInlineExport}
 use Rattle.comp_bytes.specs.declared.def.Item.{Item}
 use Rattle.comp_bytes.specs.declared.def.Item.TheVariants as items
 use Rattle.comp_bytes.specs.declared.def.Def.{Def}
 use Rattle.comp_bytes.specs.declared.def.Def.TheVariants as defs
 use Rattle.comp_bytes.specs.ItemIndices.{IsAt}
+use Rattle.comp_bytes.specs.Parts.{parts_of}
 use Rattle.comp_bytes.specs.declared.def.Argument.{Argument}
 use Rattle.core_types.specs.declared.types.FuncType.{FuncType}
 use Rattle.core_types.specs.declared.types.MemoryType.{MemoryType}
 use Rattle.core_types.specs.declared.types.ValType.{ValType}
-use Rattle.comp_trees.specs.Trees.{Origin, ResourceAt, FunctionTree}
+use Rattle.comp_trees.specs.Trees.{Tree, Origin, FunctionTree}
 use Rattle.comp_trees.specs.DefinedTrees.{OfValues, OfFunctions}
 use Rattle.comp_inventories.specs.Inventories.{TypeEntry, Denoting, OfInstances, FunctionEntry, InstanceEntry}
 use Rattle.comp_roles.specs.declared.offered.ExternType.{ExternType}
@@ -38,7 +38,7 @@ use Rattle.comp_worlds.specs.declared.world.ComponentWorld.{ComponentWorld}
 use Rattle.comp_links.specs.Targets.{ExportRef, TargetOption, Target, Lowered, ExportOf, MainMemory, OfResource, BuiltIn, TlsGet, TlsSet}
 use Rattle.comp_links.specs.Targets as targets
 use Rattle.comp_links.specs.Modules.{WorldModule}
-use Rattle.comp_links.specs.Lists.{resource_of, RequiredKey, RequiredFunction, functions_required, RequiredType, types_required, type_of_world}
+use Rattle.comp_links.specs.Lists.{RequiredKey, RequiredFunction, functions_required, RequiredType, types_required, type_of_world}
 use Rattle.comp_links.specs.Links.{destructor_of}
 use Rattle.shim_plan.specs.declared.shims.Shim.{Shim}
 use Rattle.world_shims.specs.WorldShims.{shims_of}
@@ -56,7 +56,7 @@ use Rattle.nested_laws.proofs.Kept.{AreGiven-kept, AreNestedExports-kept}
 use Rattle.wit_data.specs.declared.worlds.WorldItem.{WorldItem}
 use Rattle.wit_data.specs.declared.worlds.WorldItem.TheVariants as world_items
 use Rattle.link_laws.proofs.Zips.{mapped_some, AllByRecursion-join}
-use Rattle.link_laws.proofs.Stores.{IsPlainItem, IsOpaqueOf, HasSlots, IsItemTyped, IsUserItem, IsUserExport, IsInstance, ShimsAt, AreShimExports, AreModuleExports, IsModuleInstance, IsNamedEntry, IsTypeAt, IsHeldOption, IsArgumentHeld, ItemIs, DefIs, Means, IsEntryItem, IsTypeEntry, IsFunctionEntry, IsInstanceThing, IsFunctionExported, IsItemExported, HasGlobalType, HasGlobals, IsGlobalTyped, HasTable, IsOwnTable, IsOwnIfTable, HasOwnTables, IsMemoryOfMain, IsShimExported, IsReallocHeld, HasSharedMemory, IsOptionHeld, IsLoweringOf, IsServedAs, IsShimGiven, IsServedIn, Serves, IsPlanned, IsPlannedUser, IsFilledWith, AreFilled, ExportsShims, AreShims, MayHaveShims, Expected, Made, Calls, IsSeen, IsLiftedFrom, function_at_key, IsRequiredAt, IsAmong, IsTypeAmong, IsItemExport, IsKeyExport, AreKeyExports, IsDestroyedBy, IsOwnResource, IsOwnIfDefined, AreResources, HasNumber}
+use Rattle.link_laws.proofs.Stores.{IsHeldOperand, IsOpaqueOf, HasSlots, IsItemTyped, IsUserItem, IsUserExport, IsInstance, ShimsAt, AreShimExports, AreModuleExports, IsModuleInstance, IsNamedEntry, IsTypeAt, IsHeldOption, IsArgumentHeld, ItemIs, DefIs, Means, IsEntryItem, IsTypeEntry, IsFunctionEntry, IsInstanceThing, IsFunctionExported, IsItemExported, HasGlobalType, HasGlobals, IsGlobalTyped, HasTable, IsOwnTable, IsOwnIfTable, HasOwnTables, IsMemoryOfMain, IsShimExported, IsReallocHeld, HasSharedMemory, IsOptionHeld, IsLoweringOf, IsServedAs, IsShimGiven, IsServedIn, Serves, IsPlanned, IsPlannedUser, IsFilledWith, AreFilled, ExportsShims, AreShims, MayHaveShims, Expected, Made, Calls, IsSeen, IsLiftedFrom, function_at_key, IsRequiredAt, IsAmong, IsTypeAmong, IsItemExport, IsKeyExport, AreKeyExports, IsDestroyedBy, IsOwnResource, IsOwnIfDefined, AreResources, HasNumber}
 
 -- a table that is kept has as many slots as before
 pub record KeepsSizes (old new : List (List (Option ℕ))) : Type 0 where
@@ -390,8 +390,8 @@ module _ {a b : List Thing} {s t : Store} (k : Keeps a b s t) where
     lowered = IsLoweringOf-kept address h.origin h.type h.held h.lowered;
     with_options = AllZip-weaker (IsOptionHeld-kept w) h.held options h.with_options;
   }
-  IsServedAs-kept w address (OfResource function id) h = record { of = h.of; is = IsOpaque-kept h.is; held = IsHeldAs-kept k.types (OfValues (ResourceAt (resource_of w id))) h.of h.held }
-  IsServedAs-kept w address (BuiltIn intrinsic) h = record { type = h.type; typed = h.typed; is = IsOpaque-kept h.is }
+  IsServedAs-kept w address (OfResource function id) h = record { is = IsOpaque-kept h.is }
+  IsServedAs-kept w address (BuiltIn name operand options) h = record { held = h.held; with_options = AllZip-weaker (IsOptionHeld-kept w) h.held options h.with_options; is = IsOpaque-kept h.is }
   IsServedAs-kept w address TlsGet h = record { type = h.type; named = h.named; user = h.user; instance = IsInstance-kept h.instance; is = getter_kept s.code t.code k.code.at h.type 0 address h.is }
   IsServedAs-kept w address TlsSet h = record { type = h.type; named = h.named; user = h.user; instance = IsInstance-kept h.instance; is = setter_kept s.code t.code k.code.at h.type 0 address h.is }
   IsServedAs-kept w address (ExportOf export_ref) h = IsFunctionExported-kept h
@@ -465,6 +465,14 @@ module _ {a b : List Thing} {s t : Store} (k : Keeps a b s t) where
   IsHeldOption-kept (options.Callback index) (HeldCallback x) h = k.things spaces.CoreFunc index x h
   IsHeldOption-kept o held h = h
 
+  pub IsHeldOperand-kept : (written : Option ComponentValType) (operand : Option Tree) → IsHeldOperand a s written operand → IsHeldOperand b t written operand
+  IsHeldOperand-kept None None h = tt
+  IsHeldOperand-kept (Some (values.Primitive p)) (Some tree) h = h
+  IsHeldOperand-kept (Some (values.Defined index)) (Some tree) h = record { address = h.address; at = k.things spaces.Type index h.address h.at; is = IsHeldAs-kept k.types (OfValues tree) h.address h.is }
+  IsHeldOperand-kept None (Some tree) h = absurd h
+  IsHeldOperand-kept (Some (values.Primitive p)) None h = absurd h
+  IsHeldOperand-kept (Some (values.Defined index)) None h = absurd h
+
 module _ (w : ComponentWorld) (old new : Option ShimsAt) (shims : ShimsKept old new) (ds es : List Def) (defined : (space : Space) (index : ℕ) (d : Def) → IsAt ds space index d → IsAt es space index d) {a b : List Thing} {s t : Store} (k : Keeps a b s t) where
   module_exports-kept : (user number : ℕ) (exports : List Export) → AreModuleExports w old s user number exports → AreModuleExports w new t user number exports
   module_exports-kept user number exports (inl h) = inl (record { of = h.of; listed = h.listed; each = AllZip-weaker (exports-kept k user) exports h.of.found.offered h.each })
@@ -480,10 +488,6 @@ module _ (w : ComponentWorld) (old new : Option ShimsAt) (shims : ShimsKept old 
     same = h.same;
     each = module_exports-kept h.user number h.exports h.each;
   }
-
-  plain-kept : (i : Intrinsic) (o : Option FuncType) (x : ℕ) → IsPlainItem s i o x → IsPlainItem t i o x
-  plain-kept i (Some type) x h = IsOpaque-kept k h
-  plain-kept i None x h = tt
 
   item-kept : (i : Item) (x : ℕ) → ItemIs w old ds a s i x → ItemIs w new es b t i x
   item-kept (items.CoreInstantiate number arguments) x h = instance-kept number x h
@@ -519,10 +523,13 @@ module _ (w : ComponentWorld) (old new : Option ShimsAt) (shims : ShimsKept old 
     with_options = AllZip-weaker (IsHeldOption-kept k) options h.held h.with_options;
     is = IsOpaque-kept k h.is;
   }
-  item-kept (items.Intrinsic (intrinsics.ResourceNew type)) x h = record { of = h.of; at = k.things spaces.Type type h.of h.at; is = IsOpaque-kept k h.is }
-  item-kept (items.Intrinsic (intrinsics.ResourceRep type)) x h = record { of = h.of; at = k.things spaces.Type type h.of h.at; is = IsOpaque-kept k h.is }
-  item-kept (items.Intrinsic (intrinsics.ResourceDrop type)) x h = record { of = h.of; at = k.things spaces.Type type h.of h.at; is = IsOpaque-kept k h.is }
-  item-kept (items.Intrinsic intrinsic) x h = plain-kept intrinsic (plain_type intrinsic) x h
+  item-kept (items.Intrinsic intrinsic) x h = record {
+    operand = h.operand;
+    held = h.held;
+    of = IsHeldOperand-kept k (parts_of intrinsic).operand h.operand h.of;
+    with_options = AllZip-weaker (IsHeldOption-kept k) (parts_of intrinsic).options h.held h.with_options;
+    is = IsOpaque-kept k h.is;
+  }
   item-kept (items.Instantiate component written) x h = record {
     definitions = h.definitions;
     given = h.given;

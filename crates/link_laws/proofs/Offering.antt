@@ -101,6 +101,11 @@ module _ (w : ComponentWorld) (ok : IsWorld w) where
   offered_matches of (imports.ExportedResourceDrop key id) e right is m listed same t offered type fits = cc
   offered_matches of (imports.ExportedResourceRep key id) e right is m listed same t offered type fits = cc
   offered_matches of (imports.ExportedResourceNew key id) e right is m listed same t offered type fits = cc
+  offered_matches of (imports.ExportedTaskReturn key interface f) e right is m listed same t offered type fits = cc
+  offered_matches of imports.WaitableSetWait e right is m listed same t offered type fits = cc
+  offered_matches of imports.WaitableSetPoll e right is m listed same t offered type fits = cc
+  offered_matches of (imports.ErrorContextNew encoding) e right is m listed same t offered type fits = cc
+  offered_matches of (imports.ErrorContextDebugMessage encoding) e right is m listed same t offered type fits = cc
   offered_matches of (imports.MainModuleMemory memory) e right is m listed same t offered type fits = cc
   offered_matches of role e right is m listed same t offered type fits = absurd (not_export role (plain_intrinsic w.can_use_context_slot_1 role) e is)
 

@@ -53,7 +53,7 @@ use Rattle.link_laws.proofs.Plain.{nothing_in}
 use Rattle.link_laws.proofs.ModuleMarks.{bytes_listed, user_range, numbers_listed, bytes_if, number_if}
 use Rattle.link_laws.proofs.InstanceSteps.{IsGenerated, generated_for, step_instantiate, expected_user, expected_shims, expected_fixup}
 use Rattle.link_laws.proofs.Outcomes.{machine, IsInstantiation, IsStopped, IsNow, IsGood, asks, Steps, AgreesWith}
-use Rattle.link_laws.proofs.Steps.{step_type, step_instance_type, step_import, step_import_type, step_import_resource, step_import_instance, step_alias_function, step_alias_type, step_lower, step_new, step_rep, step_drop, step_plain, step_lift, step_inline_instance, step_alias, step_module, step_custom}
+use Rattle.link_laws.proofs.Steps.{step_type, step_instance_type, step_import, step_import_type, step_import_resource, step_import_instance, step_alias_function, step_alias_type, step_lower, step_new, step_rep, step_drop, step_built_in, step_lift, step_inline_instance, step_alias, step_module, step_custom}
 use Rattle.link_laws.proofs.Ordered.{modules_of, sections_in_order, all_sound}
 use Rattle.link_laws.proofs.Marks.{root_type_names, root_nested_names, root_imports, root_modules, root_instances, root_exports, root_export_names, all_resources, no_customs}
 use Rattle.link_laws.proofs.ImportedTypes.{types_served}
@@ -79,7 +79,7 @@ module _ {w : ComponentWorld} {earlier : List Def} {c : Scope} {s : Store} {g : 
   step ok alike (defs.Item (items.Intrinsic (intrinsics.ResourceNew type))) may h = step_new a gen type h
   step ok alike (defs.Item (items.Intrinsic (intrinsics.ResourceRep type))) may h = step_rep a gen type h
   step ok alike (defs.Item (items.Intrinsic (intrinsics.ResourceDrop type))) may h = step_drop a gen type h
-  step ok alike (defs.Item (items.Intrinsic intrinsic)) may h = step_plain a gen intrinsic h
+  step ok alike (defs.Item (items.Intrinsic intrinsic)) may h = step_built_in a gen intrinsic (λ operand. refl) h
   step ok alike (defs.Item (items.Import name (descriptions.Func kind))) may h = step_import a gen name kind h
   step ok alike (defs.Item (items.Import name (descriptions.TypeEqual index))) may h = step_import_type a gen name index h.0
   step ok alike (defs.Item (items.Import name descriptions.SubResource)) may h = step_import_resource a gen name

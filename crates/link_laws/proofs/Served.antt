@@ -38,9 +38,8 @@ use Rattle.world_values.specs.Items.{functions_in}
 use Rattle.comp_worlds.specs.Bases.{cell_type}
 use Rattle.comp_worlds.specs.Worlds.{IsWorld}
 use Rattle.comp_worlds.specs.declared.world.ComponentWorld.{ComponentWorld}
-use Rattle.comp_trees.specs.Trees.{Resource, FunctionTree}
-use Rattle.comp_trees.specs.DefinedTrees.{OfOthers}
-use Rattle.comp_links.specs.Targets.{ExportRef, WorldFunction, TargetOption, Target, Lowered, ResourceFunction, New, Rep, Drop, ExportOf, OfResource, BuiltIn, TlsGet, TlsSet, Lifted}
+use Rattle.comp_trees.specs.Trees.{Tree, Resource, ResourceAt, FunctionTree}
+use Rattle.comp_links.specs.Targets.{ExportRef, WorldFunction, TargetOption, Target, Lowered, ResourceFunction, New, Rep, Drop, Operand, operand_tree, ExportOf, OfResource, BuiltIn, TlsGet, TlsSet, Lifted}
 use Rattle.comp_links.specs.Targets as targets
 use Rattle.comp_links.specs.Links.{lift_options, destructor_of}
 use Rattle.comp_terms.specs.Generated.{shims_number, Purpose, target_of}
@@ -59,12 +58,12 @@ use Rattle.shim_runs.proofs.Placed.{shim_at}
 use Rattle.comp_links.specs.Modules.{WorldModule, user_modules}
 use Rattle.comp_links.specs.Naming.{Naming, plain_name, name_of}
 use Rattle.comp_links.specs.Lists.{component_types, own_resources, resource_of, RequiredKey, required_keys, RequiredFunction, functions_required, required_functions, types_in, types_required, required_types, type_of_world, AreExportsApart}
-use Rattle.comp_runs.specs.Signatures.{core_signature}
-use Rattle.comp_runs.specs.Store.{Thing, Export, HeldOption, HeldEncoding, HeldMemory, HeldRealloc, HeldPostReturn, HeldAsync, HeldCallback, CoreItem, Lowering, IntrinsicOf, ExportedBy, Imported, TypeItem, OwnResource, item_tree, ModuleInstance, Store}
+use Rattle.comp_runs.specs.Signatures.{core_signature, intrinsic_signature}
+use Rattle.comp_runs.specs.Store.{Thing, Export, HeldOption, HeldEncoding, HeldMemory, HeldRealloc, HeldPostReturn, HeldAsync, HeldCallback, CoreItem, Lowering, IntrinsicOf, ExportedBy, Imported, TypeItem, OwnResource, ModuleInstance, Store}
 use Rattle.comp_runs.specs.Machine.{Machine, export_named, export_in, export_of}
 use Rattle.nested_laws.proofs.Kept.{is_function}
 use Rattle.nested_laws.proofs.Exports.{front, other_space}
-use Rattle.link_laws.specs.Meeting.{IsBase, IsOfBase, CoreMeets, CoreExportMeets, task_hook, hooks_round, IsExportedItem, ItemMeets, MemoryMeets, IsMainMemory, MeetsOption, ItemIsExport, ItemIsLowering, IsResourceHeld, ItemIsOfResource, ItemIsBuiltIn, Meets, MeetsIn, entry_kind}
+use Rattle.link_laws.specs.Meeting.{IsBase, IsOfBase, CoreMeets, CoreExportMeets, task_hook, hooks_round, IsExportedItem, ItemMeets, MemoryMeets, IsMainMemory, MeetsOption, ItemIsExport, ItemIsLowering, ItemIsOfResource, ItemIsBuiltIn, Meets, MeetsIn, entry_kind}
 use Rattle.instance_laws.proofs.Held.{tree_of_held}
 use Rattle.link_laws.specs.Linking.{is_digit, IsShim, IsDirect, IsUntouched, AreTablesUntouched, ShimsFilled, IsServed, AreServed, UsersServed, IsProvided, IsTypeProvided, DestructorMeets, IsDefined, IsNumberDefined, exports_at}
 use Rattle.link_laws.proofs.Zips.{AllByRecursion-join, each_at}
@@ -323,7 +322,7 @@ IsNoCell target = Unit {0}
 
 no_cell_given : (w : ComponentWorld) (shims : Option ShimsAt) (address : ℕ) (target : Target) → IsShimGiven w shims address target → IsNoCell target
 no_cell_given w None address target h = absurd h
-no_cell_given w (Some at) address target h = subst IsNoCell h.stands.same (of_purpose IsNoCell (λ function options. tt) (λ e. tt) w h.stands.shim h.stands.purpose h.stands.stands_for)
+no_cell_given w (Some at) address target h = subst IsNoCell h.stands.same (of_purpose IsNoCell (λ function options. tt) (λ name with_options operand options. tt) (λ e. tt) w h.stands.shim h.stands.purpose h.stands.stands_for)
 
 module _ (w : ComponentWorld) (ok : IsWorld w) (m : Machine) (shims : Option ShimsAt) (filled : FilledAtEnd w ok m shims) where
   import_meets : (address at : ℕ) (function : WorldFunction) (options : List TargetOption) (h : IsLoweredFor w m.store at function options) → Forwards w ok m address at (core_signature h.type h.held) → CoreMeets w m None address (ItemIsLowering w m (resource_of w) function options)
@@ -339,19 +338,26 @@ module _ (w : ComponentWorld) (ok : IsWorld w) (m : Machine) (shims : Option Shi
         AllZip-weaker (option_meets w ok m shims filled) h.held options h.with_options,
       )
 
-  named_function : (function : ResourceFunction) (resource : Resource) (type : ℕ) → IsResourceHeld m resource type → ItemIsOfResource m function resource (IntrinsicOf (intrinsic_of function type))
-  named_function New resource type held = held
-  named_function Rep resource type held = held
-  named_function Drop resource type held = held
+  named_function : (function : ResourceFunction) (resource : Resource) → ItemIsOfResource function resource (IntrinsicOf (intrinsic_of function 0) (Some (ResourceAt resource)) [])
+  named_function New resource = refl
+  named_function Rep resource = refl
+  named_function Drop resource = refl
 
   resource_meets : (address at : ℕ) (function : ResourceFunction) (id : TypeId) → IsFunctionOf m.store at function (resource_of w id) → Forwards w ok m address at (resource_core function) →
-      CoreMeets w m None address (ItemIsOfResource m function (resource_of w id))
+      CoreMeets w m None address (ItemIsOfResource function (resource_of w id))
   resource_meets address at function id h same =
-      forwarding_meets w ok m None address at (resource_core function) (IntrinsicOf (intrinsic_of function h.of)) (ItemIsOfResource m function (resource_of w id)) same h.is
-      (named_function function (resource_of w id) h.of (ap (λ o. elim o [ None ↦ OfOthers | Some i ↦ item_tree i ]) h.held.present ∙ h.held.denotes))
+      forwarding_meets w ok m None address at (resource_core function) (IntrinsicOf (intrinsic_of function 0) (Some (ResourceAt (resource_of w id))) []) (ItemIsOfResource function (resource_of w id)) same h.is
+      (named_function function (resource_of w id))
 
-  built_in_meets : (address at : ℕ) (intrinsic : Intrinsic) (h : IsBuiltInAt m.store at intrinsic) → Forwards w ok m address at h.type → CoreMeets w m None address (ItemIsBuiltIn intrinsic)
-  built_in_meets address at intrinsic h same = forwarding_meets w ok m None address at h.type (IntrinsicOf intrinsic) (ItemIsBuiltIn intrinsic) same h.is refl
+  -- what an operand is in the world
+  abbrev tree_of : Operand → Option Tree
+  tree_of operand = operand_tree (resource_of w) w.resolve.types operand
+
+  built_in_meets : (address at : ℕ) (name : Intrinsic) (operand : Operand) (options : List TargetOption) (h : IsBuiltInAt w m.store at name (tree_of operand) options) → Forwards w ok m address at (intrinsic_signature name (tree_of operand)) →
+      CoreMeets w m None address (ItemIsBuiltIn w m (resource_of w) name operand options)
+  built_in_meets address at name operand options h same =
+      forwarding_meets w ok m None address at (intrinsic_signature name (tree_of operand)) (IntrinsicOf name (tree_of operand) h.held) (ItemIsBuiltIn w m (resource_of w) name operand options) same h.is
+      (refl, refl, AllZip-weaker (option_meets w ok m shims filled) h.held options h.with_options)
 
   -- a function meets what another one is, where it forwards to that
   function_meets_as : (t : Thing) (at : ℕ) (target : Target) → IsNoCell target → t.space ≡ spaces.CoreFunc → ((type : FuncType) (item : CoreItem) → IsOpaqueOf m.store at type item → Forwards w ok m t.address at type) → IsServedAs w m.store at target → Meets w m (resource_of w) t target
@@ -360,9 +366,10 @@ module _ (w : ComponentWorld) (ok : IsWorld w) (m : Machine) (shims : Option Shi
       (import_meets t.address at function options h (same (core_signature h.type h.held) (Lowering h.lowered.of h.held) h.lowered.is))
   function_meets_as t at (OfResource function id) other space same h =
       subst (λ space. MeetsIn w m (resource_of w) space t.address (OfResource function id)) (sym space)
-      (resource_meets t.address at function id h (same (resource_core function) (IntrinsicOf (intrinsic_of function h.of)) h.is))
-  function_meets_as t at (BuiltIn intrinsic) other space same h =
-      subst (λ space. MeetsIn w m (resource_of w) space t.address (BuiltIn intrinsic)) (sym space) (built_in_meets t.address at intrinsic h (same h.type (IntrinsicOf intrinsic) h.is))
+      (resource_meets t.address at function id h (same (resource_core function) (IntrinsicOf (intrinsic_of function 0) (Some (ResourceAt (resource_of w id))) []) h.is))
+  function_meets_as t at (BuiltIn name operand options) other space same h =
+      subst (λ space. MeetsIn w m (resource_of w) space t.address (BuiltIn name operand options)) (sym space)
+      (built_in_meets t.address at name operand options h (same (intrinsic_signature name (tree_of operand)) (IntrinsicOf name (tree_of operand) h.held) h.is))
   function_meets_as t at (ExportOf export_ref) other space same h =
       subst (λ space. MeetsIn w m (resource_of w) space t.address (ExportOf export_ref)) (sym space)
       (export_meets w ok m None t.address at export_ref h (same h.type (ExportedBy h.user export_ref.name) h.is))
@@ -428,7 +435,7 @@ module _ (w : ComponentWorld) (ok : IsWorld w) (m : Machine) (shims : Option Shi
   served_direct : (address : ℕ) (target : Target) → IsServedAs w m.store address target → IsDirect m address target
   served_direct address (Lowered function options) h = record { what = h.lowered.is.what; signature = core_signature h.type h.held; is = h.lowered.is.present }
   served_direct address (OfResource function id) h = record { what = h.is.what; signature = resource_core function; is = h.is.present }
-  served_direct address (BuiltIn intrinsic) h = record { what = h.is.what; signature = h.type; is = h.is.present }
+  served_direct address (BuiltIn name operand options) h = record { what = h.is.what; signature = intrinsic_signature name (tree_of operand); is = h.is.present }
   served_direct address (ExportOf export_ref) h = record { what = h.is.what; signature = h.type; is = h.is.present }
   served_direct address TlsGet h = tt
   served_direct address TlsSet h = tt

@@ -12,6 +12,7 @@ use Rattle.comp_lists.specs.Found.{found}
 use Rattle.comp_lists.proofs.Lookups.{some_of}
 use Rattle.comp_lists.proofs.Lists.{slice_get-end, AllZip-weaker, AllZip-end, AllByRecursion-weaker}
 use Rattle.comp_bytes.proofs.ItemIndices.{IsAt-append}
+use Rattle.comp_bytes.specs.Parts.{Parts, parts_of}
 use Rattle.comp_bytes.specs.Spaces.{kind_space, space_of, items_in}
 use Rattle.comp_bytes.specs.ScopeNames.{def_export}
 use Rattle.comp_bytes.specs.declared.space.Space.{Space}
@@ -29,16 +30,18 @@ use Rattle.comp_bytes.specs.declared.types.Alias.TheVariants as aliases
 use Rattle.comp_bytes.specs.declared.types.Member.{Member}
 use Rattle.comp_bytes.specs.declared.types.InstanceType.{InstanceType as InstanceTypeDef}
 use Rattle.comp_bytes.specs.declared.types.Description.TheVariants as descriptions
-use Rattle.built_ins.specs.BuiltIns.{plain_type}
 use Rattle.comp_bytes.specs.declared.canon.Intrinsic.{Intrinsic}
 use Rattle.comp_bytes.specs.declared.canon.Intrinsic.TheVariants as intrinsics
 use Rattle.comp_bytes.specs.declared.types.ComponentValType.{ComponentValType}
+use Rattle.comp_bytes.specs.declared.types.ComponentValType.TheVariants as values
+use Rattle.comp_trees.proofs.KnownScopes.{operand_is}
+use Rattle.comp_trees.specs.Operands.{known_tree, operand_in, may_be_of, operand_if, operand_of, IsOperand}
 use Rattle.comp_bytes.specs.declared.def.CoreInlineExport.{CoreInlineExport}
 use Rattle.comp_bytes.specs.declared.def.Item.TheVariants as items
 use Rattle.comp_bytes.specs.declared.def.Def.{Def}
 use Rattle.comp_bytes.specs.declared.def.Def.TheVariants as defs
 use Rattle.comp_trees.specs.Trees.{Origin, Resource, ImportedAt, DefinedAt, ResourceAt, Tree, FunctionTree, is_known}
-use Rattle.comp_trees.specs.DefinedTrees.{TypeTree, OfValues, OfFunctions, OfOthers, value_tree, function_tree, defined_tree}
+use Rattle.comp_trees.specs.DefinedTrees.{TypeTree, OfValues, OfFunctions, OfOthers, values_of, function_tree, defined_tree}
 use Rattle.comp_trees.specs.DefinedScopes.{type_tree}
 use Rattle.nested_terms.specs.Nested.{type_named}
 use Rattle.comp_inventories.specs.Inventories.{Inventory, OfInstances, InstanceEntry, Denoting, ImportedInstance, NestedInstance, OtherInstance, entry_tree, no_type, type_if_named, type_of_instance, function_of_instance, instance_imported, types_made, functions_made, instances_made, imports_made, resources_made, surroundings_of, inventory, scope_of}
@@ -47,7 +50,7 @@ use Rattle.core_types.specs.declared.types.MemoryType.{MemoryType}
 use Rattle.comp_terms.proofs.HasShims.{has_by_place, has_by_shared, has_by_cell}
 use Rattle.comp_terms.specs.Generated.{shims_number}
 use Rattle.comp_worlds.specs.Offered.{shared_memory}
-use Rattle.comp_terms.specs.Terms.{IsInstanceOf, IsResource, intrinsic_of, imports_in}
+use Rattle.comp_terms.specs.Terms.{IsInstanceOf, IsResource, imports_in}
 use Rattle.world_shims.specs.WorldShims.{shims_of}
 use Rattle.shim_modules.specs.Shims.{getter_name, setter_name}
 use Rattle.shim_runs.specs.ShimRuns.{exported_function, memory_at}
@@ -64,7 +67,7 @@ use Rattle.comp_worlds.specs.declared.world.ComponentWorld.{ComponentWorld}
 use Rattle.core_runs.specs.Instances.{there_is, type_of}
 use Rattle.core_runs.specs.Store.{Opaque, Event, Cell, Now}
 use Rattle.core_runs.specs.Values.{same_value_type}
-use Rattle.comp_runs.specs.Store.{Thing, Export, HeldOption, HeldEncoding, HeldMemory, HeldRealloc, HeldPostReturn, HeldAsync, HeldCallback, CoreItem, Lowering, IntrinsicOf, Function, Imported, Lifting, TypeItem, TreeOf, ImportedResource, OwnResource, item_tree, tree_held, own_resources as resources_among, InstanceTypeOf, ModuleInstance, Store}
+use Rattle.comp_runs.specs.Store.{Thing, Export, HeldOption, HeldEncoding, HeldMemory, HeldRealloc, HeldPostReturn, HeldAsync, HeldCallback, CoreItem, Lowering, IntrinsicOf, Function, Imported, Lifting, TypeItem, TreeOf, ImportedResource, OwnResource, item_tree, own_resources as resources_among, InstanceTypeOf, ModuleInstance, Store}
 use Rattle.comp_links.specs.Targets.{ExportRef, ExportOf, ResourceFunction, New, Rep, Drop}
 use Rattle.comp_links.specs.Lists.{required_keys, provided_resources}
 use Rattle.comp_links.specs.Links.{destructor_of}
@@ -72,11 +75,11 @@ use Rattle.comp_roles.specs.Matching.{kind_of}
 use Rattle.comp_roles.specs.declared.offered.ExternType.{ExternType}
 use Rattle.comp_roles.specs.declared.offered.ExternType.TheVariants as externs
 use Rattle.comp_roles.specs.declared.offered.ImportType.{ImportType}
-use Rattle.comp_terms.specs.Rules.{AliasesUser, AliasesShim, AliasesMemory, AliasesCell, IsEntry, AreEntries, AliasesImported, AliasesNested, AliasesType as MayAliasType, HasFunctionType, HasResource, HasOwnResource, HasImportedFunction, IsOptionRight, IsTypeRight, IsDestructorRight, DefinesResource, IsItemRight}
+use Rattle.comp_terms.specs.Rules.{AliasesUser, AliasesShim, AliasesMemory, AliasesCell, IsEntry, AreEntries, AliasesImported, AliasesNested, AliasesType as MayAliasType, HasFunctionType, HasResource, HasOwnResource, HasImportedFunction, IsOptionRight, ArePartsRight, IsTypeRight, IsDestructorRight, DefinesResource, IsItemRight}
 use Rattle.comp_runs.specs.Machine.{Scope, Machine, with_some, address_at, is_of, export_named, all_some, with_opaque}
 use Rattle.comp_runs.specs.Instances.{matching, argument_for, given_to, type_scope, known_function, type_item}
 use Rattle.comp_runs.specs.Signatures.{is_async, core_signature, intrinsic_signature}
-use Rattle.comp_runs.specs.Running.{core_entry, held, options_held, type_of_function as function_type_of, lowered_signature, if_own, own_address, addressed, run}
+use Rattle.comp_runs.specs.Running.{core_entry, held, options_held, type_of_function as function_type_of, lowered_signature, run}
 use Rattle.instance_laws.specs.Instantiated.{IsHeldAs}
 use Rattle.instance_laws.specs.InstanceEntries.{IsInstanceType, IsInstanceEntry, RunsImport, AliasesFunction, AliasesType}
 use Rattle.instance_laws.proofs.Held.{keeps_same, keeps_more, keeps_grown, AreHeldAs-kept}
@@ -86,11 +89,10 @@ use Rattle.link_laws.specs.Composition.{GeneratedModules, at_root, item_instanti
 use Rattle.link_laws.specs.Linking.{module_meanings}
 use Rattle.link_laws.proofs.Zips.{all_some-self}
 use Rattle.link_laws.proofs.Outcomes.{AgreesWith, machine, no_answers, quiet, Steps}
-use Rattle.link_laws.proofs.BuiltIns.{plain_addressed, plain_signature, item_plain}
-use Rattle.link_laws.proofs.Stores.{IsSeen, expected_of, expects, IsOpaqueOf, IsUserItem, IsUserExport, IsUserInstance, ShimsAt, exports_of_shims, HasSharedMemory, IsModuleInstance, IsNamedEntry, ExportsShims, AreShims, MayHaveShims, IsTypeAt, resource_core, IsResourceItem, IsPlainItem, DefIs, Means, makes, IsTypeEntry, entry_of, IsFunctionEntry, IsInstanceThing, IsPlannedUser, IsAliasedItem, IsHeldOption, NumberedFrom, HasGlobals, HasOwnTables, Agrees, AreKeyExports, IsShimGiven, IsDestroyedBy, IsOwnResource, AreResources}
+use Rattle.link_laws.proofs.Stores.{IsSeen, expected_of, expects, IsOpaqueOf, IsUserItem, IsUserExport, IsUserInstance, ShimsAt, exports_of_shims, HasSharedMemory, IsModuleInstance, IsNamedEntry, ExportsShims, AreShims, MayHaveShims, IsTypeAt, IsHeldOperand, DefIs, Means, makes, IsTypeEntry, entry_of, IsFunctionEntry, IsInstanceThing, IsPlannedUser, IsAliasedItem, IsHeldOption, NumberedFrom, HasGlobals, HasOwnTables, Agrees, AreKeyExports, IsShimGiven, IsDestroyedBy, IsOwnResource, AreResources}
 use Rattle.link_laws.proofs.Given.{of_shims, module_there, address_there, all_held, scope_there, entry_there, held_there, type_there, instance_type_there, instance_there, imported_there, user_there, space_of_kind, offered_there, shim_there}
 use Rattle.link_laws.proofs.Plain.{only}
-use Rattle.link_laws.proofs.Kept.{AreSeen-kept, sizes_kept, ShimsKept, shims_same, MayHaveShims-kept, keeps_all, IsHeldOption-kept, Keeps, address_at-append, things_kept, keeps_store, keeps_type, keeps_function, keeps_opaque, keeps_core_instance, keeps_module, Means-kept, IsTypeEntry-kept, IsFunctionEntry-kept, IsInstanceThing-kept, IsPlannedUser-kept, AreKeyExports-kept, AreResources-more, AreResources-push}
+use Rattle.link_laws.proofs.Kept.{AreSeen-kept, sizes_kept, ShimsKept, shims_same, MayHaveShims-kept, keeps_all, IsHeldOption-kept, IsHeldOperand-kept, Keeps, address_at-append, things_kept, keeps_store, keeps_type, keeps_function, keeps_opaque, keeps_core_instance, keeps_module, Means-kept, IsTypeEntry-kept, IsFunctionEntry-kept, IsInstanceThing-kept, IsPlannedUser-kept, AreKeyExports-kept, AreResources-more, AreResources-push}
 
 -- a list without generated modules
 abbrev pub no_modules : GeneratedModules
@@ -512,56 +514,6 @@ module _ {w : ComponentWorld} {earlier : List Def} {c : Scope} {s : Store} {g : 
   step_alias_type instance name (inl h) = step_alias_found instance name (alias_of_imported instance name h)
   step_alias_type instance name (inr h) = step_alias_found instance name (alias_of_nested instance name h)
 
-  -- an intrinsic is a new core function
-  step_intrinsic : (i held : Intrinsic) (type : FuncType) → ((now : Now) → addressed (machine c s now) i ≡ Some held) → ((tree_of : ComponentValType → Tree) → intrinsic_signature tree_of i ≡ type) →
-      DefIs w a.shims (earlier ++ defs.Item (items.Intrinsic i) ∷ []) (c.items ++ record { space = spaces.CoreFunc; address = length s.code.functions } ∷ []) (with_opaque (IntrinsicOf held) type s) (defs.Item (items.Intrinsic i)) (length s.code.functions) →
-      Steps w gen earlier c s g a.events (defs.Item (items.Intrinsic i))
-  step_intrinsic i held type found typed is =
-      let d : Def = defs.Item (items.Intrinsic i) in
-      let t : Thing = record { space = spaces.CoreFunc; address = length s.code.functions } in
-      quiet_step d c.imports (with_opaque (IntrinsicOf held) type s) t (λ rest now. rw (found now, typed (value_tree (type_scope (machine c s now)))) refl) (keeps_opaque c.items t s (IntrinsicOf held) type) (record { space = refl; is = is })
-      (tt, tt, tt) refl refl refl refl refl refl a.imports a.resources
-
-  -- a resource of the component's own is found as one
-  own_there : {type number : ℕ} → IsResource earlier type (DefinedAt number) → (x : ℕ) × (address_at spaces.Type type c.items ≡ Some x) × ((now : Now) → own_address (machine c s now) type ≡ Some x)
-  own_there {type} {number} h =
-      let x : (x : ℕ) × (address_at spaces.Type type c.items ≡ Some x) × IsHeldAs s.types (OfValues (ResourceAt (DefinedAt number))) x = held_there a h.denotes in
-      let tree : tree_held s.types x.0 ≡ OfValues (ResourceAt (DefinedAt number)) = ap (λ o. elim o [ None ↦ OfOthers | Some i ↦ item_tree i ]) x.2.present ∙ x.2.denotes in
-      (x.0, x.1, λ now. ap (option_and_then (λ (n : ℕ). if_own n (tree_held s.types n))) x.1 ∙ ap (if_own x.0) tree)
-
-  -- what such a function is of, in a scope with one item more
-  resource_item : (function : ResourceFunction) (type x : ℕ) → address_at spaces.Type type c.items ≡ Some x →
-      IsResourceItem (c.items ++ record { space = spaces.CoreFunc; address = length s.code.functions } ∷ []) (with_opaque (IntrinsicOf (intrinsic_of function x)) (resource_core function) s) function type (length s.code.functions)
-  resource_item function type x at = record {
-    of = x;
-    at = address_at-append c.items (record { space = spaces.CoreFunc; address = length s.code.functions } ∷ []) spaces.Type type x at;
-    is = opaque_there (IntrinsicOf (intrinsic_of function x)) (resource_core function) s;
-  }
-
-  pub step_new : (type : ℕ) → HasOwnResource earlier type → Steps w gen earlier c s g a.events (defs.Item (items.Intrinsic (intrinsics.ResourceNew type)))
-  step_new type h =
-      let x : (x : ℕ) × (address_at spaces.Type type c.items ≡ Some x) × ((now : Now) → own_address (machine c s now) type ≡ Some x) = own_there h.is in
-      step_intrinsic (intrinsics.ResourceNew type) (intrinsics.ResourceNew x.0) (resource_core New) (λ now. ap (option_map (λ n. intrinsics.ResourceNew n)) (x.2 now)) (λ tree_of. refl) (resource_item New type x.0 x.1)
-
-  pub step_rep : (type : ℕ) → HasOwnResource earlier type → Steps w gen earlier c s g a.events (defs.Item (items.Intrinsic (intrinsics.ResourceRep type)))
-  step_rep type h =
-      let x : (x : ℕ) × (address_at spaces.Type type c.items ≡ Some x) × ((now : Now) → own_address (machine c s now) type ≡ Some x) = own_there h.is in
-      step_intrinsic (intrinsics.ResourceRep type) (intrinsics.ResourceRep x.0) (resource_core Rep) (λ now. ap (option_map (λ n. intrinsics.ResourceRep n)) (x.2 now)) (λ tree_of. refl) (resource_item Rep type x.0 x.1)
-
-  pub step_drop : (type : ℕ) → HasResource earlier type → Steps w gen earlier c s g a.events (defs.Item (items.Intrinsic (intrinsics.ResourceDrop type)))
-  step_drop type h =
-      let x : (x : ℕ) × (address_at spaces.Type type c.items ≡ Some x) × IsHeldAs s.types (OfValues (ResourceAt h.resource)) x = held_there a h.is.denotes in
-      step_intrinsic (intrinsics.ResourceDrop type) (intrinsics.ResourceDrop x.0) (resource_core Drop) (λ now. ap (option_map (λ n. intrinsics.ResourceDrop n)) x.1) (λ tree_of. refl) (resource_item Drop type x.0 x.1)
-
-  pub step_plain : (i : Intrinsic) → IsSome (plain_type i) → Steps w gen earlier c s g a.events (defs.Item (items.Intrinsic i))
-  step_plain i h =
-      let t : (t : FuncType) × (plain_type i ≡ Some t) = some_of (plain_type i) h in
-      let ds : List Def = earlier ++ defs.Item (items.Intrinsic i) ∷ [] in
-      let things : List Thing = c.items ++ record { space = spaces.CoreFunc; address = length s.code.functions } ∷ [] in
-      let after : Store = with_opaque (IntrinsicOf i) t.0 s in
-      step_intrinsic i i t.0 (λ now. plain_addressed (machine c s now) i h) (λ tree_of. plain_signature tree_of i t.0 t.1)
-      (item_plain w a.shims ds things after i (length s.code.functions) h (subst (λ o. IsPlainItem after i o (length s.code.functions)) (sym t.1) (opaque_there (IntrinsicOf i) t.0 s)))
-
   -- an option that names an earlier item has its address
   option_addressed : (o : CanonicalOption) → IsOptionRight earlier o → (x : HeldOption) × (held (machine c s no_answers) o ≡ Some x) × IsHeldOption c.items o x
   option_addressed options.Utf8 h = (HeldEncoding encodings.UTF8, refl, refl)
@@ -572,6 +524,70 @@ module _ {w : ComponentWorld} {earlier : List Def} {c : Scope} {s : Store} {g : 
   option_addressed (options.PostReturn index) h = let x = address_there a spaces.CoreFunc index h in (HeldPostReturn x.0, ap (option_map (λ n. HeldPostReturn n)) x.1, x.1)
   option_addressed options.Async h = (HeldAsync, refl, tt)
   option_addressed (options.Callback index) h = let x = address_there a spaces.CoreFunc index h in (HeldCallback x.0, ap (option_map (λ n. HeldCallback n)) x.1, x.1)
+
+  -- an intrinsic is a new core function
+  -- the operand of an intrinsic, where it denotes this, is held as this
+  operand_held : (written : Option ComponentValType) (operand : Option Tree) → IsOperand (scope_of earlier) written operand → IsHeldOperand c.items s written operand
+  operand_held None None h = tt
+  operand_held (Some (values.Primitive p)) (Some tree) h = h
+  operand_held (Some (values.Defined index)) (Some tree) h =
+      let x : (x : ℕ) × (address_at spaces.Type index c.items ≡ Some x) × IsHeldAs s.types (OfValues tree) x = held_there a h in
+      record { address = x.0; at = x.1; is = x.2 }
+  operand_held None (Some tree) h = absurd h
+  operand_held (Some v) None h = absurd h
+
+  step_intrinsic : (i : Intrinsic) (operand : Option Tree) → operand_of (scope_of earlier) i ≡ Some operand → IsOperand (scope_of earlier) (parts_of i).operand operand → AllByRecursion (IsOptionRight earlier) (parts_of i).options →
+      Steps w gen earlier c s g a.events (defs.Item (items.Intrinsic i))
+  step_intrinsic i operand known of right =
+      let d : Def = defs.Item (items.Intrinsic i) in
+      let parts : Parts = parts_of i in
+      let os : (xs : List HeldOption) × (options_held (machine c s no_answers) parts.options ≡ Some xs) × AllZip (IsHeldOption c.items) parts.options xs =
+      all_some-self (IsHeldOption c.items) (held (machine c s no_answers)) (IsOptionRight earlier) option_addressed parts.options right in
+      let t : Thing = record { space = spaces.CoreFunc; address = length s.code.functions } in
+      let item : CoreItem = IntrinsicOf parts.name operand os.0 in
+      let type : FuncType = intrinsic_signature parts.name operand in
+      let s' : Store = with_opaque item type s in
+      let k : Keeps c.items (c.items ++ t ∷ []) s s' = keeps_opaque c.items t s item type in
+      let found : (now : Now) → operand_of (type_scope (machine c s now)) i ≡ Some operand = λ now. ap (λ l. operand_of l i) (scope_there a) ∙ known in
+      let addressed : (now : Now) → options_held (machine c s now) parts.options ≡ Some os.0 = λ now. ap (λ l. all_some l) (options_same c s now parts.options) ∙ os.1 in
+      quiet_step d c.imports s' t (λ rest now. rw (found now, addressed now) refl) k
+      (record {
+        space = refl;
+        is = record {
+          operand = operand;
+          held = os.0;
+          of = IsHeldOperand-kept k parts.operand operand (operand_held parts.operand operand of);
+          with_options = AllZip-weaker (λ o y p. IsHeldOption-kept k o y p) parts.options os.0 os.2;
+          is = opaque_there item type s;
+        };
+      })
+      (tt, tt, tt) refl refl refl refl refl refl a.imports a.resources
+
+  -- the operand of a function of a resource's handles is that resource
+  resource_operand : (type : ℕ) (resource : Resource) → IsResource earlier type resource → operand_in (scope_of earlier) (Some (values.Defined type)) ≡ Some (Some (ResourceAt resource))
+  resource_operand type resource h = ap (λ t. known_tree (values_of t)) h.denotes.tree
+
+  pub step_new : (type : ℕ) → HasOwnResource earlier type → Steps w gen earlier c s g a.events (defs.Item (items.Intrinsic (intrinsics.ResourceNew type)))
+  step_new type h =
+      let i : Intrinsic = intrinsics.ResourceNew type in
+      step_intrinsic i (Some (ResourceAt (DefinedAt h.number))) (ap (option_and_then (operand_if i)) (resource_operand type (DefinedAt h.number) h.is)) h.is.denotes tt
+
+  pub step_rep : (type : ℕ) → HasOwnResource earlier type → Steps w gen earlier c s g a.events (defs.Item (items.Intrinsic (intrinsics.ResourceRep type)))
+  step_rep type h =
+      let i : Intrinsic = intrinsics.ResourceRep type in
+      step_intrinsic i (Some (ResourceAt (DefinedAt h.number))) (ap (option_and_then (operand_if i)) (resource_operand type (DefinedAt h.number) h.is)) h.is.denotes tt
+
+  pub step_drop : (type : ℕ) → HasResource earlier type → Steps w gen earlier c s g a.events (defs.Item (items.Intrinsic (intrinsics.ResourceDrop type)))
+  step_drop type h =
+      let i : Intrinsic = intrinsics.ResourceDrop type in
+      step_intrinsic i (Some (ResourceAt h.resource)) (ap (option_and_then (operand_if i)) (resource_operand type h.resource h.is)) h.is.denotes tt
+
+  -- so is another one, which may be of any operand
+  pub step_built_in : (i : Intrinsic) → ((operand : Option Tree) → may_be_of i operand ≡ true) → ArePartsRight earlier (parts_of i) → Steps w gen earlier c s g a.events (defs.Item (items.Intrinsic i))
+  step_built_in i any h =
+      let x : (x : Option Tree) × (operand_in (scope_of earlier) (parts_of i).operand ≡ Some x) = some_of (operand_in (scope_of earlier) (parts_of i).operand) h.operand in
+      let known : operand_of (scope_of earlier) i ≡ Some x.0 = ap (option_and_then (operand_if i)) x.1 ∙ ap (λ b. if b then Some x.0 else None) (any x.0) in
+      step_intrinsic i x.0 known (operand_is (scope_of earlier) (parts_of i).operand x.0 x.1) h.options
 
   pub step_lower : (function : ℕ) (written : List CanonicalOption) → HasImportedFunction earlier function → AllByRecursion (IsOptionRight earlier) written → Steps w gen earlier c s g a.events (defs.Item (items.Lower function written))
   step_lower function written h right =

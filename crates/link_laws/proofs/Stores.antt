@@ -15,9 +15,9 @@ use Rattle.core_types.specs.declared.types.MemoryType.{MemoryType}
 use Rattle.comp_lists.specs.Found.{found}
 use Rattle.comp_roles.specs.Matching.{kind_of}
 use Rattle.comp_bytes.specs.declared.types.Alias.TheVariants as aliases
-use Rattle.built_ins.specs.BuiltIns.{plain_type}
 use Rattle.comp_bytes.specs.declared.canon.Intrinsic.{Intrinsic}
-use Rattle.comp_bytes.specs.declared.canon.Intrinsic.TheVariants as intrinsics
+use Rattle.comp_bytes.specs.declared.types.ComponentValType.{ComponentValType}
+use Rattle.comp_bytes.specs.declared.types.ComponentValType.TheVariants as values
 use Rattle.comp_bytes.specs.declared.def.CoreInlineExport.{CoreInlineExport}
 use Rattle.comp_bytes.specs.declared.def.Item.{Item}
 use Rattle.comp_bytes.specs.declared.def.Item.TheVariants as items
@@ -25,11 +25,12 @@ use Rattle.comp_bytes.specs.declared.def.Def.{Def}
 use Rattle.comp_bytes.specs.declared.def.Def.TheVariants as defs
 use Rattle.comp_bytes.specs.ScopeNames.{def_export}
 use Rattle.comp_bytes.specs.ItemIndices.{IsAt}
+use Rattle.comp_bytes.specs.Parts.{Parts, parts_of}
 use Rattle.comp_bytes.specs.declared.def.Argument.{Argument}
 use Rattle.core_types.specs.declared.types.FuncType.{FuncType}
 use Rattle.core_types.specs.declared.types.ValType.{ValType}
 use Rattle.core_types.specs.declared.types.ValType.TheVariants.{I32}
-use Rattle.comp_trees.specs.Trees.{Origin, Resource, ResourceAt, FunctionTree}
+use Rattle.comp_trees.specs.Trees.{Tree, PrimitiveOf, Origin, Resource, ResourceAt, FunctionTree}
 use Rattle.comp_trees.specs.DefinedTrees.{OfValues, OfFunctions, TypeTree}
 use Rattle.comp_inventories.specs.Inventories.{TypeEntry, Denoting, OfInstances, FunctionEntry, InstanceEntry, entry_tree, inventory}
 use Rattle.comp_roles.specs.CoreTypes.{function_type}
@@ -39,7 +40,7 @@ use Rattle.comp_roles.specs.declared.offered.ImportType.{ImportType}
 use Rattle.comp_worlds.specs.Bases.{cell_type}
 use Rattle.comp_worlds.specs.WorldContents.{exported_item, function_exported}
 use Rattle.comp_worlds.specs.declared.world.ComponentWorld.{ComponentWorld}
-use Rattle.comp_links.specs.Targets.{Main, ExportRef, WorldFunction, TargetOption, ResourceFunction, New, Rep, Drop, Target, Lowered, ExportOf, MainMemory, OfResource, BuiltIn, TlsGet, TlsSet}
+use Rattle.comp_links.specs.Targets.{Main, ExportRef, WorldFunction, TargetOption, ResourceFunction, New, Rep, Drop, operand_tree, Target, Lowered, ExportOf, MainMemory, OfResource, BuiltIn, TlsGet, TlsSet}
 use Rattle.comp_links.specs.Targets as targets
 use Rattle.comp_links.specs.Modules.{WorldModule, user_modules, IsModule}
 use Rattle.comp_links.specs.Lists.{IsOriginOf, resource_of, RequiredKey, required_keys, RequiredFunction, functions_required, RequiredType, types_required, type_of_world, ProvidedType, provided_resources}
@@ -58,7 +59,7 @@ use Rattle.core_runs.specs.Instances.{empty_table}
 use Rattle.comp_runs.specs.Store.{Thing, Export, HeldOption, HeldEncoding, HeldMemory, HeldRealloc, HeldPostReturn, HeldAsync, HeldCallback, CoreItem, Lowering, IntrinsicOf, ExportedBy, Function, Imported, Lifting, TypeItem, TreeOf, OwnResource, item_tree, own_resources as resources_among, ModuleInstance, Store, ComponentItem}
 use Rattle.comp_runs.specs.Instances.{type_space}
 use Rattle.comp_runs.specs.Machine.{Scope, address_at, is_of, export_named, export_of}
-use Rattle.comp_runs.specs.Signatures.{core_signature}
+use Rattle.comp_runs.specs.Signatures.{core_signature, intrinsic_signature}
 use Rattle.instance_laws.specs.Instantiated.{IsHeldAs}
 use Rattle.instance_laws.specs.InstanceEntries.{IsInstanceType, IsInstanceEntry}
 use Rattle.nested_terms.specs.Nested.{empty_scope, imports_after, exports_after}
@@ -174,17 +175,6 @@ resource_core New = function_type (I32 ∷ []) (I32 ∷ [])
 resource_core Rep = function_type (I32 ∷ []) (I32 ∷ [])
 resource_core Drop = drop_core
 
--- such a function, of the type at this index
-pub record IsResourceItem (things : List Thing) (s : Store) (function : ResourceFunction) (type address : ℕ) : Type 0 where
-  pub of : ℕ
-  pub at : address_at spaces.Type type things ≡ Some of
-  pub is : IsOpaqueOf s address (resource_core function) (IntrinsicOf (intrinsic_of function of))
-
--- a built-in function without operands, with its core type
-abbrev pub IsPlainItem : Store → Intrinsic → Option FuncType → ℕ → Type 0
-IsPlainItem s intrinsic None address = Unit {0}
-IsPlainItem s intrinsic (Some type) address = IsOpaqueOf s address type (IntrinsicOf intrinsic)
-
 -- an option, with the address of what it names
 abbrev pub IsHeldOption : List Thing → CanonicalOption → HeldOption → Type 0
 IsHeldOption things options.Utf8 (HeldEncoding e) = e ≡ encodings.UTF8
@@ -196,6 +186,27 @@ IsHeldOption things (options.PostReturn index) (HeldPostReturn a) = address_at s
 IsHeldOption things (options.Callback index) (HeldCallback a) = address_at spaces.CoreFunc index things ≡ Some a
 IsHeldOption things options.Async HeldAsync = Unit {0}
 IsHeldOption things option held = ⊥
+
+-- the type at this index is this one of values, or this resource
+pub record IsTypeHeld (things : List Thing) (s : Store) (index : ℕ) (tree : Tree) : Type 0 where
+  pub address : ℕ
+  pub at : address_at spaces.Type index things ≡ Some address
+  pub is : IsHeldAs s.types (OfValues tree) address
+
+-- the operand of an intrinsic is this, if it has one
+abbrev pub IsHeldOperand : List Thing → Store → Option ComponentValType → Option Tree → Type 0
+IsHeldOperand things s None None = Unit {0}
+IsHeldOperand things s (Some (values.Primitive p)) (Some tree) = PrimitiveOf p ≡ tree
+IsHeldOperand things s (Some (values.Defined index)) (Some tree) = IsTypeHeld things s index tree
+IsHeldOperand things s written operand = ⊥
+
+-- an intrinsic of these parts, with its core type
+pub record IsIntrinsicItem (things : List Thing) (s : Store) (parts : Parts) (address : ℕ) : Type 0 where
+  pub operand : Option Tree
+  pub held : List HeldOption
+  pub of : IsHeldOperand things s parts.operand operand
+  pub with_options : AllZip (IsHeldOption things) parts.options held
+  pub is : IsOpaqueOf s address (intrinsic_signature parts.name operand) (IntrinsicOf parts.name operand held)
 
 -- a lowering of the import at this index, with these options, of the core type of its type
 pub record IsLoweredItem (things : List Thing) (s : Store) (function : ℕ) (written : List CanonicalOption) (address : ℕ) : Type 0 where
@@ -273,10 +284,7 @@ module _ (w : ComponentWorld) (shims : Option ShimsAt) (ds : List Def) (things :
   ItemIs (items.Alias (aliases.CoreExport kind instance name)) a = IsAliasedItem w ds things s kind instance name a
   ItemIs (items.Lift core options kind) a = IsLiftedItem things s core options kind a
   ItemIs (items.Lower function options) a = IsLoweredItem things s function options a
-  ItemIs (items.Intrinsic (intrinsics.ResourceNew type)) a = IsResourceItem things s New type a
-  ItemIs (items.Intrinsic (intrinsics.ResourceRep type)) a = IsResourceItem things s Rep type a
-  ItemIs (items.Intrinsic (intrinsics.ResourceDrop type)) a = IsResourceItem things s Drop type a
-  ItemIs (items.Intrinsic intrinsic) a = IsPlainItem s intrinsic (plain_type intrinsic) a
+  ItemIs (items.Intrinsic intrinsic) a = IsIntrinsicItem things s (parts_of intrinsic) a
   ItemIs (items.Instantiate component arguments) a = IsNestedInstance ds things s component arguments a
   ItemIs _ a = Unit {0}
 
@@ -413,15 +421,13 @@ pub record IsLoweredFor (w : ComponentWorld) (s : Store) (address : ℕ) (functi
 
 -- the core function is this one of the handles of this resource
 pub record IsFunctionOf (s : Store) (address : ℕ) (function : ResourceFunction) (resource : Resource) : Type 0 where
-  pub of : ℕ
-  pub is : IsOpaqueOf s address (resource_core function) (IntrinsicOf (intrinsic_of function of))
-  pub held : IsHeldAs s.types (OfValues (ResourceAt resource)) of
+  pub is : IsOpaqueOf s address (resource_core function) (IntrinsicOf (intrinsic_of function 0) (Some (ResourceAt resource)) [])
 
 -- the core function is this built-in one, with its core type
-pub record IsBuiltInAt (s : Store) (address : ℕ) (intrinsic : Intrinsic) : Type 0 where
-  pub type : FuncType
-  pub typed : plain_type intrinsic ≡ Some type
-  pub is : IsOpaqueOf s address type (IntrinsicOf intrinsic)
+pub record IsBuiltInAt (w : ComponentWorld) (s : Store) (address : ℕ) (name : Intrinsic) (operand : Option Tree) (options : List TargetOption) : Type 0 where
+  pub held : List HeldOption
+  pub with_options : AllZip (IsOptionHeld w s) held options
+  pub is : IsOpaqueOf s address (intrinsic_signature name operand) (IntrinsicOf name operand held)
 
 -- the core function reads the cell of the base, or sets it, and the instance of the shims is made: that
 -- is the first instance, and so its global is the first
@@ -443,7 +449,7 @@ pub record IsCellSetter (w : ComponentWorld) (s : Store) (address : ℕ) : Type 
 abbrev pub IsServedAs : ComponentWorld → Store → ℕ → Target → Type 0
 IsServedAs w s address (Lowered function options) = IsLoweredFor w s address function options
 IsServedAs w s address (OfResource function id) = IsFunctionOf s address function (resource_of w id)
-IsServedAs w s address (BuiltIn intrinsic) = IsBuiltInAt s address intrinsic
+IsServedAs w s address (BuiltIn name operand options) = IsBuiltInAt w s address name (operand_tree (resource_of w) w.resolve.types operand) options
 IsServedAs w s address TlsGet = IsCellGetter w s address
 IsServedAs w s address TlsSet = IsCellSetter w s address
 IsServedAs w s address (ExportOf export_ref) = IsFunctionExported w s address export_ref

@@ -49,7 +49,7 @@ use Rattle.comp_roles.specs.CoreTypes.{function_type}
 use Rattle.core_runs.specs.Values.{I32Value}
 use Rattle.core_runs.specs.Store.{Store as CodeStore, Func, Opaque, Cell, Foreign, Answer, Gives, Traps, Event, Instantiated, Called}
 use Rattle.core_runs.specs.Execution.{exec, acts}
-use Rattle.comp_trees.specs.Trees.{Origin, FunctionTree}
+use Rattle.comp_trees.specs.Trees.{Origin, ImportedAt, ResourceAt, FunctionTree}
 use Rattle.comp_runs.specs.Store.{Thing, Export, CoreItem, Lowering, IntrinsicOf, ExportedBy, Function, Imported, Lifting, ModuleInstance}
 use Rattle.comp_bytes.specs.ItemIndices.{in_space}
 use Rattle.comp_terms.specs.Terms.{IsFunctionType, IsImportedFunction, IsLowering, IsInstanceOf}
@@ -205,18 +205,18 @@ pub lowers_a_string : option_map (λ (e : Ended). e.code) (ended (outcome one_ea
     ∷ [])) made)) ≡ Some (Opaque 0 (function_type (I32 ∷ I32 ∷ []) []) ∷ [])
 lowers_a_string = refl
 
--- a drop of the second of two resources, by the address of that resource
+-- a drop of the second of two resources, by that resource
 pub drops_the_second : option_map (λ (e : Ended). e.known) (ended (outcome one_each no_modules (map defs.Item (
     items.Import (plain f) descriptions.SubResource
     ∷ items.Import (plain g) descriptions.SubResource
     ∷ items.Intrinsic (intrinsics.ResourceDrop 1)
-    ∷ [])) made)) ≡ Some (IntrinsicOf (intrinsics.ResourceDrop 1) ∷ [])
+    ∷ [])) made)) ≡ Some (IntrinsicOf (intrinsics.ResourceDrop 0) (Some (ResourceAt (ImportedAt (record { number = 1; inner = None })))) [] ∷ [])
 drops_the_second = refl
 
 -- an intrinsic is an opaque function of its core type
 pub intrinsic_ends : ended (outcome one_each no_modules (defs.Item (items.Intrinsic intrinsics.WaitableJoin) ∷ []) []) ≡ Some (record {
   code = Opaque 0 (function_type (I32 ∷ I32 ∷ []) []) ∷ [];
-  known = IntrinsicOf intrinsics.WaitableJoin ∷ [];
+  known = IntrinsicOf intrinsics.WaitableJoin None [] ∷ [];
   functions = [];
   users = [];
   exported = [];

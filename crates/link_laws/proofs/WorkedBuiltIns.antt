@@ -30,7 +30,7 @@ use Rattle.comp_worlds.specs.Worlds.{IsWorld}
 use Rattle.comp_worlds.specs.declared.world.ComponentWorld.{ComponentWorld}
 use Rattle.comp_trees.specs.Trees.{Resource}
 use Rattle.comp_links.specs.Naming.{own_names}
-use Rattle.comp_links.specs.Targets.{Main, BuiltIn}
+use Rattle.comp_links.specs.Targets.{Main, NoType, BuiltIn}
 use Rattle.comp_terms.specs.Terms as terms
 use Rattle.comp_terms.specs.Planned.{IsEntryFor, IsArgumentFor}
 use Rattle.comp_terms.specs.Rules.{IsBuilt}
@@ -147,7 +147,7 @@ straight = list_of intrinsics.BackpressureInc intrinsics.BackpressureDec
 abbrev end_of : Intrinsic → Intrinsic → Ended
 end_of first second = record {
   code = Opaque 0 plain ∷ Opaque 1 plain ∷ [];
-  known = IntrinsicOf first ∷ IntrinsicOf second ∷ [];
+  known = IntrinsicOf first None [] ∷ IntrinsicOf second None [] ∷ [];
   functions = [];
   users = record { module_number = 0; given = core_function 0 ∷ core_function 1 ∷ []; exports = [] } ∷ [];
   exported = [];
@@ -162,14 +162,14 @@ straight_ends = refl
 inc_given : IsEntryFor world Main (take 4 straight) (record { name = inc; kind = kinds.Func; index = 0 }) (inc, imports.BackpressureInc)
 inc_given = record {
   named = refl;
-  serves = inl (record { term = terms.BuiltIn intrinsics.BackpressureInc; is = record { made = record { made = refl }; plain = refl }; asked = refl });
+  serves = inl (record { term = terms.BuiltIn intrinsics.BackpressureInc None []; is = record { intrinsic = intrinsics.BackpressureInc; made = record { made = refl }; named = refl; of = tt; with_options = tt }; asked = (refl, refl, tt) });
   supplied = record { encoding = not_true; memory = not_true; realloc = λ shared needed. cc };
 }
 
 dec_given : IsEntryFor world Main (take 4 straight) (record { name = dec; kind = kinds.Func; index = 1 }) (dec, imports.BackpressureDec)
 dec_given = record {
   named = refl;
-  serves = inl (record { term = terms.BuiltIn intrinsics.BackpressureDec; is = record { made = record { made = refl }; plain = refl }; asked = refl });
+  serves = inl (record { term = terms.BuiltIn intrinsics.BackpressureDec None []; is = record { intrinsic = intrinsics.BackpressureDec; made = record { made = refl }; named = refl; of = tt; with_options = tt }; asked = (refl, refl, tt) });
   supplied = record { encoding = not_true; memory = not_true; realloc = λ shared needed. cc };
 }
 
@@ -187,9 +187,9 @@ keeps_the_rules = record {
   right = (
     tt,
     (
-      refl,
+      record { operand = refl; options = tt },
       (
-        refl,
+        record { operand = refl; options = tt },
         (
           record { each = (record { scoped = omega arith }, (record { scoped = omega arith }, tt)); apart = fields_apart },
           (inl (record { of = main_module world; listed = refl; scoped = omega arith; each = (both_given, tt) }), tt),
@@ -224,18 +224,19 @@ increments intrinsics.BackpressureInc = true
 increments intrinsic = false
 
 -- function 0 decrements
-no_inc : CoreMeets world m None 0 (ItemIsBuiltIn intrinsics.BackpressureInc) → ⊥
-no_inc c =
-    true≢false (sym (ap increments (own_item world m 0 (ItemIsBuiltIn intrinsics.BackpressureInc) c 0 plain (IntrinsicOf intrinsics.BackpressureDec) refl refl)))
+no_inc : (origins : TypeId → Resource) → CoreMeets world m None 0 (ItemIsBuiltIn world m origins intrinsics.BackpressureInc NoType []) → ⊥
+no_inc origins c =
+    true≢false (sym (ap increments (own_item world m 0 (ItemIsBuiltIn world m origins intrinsics.BackpressureInc NoType []) c 0 plain (IntrinsicOf intrinsics.BackpressureDec None []) refl refl).0))
 
 abbrev first_import : ImportType
 first_import = record { module_name = m_name; field = inc; ty = externs.Func plain }
 
-first_meets : (origins : TypeId → Resource) → IsServed world m origins (main_module world) (core_function 0) first_import → CoreMeets world m None 0 (ItemIsBuiltIn intrinsics.BackpressureInc)
-first_meets origins served = subst (Meets world m origins (core_function 0)) (same_Some served.target (BuiltIn intrinsics.BackpressureInc) (sym served.said)) served.meets
+first_meets : (origins : TypeId → Resource) → IsServed world m origins (main_module world) (core_function 0) first_import →
+    CoreMeets world m None 0 (ItemIsBuiltIn world m origins intrinsics.BackpressureInc NoType [])
+first_meets origins served = subst (Meets world m origins (core_function 0)) (same_Some served.target (BuiltIn intrinsics.BackpressureInc NoType []) (sym served.said)) served.meets
 
 pub crossed_is_not_linked : IsLinked own_names world no_modules m → ⊥
-crossed_is_not_linked l = no_inc (first_meets l.origins (l.imports.each 0 _ _ refl refl).0)
+crossed_is_not_linked l = no_inc l.origins (first_meets l.origins (l.imports.each 0 _ _ refl refl).0)
 
 pub crossed_does_not_link : Links own_names world no_modules (list_of intrinsics.BackpressureDec intrinsics.BackpressureInc) → ⊥
 crossed_does_not_link l = crossed_is_not_linked (l.linked made m refl)

@@ -4,7 +4,7 @@ use Rattle.comp_worlds.specs.WorldContents.{items_of}
 use Rattle.wit_data.specs.Keys.{is_same_key}
 use Rattle.std.specs.Map.{keys_of}
 use Rattle.comp_links.specs.Naming.{own_names}
-use Rattle.std.proofs.Common.{inl, ◌≡◌, ℕ, zero, suc, false, List, [], ◌∷◌, ◌++◌, refl, sym, ap, subst, Some, None, map, take, IsTrue, arith}
+use Rattle.std.proofs.Common.{inl, ◌≡◌, ℕ, zero, suc, false, List, [], ◌∷◌, ◌++◌, refl, sym, ap, subst, Option, Some, None, map, take, IsTrue, arith}
 use Rattle.std.proofs.lemmas.Option.{same_Some}
 use Rattle.std.specs.Prelude.{codes, Contains}
 use Rattle.std.specs.List.{IsDistinct}
@@ -34,8 +34,7 @@ use Rattle.comp_worlds.specs.Typed.{drop_type}
 use Rattle.comp_worlds.specs.WorldTables.{whole_of}
 use Rattle.comp_worlds.specs.Worlds.{IsResource, IsWorld}
 use Rattle.comp_worlds.specs.declared.world.ComponentWorld.{ComponentWorld}
-use Rattle.comp_trees.specs.Trees.{Resource, ImportedAt, ResourceAt}
-use Rattle.comp_trees.specs.DefinedTrees.{TypeTree, OfValues}
+use Rattle.comp_trees.specs.Trees.{Tree, Resource, ImportedAt, ResourceAt}
 use Rattle.comp_inventories.specs.Inventories.{inventory}
 use Rattle.comp_links.specs.Lists.{resource_of}
 use Rattle.comp_links.specs.Targets.{Main, Drop, OfResource}
@@ -174,11 +173,14 @@ list_of first second = map defs.Item (
     ∷ items.CoreInstantiate 0 (record { name = root; instance = 0 } ∷ [])
     ∷ [])
 
+abbrev resource : ℕ → Resource
+resource number = ImportedAt (root_import number)
+
 -- how running it ends
 abbrev end_of : ℕ → ℕ → Ended
 end_of first second = record {
   code = Opaque 0 drop_core ∷ Opaque 1 drop_core ∷ [];
-  known = IntrinsicOf (intrinsics.ResourceDrop first) ∷ IntrinsicOf (intrinsics.ResourceDrop second) ∷ [];
+  known = IntrinsicOf (intrinsics.ResourceDrop 0) (Some (ResourceAt (resource first))) [] ∷ IntrinsicOf (intrinsics.ResourceDrop 0) (Some (ResourceAt (resource second))) [] ∷ [];
   functions = [];
   users = record { module_number = 0; given = core_function 0 ∷ core_function 1 ∷ []; exports = [] } ∷ [];
   exported = [];
@@ -192,9 +194,6 @@ drops_end = refl
 
 abbrev ds : ℕ → List Def
 ds n = take n (list_of 0 1)
-
-abbrev resource : ℕ → Resource
-resource number = ImportedAt (root_import number)
 
 r_imported : IsDescriptionRight world [] r descriptions.SubResource
 unfolding inventory values_from
@@ -281,21 +280,22 @@ abbrev m : Machine
 m = machine_of crossed
 
 -- the number of the import that a resource is
-abbrev number_of : TypeTree → ℕ
-number_of (OfValues (ResourceAt (ImportedAt origin))) = origin.number
+abbrev number_of : Option Tree → ℕ
+number_of (Some (ResourceAt (ImportedAt origin))) = origin.number
 number_of tree = 0
 
 -- function 0 drops the second resource
-no_drop_of_r : CoreMeets world m None 0 (ItemIsOfResource m Drop (resource 0)) → ⊥
-no_drop_of_r c = let other : 1 ≡ 0 = ap number_of (own_item world m 0 (ItemIsOfResource m Drop (resource 0)) c 0 drop_core (IntrinsicOf (intrinsics.ResourceDrop 1)) refl refl) in absurd (omega (arith, other))
+no_drop_of_r : CoreMeets world m None 0 (ItemIsOfResource Drop (resource 0)) → ⊥
+no_drop_of_r c =
+    let other : 1 ≡ 0 = ap number_of (own_item world m 0 (ItemIsOfResource Drop (resource 0)) c 0 drop_core (IntrinsicOf (intrinsics.ResourceDrop 0) (Some (ResourceAt (resource 1))) []) refl refl) in absurd (omega (arith, other))
 
 abbrev first_import : ImportType
 first_import = record { module_name = root; field = drop_r; ty = drop_type }
 
 first_meets : (origins : TypeId → Resource) → origins (record { index = 0 }) ≡ resource_of world (record { index = 0 }) → IsServed world m origins (main_module world) (core_function 0) first_import →
-    CoreMeets world m None 0 (ItemIsOfResource m Drop (resource 0))
+    CoreMeets world m None 0 (ItemIsOfResource Drop (resource 0))
 first_meets origins is served =
-    subst (λ o. CoreMeets world m None 0 (ItemIsOfResource m Drop o)) is (subst (Meets world m origins (core_function 0)) (same_Some served.target (OfResource Drop (record { index = 0 })) (sym served.said)) served.meets)
+    subst (λ o. CoreMeets world m None 0 (ItemIsOfResource Drop o)) is (subst (Meets world m origins (core_function 0)) (same_Some served.target (OfResource Drop (record { index = 0 })) (sym served.said)) served.meets)
 
 pub crossed_is_not_linked : IsLinked own_names world no_modules m → ⊥
 crossed_is_not_linked l = no_drop_of_r (first_meets l.origins l.imports.resources.0 (l.imports.each 0 _ _ refl refl).0)

@@ -3,7 +3,7 @@
 -- gives main these functions of r, and links. Where main is given the `resource.rep` of s the run
 -- ends too, but the list isn't linked. Of an imported resource neither `resource.new` nor
 -- `resource.rep` can be made.
-use Rattle.std.proofs.Common.{inl, ◌≡◌, ◌∙◌, ◌++◌, ℕ, Bool, true, false, List, [], ◌∷◌, refl, sym, ap, subst, Some, None, cond, map, take, arith}
+use Rattle.std.proofs.Common.{inl, ◌≡◌, ◌∙◌, ◌++◌, ℕ, Bool, true, false, List, [], ◌∷◌, refl, sym, ap, subst, Option, Some, None, cond, map, take, arith}
 use Rattle.std.proofs.lemmas.Option.{none-some, same_Some}
 use Rattle.std.specs.Prelude.{codes}
 use Rattle.std.specs.List.{AllByRecursion, IsDistinct}
@@ -37,8 +37,7 @@ use Rattle.comp_worlds.specs.WorldContents.{items_of}
 use Rattle.comp_worlds.specs.WorldTables.{whole_of}
 use Rattle.comp_worlds.specs.Worlds.{IsOwnResource, IsWorld}
 use Rattle.comp_worlds.specs.declared.world.ComponentWorld.{ComponentWorld}
-use Rattle.comp_trees.specs.Trees.{Resource, DefinedAt, ResourceAt}
-use Rattle.comp_trees.specs.DefinedTrees.{TypeTree, OfValues}
+use Rattle.comp_trees.specs.Trees.{Tree, Resource, DefinedAt, ResourceAt}
 use Rattle.comp_inventories.specs.Inventories.{inventory}
 use Rattle.comp_links.proofs.WorkedImports.{interface_of, interface_id, type_id, import_of_interface}
 use Rattle.comp_links.specs.Lists.{AreExportsApart, component_types, own_resources, resource_of}
@@ -192,7 +191,11 @@ list_of rep =
 abbrev end_of : ℕ → Ended
 end_of rep = record {
   code = Opaque 0 (resource_core New) ∷ Opaque 1 (resource_core Rep) ∷ Opaque 2 (resource_core Drop) ∷ [];
-  known = IntrinsicOf (intrinsics.ResourceNew 0) ∷ IntrinsicOf (intrinsics.ResourceRep rep) ∷ IntrinsicOf (intrinsics.ResourceDrop 0) ∷ [];
+  known =
+      IntrinsicOf (intrinsics.ResourceNew 0) (Some (ResourceAt (DefinedAt 0))) []
+      ∷ IntrinsicOf (intrinsics.ResourceRep 0) (Some (ResourceAt (DefinedAt rep))) []
+      ∷ IntrinsicOf (intrinsics.ResourceDrop 0) (Some (ResourceAt (DefinedAt 0))) []
+      ∷ [];
   functions = [];
   users = record { module_number = 0; given = core_function 0 ∷ core_function 1 ∷ core_function 2 ∷ []; exports = [] } ∷ [];
   exported = record { space = spaces.Instance; name = name; address = 0 } ∷ [];
@@ -356,20 +359,20 @@ abbrev m : Machine
 m = machine_of other
 
 -- the number of the resource of the component that a type is
-abbrev number_of : TypeTree → ℕ
-number_of (OfValues (ResourceAt (DefinedAt number))) = number
+abbrev number_of : Option Tree → ℕ
+number_of (Some (ResourceAt (DefinedAt number))) = number
 number_of tree = 0
 
-no_rep_of_r : CoreMeets world m None 1 (ItemIsOfResource m Rep (DefinedAt 0)) → ⊥
+no_rep_of_r : CoreMeets world m None 1 (ItemIsOfResource Rep (DefinedAt 0)) → ⊥
 no_rep_of_r c =
-    let second : 1 ≡ 0 = ap number_of (own_item world m 1 (ItemIsOfResource m Rep (DefinedAt 0)) c 1 (resource_core Rep) (IntrinsicOf (intrinsics.ResourceRep 1)) refl refl) in absurd (omega (arith, second))
+    let second : 1 ≡ 0 = ap number_of (own_item world m 1 (ItemIsOfResource Rep (DefinedAt 0)) c 1 (resource_core Rep) (IntrinsicOf (intrinsics.ResourceRep 0) (Some (ResourceAt (DefinedAt 1))) []) refl refl) in absurd (omega (arith, second))
 
 abbrev second_import : ImportType
 second_import = record { module_name = exported_i; field = rep_r; ty = handle_type }
 
-second_meets : (origins : TypeId → Resource) → origins (type_id 0) ≡ DefinedAt 0 → IsServed world m origins (main_module world) (core_function 1) second_import → CoreMeets world m None 1 (ItemIsOfResource m Rep (DefinedAt 0))
+second_meets : (origins : TypeId → Resource) → origins (type_id 0) ≡ DefinedAt 0 → IsServed world m origins (main_module world) (core_function 1) second_import → CoreMeets world m None 1 (ItemIsOfResource Rep (DefinedAt 0))
 second_meets origins is served =
-    subst (λ o. CoreMeets world m None 1 (ItemIsOfResource m Rep o)) is (subst (Meets world m origins (core_function 1)) (same_Some served.target (OfResource Rep (type_id 0)) (sym served.said)) served.meets)
+    subst (λ o. CoreMeets world m None 1 (ItemIsOfResource Rep o)) is (subst (Meets world m origins (core_function 1)) (same_Some served.target (OfResource Rep (type_id 0)) (sym served.said)) served.meets)
 
 first_is : (origins : TypeId → Resource) → AllByRecursion (λ id. origins id ≡ resource_of world id) (component_types world ++ own_resources world) → origins (type_id 0) ≡ DefinedAt 0
 unfolding values_from

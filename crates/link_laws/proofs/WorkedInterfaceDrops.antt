@@ -4,7 +4,7 @@ use Rattle.comp_worlds.specs.WorldContents.{items_of}
 use Rattle.wit_data.specs.Keys.{is_same_key}
 use Rattle.std.specs.Map.{keys_of}
 use Rattle.comp_links.specs.Naming.{own_names}
-use Rattle.std.proofs.Common.{inl, ◌≡◌, ℕ, false, List, [], ◌∷◌, ◌++◌, refl, sym, ap, subst, Some, None, map, take, arith}
+use Rattle.std.proofs.Common.{inl, ◌≡◌, ℕ, false, List, [], ◌∷◌, ◌++◌, refl, sym, ap, subst, Option, Some, None, map, take, arith}
 use Rattle.std.proofs.lemmas.Option.{same_Some}
 use Rattle.std.specs.Prelude.{codes}
 use Rattle.std.specs.List.{IsDistinct}
@@ -38,8 +38,7 @@ use Rattle.comp_worlds.specs.Typed.{drop_type}
 use Rattle.comp_worlds.specs.WorldTables.{whole_of}
 use Rattle.comp_worlds.specs.Worlds.{IsWorld}
 use Rattle.comp_worlds.specs.declared.world.ComponentWorld.{ComponentWorld}
-use Rattle.comp_trees.specs.Trees.{Origin, Resource, ImportedAt, ResourceAt}
-use Rattle.comp_trees.specs.DefinedTrees.{TypeTree, OfValues}
+use Rattle.comp_trees.specs.Trees.{Tree, Origin, Resource, ImportedAt, ResourceAt}
 use Rattle.comp_inventories.specs.Inventories.{inventory, surroundings_of}
 use Rattle.comp_trees.specs.Members.{AreMembersRight}
 use Rattle.comp_links.proofs.WorkedImports.{interface_of, interface_id, type_id, import_of_interface}
@@ -171,29 +170,28 @@ list_of first second = map defs.Item (
     ∷ items.CoreInstantiate 0 (record { name = env; instance = 0 } ∷ [])
     ∷ [])
 
--- how running it ends, where the drops are of the resources at these addresses
-abbrev end_of : ℕ → ℕ → Ended
+-- the resource that the instance exports under a name
+abbrev resource : List ℕ → Resource
+resource name = ImportedAt (record { number = 0; inner = Some name })
+
+-- how running it ends, where the drops are of these resources
+abbrev end_of : List ℕ → List ℕ → Ended
 end_of first second = record {
   code = Opaque 0 drop_core ∷ Opaque 1 drop_core ∷ [];
-  known = IntrinsicOf (intrinsics.ResourceDrop first) ∷ IntrinsicOf (intrinsics.ResourceDrop second) ∷ [];
+  known = IntrinsicOf (intrinsics.ResourceDrop 0) (Some (ResourceAt (resource first))) [] ∷ IntrinsicOf (intrinsics.ResourceDrop 0) (Some (ResourceAt (resource second))) [] ∷ [];
   functions = [];
   users = record { module_number = 0; given = core_function 0 ∷ core_function 1 ∷ []; exports = [] } ∷ [];
   exported = [];
   events = Instantiated 0 ∷ [];
 }
 
--- the instance type is at address 0, r at 1 and s at 2
-pub drops_end : ended (outcome world no_modules (list_of s r) made) ≡ Some (end_of 2 1)
+pub drops_end : ended (outcome world no_modules (list_of s r) made) ≡ Some (end_of s r)
 drops_end = refl
 
 -- ---- it keeps the rules, and so links
 
 abbrev ds : ℕ → List Def
 ds n = take n (list_of s r)
-
--- the resource that the instance exports under a name
-abbrev resource : List ℕ → Resource
-resource name = ImportedAt (record { number = 0; inner = Some name })
 
 members_right : AreMembersRight (surroundings_of 0 []) [] two_resources
 members_right = (tt, (tt, tt))
@@ -286,7 +284,7 @@ drops_are_linked = drops_link.linked made (machine_of (outcome world no_modules 
 abbrev crossed : Outcome
 crossed = outcome world no_modules (list_of r s) made
 
-pub crossed_ends : ended crossed ≡ Some (end_of 1 2)
+pub crossed_ends : ended crossed ≡ Some (end_of r s)
 crossed_ends = refl
 
 abbrev m : Machine
@@ -300,13 +298,14 @@ first_letter (c ∷ cs) = c
 abbrev letter_of : Origin → ℕ
 letter_of origin = elim origin.inner [ None ↦ 0 | Some name ↦ first_letter name ]
 
-abbrev letter_of_type : TypeTree → ℕ
-letter_of_type (OfValues (ResourceAt (ImportedAt origin))) = letter_of origin
+abbrev letter_of_type : Option Tree → ℕ
+letter_of_type (Some (ResourceAt (ImportedAt origin))) = letter_of origin
 letter_of_type tree = 0
 
 -- function 0 drops r
-no_drop_of_s : CoreMeets world m None 0 (ItemIsOfResource m Drop (resource s)) → ⊥
-no_drop_of_s c = let other : 0x72 ≡ 0x73 = ap letter_of_type (own_item world m 0 (ItemIsOfResource m Drop (resource s)) c 0 drop_core (IntrinsicOf (intrinsics.ResourceDrop 1)) refl refl) in absurd (omega (arith, other))
+no_drop_of_s : CoreMeets world m None 0 (ItemIsOfResource Drop (resource s)) → ⊥
+no_drop_of_s c =
+    let other : 0x72 ≡ 0x73 = ap letter_of_type (own_item world m 0 (ItemIsOfResource Drop (resource s)) c 0 drop_core (IntrinsicOf (intrinsics.ResourceDrop 0) (Some (ResourceAt (resource r))) []) refl refl) in absurd (omega (arith, other))
 
 abbrev first_import : ImportType
 first_import = record { module_name = env; field = drop_s; ty = drop_type }
@@ -316,9 +315,9 @@ s_is : (origins : TypeId → Resource) → UsersServed world m origins → origi
 unfolding values_from
 s_is origins served = served.resources.1.0
 
-first_meets : (origins : TypeId → Resource) → origins (type_id 1) ≡ resource s → IsServed world m origins (main_module world) (core_function 0) first_import → CoreMeets world m None 0 (ItemIsOfResource m Drop (resource s))
+first_meets : (origins : TypeId → Resource) → origins (type_id 1) ≡ resource s → IsServed world m origins (main_module world) (core_function 0) first_import → CoreMeets world m None 0 (ItemIsOfResource Drop (resource s))
 first_meets origins is served =
-    subst (λ o. CoreMeets world m None 0 (ItemIsOfResource m Drop o)) is (subst (Meets world m origins (core_function 0)) (same_Some served.target (OfResource Drop (type_id 1)) (sym served.said)) served.meets)
+    subst (λ o. CoreMeets world m None 0 (ItemIsOfResource Drop o)) is (subst (Meets world m origins (core_function 0)) (same_Some served.target (OfResource Drop (type_id 1)) (sym served.said)) served.meets)
 
 pub crossed_is_not_linked : IsLinked own_names world no_modules m → ⊥
 crossed_is_not_linked l = no_drop_of_s (first_meets l.origins (s_is l.origins l.imports) (l.imports.each 0 _ _ refl refl).0)

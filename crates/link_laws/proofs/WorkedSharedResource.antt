@@ -212,7 +212,7 @@ f_tree number = record { is_async = false; params = record { name = v; tree = Bo
 abbrev end_with : ℕ → Ended
 end_with number = record {
   code = Opaque 0 drop_core ∷ Opaque 1 drop_core ∷ [];
-  known = IntrinsicOf (intrinsics.ResourceDrop 1) ∷ Lowering 0 [] ∷ [];
+  known = IntrinsicOf (intrinsics.ResourceDrop 0) (Some (ResourceAt (resource 0))) [] ∷ Lowering 0 [] ∷ [];
   functions = Imported f_origin (f_tree number) ∷ [];
   users = record { module_number = 0; given = core_function 0 ∷ core_function 1 ∷ []; exports = [] } ∷ [];
   exported = [];

@@ -22,13 +22,12 @@ use Rattle.comp_roles.specs.Lookups.{first_export, is_task_hook, imported_memory
 use Rattle.comp_worlds.specs.declared.world.ComponentWorld.{ComponentWorld}
 use Rattle.comp_trees.specs.Trees.{Origin, Resource, ResourceAt, FunctionTree}
 use Rattle.comp_trees.specs.WitTrees.{wit_function_tree}
-use Rattle.comp_trees.specs.DefinedTrees.{OfValues}
 use Rattle.comp_bytes.specs.declared.canon.Intrinsic.{Intrinsic}
 use Rattle.comp_bytes.specs.declared.canon.Intrinsic.TheVariants as intrinsics
-use Rattle.comp_links.specs.Targets.{Main, WorldFunction, ExportRef, TargetOption, Memory, Realloc, Encoding, Async, PostReturn, Callback, ResourceFunction, New, Rep, Drop, Target, Lowered, ExportOf, MainMemory, OfResource, BuiltIn, TlsGet, TlsSet}
+use Rattle.comp_links.specs.Targets.{Main, WorldFunction, ExportRef, TargetOption, Memory, Realloc, Encoding, Async, PostReturn, Callback, ResourceFunction, New, Rep, Drop, Operand, operand_tree, Target, Lowered, ExportOf, MainMemory, OfResource, BuiltIn, TlsGet, TlsSet}
 use Rattle.comp_links.specs.Modules.{user_modules, IsModule, function_imported}
 use Rattle.comp_links.specs.Lists.{IsOriginOf}
-use Rattle.comp_runs.specs.Store.{Thing, HeldOption, HeldEncoding, HeldMemory, HeldRealloc, HeldPostReturn, HeldAsync, HeldCallback, CoreItem, Lowering, IntrinsicOf, tree_held, ExportedBy, Imported, Lifting, ModuleInstance}
+use Rattle.comp_runs.specs.Store.{Thing, HeldOption, HeldEncoding, HeldMemory, HeldRealloc, HeldPostReturn, HeldAsync, HeldCallback, CoreItem, Lowering, IntrinsicOf, ExportedBy, Imported, Lifting, ModuleInstance}
 use Rattle.comp_runs.specs.Machine.{Machine, export_of}
 
 -- ---- core functions
@@ -198,21 +197,18 @@ abbrev pub ItemIsLowering : ComponentWorld → Machine → (TypeId → Resource)
 ItemIsLowering w m origins of options (Lowering function held) = IsImport w m origins function of × MeetOptions w m held options
 ItemIsLowering w m origins of options item = ⊥
 
--- the type at this address is the resource
-abbrev pub IsResourceHeld : Machine → Resource → ℕ → Type 0
-IsResourceHeld m resource type = tree_held m.store.types type ≡ OfValues (ResourceAt resource)
-
 -- a function of the handles of a resource
-abbrev pub ItemIsOfResource : Machine → ResourceFunction → Resource → CoreItem → Type 0
-ItemIsOfResource m New resource (IntrinsicOf (intrinsics.ResourceNew type)) = IsResourceHeld m resource type
-ItemIsOfResource m Rep resource (IntrinsicOf (intrinsics.ResourceRep type)) = IsResourceHeld m resource type
-ItemIsOfResource m Drop resource (IntrinsicOf (intrinsics.ResourceDrop type)) = IsResourceHeld m resource type
-ItemIsOfResource m function resource item = ⊥
+abbrev pub ItemIsOfResource : ResourceFunction → Resource → CoreItem → Type 0
+ItemIsOfResource New resource (IntrinsicOf (intrinsics.ResourceNew type) operand options) = operand ≡ Some (ResourceAt resource)
+ItemIsOfResource Rep resource (IntrinsicOf (intrinsics.ResourceRep type) operand options) = operand ≡ Some (ResourceAt resource)
+ItemIsOfResource Drop resource (IntrinsicOf (intrinsics.ResourceDrop type) operand options) = operand ≡ Some (ResourceAt resource)
+ItemIsOfResource function resource item = ⊥
 
--- a built-in function without operands
-abbrev pub ItemIsBuiltIn : Intrinsic → CoreItem → Type 0
-ItemIsBuiltIn intrinsic (IntrinsicOf same) = same ≡ intrinsic
-ItemIsBuiltIn intrinsic item = ⊥
+-- a built-in function of this name: what it is of is compared as a tree
+abbrev pub ItemIsBuiltIn : ComponentWorld → Machine → (TypeId → Resource) → Intrinsic → Operand → List TargetOption → CoreItem → Type 0
+ItemIsBuiltIn w m origins name operand options (IntrinsicOf same tree held) =
+    (same ≡ name) × (tree ≡ operand_tree origins w.resolve.types operand) × MeetOptions w m held options
+ItemIsBuiltIn w m origins name operand options item = ⊥
 
 -- the function at this address is a lift of this type, whose entry and options meet those of the target
 pub record IsLift (w : ComponentWorld) (m : Machine) (address : ℕ) (type : FunctionTree) (entry : ExportRef) (options : List TargetOption) : Type 0 where
@@ -225,8 +221,8 @@ pub record IsLift (w : ComponentWorld) (m : Machine) (address : ℕ) (type : Fun
 -- an item of a core module meets a target
 abbrev pub MeetsIn : ComponentWorld → Machine → (TypeId → Resource) → Space → ℕ → Target → Type 0
 MeetsIn w m origins spaces.CoreFunc address (Lowered of options) = CoreMeets w m None address (ItemIsLowering w m origins of options)
-MeetsIn w m origins spaces.CoreFunc address (OfResource function id) = CoreMeets w m None address (ItemIsOfResource m function (origins id))
-MeetsIn w m origins spaces.CoreFunc address (BuiltIn intrinsic) = CoreMeets w m None address (ItemIsBuiltIn intrinsic)
+MeetsIn w m origins spaces.CoreFunc address (OfResource function id) = CoreMeets w m None address (ItemIsOfResource function (origins id))
+MeetsIn w m origins spaces.CoreFunc address (BuiltIn name operand options) = CoreMeets w m None address (ItemIsBuiltIn w m origins name operand options)
 MeetsIn w m origins spaces.CoreFunc address TlsGet = IsOfBase m address ReadsCell
 MeetsIn w m origins spaces.CoreFunc address TlsSet = IsOfBase m address WritesCell
 MeetsIn w m origins spaces.CoreFunc address (ExportOf export_ref) = CoreExportMeets w m None address export_ref

@@ -39,6 +39,8 @@ use Rattle.world_shims.proofs.Numbered.{shims_numbered}
 use Rattle.shim_targets.specs.ShimTargets.{StandsForOne}
 use Rattle.shim_targets.proofs.EachShim.{each_stands}
 use Rattle.core_options.proofs.OptionTerms.{instances_kept}
+use Rattle.root_imports.proofs.Keeping.{kept_items, kept_none}
+use Rattle.root_imports.specs.Keeping.{Root, RootKept}
 use Rattle.main_fixup.specs.Filling.{AreFillSources, HasShimOptions}
 use Rattle.main_fixup.specs.declared.sources.FillSources.{FillSources}
 
@@ -53,7 +55,32 @@ sources-kept {w} {s} {met} {old} {new} {maps} {instances} g h = record {
   users = instances_kept (longer g) h.users;
   tables = tables_kept w met instances old new maps g h.tables;
   passed = h.passed;
+  exports = h.exports;
+  ordered = h.ordered;
 }
+
+-- so they do over a step that also adds to the tables
+pub sources-moved : {s : FillSources} (old new : Root) → RootKept old.world.now old new → AreFillSources old.world.now s old.met old.items.defs old.maps old.instances → AreFillSources new.world.now s new.met new.items.defs new.maps new.instances
+sources-moved {s} old new g h =
+    subst (λ l. AreFillSources l.now s new.met new.items.defs new.maps new.instances) (sym g.world)
+    (subst (λ l. AreFillSources old.world.now s l new.items.defs new.maps new.instances) (sym g.met)
+    (record {
+      valid = h.valid;
+      imports = FindsImports-kept (longer g.extends) h.imports;
+      used = h.used;
+      users = instances_kept (longer g.extends) h.users;
+      tables = g.tables;
+      passed = h.passed;
+      exports = h.exports;
+      ordered = h.ordered;
+    }))
+
+-- a step that adds nothing, and one that adds items alone, keep the root
+pub kept_as_is : {s : FillSources} (old : Root) → AreFillSources old.world.now s old.met old.items.defs old.maps old.instances → RootKept old.world.now old old
+kept_as_is old h = kept_none old.world.now old h.tables
+
+pub kept_added : {s : FillSources} (old new : Root) → AreFillSources old.world.now s old.met old.items.defs old.maps old.instances → new ≡ record old { items = new.items } → Extends old.items new.items → RootKept old.world.now old new
+kept_added old new h same g = kept_items old.world.now old old new (kept_none old.world.now old h.tables) same g
 
 pub item-kept : {w : ComponentWorld} {old new : List Def} → Longer old new → {space : Space} {i : ℕ} {target : Target} → IsItemFor w old space i target → IsItemFor w new space i target
 item-kept {w} {old} {new} g {space} {i} {target} h = record { term = h.term; is = term-kept old new g space i h.term h.is; asked = h.asked }

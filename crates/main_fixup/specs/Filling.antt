@@ -7,19 +7,24 @@ use Rattle.standard_kinds.specs.declared.kinds.StringEncoding.{StringEncoding}
 use Rattle.comp_bytes.specs.declared.def.Def.{Def}
 use Rattle.comp_bytes.specs.declared.space.Space.TheVariants as spaces
 use Rattle.wit_data.specs.declared.ids.InterfaceId.{InterfaceId}
+use Rattle.wit_data.specs.declared.types.Type.{«Type» as Ty}
 use Rattle.root_imports.specs.declared.met_types.MetTypes.{MetTypes}
 use Rattle.wit_data.specs.declared.worlds.WorldItem.TheVariants as items
 use Rattle.wit_data.specs.declared.worlds.WorldKey.{WorldKey}
 use Rattle.comp_trees.specs.Trees.{Origin, FunctionTree}
 use Rattle.world_values.specs.Items.{functions_of}
 use Rattle.comp_worlds.specs.Encodable.{IsEncodable}
+use Rattle.comp_worlds.specs.ExportOrder.{AreExportsInOrder}
 use Rattle.comp_worlds.specs.WorldContents.{items_of}
 use Rattle.comp_worlds.specs.declared.world.ComponentWorld.{ComponentWorld}
-use Rattle.comp_links.specs.Links.{link_of, lower_options, lower_realloc}
+use Rattle.comp_links.specs.Links.{link_of, lower_needs, lower_options, lower_realloc, task_return}
 use Rattle.comp_links.specs.Lists.{IsOriginOf}
 use Rattle.comp_links.specs.Roles.{is_used, is_used_of, import_encoding}
 use Rattle.comp_links.specs.Modules.{IsModule, UserImport, user_imports}
-use Rattle.comp_links.specs.Targets.{UserModule as User, ExportRef, WorldFunction, OfRoot, OfInterface, Lowered}
+use Rattle.comp_links.specs.Targets.{UserModule as User, ExportRef, WorldFunction, OfRoot, OfInterface, Lowered, BuiltIn, NoType, operand_if_any}
+use Rattle.comp_options.specs.Options.{needs, realloc_bit}
+use Rattle.shim_plan.specs.Needed.{function_options}
+use Rattle.shim_plan.specs.declared.memory_functions.MemoryFunction.{MemoryFunction}
 use Rattle.shim_plan.specs.declared.shims.Shim.{Shim}
 use Rattle.fixup_modules.specs.declared.instances.ImportedInstance.{ImportedInstance}
 use Rattle.fixup_modules.specs.declared.instances.ImportedInstance.TheVariants as from
@@ -27,14 +32,16 @@ use Rattle.world_shims.specs.WorldShims.{shims_of}
 use Rattle.comp_terms.specs.Generated.{shims_number, interface_imported, Purpose, target_of, HasPurpose}
 use Rattle.comp_terms.specs.Planned.{IsTypeOf, IsItemFor}
 use Rattle.comp_terms.specs.Rules.{Grows}
+use Rattle.comp_terms.specs.Shimmed.{shim_owner}
 use Rattle.comp_terms.specs.Terms.{IsImportedFunction, IsInstanceOf}
 use Rattle.wit_types.specs.declared.maps.TypeEncodingMaps.{TypeEncodingMaps}
 use Rattle.root_imports.specs.declared.root_scope.RootScope.{RootScope}
 use Rattle.root_imports.specs.RootScopes.{AreTablesRight, ArePassed}
-use Rattle.root_imports.specs.Imports.{FindsImports, FindsUsed}
+use Rattle.root_imports.specs.Imports.{FindsImports, FindsUsed, IsResult}
+use Rattle.root_imports.specs.Met.{AreExportsMet}
 use Rattle.core_options.specs.declared.fault.StateFault.{StateFault}
 use Rattle.core_options.specs.Causes.{IsCauseAmong}
-use Rattle.core_options.specs.MainOptions.{IsFunctionOf, AreUserInstances, OffersFunction, HasLowerOptions}
+use Rattle.core_options.specs.MainOptions.{IsFunctionOf, AreUserInstances, OffersFunction, HasLowerOptions, function_name, function_wanted}
 use Rattle.shim_targets.specs.ShimTargets.{StandsFor}
 use Rattle.main_fixup.specs.declared.sources.FillSources.{FillSources}
 
@@ -47,6 +54,8 @@ pub record AreFillSources (w : ComponentWorld) (s : FillSources) (met : MetTypes
   pub users : AreUserInstances w ds s.instances.now
   pub tables : AreTablesRight w met instances ds maps
   pub passed : ArePassed w met
+  pub exports : AreExportsMet w met
+  pub ordered : AreExportsInOrder w
 
 -- the same, of what a component has at its root so far
 abbrev pub HasFillSources : RootScope ComponentWorld → FillSources → Type 0
@@ -123,6 +132,24 @@ pub record IsBehind (w : ComponentWorld) (ds : List Def) (s : Shim) (encoding : 
   pub function : WorldFunction
   pub linked : link_of w given.of given.core.role ≡ Lowered function (lower_options w given.of given.core.role)
   pub is : IsFunctionOf w ds index function
+
+-- the shim stands for returns of a result of this type from a function of this interface, or of the
+-- root, with this string encoding and this realloc
+pub record IsReturnBehind (w : ComponentWorld) (s : Shim) (encoding : StringEncoding) (realloc : Option ExportRef) (interface : Option InterfaceId) (result : Option Ty) : Type 0 where
+  pub given : UserImport
+  pub stands : StandsFor w s given
+  pub encoded : import_encoding w given.of given.core.role ≡ Some encoding
+  pub reallocated : realloc ≡ lower_realloc w given.of
+  pub linked : link_of w given.of given.core.role ≡ BuiltIn task_return (operand_if_any result) (lower_options w given.of given.core.role)
+  pub is : IsResult w interface result
+
+-- the shim stands for imports of a wait, or of a function of error contexts, with this realloc
+pub record IsFunctionBehind (w : ComponentWorld) (s : Shim) (function : MemoryFunction) (realloc : Option ExportRef) : Type 0 where
+  pub given : UserImport
+  pub stands : StandsFor w s given
+  pub needed : lower_needs w given.core.role ≡ (function_options function).0
+  pub reallocated : IsTrue (needs (function_options function).0 realloc_bit) → realloc ≡ lower_realloc w given.of
+  pub linked : link_of w (shim_owner given.of given.core.role) given.core.role ≡ BuiltIn (function_name function) NoType (function_wanted function realloc)
 
 -- the core function of this index is what the shim stands for
 pub record ServesShim (w : ComponentWorld) (ds : List Def) (s : Shim) (index : ℕ) : Type 0 where

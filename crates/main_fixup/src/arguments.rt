@@ -1,11 +1,11 @@
 //! The arguments of the fixup, by the instances that it imports from.
-#![tactic(auto, using(comp_items::proofs::Extending::extends_none, comp_items::proofs::Extending::extends_same, comp_items::proofs::Extending::extends_then))]
+#![tactic(auto, using(comp_items::proofs::Extending::extends_none, comp_items::proofs::Extending::extends_same, comp_items::proofs::Extending::extends_then, crate::proofs::Filled::kept_as_is, crate::proofs::Filled::kept_added))]
 
 ghost use Rattle.std.specs.Prelude.{◌≡◌, IfOk, IfErr, OnOk};
 ghost use Rattle.std.specs.List.{AllByRecursion, AllZip};
-ghost use Rattle.comp_items.specs.Items.{Extends};
 ghost use Rattle.comp_terms.specs.Rules.{IsFixupSource, IsFixupArgument};
 ghost use Rattle.main_fixup.specs.Filling.{IsSourceThere, HasSourceOptions, HasFillSources, GrowsInside, IsFillCause};
+ghost use Rattle.root_imports.specs.Keeping.{RootKept};
 ghost use Rattle.world_shims.specs.WorldShims.{shims_of};
 
 use crate::fills::actual_instance;
@@ -30,8 +30,7 @@ fn source_instance(
     requires sources { HasFillSources root.old sources.now }
     requires shims { shims.now ≡ shims_of root.old.world.now }
     requires there { IsSourceThere root.old.world.now root.old.items.defs shim_instance from.now }
-    ensures same { root.new ≡ record root.old { items = root.new.items } }
-    ensures extends { Extends root.old.items root.new.items }
+    ensures kept { RootKept root.old.world.now root.old root.new }
     ensures grows { OnOk result (GrowsInside root.old root.new) }
     ensures serves { IfOk result
         (λ index. IsFixupSource root.old.world.now root.new.items.defs index from.now) }
@@ -58,8 +57,7 @@ fn fixup_argument(
     requires sources { HasFillSources root.old sources.now }
     requires shims { shims.now ≡ shims_of root.old.world.now }
     requires there { IsSourceThere root.old.world.now root.old.items.defs shim_instance from.now }
-    ensures same { root.new ≡ record root.old { items = root.new.items } }
-    ensures extends { Extends root.old.items root.new.items }
+    ensures kept { RootKept root.old.world.now root.old root.new }
     ensures grows { OnOk result (GrowsInside root.old root.new) }
     ensures serves { IfOk result (λ argument. IsFixupArgument root.old.world.now root.new.items.defs
         argument (name.now, from.now)) }
@@ -84,8 +82,7 @@ pub(crate) fn fixup_arguments(
     requires there { AllByRecursion
         (λ i. IsSourceThere root.old.world.now root.old.items.defs shim_instance i.1)
         instances.now }
-    ensures same { root.new ≡ record root.old { items = root.new.items } }
-    ensures extends { Extends root.old.items root.new.items }
+    ensures kept { RootKept root.old.world.now root.old root.new }
     ensures grows { OnOk result (GrowsInside root.old root.new) }
     ensures serve { IfOk result (λ arguments. AllZip
         (IsFixupArgument root.old.world.now root.new.items.defs) arguments instances.now) }

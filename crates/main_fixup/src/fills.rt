@@ -1,11 +1,11 @@
 //! The inline instance that has what each shim stands for.
-#![tactic(auto, using(comp_items::proofs::Extending::extends_none, comp_items::proofs::Extending::extends_same, comp_items::proofs::Extending::extends_then))]
+#![tactic(auto, using(comp_items::proofs::Extending::extends_none, comp_items::proofs::Extending::extends_same, comp_items::proofs::Extending::extends_then, crate::proofs::Filled::kept_as_is, crate::proofs::Filled::kept_added))]
 
 ghost use Rattle.std.specs.Prelude.{◌≡◌, ◌<◌, ◌^◌, length, IfOk, IfErr, OnOk};
 ghost use Rattle.std.specs.List.{AllByRecursion, AllZip};
-ghost use Rattle.comp_items.specs.Items.{Extends};
 ghost use Rattle.comp_terms.specs.Planned.{IsFillFor, AreFillsFor};
 ghost use Rattle.main_fixup.specs.Filling.{HasShimOptions, HasFillSources, GrowsInside, IsFillCause};
+ghost use Rattle.root_imports.specs.Keeping.{RootKept};
 ghost use Rattle.shim_targets.specs.ShimTargets.{StandsForOne};
 ghost use Rattle.world_shims.specs.WorldShims.{shims_of};
 
@@ -27,8 +27,7 @@ fn fill(
 ) -> Result<CoreInlineExport, StateFault>
     requires sources { HasFillSources root.old sources.now }
     requires stands { StandsForOne root.old.world.now shim.now }
-    ensures same { root.new ≡ record root.old { items = root.new.items } }
-    ensures extends { Extends root.old.items root.new.items }
+    ensures kept { RootKept root.old.world.now root.old root.new }
     ensures grows { OnOk result (GrowsInside root.old root.new) }
     ensures fills { IfOk result
         (λ entry. IsFillFor root.old.world.now root.new.items.defs entry shim.now) }
@@ -52,8 +51,7 @@ fn fills(
 ) -> Result<Seq<CoreInlineExport>, StateFault>
     requires sources { HasFillSources root.old sources.now }
     requires shims { shims.now ≡ shims_of root.old.world.now }
-    ensures same { root.new ≡ record root.old { items = root.new.items } }
-    ensures extends { Extends root.old.items root.new.items }
+    ensures kept { RootKept root.old.world.now root.old root.new }
     ensures grows { OnOk result (GrowsInside root.old root.new) }
     ensures fills { IfOk result (λ entries. AllZip
         (IsFillFor root.old.world.now root.new.items.defs) entries
@@ -79,8 +77,7 @@ pub(crate) fn actual_instance(
 ) -> Result<u32, StateFault>
     requires sources { HasFillSources root.old sources.now }
     requires shims { shims.now ≡ shims_of root.old.world.now }
-    ensures same { root.new ≡ record root.old { items = root.new.items } }
-    ensures extends { Extends root.old.items root.new.items }
+    ensures kept { RootKept root.old.world.now root.old root.new }
     ensures grows { OnOk result (GrowsInside root.old root.new) }
     ensures fills { IfOk result (AreFillsFor root.old.world.now root.new.items.defs) }
     ensures offered { OnOk result

@@ -1,15 +1,15 @@
 //! The fixup's module and its instance.
-#![tactic(auto, using(comp_items::proofs::Extending::extends_none, comp_items::proofs::Extending::extends_same, comp_items::proofs::Extending::extends_then))]
+#![tactic(auto, using(comp_items::proofs::Extending::extends_none, comp_items::proofs::Extending::extends_same, comp_items::proofs::Extending::extends_then, crate::proofs::Filled::kept_as_is, crate::proofs::Filled::kept_added))]
 
 ghost use Rattle.std.specs.Prelude.{◌≡◌, [], ◌∷◌, true, IfErr, OnOk};
 ghost use Rattle.std.specs.List.{AllByRecursion};
 ghost use Rattle.comp_bytes.specs.Spaces.{items_in};
 ghost use Rattle.comp_bytes.specs.declared.space.Space.TheVariants as spaces;
-ghost use Rattle.comp_items.specs.Items.{Extends};
 ghost use Rattle.comp_terms.specs.Generated.{has_fixup, fixup_number};
 ghost use Rattle.comp_terms.specs.Rules.{Grows, ModuleIs, InstanceOf, instances_in, made_before_fixup};
 ghost use Rattle.core_types.specs.Core.{IsCoreModule};
 ghost use Rattle.main_fixup.specs.Filling.{HasShimOptions, IsShimsAt, HasFillSources, IsFillCause};
+ghost use Rattle.root_imports.specs.Keeping.{RootKept};
 ghost use Rattle.world_shims.specs.WorldShims.{shims_of, initialize_of, fixup_instances};
 
 use crate::arguments::fixup_arguments;
@@ -47,8 +47,7 @@ pub fn encode_fixup(
     requires last { instances_in root.old.items.defs ≡ made_before_fixup root.old.world.now }
     requires next { items_in spaces.CoreModule root.old.items.defs
         ≡ fixup_number root.old.world.now }
-    ensures same { root.new ≡ record root.old { items = root.new.items } }
-    ensures extends { Extends root.old.items root.new.items }
+    ensures kept { RootKept root.old.world.now root.old root.new }
     ensures grows { OnOk result (Grows root.old.world.now root.old.items.defs root.new.items.defs
         (ModuleIs «module».now ∷ InstanceOf (fixup_number root.old.world.now) ∷ [])) }
     ensures offered { OnOk result

@@ -1,5 +1,5 @@
 -- Functions that are lowered directly: their options are those of the link table, and what is missing is a cause.
-use Rattle.std.proofs.Common.{◌≡◌, ◌∙◌, ◌&&◌, ℕ, false, true≢false, List, [], ◌∷◌, Contains, Option, Some, None, is_some, if◌then◌else◌, IsTrue, IsSome, refl, sym, ap, subst, inr}
+use Rattle.std.proofs.Common.{◌≡◌, ◌∙◌, ◌&&◌, ℕ, false, true≢false, List, [], ◌∷◌, Contains, Option, Some, None, is_some, if◌then◌else◌, IsTrue, IsSome, refl, sym, ap, ap₂, subst, inr}
 use Rattle.std.proofs.lemmas.Option.{none-some, same_Some}
 use Rattle.std.specs.Prelude.{not}
 use Rattle.std.specs.Option.{option_copied, option_map}
@@ -14,6 +14,8 @@ use Rattle.standard_kinds.specs.declared.kinds.StringEncoding.{StringEncoding}
 use Rattle.comp_options.specs.Options.{needs}
 use Rattle.comp_options.specs.OptionLists.{options_of, lacks_memory, lacks_realloc}
 use Rattle.comp_roles.specs.CoreImports.{CoreImport}
+use Rattle.comp_roles.specs.declared.imports.Import.{Import}
+use Rattle.comp_roles.specs.declared.imports.Import.TheVariants as imports
 use Rattle.comp_roles.specs.Lookups.{first_memory}
 use Rattle.comp_worlds.specs.Encodable.{IsEncodable}
 use Rattle.comp_worlds.specs.Lookups.{module_name, resolved_realloc, lent_export}
@@ -25,14 +27,14 @@ use Rattle.comp_worlds.specs.declared.world.ComponentWorld.{ComponentWorld}
 use Rattle.comp_worlds.specs.declared.world.ValidatedModule.{ValidatedModule}
 use Rattle.comp_links.specs.Links.{options_in, export_at, lower_needs, lower_options, lower_realloc}
 use Rattle.comp_links.specs.Modules.{module_found, user_imports}
-use Rattle.comp_links.specs.Roles.{import_encoding, field_path}
+use Rattle.comp_links.specs.Roles.{import_encoding, is_always_shimmed, field_path}
 use Rattle.comp_links.specs.Targets.{UserModule as User, Main, Adapter, WorldFunction, Lowered}
 use Rattle.comp_links.specs.Targets as targets
 use Rattle.comp_terms.specs.Generated.{shims_number}
 use Rattle.comp_terms.specs.Planned.{memory_from, main_memory, shim_export, IsItemFor}
 use Rattle.comp_terms.specs.Terms.{IsExported, IsLowering}
 use Rattle.comp_terms.specs.Terms as terms
-use Rattle.shim_plan.specs.Needed.{module_of_name, name_of_module, realloc_shim, import_realloc}
+use Rattle.shim_plan.specs.Needed.{call_of, module_of_name, name_of_module, realloc_shim, import_realloc}
 use Rattle.shim_plan.specs.Plans.{shim_of}
 use Rattle.shim_plan.specs.declared.kinds.ShimKind.{ShimKind}
 use Rattle.shim_targets.specs.ShimTargets.{which_of}
@@ -45,7 +47,8 @@ use Rattle.shim_targets.proofs.Users.{of_module}
 use Rattle.world_shims.specs.WorldShims.{shims_of}
 use Rattle.core_options.proofs.OptionTerms.{AreListed, named_for, has_realloc, option_refused}
 use Rattle.core_options.proofs.Refusals.{one_import_refused}
-use Rattle.core_options.specs.Causes.{IsCauseAmong, IsListRefusal, indirect_name, lowering_place}
+use Rattle.comp_terms.specs.Shimmed.{shim_name}
+use Rattle.core_options.specs.Causes.{IsCauseAmong, IsListRefusal, lowering_place}
 use Rattle.core_options.specs.MainOptions.{user_of, IsFunctionOf, IsMemoryIf, IsReallocIf, NameOptions}
 use Rattle.core_options.specs.declared.fault.StateFault.{StateFault}
 use Rattle.core_options.specs.declared.fault.StateFault.TheVariants as faults
@@ -114,11 +117,16 @@ realloc_none w of m there ds e = subst (λ o. IsReallocIf w ds o None) (sym (rea
 -- ---- a call
 
 -- the options that the world's table has for it are those that it needs
-pub needed_is : (w : ComponentWorld) → IsEncodable w → (of : User) (m : ValidatedModule) → module_found w of ≡ Some m → (i : CoreImport) → Contains (imports_of m) i → (options : RequiredOptions) → options ≡ options_of_lowering (lowering_of_import w i.role) →
+pub needed_is : (w : ComponentWorld) → IsEncodable w → (of : User) (m : ValidatedModule) → module_found w of ≡ Some m → (i : CoreImport) → Contains (imports_of m) i → IsSome (call_of i.role) → (options : RequiredOptions) → options ≡ options_of_lowering (lowering_of_import w i.role) →
     options.0 ≡ lower_needs w i.role
-needed_is w ok of m there i present options is = ap (λ (o : RequiredOptions). o.0) is ∙ options_needed w ok (record { of = of; core = i }) (of_module w of m i there present)
+needed_is w ok of m there i present called options is = ap (λ (o : RequiredOptions). o.0) is ∙ options_needed w ok (record { of = of; core = i }) (of_module w of m i there present) called
 
-module _ (w : ComponentWorld) (ok : IsEncodable w) (of : User) (m : ValidatedModule) (there : module_found w of ≡ Some m) (i : CoreImport) (present : Contains (imports_of m) i) (plain : shared_memory w ≡ None → NamesNoExport (lower_needs w i.role)) (set : ℕ) (same : set ≡ lower_needs w i.role) where
+-- the role of a call has no shim where main imports its memory
+called_apart : (role : Import) → IsSome (call_of role) → is_always_shimmed role ≡ false
+called_apart (imports.ErrorContextDebugMessage encoding) called = absurd (true≢false (sym called))
+called_apart role called = refl
+
+module _ (w : ComponentWorld) (ok : IsEncodable w) (of : User) (m : ValidatedModule) (there : module_found w of ≡ Some m) (i : CoreImport) (present : Contains (imports_of m) i) (called : IsSome (call_of i.role)) (plain : shared_memory w ≡ None → NamesNoExport (lower_needs w i.role)) (set : ℕ) (same : set ≡ lower_needs w i.role) where
   -- where main imports no memory, the options name neither a memory nor a realloc
   unnamed : (bit : ℕ) → (NamesNoExport (lower_needs w i.role) → needs (lower_needs w i.role) bit ≡ false) → shared_memory w ≡ None → needs set bit ≡ false
   unnamed bit none e = ap (λ n. needs n bit) same ∙ none (plain e)
@@ -136,7 +144,7 @@ module _ (w : ComponentWorld) (ok : IsEncodable w) (of : User) (m : ValidatedMod
 
   -- its realloc has a shim
   pub realloc_planned_for : IsTrue (needs set 2) → HasReallocShim w of m
-  realloc_planned_for needed r is = realloc_there w ok (shared_by 2 (λ n. n.realloc) needed) of m there i present (subst (λ n. IsTrue (needs n 2)) same needed) r is
+  realloc_planned_for needed r is = realloc_there w ok (shared_by 2 (λ n. n.realloc) needed) of m there i present (called_apart i.role called) (subst (λ n. IsTrue (needs n 2)) same needed) r is
 
   -- its options are those of the link table
   pub direct_named : (ds : List Def) (memory realloc : Option ℕ) (encoding : StringEncoding) (written : List CanonicalOption) → import_encoding w of i.role ≡ Some encoding → IsMemoryBefore w ds of memory → (IsTrue (needs set 2) → IsReallocIf w ds (lower_realloc w of) realloc) →
@@ -170,7 +178,7 @@ module _ (w : ComponentWorld) (ok : IsEncodable w) (of : User) (m : ValidatedMod
       by : (o : Option MemoryType) → shared_memory w ≡ o → IsCauseAmong w (record { of = of; core = i } ∷ []) [] e
       by None unshared = nothing e unshared h
       by (Some type) shared =
-          let named : place ≡ lowering_place w i = at ∙ ap (λ o. if is_some o then field_path i.module_name i.field else indirect_name i) (sym shared) in
+          let named : place ≡ lowering_place w i = at ∙ ap₂ (λ b o. if not b && is_some o then field_path i.module_name i.field else shim_name i i.role) (sym (called_apart i.role called)) (sym shared) in
           one_import_refused w (record { of = of; core = i }) (lower_realloc w of) set place same named (λ none. none) e
           (option_refused w ds set memory realloc (lower_realloc w of) (direct_memory ds memory before) reallocs place e h)
 

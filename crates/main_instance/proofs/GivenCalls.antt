@@ -50,13 +50,13 @@ module _ (w : ComponentWorld) (ok : IsEncodable w) (u : UserModule) (user : IsUs
   -- a call whose realloc is there, where main imports its memory, has what it needs
   pub direct_supplied : (IsTrue (is_main_memory role) → ⊥) → (IsTrue (needs (lower_needs w i.role) 2) → IsSome (lower_realloc w (user_of u.which))) → IsSuppliedImport w (user_of u.which) i.role
   direct_supplied other realloc =
-      has_encoding w (user_of u.which) u.found.now user.named i.role encoding own_encoding (λ memory. other (subst (λ r. IsTrue (is_main_memory r)) is memory)) (λ shared needed. realloc needed)
+      has_encoding w (user_of u.which) u.found.now user.named i.role encoding own_encoding (λ memory. other (subst (λ r. IsTrue (is_main_memory r)) is memory)) (λ shared apart needed. realloc needed)
 
   -- so does a call with a shim of its own, where main doesn't
   pub shim_supplied : (IsTrue (is_main_memory role) → ⊥) → (ds : List Def) (index : ℕ) → IsShimAlias w ds kind (Some index) → IsSuppliedImport w (user_of u.which) i.role
   shim_supplied other ds index h =
       has_encoding w (user_of u.which) u.found.now user.named i.role encoding own_encoding (λ memory. other (subst (λ r. IsTrue (is_main_memory r)) is memory))
-      (λ shared needed. absurd (true≢false (sym shared ∙ ap is_some (unshared_by_shim w ok (record { of = user_of u.which; core = i }) among encoding call_encoded kind own_kind ds index h))))
+      (λ shared apart needed. absurd (true≢false (sym shared ∙ ap is_some (unshared_by_shim w ok (record { of = user_of u.which; core = i }) among encoding call_encoded kind own_kind ds index apart h))))
 
   -- a lowering of the function that it calls is what it is given
   pub direct_given : (ds : List Def) (index : ℕ) (called : WorldFunction) → link_of w (user_of u.which) role ≡ Lowered called (lower_options w (user_of u.which) role) → IsItemFor w ds spaces.CoreFunc index (Lowered called (lower_options w (user_of u.which) i.role)) →

@@ -1,5 +1,5 @@
 -- What a core import is given: its shim, or what the link table names.
-use Rattle.std.proofs.Common.{◌≡◌, ◌∙◌, ℕ, List, [], Some, None, is_some, refl, sym, ap, subst, inl, inr, true≢false}
+use Rattle.std.proofs.Common.{◌≡◌, ◌∙◌, ℕ, false, List, [], Some, None, is_some, refl, sym, ap, subst, inl, inr, true≢false}
 use Rattle.std.proofs.lemmas.Option.{none-some, slice_get_within}
 use Rattle.standard_kinds.specs.declared.kinds.StringEncoding.{StringEncoding}
 use Rattle.standard_kinds.specs.declared.kinds.ExportKind.TheVariants as kinds
@@ -16,9 +16,10 @@ use Rattle.comp_worlds.specs.Offered.{shared_memory}
 use Rattle.comp_worlds.specs.declared.world.ComponentWorld.{ComponentWorld}
 use Rattle.comp_links.specs.Links.{lower_needs}
 use Rattle.comp_links.specs.Modules.{UserImport, user_imports}
-use Rattle.comp_links.specs.Roles.{import_encoding}
+use Rattle.comp_links.specs.Roles.{import_encoding, is_always_shimmed}
 use Rattle.comp_links.specs.Targets.{UserModule, Adapter, ExportOf}
 use Rattle.comp_terms.specs.Generated.{shims_number, OfImport, OfExport}
+use Rattle.comp_terms.specs.Shimmed.{shim_owner}
 use Rattle.comp_terms.specs.Planned.{IsShimOfKind, IsCallShim, IsOwnShim, IsGivenFor}
 use Rattle.comp_items.specs.Items.{MayAdd}
 use Rattle.comp_terms.specs.Rules.{Grows}
@@ -34,6 +35,7 @@ use Rattle.shim_targets.specs.ShimTargets.{kind_of_import}
 use Rattle.shim_targets.proofs.FoundShims.{found_shim}
 use Rattle.shim_targets.proofs.GivenShims.{given_shim, given_unshared, given_shimmed}
 use Rattle.shim_targets.proofs.NeededShims.{direct}
+use Rattle.shim_targets.proofs.Owners.{import_linked}
 use Rattle.main_instance.specs.Sources.{IsShimAlias, adapter_kind}
 use Rattle.shim_targets.proofs.AdapterShims.{given_adapter}
 
@@ -59,7 +61,7 @@ module _ (w : ComponentWorld) (ok : IsEncodable w) (i : UserImport) (present : C
       inr (own_shim_of_call w i.of ds spaces.CoreFunc index i.core.role encoding kind of_kind (record {
         shim = record {
           place = f.0;
-          stands = record { shim = h.0; purpose = OfImport i.of i.core.role; listed = f.1; stands_for = stands_for; same = refl };
+          stands = record { shim = h.0; purpose = OfImport (shim_owner i.of i.core.role) i.core.role; listed = f.1; stands_for = stands_for; same = import_linked w ok i present };
           in_space = refl;
           is = subst (λ n. IsExported ds index (record { of = shims_number w; kind = kinds.Func; name = n })) f.3 h.2;
         };
@@ -67,9 +69,9 @@ module _ (w : ComponentWorld) (ok : IsEncodable w) (i : UserImport) (present : C
         shimmed = given_shimmed w ok i present encoding encoded kind of_kind h.0 h.1;
       }))
 
-  -- then main imports no memory
-  pub unshared_by_shim : IsShimAlias w ds kind (Some index) → shared_memory w ≡ None
-  unshared_by_shim h = given_unshared w ok i.of i.core.role encoding kind of_kind h.0 h.1
+  -- then main imports no memory, unless such an import has a shim always
+  pub unshared_by_shim : is_always_shimmed i.core.role ≡ false → IsShimAlias w ds kind (Some index) → shared_memory w ≡ None
+  unshared_by_shim apart h = given_unshared w ok i.of i.core.role encoding kind of_kind apart h.0 h.1
 
   -- without one, its options name nothing that a module exports, unless main imports its memory
   pub plain_without : IsShimAlias w ds kind None → shared_memory w ≡ None → NamesNoExport (lower_needs w i.core.role)

@@ -1,5 +1,5 @@
 -- What was made stays what it is while definitions are added.
-use Rattle.std.proofs.Common.{◌<◌, inl, inr, ℕ, Some, None, Option, List, [], ◌∷◌, sym, subst}
+use Rattle.std.proofs.Common.{◌≡◌, ◌<◌, inl, inr, ℕ, Some, None, Option, List, [], ◌∷◌, sym, subst}
 use Rattle.std.specs.List.{AllZip, AllByRecursion}
 use Rattle.comp_lists.proofs.Lists.{AllZip-weaker}
 use Rattle.comp_bytes.proofs.ItemIndices.{in_range}
@@ -32,14 +32,14 @@ use Rattle.comp_items.proofs.Extending.{extends_none, extends_same, extends_then
 use Rattle.comp_items.proofs.Remembering.{longer}
 use Rattle.comp_items.proofs.Kept.{Longer, at-kept, instance-kept, exported-kept, term-kept}
 use Rattle.root_imports.proofs.Growth.{tables_kept}
+use Rattle.root_imports.proofs.Keeping.{kept_none, kept_items}
+use Rattle.root_imports.specs.Keeping.{Root, RootKept}
 use Rattle.root_imports.proofs.Finding.{FindsImports-kept}
 use Rattle.main_instance.specs.declared.instances.ImportSources.{ImportSources}
 use Rattle.comp_worlds.specs.Made.{modules_of_imports}
 use Rattle.core_options.proofs.OptionTerms.{memory_kept}
 use Rattle.comp_terms.specs.Planned.{main_memory}
 use Rattle.main_instance.specs.Sources.{shared_export, IsMemoryBefore, AreSources, IsShimInstance, IsBehindMain, IsMainInstance, IsMade}
-
-pub ruleset growing = (extends_none, extends_same, extends_then)
 
 -- ---- what a module is given stays what it is, whatever is added
 
@@ -95,7 +95,23 @@ made-kept w main adapters g [] h = tt
 made-kept w main adapters g (which ∷ named) h = (record { instance = h.0.instance; there = h.0.there; number = h.0.number; of = h.0.of; is = instance-kept g h.0.is }, made-kept w main adapters g named h.1)
 
 pub sources-kept : {w : ComponentWorld} {s : ImportSources} {met : MetTypes} {old new : Built} {maps : TypeEncodingMaps} {instances : List (InterfaceId × ℕ)} → Extends old new → AreSources w s met old.defs maps instances → AreSources w s met new.defs maps instances
-sources-kept {w} {s} {met} {old} {new} {maps} {instances} g h = record { valid = h.valid; user = h.user; imports = FindsImports-kept (longer g) h.imports; used = h.used; shims = h.shims; shim_instance = shim_instance-kept w s.shim_instance (longer g) h.shim_instance; memory = memory_before-kept w (user_of s.user.which) s.memory (longer g) h.memory; main = main_instance-kept (user_of s.user.which) s.main (longer g) h.main; made = made-kept w s.main s.adapters.now (longer g) (modules_of_imports s.user.found.now) h.made; tables = tables_kept w met instances old new maps g h.tables; passed = h.passed; exports = h.exports }
+sources-kept {w} {s} {met} {old} {new} {maps} {instances} g h = record { valid = h.valid; user = h.user; imports = FindsImports-kept (longer g) h.imports; used = h.used; shims = h.shims; shim_instance = shim_instance-kept w s.shim_instance (longer g) h.shim_instance; memory = memory_before-kept w (user_of s.user.which) s.memory (longer g) h.memory; main = main_instance-kept (user_of s.user.which) s.main (longer g) h.main; made = made-kept w s.main s.adapters.now (longer g) (modules_of_imports s.user.found.now) h.made; tables = tables_kept w met instances old new maps g h.tables; passed = h.passed; exports = h.exports; ordered = h.ordered }
+
+-- so they do over a step that also adds to the tables
+pub sources-moved : {s : ImportSources} (old new : Root) → RootKept old.world.now old new → AreSources old.world.now s old.met old.items.defs old.maps old.instances → AreSources new.world.now s new.met new.items.defs new.maps new.instances
+sources-moved {s} old new g h =
+    subst (λ l. AreSources l.now s new.met new.items.defs new.maps new.instances) (sym g.world)
+    (subst (λ l. AreSources old.world.now s l new.items.defs new.maps new.instances) (sym g.met)
+    (record { valid = h.valid; user = h.user; imports = FindsImports-kept (longer g.extends) h.imports; used = h.used; shims = h.shims; shim_instance = shim_instance-kept old.world.now s.shim_instance (longer g.extends) h.shim_instance; memory = memory_before-kept old.world.now (user_of s.user.which) s.memory (longer g.extends) h.memory; main = main_instance-kept (user_of s.user.which) s.main (longer g.extends) h.main; made = made-kept old.world.now s.main s.adapters.now (longer g.extends) (modules_of_imports s.user.found.now) h.made; tables = g.tables; passed = h.passed; exports = h.exports; ordered = h.ordered }))
+
+-- a step that adds nothing, and one that adds items alone, keep the root
+pub kept_as_is : {s : ImportSources} (old : Root) → AreSources old.world.now s old.met old.items.defs old.maps old.instances → RootKept old.world.now old old
+kept_as_is old h = kept_none old.world.now old h.tables
+
+pub kept_added : {s : ImportSources} (old new : Root) → AreSources old.world.now s old.met old.items.defs old.maps old.instances → new ≡ record old { items = new.items } → Extends old.items new.items → RootKept old.world.now old new
+kept_added old new h same g = kept_items old.world.now old old new (kept_none old.world.now old h.tables) same g
+
+pub ruleset growing = (extends_none, extends_same, extends_then, kept_as_is, kept_added)
 
 -- ---- the entries of an inline instance name items
 
@@ -106,7 +122,7 @@ entries_in_range w of ds (e ∷ es) (f ∷ fs) h = (record { scoped = given e.ki
     term_in_range : (kind : ExportKind) (index : ℕ) (t : Term) → Is ds (kind_space kind) index t → index < items_in (kind_space kind) ds
     term_in_range kinds.Func index (terms.Lowering origin type written) is = in_range is.made
     term_in_range kinds.Func index (terms.OfResource function resource) is = in_range is.made
-    term_in_range kinds.Func index (terms.BuiltIn intrinsic) is = in_range is.made
+    term_in_range kinds.Func index (terms.BuiltIn name operand os) is = in_range is.made
     term_in_range kinds.Func index (terms.Exported e) is = subst (λ space. index < items_in space ds) (sym is.0) (in_range is.1.made)
     term_in_range kinds.Table index (terms.Exported e) is = subst (λ space. index < items_in space ds) (sym is.0) (in_range is.1.made)
     term_in_range kinds.Memory index (terms.Exported e) is = subst (λ space. index < items_in space ds) (sym is.0) (in_range is.1.made)

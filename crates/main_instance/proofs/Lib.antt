@@ -9,3 +9,5 @@ mod OwnHandles
 pub mod BuiltIns
 pub mod OfMain
 pub mod Cells
+pub mod ReturnCalls
+pub mod Functions

@@ -1,5 +1,5 @@
 -- The imports of a user module: each is given what its role needs, in order.
-use Rattle.std.proofs.Common.{inl, inr, Bool, true, Option, Some, None, is_some, Result, Ok, Err, ◌≡◌, ◌∙◌, ℕ, List, [], ◌∷◌, ◌++◌, refl, sym, ap, ap₂, subst, append_assoc, append-nil, map, IsTrue, IsSome, Contains, arith}
+use Rattle.std.proofs.Common.{inl, inr, Bool, true, false, Option, Some, None, is_some, Result, Ok, Err, ◌≡◌, ◌∙◌, ℕ, List, [], ◌∷◌, ◌++◌, refl, sym, ap, ap₂, subst, append_assoc, append-nil, map, IsTrue, IsSome, Contains, arith}
 use Rattle.std.specs.List.{AllByRecursion, AllZip, IsDistinct, list_any, flat_map}
 use Rattle.std.specs.Option.{option_and_then}
 use Rattle.std.proofs.lemmas.Bool.{or_left, or_right}
@@ -44,7 +44,7 @@ use Rattle.comp_links.specs.Lists.{required_functions}
 use Rattle.comp_links.specs.Modules.{WorldModule, UserImport, import_groups, imports_of_module, module_found, user_imports, user_modules}
 use Rattle.comp_links.specs.Targets.{UserModule as User}
 use Rattle.comp_terms.specs.Planned.{IsEntryFor, IsArgumentFor}
-use Rattle.comp_links.specs.Roles.{encoding_in, field_path, import_encoding, needs_encoding, interface_function, is_named, is_used, is_used_of, is_main_memory}
+use Rattle.comp_links.specs.Roles.{encoding_in, field_path, import_encoding, needs_encoding, is_always_shimmed, interface_function, is_named, is_used, is_used_of, is_main_memory}
 use Rattle.comp_links.specs.Supplied.{IsSuppliedImport}
 use Rattle.comp_terms.specs.Rules.{Grows}
 use Rattle.interface_needs.proofs.Lists.{contains_one, contains_none, contains_cons, contains_first, contains_later, contains_flat, IsInOne, flat_contains, passes_any, all_both}
@@ -71,7 +71,7 @@ module _ (w : ComponentWorld) (of : User) (m : ValidatedModule) (there : module_
   pub encoding_found : (role : Import) (o : Option StringEncoding) → encoding_in role m ≡ o → import_encoding w of role ≡ o
   encoding_found role o e = ap (option_and_then (encoding_in role)) there ∙ e
 
-  pub has_encoding : (role : Import) (encoding : StringEncoding) → encoding_in role m ≡ Some encoding → (IsTrue (is_main_memory role) → ⊥) → (IsSome (shared_memory w) → IsTrue (needs (lower_needs w role) 2) → IsSome (lower_realloc w of)) → IsSuppliedImport w of role
+  pub has_encoding : (role : Import) (encoding : StringEncoding) → encoding_in role m ≡ Some encoding → (IsTrue (is_main_memory role) → ⊥) → (IsSome (shared_memory w) → is_always_shimmed role ≡ false → IsTrue (needs (lower_needs w role) 2) → IsSome (lower_realloc w of)) → IsSuppliedImport w of role
   has_encoding role encoding e other realloc = record { encoding = λ needed. ap is_some (encoding_found role (Some encoding) e); memory = λ memory. absurd (other memory); realloc = realloc }
 
   -- what it lacks is a cause

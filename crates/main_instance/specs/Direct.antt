@@ -12,7 +12,7 @@ use Rattle.comp_worlds.specs.Uses.{imports_of}
 use Rattle.comp_worlds.specs.declared.world.ComponentWorld.{ComponentWorld}
 use Rattle.comp_worlds.specs.declared.world.ValidatedModule.{ValidatedModule}
 use Rattle.core_options.specs.MainOptions.{IsFunctionOf}
-use Rattle.shim_plan.specs.Needed.{realloc_shim, import_realloc}
+use Rattle.shim_plan.specs.Needed.{call_of, realloc_shim, import_realloc}
 use Rattle.shim_plan.specs.Plans.{shim_of}
 use Rattle.shim_targets.specs.CallOptions.{NamesNoExport}
 use Rattle.shim_targets.specs.ShimTargets.{which_of}
@@ -25,6 +25,7 @@ use Rattle.main_instance.specs.declared.direct.DirectCall.{DirectCall}
 pub record IsDirectCall (w : ComponentWorld) (of : User) (m : ValidatedModule) (c : DirectCall) : Type 0 where
   pub present : Contains (imports_of m) (import_at c.place c.import.now)
   pub encoded : import_encoding w of c.import.now ≡ Some c.encoding
+  pub called : IsSome (call_of c.import.now)
   pub plain : shared_memory w ≡ None → NamesNoExport (lower_needs w c.import.now)
 
 -- the core function of this index is a lowering of an imported function, whichever of the world it

@@ -16,7 +16,7 @@ use Rattle.comp_roles.specs.CoreImports.{CoreImport}
 use Rattle.comp_roles.specs.declared.libraries.MainOrAdapter.{MainOrAdapter}
 use Rattle.comp_roles.specs.declared.libraries.MainOrAdapter.TheVariants as users
 use Rattle.comp_worlds.specs.Encodable.{IsEncodable}
-use Rattle.comp_worlds.specs.ExportOrder.{required_interfaces}
+use Rattle.comp_worlds.specs.ExportOrder.{required_interfaces, AreExportsInOrder}
 use Rattle.comp_worlds.specs.Made.{modules_of_imports}
 use Rattle.comp_worlds.specs.Offered.{shared_memory}
 use Rattle.comp_worlds.specs.WorldContents.{items_of}
@@ -116,6 +116,7 @@ pub record AreSources (w : ComponentWorld) (s : ImportSources) (met : MetTypes) 
   pub tables : AreTablesRight w met instances ds maps
   pub passed : ArePassed w met
   pub exports : AreExportsMet w met
+  pub ordered : AreExportsInOrder w
 
 -- the index is an alias of the shim of a kind, where there is one
 abbrev pub IsShimAlias : ComponentWorld → List Def → ShimKind → Option ℕ → Type 0

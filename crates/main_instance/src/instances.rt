@@ -23,6 +23,7 @@ ghost use Rattle.main_instance.specs.Direct.{IsDirectCall, IsLoweringWith};
 ghost use Rattle.core_options.specs.MainOptions.{user_of};
 ghost use Rattle.shim_targets.specs.ShimTargets.{which_of};
 ghost use Rattle.main_instance.specs.Sources.{imports_by, AreSources, IsShimAlias, IsUsedOfInterface};
+ghost use Rattle.root_imports.specs.Keeping.{RootKept};
 ghost use Rattle.root_imports.specs.RootScopes.{IsRefusal};
 ghost use Rattle.comp_terms.specs.Planned.{IsItemFor, IsGivenFor, IsEntryFor, IsArgumentFor};
 ghost use Rattle.comp_terms.specs.Rules.{Grows, HasImportedFunction};
@@ -32,6 +33,7 @@ ghost use Rattle.wit_data.specs.declared.worlds.WorldKey.TheVariants as keys;
 
 use crate::calls::{CorePlace, import_encoding, kind_of_call};
 use crate::direct::DirectCall;
+use crate::returns::ReturnedFunction;
 use crate::shims::shim_alias;
 use built_ins::plain_intrinsic;
 use byte_encoding::BuildFault;
@@ -40,7 +42,7 @@ use comp_lists::{Keyed, Seq, Text};
 use comp_worlds::{ComponentWorld, Import, ImportInstance};
 use core_options::{StateFault, UserModule};
 use root_imports::RootScope;
-use shim_plan::{ShimKind, Shims};
+use shim_plan::{MemoryFunction, ShimKind, Shims};
 use standard_kinds::{ExportKind, StringEncoding};
 use wit_data::{AbiVariant, InterfaceId, TypeId, WorldKey};
 
@@ -364,8 +366,7 @@ impl ImportSources<'_> {
             (record { module_name = «module».now; field = field.now; role = import.now }) }
         requires linked { plain_intrinsic root.old.world.now.can_use_context_slot_1 import.now
             ≡ None }
-        ensures same { root.new ≡ record root.old { items = root.new.items } }
-        ensures extends { Extends root.old.items root.new.items }
+        ensures kept { RootKept root.old.world.now root.old root.new }
         ensures grows { OnOk result (Grows root.old.world.now root.old.items.defs root.new.items.defs
             []) }
         ensures made { IfOk result (λ item. IsGivenFor root.old.world.now (user_of self.now.user.which)
@@ -421,6 +422,37 @@ impl ImportSources<'_> {
                 let index = self.item(root, item)?;
                 Ok((item.kind, index))
             }
+            Import::ExportedTaskReturn(key, interface, function) => {
+                let returned = ReturnedFunction {
+                    key,
+                    interface: *interface,
+                    function,
+                };
+                let index = self.give_return(root, place, import, returned)?;
+                Ok((ExportKind::Func, index))
+            }
+            Import::WaitableSetWait => {
+                let index = self.give_function(root, place, import, MemoryFunction::Wait)?;
+                Ok((ExportKind::Func, index))
+            }
+            Import::WaitableSetPoll => {
+                let index = self.give_function(root, place, import, MemoryFunction::Poll)?;
+                Ok((ExportKind::Func, index))
+            }
+            Import::ErrorContextNew { encoding } => {
+                let function = MemoryFunction::NewError {
+                    encoding: *encoding,
+                };
+                let index = self.give_function(root, place, import, function)?;
+                Ok((ExportKind::Func, index))
+            }
+            Import::ErrorContextDebugMessage { encoding } => {
+                let function = MemoryFunction::ErrorMessage {
+                    encoding: *encoding,
+                };
+                let index = self.shim_of_function(root, place, import, function)?;
+                Ok((ExportKind::Func, index))
+            }
             Import::TlsBaseGet { .. } => {
                 let index = self.cell_getter(root)?;
                 Ok((ExportKind::Func, index))
@@ -449,8 +481,7 @@ impl ImportSources<'_> {
             root.old.instances }
         requires present { Contains (imports_of self.now.user.found.now)
             (record { module_name = «module».now; field = field.now; role = import.now }) }
-        ensures same { root.new ≡ record root.old { items = root.new.items } }
-        ensures extends { Extends root.old.items root.new.items }
+        ensures kept { RootKept root.old.world.now root.old root.new }
         ensures grows { OnOk result (Grows root.old.world.now root.old.items.defs root.new.items.defs
             []) }
         ensures made { IfOk result (λ item. IsGivenFor root.old.world.now (user_of self.now.user.which)
@@ -483,8 +514,7 @@ impl ImportSources<'_> {
             root.old.maps root.old.instances }
         requires present { Contains (imports_of self.now.user.found.now)
             (record { module_name = «module».now; field = field.now; role = import.now }) }
-        ensures same { root.new ≡ record root.old { items = root.new.items } }
-        ensures extends { Extends root.old.items root.new.items }
+        ensures kept { RootKept root.old.world.now root.old root.new }
         ensures grows { OnOk result
             (Grows root.old.world.now root.old.items.defs root.new.items.defs []) }
         ensures serves { IfOk result (λ entry. IsEntryFor root.old.world.now
@@ -510,8 +540,7 @@ impl ImportSources<'_> {
             root.old.maps root.old.instances }
         requires present { Contains self.now.user.found.now.imports.modules
             («module».now, Names fields.now) }
-        ensures same { root.new ≡ record root.old { items = root.new.items } }
-        ensures extends { Extends root.old.items root.new.items }
+        ensures kept { RootKept root.old.world.now root.old root.new }
         ensures grows { OnOk result
             (Grows root.old.world.now root.old.items.defs root.new.items.defs []) }
         ensures serves { IfOk result (λ entries. AllZip
@@ -541,8 +570,7 @@ impl ImportSources<'_> {
             root.old.maps root.old.instances }
         requires present { Contains self.now.user.found.now.imports.modules
             («module».now, Names fields.now) }
-        ensures same { root.new ≡ record root.old { items = root.new.items } }
-        ensures extends { Extends root.old.items root.new.items }
+        ensures kept { RootKept root.old.world.now root.old root.new }
         ensures grows { OnOk result
             (Grows root.old.world.now root.old.items.defs root.new.items.defs []) }
         ensures serves { IfOk result (λ argument. IsArgumentFor root.old.world.now
@@ -569,8 +597,7 @@ impl ImportSources<'_> {
             root.old.maps root.old.instances }
         requires present { Contains self.now.user.found.now.imports.modules
             («module».now, instance.now) }
-        ensures same { root.new ≡ record root.old { items = root.new.items } }
-        ensures extends { Extends root.old.items root.new.items }
+        ensures kept { RootKept root.old.world.now root.old root.new }
         ensures grows { OnOk result
             (Grows root.old.world.now root.old.items.defs root.new.items.defs []) }
         ensures serves { IfOk result (λ argument. IsArgumentFor root.old.world.now
@@ -596,8 +623,7 @@ impl ImportSources<'_> {
     ) -> Result<Seq<CoreArgument>, StateFault>
         requires sources { AreSources root.old.world.now self.now root.old.met root.old.items.defs
             root.old.maps root.old.instances }
-        ensures same { root.new ≡ record root.old { items = root.new.items } }
-        ensures extends { Extends root.old.items root.new.items }
+        ensures kept { RootKept root.old.world.now root.old root.new }
         ensures grows { OnOk result
             (Grows root.old.world.now root.old.items.defs root.new.items.defs []) }
         ensures serves { IfOk result (λ arguments. AllZip

@@ -1,15 +1,15 @@
 -- The functions that are found in a sound resolve are functions of it.
 use Rattle.std.proofs.Common.{◌≡◌, ℕ, zero, suc, Bool, true, false, cond, List, [], ◌∷◌, Option, Some, None, sym, subst}
-use Rattle.std.specs.Prelude.{slice_get, option_map, map}
-use Rattle.std.specs.Option.{unwrap_or, option_and_then, option_to_list}
+use Rattle.std.specs.Prelude.{slice_get, option_map}
+use Rattle.std.specs.Option.{unwrap_or, option_and_then}
 use Rattle.std.specs.List.{AllByRecursion}
 use Rattle.std.specs.Map.{lookup}
 use Rattle.std.specs.Str.{bytes_eq}
+use Rattle.wit_data.proofs.ReturnTypes.{returning_present}
 use Rattle.wit_data.specs.Keys.{is_same_key}
-use Rattle.wit_data.specs.Sound.{IsSound, HasAll, HasFunction, HasItem, HasEntry, HasType, HasWorld}
+use Rattle.wit_data.specs.Signatures.{returning}
+use Rattle.wit_data.specs.Sound.{IsSound, HasAll, HasFunction, HasItem, HasEntry, HasWorld}
 use Rattle.wit_data.specs.declared.functions.Function.{Function}
-use Rattle.wit_data.specs.declared.functions.Param.{Param}
-use Rattle.wit_data.specs.declared.types.Type.{«Type» as Ty}
 use Rattle.wit_data.specs.declared.ids.InterfaceId.{InterfaceId}
 use Rattle.wit_data.specs.declared.ids.WorldId.{WorldId}
 use Rattle.wit_data.specs.declared.resolve.Interface.{Interface}
@@ -19,7 +19,7 @@ use Rattle.wit_data.specs.declared.worlds.WorldItem.{WorldItem}
 use Rattle.wit_data.specs.declared.worlds.WorldItem.TheVariants as items
 use Rattle.wit_data.specs.declared.worlds.WorldKey.{WorldKey}
 use Rattle.world_values.specs.Items.{functions_of, function_in, root_function_at}
-use Rattle.record_core_types.specs.Asked.{imported_function, exported_function, function_of, returning}
+use Rattle.record_core_types.specs.Asked.{imported_function, exported_function, function_of}
 use Rattle.record_core_types.specs.Fitting.{HasFound}
 
 -- what holds of all holds of the one at a number, if there is one
@@ -83,8 +83,4 @@ named_exists r id name answer is sound =
 
 -- a function whose one parameter is the result of a function of the resolve
 pub returning_exists : (r : Resolve) (f returned : Function) → returned ≡ returning f → HasFunction r f → HasFound r (Some returned)
-returning_exists r f returned is h = record { present = subst (HasFunction r) (sym is) (record { resource = tt; params = one f.result h.result; result = tt }) }
-  where
-    one : (o : Option Ty) → HasType r o → AllByRecursion (λ (p : Param). HasType r (Some p.ty)) (map (λ t. record { name = []; ty = t }) (option_to_list o))
-    one None k = tt
-    one (Some t) k = (k, tt)
+returning_exists r f returned is h = record { present = returning_present r f returned is h }

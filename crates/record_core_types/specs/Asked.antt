@@ -3,7 +3,7 @@
 use Rattle.std.specs.Prelude.{ℕ, List, [], ◌∷◌, map, Option, Some, None, option_map}
 use Rattle.std.specs.List.{slice_get}
 use Rattle.std.specs.Map.{lookup}
-use Rattle.std.specs.Option.{option_and_then, option_or, option_to_list}
+use Rattle.std.specs.Option.{option_and_then, option_or}
 use Rattle.comp_lists.specs.Found.{found}
 use Rattle.core_types.specs.declared.types.ValType.{ValType}
 use Rattle.core_types.specs.declared.types.ValType.TheVariants as values
@@ -11,11 +11,10 @@ use Rattle.core_sections.specs.declared.entries.FuncType.{FuncType}
 use Rattle.core_sections.specs.declared.entries.ValType.{ValType as CoreVal}
 use Rattle.core_sections.specs.declared.entries.ValType.TheVariants.{I32, I64, F32, F64}
 use Rattle.wit_data.specs.Keys.{is_same_key}
-use Rattle.wit_data.specs.Signatures.{signature}
+use Rattle.wit_data.specs.Signatures.{signature, returning}
 use Rattle.wit_data.specs.declared.functions.AbiVariant.{AbiVariant}
 use Rattle.wit_data.specs.declared.functions.AbiVariant.TheVariants.{GuestImport, GuestExport}
 use Rattle.wit_data.specs.declared.functions.Function.{Function}
-use Rattle.wit_data.specs.declared.functions.FunctionKind.TheVariants.{Freestanding}
 use Rattle.wit_data.specs.declared.ids.InterfaceId.{InterfaceId}
 use Rattle.wit_data.specs.declared.ids.WorldId.{WorldId}
 use Rattle.wit_data.specs.declared.resolve.Resolve.{Resolve}
@@ -72,10 +71,6 @@ called r abi f = function (map number (signature abi r.types f).params) (map num
 -- the core type of a function that is called with the core results of another once they were read
 abbrev pub post_return : Resolve → Function → FuncType
 post_return r f = function (map number (signature GuestExport r.types f).results) []
-
--- `task.return` is passed the result: it is flattened as a function whose one parameter is the result of this one
-abbrev pub returning : Function → Function
-returning f = record { name = []; kind = Freestanding; params = map (λ t. record { name = []; ty = t }) (option_to_list f.result); result = None }
 
 -- a slot of a task's context and an address hold 32 or 64 bits
 abbrev pub word : ValType → Option CoreVal

@@ -2,11 +2,11 @@
 
 ghost use Rattle.std.specs.Prelude.{◌≡◌, map, option_map, IfOk};
 ghost use Rattle.std.specs.Option.{option_copied};
-ghost use Rattle.wit_data.specs.Signatures.{signature};
+ghost use Rattle.wit_data.specs.Signatures.{signature, returning};
 ghost use Rattle.wit_data.specs.Sound.{IsSound, HasFunction};
 ghost use Rattle.wit_data.specs.declared.functions.AbiVariant.TheVariants.{GuestImport};
 ghost use Rattle.world_values.specs.Mentions.{HasReturned};
-ghost use Rattle.record_core_types.specs.Asked.{number, called, post_return, returning, expected_import, expected_export};
+ghost use Rattle.record_core_types.specs.Asked.{number, called, post_return, expected_import, expected_export};
 ghost use Rattle.record_core_types.specs.Offered.{extern_type};
 ghost use Rattle.record_core_types.specs.Shapes.{shape_type};
 ghost use Rattle.record_core_types.specs.Fitting.{are_same, is_same, is_asked, function_type, is_function, is_memory, is_of_type, fits_import, fits_export, HasFound};
@@ -14,12 +14,11 @@ ghost use Rattle.record_core_types.specs.Fitting.{are_same, is_same, is_asked, f
 use crate::finding::{exported_function, exported_interface, function_of, imported_function};
 use crate::intrinsics::{Shape, intrinsic, plain_export};
 use crate::offering::{extern_type, memory_type};
-use comp_lists::{Seq, Text};
 use comp_roles::{Export, ExternType, Import};
 use core_sections::{CoreModule, EntityType, ExportedItem, FuncType, ValType};
 use core_types::MemoryType;
 use std::alloc::{AllocError, Global};
-use wit_data::{AbiVariant, Function, FunctionKind, Param, Resolve, WasmType, WorldId};
+use wit_data::{AbiVariant, Function, Resolve, WasmType, WorldId, returning};
 
 /// The core type of a number.
 fn number(ty: WasmType) -> ValType
@@ -100,23 +99,6 @@ fn is_post_return(
     };
     let signature = resolve.wasm_signature(alloc, AbiVariant::GuestExport, function)?;
     Ok(are_numbers(ty.params.as_slice(), signature.results.as_slice()) && ty.results.is_empty())
-}
-
-/// A function whose one parameter is the result of this one.
-fn returning(alloc: Global, function: &Function) -> Result<Function, AllocError>
-    ensures { IfOk result (λ f. f ≡ returning function.now) }
-{
-    let mut params = Seq::new(alloc);
-    if let Some(ty) = function.result {
-        let name = Text::new(alloc);
-        params.push(Param { name, ty })?;
-    }
-    Ok(Function {
-        name: Text::new(alloc),
-        kind: FunctionKind::Freestanding,
-        params,
-        result: None,
-    })
 }
 
 /// Whether a function has the type of `task.return` of this one.

@@ -15,3 +15,5 @@ pub mod Defining
 pub mod Forgetting
 pub mod ListedTypes
 pub mod Keeping
+pub mod Results
+pub mod Supplying

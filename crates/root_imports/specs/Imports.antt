@@ -7,6 +7,7 @@ use Rattle.wit_data.specs.Sound.{HasFunction}
 use Rattle.wit_data.specs.declared.functions.Function.{Function}
 use Rattle.wit_data.specs.declared.ids.InterfaceId.{InterfaceId}
 use Rattle.wit_data.specs.declared.ids.TypeId.{TypeId}
+use Rattle.wit_data.specs.declared.types.Type.{«Type» as Ty}
 use Rattle.wit_data.specs.declared.worlds.WorldItem.{WorldItem}
 use Rattle.wit_data.specs.declared.worlds.WorldItem.TheVariants as items
 use Rattle.wit_data.specs.declared.worlds.WorldKey.{WorldKey}
@@ -38,6 +39,13 @@ pub record IsRootImport (w : ComponentWorld) (ds : List Def) (index : ℕ) (text
 abbrev pub IsNeededFunction : ComponentWorld → Option InterfaceId → Function → Type 0
 IsNeededFunction w (Some id) f = IsExportedFunction w (Some id) f
 IsNeededFunction w None f = ((name : List ℕ) × IsUsedFunction w name f) ⊎ IsExportedFunction w None f
+
+-- the result of such a function, if it has one
+pub record IsResult (w : ComponentWorld) (interface : Option InterfaceId) (result : Option Ty) : Type 0 where
+  pub function : Function
+  pub present : HasFunction w.resolve function
+  pub needed : IsNeededFunction w interface function
+  pub is : function.result ≡ result
 
 -- each name is that of a root function, as it is imported
 pub record FindsImports (w : ComponentWorld) (ds : List Def) (functions : List (List ℕ × ℕ)) : Type 0 where

@@ -1,25 +1,26 @@
 //! The root of a component, as a scope of types.
 #![tactic(auto, using(crate::proofs::Growth::growing))]
 
-ghost use Rattle.std.specs.Prelude.{◌≡◌, ◌<◌, ◌||◌, length, true, IfOk, IfErr, [], get_or, Some, None};
+ghost use Rattle.std.specs.Prelude.{◌≡◌, ◌<◌, ◌||◌, length, true, IfOk, IfErr, IsSome, [], get_or, Some, None};
 ghost use Rattle.std.proofs.Common.{refl};
 ghost use Rattle.comp_bytes.specs.References.{defined_references, type_references};
 ghost use Rattle.comp_bytes.specs.declared.types.TypeDef.TheVariants as definitions;
 ghost use Rattle.comp_builder.specs.Built.{nothing_built};
 ghost use Rattle.comp_trees.specs.Trees.{ResourceAt, is_known, is_known_function};
 ghost use Rattle.comp_trees.specs.DefinedTrees.{OfValues, OfFunctions, OfOthers, defined_tree, function_tree};
+ghost use Rattle.comp_trees.specs.Operands.{operand_in, IsOperand};
 ghost use Rattle.comp_inventories.specs.Inventories.{scope_of};
 ghost use Rattle.wit_data.specs.declared.types.Type.TheVariants.{Id};
 ghost use Rattle.wit_data.specs.Sound.{HasFunction};
 ghost use Rattle.wit_types.specs.Settings.{tree_in};
 ghost use Rattle.wit_types.specs.Denoting.{AreTypes, Makes, MayMake, IsCause, exported_or};
 ghost use Rattle.wit_types.specs.Maps.{no_maps};
-ghost use Rattle.comp_terms.specs.Planned.{type_of_function};
+ghost use Rattle.comp_terms.specs.Planned.{type_of_function, result_tree};
 ghost use Rattle.comp_terms.specs.Terms.{IsFunctionType};
 ghost use Rattle.comp_worlds.specs.Encodable.{IsEncodable};
 ghost use Rattle.root_imports.specs.RootScopes.{root_setting, any_index, RootGrows, is_full, AreTablesRight, ArePassed};
 ghost use Rattle.root_imports.specs.Growing.{known_on, root_same, root_on};
-ghost use Rattle.root_imports.specs.Imports.{IsNeededFunction};
+ghost use Rattle.root_imports.specs.Imports.{IsNeededFunction, IsResult};
 ghost use Rattle.root_imports.specs.Interfaces.{AreInterfacesKnown};
 ghost use Rattle.root_imports.specs.Met.{nothing_met, is_exported_type, IsSuppliedFor};
 ghost use Rattle.comp_links.specs.Lists.{needed_types};
@@ -27,13 +28,13 @@ ghost use Rattle.type_scopes.specs.Titles.{is_one_of};
 
 use crate::met_types::MetTypes;
 use byte_encoding::BuildFault;
-use comp_bytes::{DefinedType, ExternName, FuncTypeDef};
+use comp_bytes::{ComponentValType, DefinedType, ExternName, FuncTypeDef};
 use comp_items::ComponentItems;
 use comp_lists::Keyed;
 use comp_worlds::ComponentWorld;
 use std::alloc::Global;
-use wit_data::{Function, InterfaceId, TypeId};
-use wit_types::{TypeEncodingMaps, ValtypeEncoder, encode_func_type};
+use wit_data::{Function, InterfaceId, Type, TypeId};
+use wit_types::{TypeEncodingMaps, ValtypeEncoder, encode_func_type, encode_valtype};
 
 /// What has a validated world. The scope of types is proved for each such type.
 pub trait HasWorld {
@@ -145,6 +146,44 @@ impl<'a> RootScope<'a, ComponentWorld> {
         let alloc = self.items.allocator();
         self.interface = interface;
         encode_func_type(alloc, self, &world.resolve, function)
+    }
+
+    /// The value type of the result of a function, if it has one: of a function of an exported
+    /// interface; or, where no interface is given, of one at the root that is exported. It is
+    /// defined, where it is not yet.
+    pub fn result_type(
+        &mut self,
+        interface: Option<InterfaceId>,
+        result_type: Option<Type>,
+    ) -> Result<Option<ComponentValType>, BuildFault>
+        requires valid { IsEncodable self.old.world.now }
+        requires of { IsResult self.old.world.now interface result_type }
+        requires passed { ArePassed self.old.world.now self.old.met }
+        requires supplied { IsSuppliedFor self.old.world.now self.old.met interface }
+        requires tables { AreTablesRight self.old.world.now self.old.met self.old.instances
+            self.old.items.defs self.old.maps }
+        ensures typed { IfOk result (λ v. IsOperand (scope_of self.new.items.defs) v
+            (result_tree self.old.world.now result_type)) }
+        ensures known { IfOk result
+            (λ v. IsSome (operand_in (scope_of self.new.items.defs) v)) }
+        ensures world { self.new.world ≡ self.old.world }
+        ensures met { self.new.met ≡ self.old.met }
+        ensures instances { self.new.instances ≡ self.old.instances }
+        ensures grows { RootGrows self.old.world.now self.old.items self.new.items }
+        ensures tables { AreTablesRight self.old.world.now self.old.met self.new.instances
+            self.new.items.defs self.new.maps }
+        ensures cause { IfErr result (IsCause is_full self.new.items.defs) }
+    {
+        let world = self.world;
+        let alloc = self.items.allocator();
+        match result_type {
+            Some(ty) => {
+                self.interface = interface;
+                let value = encode_valtype(alloc, self, &world.resolve, &ty)?;
+                Ok(Some(value))
+            }
+            None => Ok(None),
+        }
     }
 }
 

@@ -1,5 +1,5 @@
 -- Which imports of a module lack a string encoding that they need (Canonical ABI: `string-encoding`).
-use Rattle.std.specs.Prelude.{◌≡◌, ℕ, slice_get, List, [], ◌∷◌, ◌++◌, Option, Some, None, codes}
+use Rattle.std.specs.Prelude.{◌≡◌, ℕ, slice_get, List, [], ◌∷◌, ◌++◌, Option, Some, None, if◌then◌else◌, codes}
 use Rattle.std.specs.List.{flat_map}
 use Rattle.standard_kinds.specs.declared.kinds.StringEncoding.{StringEncoding}
 use Rattle.comp_roles.specs.CoreImports.{CoreImport}
@@ -13,7 +13,7 @@ use Rattle.comp_worlds.specs.declared.world.ValidatedModule.{ValidatedModule}
 use Rattle.shim_plan.specs.declared.fault.ShimFault.{ShimFault}
 use Rattle.shim_plan.specs.declared.fault.ShimFault.TheVariants as faults
 use Rattle.shim_plan.specs.declared.calls.FunctionCall.{FunctionCall}
-use Rattle.shim_plan.specs.Needed.{call_of, lowering_of_call, encoding_of_call}
+use Rattle.shim_plan.specs.Needed.{call_of, lowering_of_call, encoding_of_call, Returned, returned_of, encoding_of_return, returns_through}
 
 -- the place of a core import: `module::field`
 abbrev pub place_of : CoreImport → List ℕ
@@ -32,8 +32,13 @@ abbrev pub unencoded_call : ComponentWorld → ValidatedModule → CoreImport �
 unencoded_call w m i None = []
 unencoded_call w m i (Some call) = unencoded_lowering m i call (lowering_of_call w call)
 
+-- so does a return that needs a shim
+abbrev pub unencoded_role : ComponentWorld → ValidatedModule → CoreImport → Option Returned → List (List ℕ)
+unencoded_role w m i None = unencoded_call w m i (call_of i.role)
+unencoded_role w m i (Some r) = if returns_through w r then unencoded_if i (encoding_of_return m r) else []
+
 abbrev pub unencoded_import : ComponentWorld → ValidatedModule → CoreImport → List (List ℕ)
-unencoded_import w m i = unencoded_call w m i (call_of i.role)
+unencoded_import w m i = unencoded_role w m i (returned_of i.role)
 
 abbrev pub unencoded_in : ComponentWorld → Option ValidatedModule → List (List ℕ)
 unencoded_in w None = []

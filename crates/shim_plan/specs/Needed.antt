@@ -1,16 +1,26 @@
 -- The shims that a module of a world needs, in order: one for each import that is called through a
--- table, followed by one for the realloc of that call, or that an adapter exports; and one for each
--- destructor that the module exports (Canonical ABI: `canon lower`, `realloc`; component model,
--- explainer: the destructor of a resource type). Streams and futures, asynchronous functions and
--- error contexts have no rows here.
-use Rattle.std.specs.Prelude.{ℕ, Bool, true, false, ◌&&◌, List, [], ◌∷◌, ◌++◌, Option, Some, None, unwrap_or, is_some, if◌then◌else◌, codes}
-use Rattle.std.specs.List.{flat_map}
+-- table, followed by one for the realloc of that call, that returns from a function with a memory,
+-- that waits or makes an error context in one, that reads the debug message of one, followed by one
+-- for its realloc, or that an adapter exports; and one for each destructor that the module exports
+-- (Canonical ABI: `canon lower`, `canon task.return`, `canon waitable-set.{wait,poll}`, `canon
+-- error-context.{new,debug-message}`, `realloc`; component model, explainer: the destructor of a
+-- resource type). Streams and futures have no rows here.
+use Rattle.std.specs.Prelude.{ℕ, Bool, true, false, ◌&&◌, not, List, [], ◌∷◌, ◌++◌, Option, Some, None, unwrap_or, is_some, if◌then◌else◌, codes}
+use Rattle.std.specs.List.{flat_map, AllByRecursion}
 use Rattle.std.specs.Map.{lookup}
 use Rattle.std.specs.Option.{option_and_then}
 use Rattle.standard_kinds.specs.declared.kinds.StringEncoding.{StringEncoding}
+use Rattle.standard_kinds.specs.declared.kinds.StringEncoding.TheVariants.{UTF8}
+use Rattle.wit_data.specs.Signatures.{signature, returning}
+use Rattle.wit_data.specs.declared.functions.AbiVariant.TheVariants.{GuestImport}
+use Rattle.wit_data.specs.declared.functions.Function.{Function}
+use Rattle.wit_data.specs.declared.ids.InterfaceId.{InterfaceId}
 use Rattle.wit_data.specs.declared.ids.TypeId.{TypeId}
 use Rattle.wit_data.specs.declared.signatures.WasmSignature.{WasmSignature}
+use Rattle.wit_data.specs.declared.signatures.WasmType.{WasmType}
 use Rattle.wit_data.specs.declared.signatures.WasmType.TheVariants.{I32}
+use Rattle.wit_data.specs.declared.worlds.WorldKey.{WorldKey}
+use Rattle.world_values.specs.Mentions.{HasReturned}
 use Rattle.comp_roles.specs.CoreImports.{CoreImport}
 use Rattle.comp_roles.specs.Functions.{of_function}
 use Rattle.comp_roles.specs.Lookups.{first_export, is_task_hook}
@@ -21,11 +31,12 @@ use Rattle.comp_roles.specs.declared.imports.Import.{Import}
 use Rattle.comp_roles.specs.declared.imports.Import.TheVariants as imports
 use Rattle.comp_roles.specs.declared.libraries.MainOrAdapter.{MainOrAdapter}
 use Rattle.comp_roles.specs.declared.libraries.MainOrAdapter.TheVariants as users
-use Rattle.comp_options.specs.Options.{needs, realloc_bit}
+use Rattle.comp_options.specs.Options.{needs, memory_bit, realloc_bit, task_return_set, wait_set, error_new_set, error_message_set}
 use Rattle.comp_options.specs.declared.required.RequiredOptions.{RequiredOptions}
 use Rattle.comp_worlds.specs.Imported.{is_same_import_key}
 use Rattle.comp_worlds.specs.Lookups.{found_module, resolved_realloc}
 use Rattle.comp_worlds.specs.Lowerings.{is_same_lowering}
+use Rattle.comp_worlds.specs.Offered.{shared_memory}
 use Rattle.comp_worlds.specs.Uses.{imports_of}
 use Rattle.comp_worlds.specs.WorldContents.{name_at}
 use Rattle.comp_worlds.specs.declared.lowerings.ImportedInterface.{ImportedInterface}
@@ -35,8 +46,12 @@ use Rattle.comp_worlds.specs.declared.world.ComponentWorld.{ComponentWorld}
 use Rattle.comp_worlds.specs.declared.world.ValidatedModule.{ValidatedModule}
 use Rattle.shim_plan.specs.Adapted.{Adapted, adapted_of, adapted_needs}
 use Rattle.shim_plan.specs.declared.calls.FunctionCall.{FunctionCall}
+use Rattle.shim_plan.specs.declared.memory_functions.MemoryFunction.{MemoryFunction}
+use Rattle.shim_plan.specs.declared.memory_functions.MemoryFunction.TheVariants as functions
+use Rattle.shim_plan.specs.declared.kinds.ShimKind.{ShimKind}
 use Rattle.shim_plan.specs.declared.kinds.ShimKind.TheVariants as kinds
 use Rattle.shim_plan.specs.declared.needs.NeededShim.{NeededShim}
+use Rattle.shim_plan.specs.declared.returns.ReturnedFunction.{ReturnedFunction}
 use Rattle.shim_plan.specs.declared.reallocs.ReallocSite.{ReallocSite}
 use Rattle.shim_plan.specs.declared.reallocs.ReallocSite.TheVariants as sites
 
@@ -137,9 +152,121 @@ abbrev pub call_needs : ComponentWorld → MainOrAdapter → ValidatedModule →
 call_needs w which m i None = []
 call_needs w which m i (Some call) = lowering_needs w which m i call (lowering_of_call w call)
 
--- what another module is to give is there later; a call needs what its lowering does
+-- ---- `task.return`
+
+-- a function that the world exports at a key, at the root or in an interface, and whose result an import returns
+pub record Returned : Type 0 where
+  pub key : WorldKey
+  pub interface : Option InterfaceId
+  pub function : Function
+
+abbrev pub returned_function : ReturnedFunction → Returned
+returned_function r = record { key = r.key.now; interface = r.interface; function = r.function.now }
+
+abbrev pub returned_of : Import → Option Returned
+returned_of (imports.ExportedTaskReturn key interface f) = Some (record { key = key; interface = interface; function = f })
+returned_of role = None
+
+-- its string encoding
+abbrev pub encoding_of_return : ValidatedModule → Returned → Option StringEncoding
+encoding_of_return m r = of_function r.key r.function.name m.metadata.export_encodings
+
+abbrev pub return_name : Returned → List ℕ
+return_name r = codes "task-return-" ++ r.function.name
+
+abbrev pub return_options : ComponentWorld → Returned → RequiredOptions
+return_options w r = record { 0 = task_return_set w.resolve.types r.function }
+
+abbrev pub return_shim : ComponentWorld → MainOrAdapter → Returned → StringEncoding → NeededShim
+return_shim w which r encoding = record {
+  options = return_options w r;
+  debug_name = return_name r;
+  kind = kinds.TaskReturn r.interface r.function.name r.function.result which encoding;
+  sig = signature GuestImport w.resolve.types (returning r.function);
+}
+
+abbrev pub return_shims : ComponentWorld → MainOrAdapter → Returned → Option StringEncoding → List NeededShim
+return_shims w which r None = []
+return_shims w which r (Some encoding) = return_shim w which r encoding ∷ []
+
+-- it needs a shim where it needs a memory, as its other options do too, unless main imports its memory
+abbrev pub returns_through : ComponentWorld → Returned → Bool
+returns_through w r = needs (return_options w r).0 memory_bit && not (is_some (shared_memory w))
+
+abbrev pub return_needs : ComponentWorld → MainOrAdapter → ValidatedModule → Returned → List NeededShim
+return_needs w which m r = if returns_through w r then return_shims w which r (encoding_of_return m r) else []
+
+-- ---- waits and error contexts
+
+abbrev pub memory_function : Import → Option MemoryFunction
+memory_function imports.WaitableSetWait = Some functions.Wait
+memory_function imports.WaitableSetPoll = Some functions.Poll
+memory_function (imports.ErrorContextNew encoding) = Some (functions.NewError encoding)
+memory_function (imports.ErrorContextDebugMessage encoding) = Some (functions.ErrorMessage encoding)
+memory_function role = None
+
+abbrev pub function_options : MemoryFunction → RequiredOptions
+function_options functions.Wait = record { 0 = wait_set }
+function_options functions.Poll = record { 0 = wait_set }
+function_options (functions.NewError encoding) = record { 0 = error_new_set }
+function_options (functions.ErrorMessage encoding) = record { 0 = error_message_set }
+
+-- the encoding of its text; a wait passes none
+abbrev pub function_encoding : MemoryFunction → StringEncoding
+function_encoding functions.Wait = UTF8
+function_encoding functions.Poll = UTF8
+function_encoding (functions.NewError encoding) = encoding
+function_encoding (functions.ErrorMessage encoding) = encoding
+
+abbrev pub function_text : MemoryFunction → List ℕ
+function_text functions.Wait = codes "waitable-set.wait"
+function_text functions.Poll = codes "waitable-set.poll"
+function_text (functions.NewError encoding) = codes "error-new"
+function_text (functions.ErrorMessage encoding) = codes "error-debug-message"
+
+-- waits, and making an error context, are of no module
+abbrev pub function_kind : MainOrAdapter → MemoryFunction → ShimKind
+function_kind which functions.Wait = kinds.WaitableSetWait
+function_kind which functions.Poll = kinds.WaitableSetPoll
+function_kind which (functions.NewError encoding) = kinds.ErrorContextNew encoding
+function_kind which (functions.ErrorMessage encoding) = kinds.ErrorContextDebugMessage which encoding
+
+-- a set of waitables and an address, or a text, and a number for it; an error context and an address, where its message is put
+abbrev pub function_results : MemoryFunction → List WasmType
+function_results (functions.ErrorMessage encoding) = []
+function_results function = I32 ∷ []
+
+abbrev pub function_sig : MemoryFunction → WasmSignature
+function_sig function = record { params = I32 ∷ I32 ∷ []; results = function_results function; indirect_params = false; retptr = false }
+
+abbrev pub function_shim : MainOrAdapter → MemoryFunction → NeededShim
+function_shim which function = record { options = function_options function; debug_name = function_text function; kind = function_kind which function; sig = function_sig function }
+
+-- a message is read behind the module alone, into memory that its realloc gives; the others need a
+-- shim unless main imports its memory
+abbrev pub has_own_shim : ComponentWorld → MemoryFunction → Bool
+has_own_shim w (functions.ErrorMessage encoding) = true
+has_own_shim w function = not (is_some (shared_memory w))
+
+abbrev pub through_needs : ComponentWorld → MainOrAdapter → ValidatedModule → MemoryFunction → List NeededShim
+through_needs w which m function = function_shim which function ∷ realloc_needs w which m sites.AfterInstantiation (function_options function)
+
+abbrev pub function_needs : ComponentWorld → MainOrAdapter → ValidatedModule → MemoryFunction → List NeededShim
+function_needs w which m function =
+    if has_own_shim w function then through_needs w which m function else []
+
+-- a call needs what its lowering does
+abbrev pub called_needs : ComponentWorld → MainOrAdapter → ValidatedModule → CoreImport → Option MemoryFunction → List NeededShim
+called_needs w which m i None = call_needs w which m i (call_of i.role)
+called_needs w which m i (Some function) = function_needs w which m function
+
+abbrev pub own_needs : ComponentWorld → MainOrAdapter → ValidatedModule → CoreImport → Option Returned → List NeededShim
+own_needs w which m i None = called_needs w which m i (memory_function i.role)
+own_needs w which m i (Some r) = return_needs w which m r
+
+-- what another module is to give is there later
 abbrev pub role_needs : ComponentWorld → MainOrAdapter → ValidatedModule → CoreImport → Option Adapted → List NeededShim
-role_needs w which m i None = call_needs w which m i (call_of i.role)
+role_needs w which m i None = own_needs w which m i (returned_of i.role)
 role_needs w which m i (Some a) = adapted_needs i a
 
 abbrev pub import_needs : ComponentWorld → MainOrAdapter → ValidatedModule → CoreImport → List NeededShim
@@ -175,6 +302,15 @@ export_needs w which entry = []
 abbrev pub needs_of : ComponentWorld → MainOrAdapter → Option ValidatedModule → List NeededShim
 needs_of w which None = []
 needs_of w which (Some m) = flat_map (import_needs w which m) (imports_of m) ++ flat_map (export_needs w which) m.exports.exports
+
+-- the functions of a module's `task.return` are in the resolve
+abbrev pub AreReturned : ComponentWorld → Option ValidatedModule → Type 0
+AreReturned w None = Unit {0}
+AreReturned w (Some m) = AllByRecursion (λ i. HasReturned w.resolve i.role) (imports_of m)
+
+-- so it is in every module
+abbrev pub AreAllReturned : ComponentWorld → Type 0
+AreAllReturned w = (which : MainOrAdapter) → AreReturned w (found_module w which)
 
 -- what a module of the world needs; there is nothing that an unknown one needs
 abbrev pub needed : ComponentWorld → MainOrAdapter → List NeededShim

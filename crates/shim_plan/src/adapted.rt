@@ -4,7 +4,7 @@ ghost use Rattle.std.specs.Prelude.{◌≡◌, [], ◌∷◌, ◌++◌, None, ma
 ghost use Rattle.std.specs.Option.{option_map};
 ghost use Rattle.comp_roles.specs.Borrowed.{core_import};
 ghost use Rattle.shim_plan.specs.Adapted as specs;
-ghost use Rattle.shim_plan.specs.Needed.{call_of};
+ghost use Rattle.shim_plan.specs.Needed.{call_of, returned_of};
 
 use crate::kinds::ShimKind;
 use crate::needs::{NeededShim, append};
@@ -24,10 +24,11 @@ pub(crate) struct AdaptedFunction<'a> {
 }
 
 /// The function that the role of an import names, if it is one that an adapter exports. Such a role
-/// calls no function of the world.
+/// calls no function of the world, and returns from none.
 pub(crate) fn adapted_of(role: &Import) -> Option<AdaptedFunction<'_>>
     ensures same { option_map specs.adapted_function result ≡ specs.adapted_of role.now }
     ensures no_call { IfSome result (λ _. call_of role.now ≡ None) }
+    ensures no_return { IfSome result (λ _. returned_of role.now ≡ None) }
 {
     match role {
         Import::AdapterExport { adapter, func, ty } => Some(AdaptedFunction { adapter, func, ty }),

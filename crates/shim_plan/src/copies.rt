@@ -117,7 +117,8 @@ fn copy_payload_func(
     })
 }
 
-fn copy_task_return(
+/// The kind of a return from a function that the world exports.
+pub(crate) fn copy_task_return(
     alloc: Global,
     interface: Option<InterfaceId>,
     func: &Text,
@@ -139,7 +140,8 @@ fn copy_task_return(
     })
 }
 
-fn copy_debug_message(
+/// The kind of the debug message of an error context.
+pub(crate) fn copy_debug_message(
     alloc: Global,
     for_module: &MainOrAdapter,
     encoding: StringEncoding,

@@ -1,19 +1,23 @@
 //! The shims that the imports of a module need.
 
-ghost use Rattle.std.specs.Prelude.{◌≡◌, [], ◌∷◌, ◌++◌, map, IfOk, IfErr, OnOk};
-ghost use Rattle.std.specs.List.{flat_map};
+ghost use Rattle.std.specs.Prelude.{◌≡◌, [], ◌∷◌, ◌++◌, map, Some, None, IfOk, IfErr, OnOk};
+ghost use Rattle.std.specs.List.{AllByRecursion, flat_map};
 ghost use Rattle.comp_roles.specs.Borrowed.{core_import};
 ghost use Rattle.comp_worlds.specs.Uses.{imports_of};
-ghost use Rattle.shim_plan.specs.Encodings.{Explains, place_of, unencoded_call, unencoded_if, unencoded_import};
+ghost use Rattle.wit_data.specs.Sound.{IsSound, HasFunction};
+ghost use Rattle.world_values.specs.Mentions.{HasReturned};
+ghost use Rattle.shim_plan.specs.Encodings.{Explains, place_of, unencoded_call, unencoded_if, unencoded_role, unencoded_import};
 ghost use Rattle.shim_plan.specs.Needed as specs;
 
 use crate::adapted::{adapted_of, add_adapted};
 use crate::calls::{FunctionCall, call_of, encoding_of, lowering_of};
 use crate::copies::copy_lowering;
 use crate::fault::ShimFault;
+use crate::memory_functions::memory_function;
 use crate::modules::UserModule;
 use crate::needs::{NeededShim, append, copy_sig};
 use crate::reallocs::ReallocSite;
+use crate::returns::{ReturnedFunction, encoding_of_return, returned_of, returns_through};
 use comp_lists::Text;
 use comp_options::RequiredOptions;
 use comp_roles::{MainOrAdapter, NamedImport};
@@ -177,13 +181,101 @@ impl UserModule<'_> {
         }
     }
 
-    /// Adds the shims of a call, if the import is one.
+    /// Adds the shim of a return, if it needs one, and has a string encoding.
+    fn add_returned(
+        &self,
+        needs: &mut Vec<NeededShim>,
+        alloc: Global,
+        import: &NamedImport<'_>,
+        returned: &ReturnedFunction<'_>,
+    ) -> Result<(), ShimFault>
+        requires sound { IsSound self.now.world.now.resolve }
+        requires present { HasFunction self.now.world.now.resolve returned.now.function.now }
+        ensures ok { OnOk result (needs.new.items
+            ≡ needs.old.items
+            ++ specs.return_needs self.now.world.now self.now.which.now self.now.found.now
+            (specs.returned_function returned.now)) }
+        ensures encoded { OnOk result (unencoded_role self.now.world.now self.now.found.now
+            (core_import import.now) (Some (specs.returned_function returned.now))
+            ≡ []) }
+        ensures cause { IfErr result (Explains (unencoded_role self.now.world.now self.now.found.now
+            (core_import import.now) (Some (specs.returned_function returned.now)))) }
+    {
+        if !returns_through(self.world, returned) {
+            return Ok(());
+        }
+        match encoding_of_return(alloc, self.found, returned)? {
+            None => {
+                let fault = no_encoding(alloc, import);
+                Err(fault)
+            }
+            Some(encoding) => {
+                self.add_return(needs, alloc, returned, encoding)?;
+                Ok(())
+            }
+        }
+    }
+
+    /// Adds the shims of a call of a function of the world, if the import is one.
+    fn add_called(
+        &self,
+        needs: &mut Vec<NeededShim>,
+        alloc: Global,
+        import: &NamedImport<'_>,
+    ) -> Result<(), ShimFault>
+        ensures ok { OnOk result (needs.new.items
+            ≡ needs.old.items
+            ++ specs.called_needs self.now.world.now self.now.which.now self.now.found.now
+            (core_import import.now) None) }
+        ensures encoded { OnOk result (unencoded_role self.now.world.now self.now.found.now
+            (core_import import.now) None
+            ≡ []) }
+        ensures cause { IfErr result (Explains (unencoded_role self.now.world.now self.now.found.now
+            (core_import import.now) None)) }
+    {
+        match call_of(alloc, import.role)? {
+            Some(call) => self.add_call(needs, alloc, import, &call),
+            None => Ok(()),
+        }
+    }
+
+    /// Adds the shims of a function that works on a memory, or of a call, if the import is one.
+    #[tactic(auto, using(crate::proofs::Adapting::uncalled))]
+    fn add_unreturned(
+        &self,
+        needs: &mut Vec<NeededShim>,
+        alloc: Global,
+        import: &NamedImport<'_>,
+    ) -> Result<(), ShimFault>
+        ensures ok { OnOk result (needs.new.items
+            ≡ needs.old.items
+            ++ specs.own_needs self.now.world.now self.now.which.now self.now.found.now
+            (core_import import.now) None) }
+        ensures encoded { OnOk result (unencoded_role self.now.world.now self.now.found.now
+            (core_import import.now) None
+            ≡ []) }
+        ensures cause { IfErr result (Explains (unencoded_role self.now.world.now self.now.found.now
+            (core_import import.now) None)) }
+    {
+        match memory_function(import.role) {
+            Some(function) => {
+                self.add_function(needs, alloc, function)?;
+                Ok(())
+            }
+            None => self.add_called(needs, alloc, import),
+        }
+    }
+
+    /// Adds the shims of a return, a function that works on a memory, or a call, if the import is one.
+    #[tactic(auto, using(crate::proofs::Returning::function_there))]
     fn add_role(
         &self,
         needs: &mut Vec<NeededShim>,
         alloc: Global,
         import: &NamedImport<'_>,
     ) -> Result<(), ShimFault>
+        requires sound { IsSound self.now.world.now.resolve }
+        requires returned { HasReturned self.now.world.now.resolve import.now.role.now }
         ensures ok { OnOk result (needs.new.items
             ≡ needs.old.items
             ++ specs.role_needs self.now.world.now self.now.which.now self.now.found.now
@@ -193,9 +285,9 @@ impl UserModule<'_> {
         ensures cause { IfErr result (Explains
             (unencoded_import self.now.world.now self.now.found.now (core_import import.now))) }
     {
-        match call_of(alloc, import.role)? {
-            Some(call) => self.add_call(needs, alloc, import, &call),
-            None => Ok(()),
+        match returned_of(import.role) {
+            Some(returned) => self.add_returned(needs, alloc, import, &returned),
+            None => self.add_unreturned(needs, alloc, import),
         }
     }
 
@@ -207,6 +299,8 @@ impl UserModule<'_> {
         alloc: Global,
         import: &NamedImport<'_>,
     ) -> Result<(), ShimFault>
+        requires sound { IsSound self.now.world.now.resolve }
+        requires returned { HasReturned self.now.world.now.resolve import.now.role.now }
         ensures ok { OnOk result (needs.new.items
             ≡ needs.old.items
             ++ specs.import_needs self.now.world.now self.now.which.now self.now.found.now
@@ -232,6 +326,9 @@ impl UserModule<'_> {
         alloc: Global,
         imports: &[NamedImport<'_>],
     ) -> Result<(), ShimFault>
+        requires sound { IsSound self.now.world.now.resolve }
+        requires returned { AllByRecursion (λ i. HasReturned self.now.world.now.resolve i.role)
+            (map core_import imports.now) }
         ensures ok { OnOk result (needs.new.items
             ≡ needs.old.items ++ flat_map (specs.import_needs self.now.world.now
             self.now.which.now self.now.found.now) (map core_import imports.now)) }
@@ -255,6 +352,9 @@ impl UserModule<'_> {
         needs: &mut Vec<NeededShim>,
         alloc: Global,
     ) -> Result<(), ShimFault>
+        requires sound { IsSound self.now.world.now.resolve }
+        requires returned { AllByRecursion (λ i. HasReturned self.now.world.now.resolve i.role)
+            (imports_of self.now.found.now) }
         ensures ok { OnOk result (needs.new.items
             ≡ needs.old.items ++ flat_map (specs.import_needs self.now.world.now
             self.now.which.now self.now.found.now)

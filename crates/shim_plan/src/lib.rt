@@ -7,15 +7,17 @@
 //! `specs/Needed.antt`, in the words of the world alone; `specs/Plans.antt` says what appending
 //! gives, and `specs/Encodings.antt` when it is refused.
 //!
-//! Planned are functions that the world imports, their reallocs, functions of numbers that adapters
-//! export, and destructors. The kinds of streams and futures, asynchronous functions and error
-//! contexts are here, and nothing plans them: worlds that have these are not encoded yet.
+//! Planned are functions that the world imports, their reallocs, `task.return` with a memory, waits
+//! and functions of error contexts, functions of numbers that adapters export, and destructors. The
+//! kinds of streams and futures are here, and nothing plans them: worlds that have these are not
+//! encoded yet.
 //!
 //! In reading order: `kinds` (what a shim stands for), `copies` (copies of kinds), `laws` (what
 //! equality of kinds means), `shims` (the list), `fault` (why a plan is refused), `needs` (a shim
 //! before it has a place), `modules` (user modules of a world), `calls` (functions of the world as
-//! core imports call them), `reallocs`, `adapted` (functions that adapters export), `imports` and
-//! `destructors` (what a module needs of each), `plan` (all that it needs).
+//! core imports call them), `reallocs`, `returns` (returns from functions that the world exports),
+//! `memory_functions` (waits, and functions of error contexts), `adapted` (functions that adapters
+//! export), `imports` and `destructors` (what a module needs of each), `plan` (all that it needs).
 #![tactic(auto)]
 
 mod adapted;
@@ -26,14 +28,17 @@ mod fault;
 mod imports;
 mod kinds;
 mod laws;
+mod memory_functions;
 mod modules;
 mod needs;
 mod plan;
 mod reallocs;
+mod returns;
 mod shims;
 
 pub use fault::ShimFault;
 pub use kinds::ShimKind;
 pub use laws::equal_kinds_are_one;
+pub use memory_functions::MemoryFunction;
 pub use reallocs::{ReallocSite, realloc_needs_shim};
 pub use shims::{Shim, Shims};

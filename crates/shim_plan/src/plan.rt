@@ -2,7 +2,8 @@
 
 ghost use Rattle.std.specs.Prelude.{◌≡◌, [], IfErr, IfOk, OnOk};
 ghost use Rattle.shim_plan.specs.Encodings.{Explains, unencoded};
-ghost use Rattle.shim_plan.specs.Needed.{needed};
+ghost use Rattle.wit_data.specs.Sound.{IsSound};
+ghost use Rattle.shim_plan.specs.Needed.{needed, AreAllReturned};
 
 use crate::fault::ShimFault;
 use crate::modules::{UserModule, found_module};
@@ -12,12 +13,14 @@ use comp_worlds::ComponentWorld;
 use std::alloc::Global;
 
 /// The shims that a module needs, in order.
-#[tactic(auto, using(crate::proofs::Appending::some_then))]
+#[tactic(auto, using(crate::proofs::Appending::some_then, crate::proofs::Returning::module_returned))]
 pub(crate) fn needed_shims(
     alloc: Global,
     world: &ComponentWorld,
     which: &MainOrAdapter,
 ) -> Result<Vec<NeededShim>, ShimFault>
+    requires sound { IsSound world.now.resolve }
+    requires returned { AreAllReturned world.now }
     ensures ok { IfOk result (λ needs. needs.items ≡ needed world.now which.now) }
     ensures encoded { OnOk result (unencoded world.now which.now ≡ []) }
     ensures cause { IfErr result (Explains (unencoded world.now which.now)) }

@@ -8,7 +8,8 @@ ghost use Rattle.std.specs.Option.{option_copied};
 ghost use Rattle.comp_lists.specs.Tables.{with_first};
 ghost use Rattle.comp_worlds.specs.Lookups.{module_name};
 ghost use Rattle.shim_plan.specs.Encodings.{Explains, unencoded};
-ghost use Rattle.shim_plan.specs.Needed.{module_of_name, needed};
+ghost use Rattle.wit_data.specs.Sound.{IsSound};
+ghost use Rattle.shim_plan.specs.Needed.{module_of_name, needed, AreAllReturned};
 ghost use Rattle.shim_plan.specs.Plans.{same_kind, kinds_of, shim_of, AreNumbered, shim_at, with_shim, with_needed};
 
 use crate::fault::ShimFault;
@@ -149,18 +150,21 @@ impl Shims {
 
     /// Appends the shims that a module of the world needs and that are not there, each once, in
     /// order: for each import that is called through a table its own, and where
-    /// [`realloc_needs_shim`](crate::realloc_needs_shim) one for the realloc of the call; and one
-    /// for each destructor that the module exports. A name that is no adapter's needs none.
-    /// Adapters, streams and futures, asynchronous functions and error contexts are not planned
-    /// yet.
+    /// [`realloc_needs_shim`](crate::realloc_needs_shim) one for the realloc of the call; for each
+    /// `task.return` with options, wait, poll and making of an error context, where main imports no
+    /// memory; for each reading of the debug message of one; for each function that an adapter
+    /// exports; and one for each destructor that the module exports. A name that is no adapter's
+    /// needs none. Streams and futures are not planned yet.
     ///
-    /// `NoEncoding` for the first import that is called through a table and has no string encoding. After a refusal the
+    /// `NoEncoding` for the first import that needs such a shim and has no string encoding. After a refusal the
     /// shims are as they were.
     pub fn append_indirect(
         &mut self,
         world: &ComponentWorld,
         which: CustomModule<'_>,
     ) -> Result<(), ShimFault>
+        requires sound { IsSound world.now.resolve }
+        requires returned { AreAllReturned world.now }
         ensures ok { OnOk result (self.new
             ≡ with_needed self.old
             (needed world.now (module_of_name (module_name which.entry)))) }

@@ -3,6 +3,8 @@
 use Rattle.std.proofs.Common.{◌≡◌, ◌∙◌, Bool, true, false, true≢false, ℕ, List, inl, inr, Option, Some, None, refl, sym, ap, subst}
 use Rattle.std.proofs.lemmas.Option.{none-some, same_Some}
 use Rattle.standard_kinds.specs.declared.kinds.StringEncoding.{StringEncoding}
+use Rattle.wit_data.specs.declared.ids.InterfaceId.{InterfaceId}
+use Rattle.wit_data.specs.declared.types.Type.{«Type» as Ty}
 use Rattle.wit_data.specs.declared.worlds.WorldKey.{WorldKey}
 use Rattle.comp_roles.specs.declared.imports.Import.{Import}
 use Rattle.comp_roles.specs.declared.imports.Import.TheVariants as imports
@@ -19,7 +21,7 @@ use Rattle.comp_terms.specs.Generated.{export_of_kind}
 use Rattle.shim_targets.specs.ShimTargets.{which_of, kind_of_import, StandsFor, StandsForExport, StandsForOne}
 
 -- whether a kind is that of a shim for an export
-abbrev of_export : ShimKind → Bool
+abbrev pub of_export : ShimKind → Bool
 of_export (kinds.Adapter adapter name) = true
 of_export (kinds.ResourceDtor which name) = true
 of_export (kinds.Realloc which name) = true
@@ -29,6 +31,11 @@ of_export kind = false
 import_kind : (of : UserModule) (role : Import) (encoding : StringEncoding) (kind : ShimKind) → kind_of_import of role encoding ≡ Some kind → of_export kind ≡ false
 import_kind of (imports.WorldFunc key name abi) encoding kind e = ap of_export (sym (same_Some (kinds.IndirectLowering None (record { name = name; abi = abi }) (which_of of) encoding) kind e))
 import_kind of (imports.InterfaceFunc key id name abi) encoding kind e = ap of_export (sym (same_Some (kinds.IndirectLowering (Some key) (record { name = name; abi = abi }) (which_of of) encoding) kind e))
+import_kind of (imports.ExportedTaskReturn key interface f) encoding kind e = ap of_export (sym (same_Some (kinds.TaskReturn interface f.name f.result (which_of of) encoding) kind e))
+import_kind of imports.WaitableSetWait encoding kind e = ap of_export (sym (same_Some kinds.WaitableSetWait kind e))
+import_kind of imports.WaitableSetPoll encoding kind e = ap of_export (sym (same_Some kinds.WaitableSetPoll kind e))
+import_kind of (imports.ErrorContextNew own) encoding kind e = ap of_export (sym (same_Some (kinds.ErrorContextNew own) kind e))
+import_kind of (imports.ErrorContextDebugMessage own) encoding kind e = ap of_export (sym (same_Some (kinds.ErrorContextDebugMessage (which_of of) own) kind e))
 import_kind of role encoding kind e = absurd (none-some kind e)
 
 -- that of a shim for an export is
@@ -40,7 +47,7 @@ export_kind kind e is = absurd (none-some e is)
 
 module _ (w : ComponentWorld) (s : Shim) where
   -- a shim of another kind stands for an import
-  for_import : of_export s.kind ≡ false → StandsForOne w s → (i : UserImport) × StandsFor w s i
+  pub for_import : of_export s.kind ≡ false → StandsForOne w s → (i : UserImport) × StandsFor w s i
   for_import other (inl h) = h
   for_import other (inr h) = absurd (true≢false (sym (export_kind s.kind h.0 h.1.is.of_kind) ∙ other))
 
@@ -51,6 +58,10 @@ module _ (w : ComponentWorld) (s : Shim) where
   pub for_lowering : (interface : Option WorldKey) (function : LoweringKey) (which : MainOrAdapter) (encoding : StringEncoding) → s.kind ≡ kinds.IndirectLowering interface function which encoding → StandsForOne w s →
       (i : UserImport) × StandsFor w s i
   for_lowering interface function which encoding is h = for_import (ap of_export is) h
+
+  -- so does one of the kind of returns
+  pub for_return : (interface : Option InterfaceId) (name : List ℕ) (result : Option Ty) (which : MainOrAdapter) (encoding : StringEncoding) → s.kind ≡ kinds.TaskReturn interface name result which encoding → StandsForOne w s → (i : UserImport) × StandsFor w s i
+  for_return interface name result which encoding is h = for_import (ap of_export is) h
 
   -- a shim of a kind of an export stands for that
   pub for_export : (e : ExportRef) → export_of_kind s.kind ≡ Some e → StandsForOne w s → StandsForExport w s e

@@ -14,6 +14,8 @@ use Rattle.wit_data.specs.declared.functions.AbiVariant.{AbiVariant}
 use Rattle.wit_data.specs.declared.worlds.WorldKey.{WorldKey}
 use Rattle.comp_roles.specs.CoreImports.{CoreImport}
 use Rattle.comp_roles.specs.Functions.{of_function}
+use Rattle.comp_roles.specs.declared.imports.Import.{Import}
+use Rattle.comp_roles.specs.declared.imports.Import.TheVariants as imports
 use Rattle.comp_roles.specs.declared.libraries.MainOrAdapter.{MainOrAdapter}
 use Rattle.comp_options.proofs.ImportSets.{no_realloc_needed}
 use Rattle.comp_options.specs.Options.{needs, import_set}
@@ -21,17 +23,20 @@ use Rattle.comp_options.specs.declared.required.RequiredOptions.{RequiredOptions
 use Rattle.comp_worlds.specs.Encodable.{IsEncodable}
 use Rattle.comp_worlds.specs.declared.lowerings.Lowering.{Lowering}
 use Rattle.comp_worlds.specs.declared.lowerings.Lowering.TheVariants as lowerings
+use Rattle.comp_worlds.specs.declared.lowerings.LoweringKey.{LoweringKey}
 use Rattle.comp_worlds.specs.declared.world.ComponentWorld.{ComponentWorld}
 use Rattle.comp_worlds.specs.declared.world.ValidatedModule.{ValidatedModule}
-use Rattle.shim_plan.specs.Needed.{realloc_shim, realloc_shims, import_realloc, realloc_needs, indirect_shim, indirect_needs, lowering_needs, lowering_of_call}
+use Rattle.shim_plan.specs.Needed.{realloc_shim, realloc_shims, import_realloc, realloc_needs, indirect_name, indirect_shim, indirect_needs, lowering_needs, lowering_of_call}
 use Rattle.shim_plan.specs.Plans.{shim_at}
 use Rattle.shim_plan.specs.declared.kinds.ShimKind.{ShimKind}
+use Rattle.shim_plan.specs.declared.kinds.ShimKind.TheVariants as kinds
 use Rattle.shim_plan.specs.declared.needs.NeededShim.{NeededShim}
 use Rattle.shim_plan.specs.declared.reallocs.ReallocSite.TheVariants as sites
 use Rattle.comp_links.specs.Links.{lower_needs, export_at}
 use Rattle.comp_links.specs.Modules.{module_found, user_imports}
 use Rattle.comp_links.specs.Roles.{encoding_in}
 use Rattle.comp_links.specs.Targets.{UserModule}
+use Rattle.comp_terms.specs.Shimmed.{shim_name}
 use Rattle.shim_targets.specs.ShimTargets.{which_of, kind_of_import, StandsForOne}
 use Rattle.shim_targets.proofs.Calls.{IsLowered, role_back}
 use Rattle.shim_targets.proofs.Lists.{contains_first}
@@ -46,7 +51,7 @@ Stands w n = (place : ℕ) → StandsForOne w (shim_at place n)
 -- ---- reallocs
 
 -- none after instantiation, as main has no task hook
-no_realloc_after : (w : ComponentWorld) → IsEncodable w → (which : MainOrAdapter) (m : ValidatedModule) (options : RequiredOptions) → realloc_needs w which m sites.AfterInstantiation options ≡ []
+pub no_realloc_after : (w : ComponentWorld) → IsEncodable w → (which : MainOrAdapter) (m : ValidatedModule) (options : RequiredOptions) → realloc_needs w which m sites.AfterInstantiation options ≡ []
 no_realloc_after w ok which m options =
     ap (λ b. if needs options.0 2 && b then realloc_shims (import_realloc w which m) else []) (no_hook w ok)
     ∙ ap (λ b. if b then realloc_shims (import_realloc w which m) else []) (and-false (needs options.0 2))
@@ -56,6 +61,15 @@ no_realloc_before : (w : ComponentWorld) (which : MainOrAdapter) (m : ValidatedM
 no_realloc_before w which m options e = ap (λ (b : Bool). if b && true then realloc_shims (import_realloc w which m) else []) e
 
 -- ---- a call
+
+-- the shim of a call is named by its import
+call_named : (of : UserModule) (i : CoreImport) (role : Import) (encoding : StringEncoding) (interface : Option WorldKey) (function : LoweringKey) (which : MainOrAdapter) → kind_of_import of role encoding ≡ Some (kinds.IndirectLowering interface function which encoding) → indirect_name i ≡ shim_name i role
+call_named of i (imports.ExportedTaskReturn key back f) encoding interface function which is = cc
+call_named of i imports.WaitableSetWait encoding interface function which is = cc
+call_named of i imports.WaitableSetPoll encoding interface function which is = cc
+call_named of i (imports.ErrorContextNew own) encoding interface function which is = cc
+call_named of i (imports.ErrorContextDebugMessage own) encoding interface function which is = cc
+call_named of i role encoding interface function which is = refl
 
 module _ (w : ComponentWorld) (of : UserModule) (m : ValidatedModule) (i : CoreImport) (interface : Option WorldKey) (key : WorldKey) (name : List ℕ) (abi : AbiVariant) (h : IsLowered w i.role interface key name abi) where
   -- its options
@@ -119,11 +133,11 @@ module _ (w : ComponentWorld) (of : UserModule) (m : ValidatedModule) (i : CoreI
         };
         options = sym h.needs;
         memory = ap (λ (n : ℕ). needs n 1) h.needs ∙ memory;
-        unshared = unshared;
+        unshared = λ own. unshared;
         encoding = encoding;
         encoded = ap (option_and_then (encoding_in i.role)) found ∙ h.encoding m ∙ encoded;
         kind = h.kind of encoding;
-        named = refl;
+        named = call_named of i i.role encoding interface (record { name = name; abi = abi }) (which_of of) (h.kind of encoding);
       },
     )
 

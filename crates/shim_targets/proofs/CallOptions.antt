@@ -1,5 +1,5 @@
 -- The options of a call are those that the link table says.
-use Rattle.std.proofs.Common.{◌≡◌, ◌∙◌, ℕ, Bool, true, false, List, Contains, Option, Some, None, if◌then◌else◌, refl, sym, ap, true≢false}
+use Rattle.std.proofs.Common.{◌≡◌, ◌∙◌, ℕ, Bool, true, false, List, Contains, Option, Some, None, if◌then◌else◌, refl, sym, ap, true≢false, is_some, IsSome}
 use Rattle.wit_data.specs.Signatures.{signature}
 use Rattle.wit_data.specs.declared.functions.AbiVariant.{AbiVariant}
 use Rattle.wit_data.specs.declared.functions.Function.{Function}
@@ -16,6 +16,7 @@ use Rattle.comp_worlds.specs.declared.lowerings.Lowering.TheVariants as lowering
 use Rattle.comp_worlds.specs.declared.world.ComponentWorld.{ComponentWorld}
 use Rattle.comp_links.specs.Links.{lower_needs}
 use Rattle.comp_links.specs.Modules.{UserImport, user_imports}
+use Rattle.shim_plan.specs.Needed.{call_of}
 use Rattle.shim_targets.specs.CallOptions.{options_of_lowering, lowering_of_import}
 use Rattle.shim_targets.proofs.Calls.{world_call, interface_call}
 use Rattle.shim_targets.proofs.Roles.{import_role}
@@ -29,8 +30,8 @@ same_options false abi types f = by (needs (import_set abi types f) 1)
     by true = refl
     by false = refl
 
-pub options_needed : (w : ComponentWorld) → IsEncodable w → (i : UserImport) → Contains (user_imports w) i → (options_of_lowering (lowering_of_import w i.core.role)).0 ≡ lower_needs w i.core.role
-options_needed w ok i there = by i.core.role refl (import_role w ok i there)
+pub options_needed : (w : ComponentWorld) → IsEncodable w → (i : UserImport) → Contains (user_imports w) i → IsSome (call_of i.core.role) → (options_of_lowering (lowering_of_import w i.core.role)).0 ≡ lower_needs w i.core.role
+options_needed w ok i there called = by i.core.role refl (import_role w ok i there)
   where
     by : (role : Import) → i.core.role ≡ role → IsImportRole w role → (options_of_lowering (lowering_of_import w role)).0 ≡ lower_needs w role
     by (imports.WorldFunc (keys.Name text) function abi) is h =
@@ -39,6 +40,11 @@ options_needed w ok i there = by i.core.role refl (import_role w ok i there)
     by (imports.InterfaceFunc key id function abi) is h =
         let l = interface_call w ok i there key id function abi is h in
         ap (λ o. (options_of_lowering o).0) l.lowered ∙ same_options _ abi w.resolve.types l.function ∙ sym l.needs
+    by (imports.ExportedTaskReturn key interface f) is h = absurd (true≢false (sym called ∙ ap (λ (r : Import). is_some (call_of r)) is))
+    by imports.WaitableSetWait is h = absurd (true≢false (sym called ∙ ap (λ (r : Import). is_some (call_of r)) is))
+    by imports.WaitableSetPoll is h = absurd (true≢false (sym called ∙ ap (λ (r : Import). is_some (call_of r)) is))
+    by (imports.ErrorContextNew own) is h = absurd (true≢false (sym called ∙ ap (λ (r : Import). is_some (call_of r)) is))
+    by (imports.ErrorContextDebugMessage own) is h = absurd (true≢false (sym called ∙ ap (λ (r : Import). is_some (call_of r)) is))
     by (imports.ImportedResourceDrop key interface id) is h = refl
     by (imports.ExportedResourceDrop key id) is h = refl
     by (imports.ExportedResourceRep key id) is h = refl

@@ -47,10 +47,12 @@ use Rattle.comp_links.specs.Modules.{UserImport, user_imports}
 use Rattle.comp_links.specs.Roles.{encoding_in}
 use Rattle.comp_links.specs.Targets.{UserModule}
 use Rattle.comp_terms.specs.Generated.{interface_in, role_of_kind}
+use Rattle.comp_terms.specs.Shimmed.{shim_owner}
 use Rattle.comp_worlds.specs.Offered.{shared_memory}
 use Rattle.shim_targets.specs.ShimTargets.{which_of, kind_of_import}
 use Rattle.shim_targets.proofs.Keys.{key_laws, call_laws, one_import_key, one_lowering}
 use Rattle.shim_targets.proofs.Lists.{contains_none, contains_cons, contains_first, contains_flat, IsInOne, flat_contains}
+use Rattle.shim_targets.proofs.ExportKeys.{return_back}
 use Rattle.shim_targets.proofs.Lowered.{is_call_of, root_found, interface_found, entry_found}
 use Rattle.shim_targets.proofs.Tables.{made_finds}
 use Rattle.shim_targets.proofs.Users.{back, among_all}
@@ -176,8 +178,8 @@ pub interface_call : (w : ComponentWorld) → IsEncodable w → (i : UserImport)
     IsImportRole w (imports.InterfaceFunc key id function abi) → IsLowered w (imports.InterfaceFunc key id function abi) (Some key) key function abi
 interface_call w ok i there key id function abi is h = interface_lowered abi h.2 w ok i key id function there is h.0 h.1
 
--- the module and the role are found back from the kind
-pub role_back : (w : ComponentWorld) → IsEncodable w → (of : UserModule) (role : Import) → IsImportRole w role → (encoding : StringEncoding) (kind : ShimKind) → kind_of_import of role encoding ≡ Some kind → role_of_kind w kind ≡ Some (of, role)
+-- the module and the role are found back from the kind: main, where the shim is for all modules
+pub role_back : (w : ComponentWorld) → IsEncodable w → (of : UserModule) (role : Import) → IsImportRole w role → (encoding : StringEncoding) (kind : ShimKind) → kind_of_import of role encoding ≡ Some kind → role_of_kind w kind ≡ Some (shim_owner of role, role)
 role_back w ok of (imports.WorldFunc (keys.Name text) function abi) h encoding kind e =
     subst (λ k. role_of_kind w k ≡ Some (of, imports.WorldFunc (keys.Name text) function abi)) (same_Some (kinds.IndirectLowering None (record { name = function; abi = abi }) (which_of of) encoding) kind e)
     (ap (λ (u : UserModule). Some (u, imports.WorldFunc (keys.Name function) function abi)) (back of) ∙ ap (λ (t : List ℕ). Some (of, imports.WorldFunc (keys.Name t) function abi)) h.1)
@@ -193,5 +195,12 @@ role_back w ok of (imports.MainModuleMemory type) h encoding kind e = absurd (no
 role_back w ok of (imports.MainModuleExport name export) h encoding kind e = absurd (none-some kind e)
 role_back w ok of (imports.AdapterExport adapter name type) h encoding kind e = absurd (none-some kind e)
 role_back w ok of (imports.Item item) h encoding kind e = absurd (none-some kind e)
+role_back w ok of (imports.ExportedTaskReturn key interface f) h encoding kind e =
+    subst (λ k. role_of_kind w k ≡ Some (of, imports.ExportedTaskReturn key interface f)) (same_Some (kinds.TaskReturn interface f.name f.result (which_of of) encoding) kind e) (return_back w ok of key interface f h)
+role_back w ok of imports.WaitableSetWait h encoding kind e = ap (role_of_kind w) (sym (same_Some kinds.WaitableSetWait kind e))
+role_back w ok of imports.WaitableSetPoll h encoding kind e = ap (role_of_kind w) (sym (same_Some kinds.WaitableSetPoll kind e))
+role_back w ok of (imports.ErrorContextNew own) h encoding kind e = ap (role_of_kind w) (sym (same_Some (kinds.ErrorContextNew own) kind e))
+role_back w ok of (imports.ErrorContextDebugMessage own) h encoding kind e =
+    ap (role_of_kind w) (sym (same_Some (kinds.ErrorContextDebugMessage (which_of of) own) kind e)) ∙ ap (λ (u : UserModule). Some (u, imports.ErrorContextDebugMessage own)) (back of)
 role_back w ok of (imports.WorldFunc (keys.Interface other) function abi) h encoding kind e = absurd (true≢false (sym h))
 role_back w ok of role h encoding kind e = absurd (none-some kind e)

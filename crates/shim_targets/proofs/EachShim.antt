@@ -25,14 +25,17 @@ use Rattle.comp_worlds.specs.declared.world.WorldAdapter.{WorldAdapter}
 use Rattle.shim_plan.specs.Needed.{import_needs, export_needs, needs_of, needed}
 use Rattle.shim_plan.specs.Plans.{same_kind, shim_at, numbered, lacking}
 use Rattle.shim_plan.specs.declared.kinds.ShimKind.{ShimKind}
+use Rattle.shim_plan.specs.declared.memory_functions.MemoryFunction.TheVariants as functions
 use Rattle.shim_plan.specs.declared.needs.NeededShim.{NeededShim}
 use Rattle.world_shims.specs.WorldShims.{modules_in, shims_of}
 use Rattle.comp_links.specs.Links.{module_of}
 use Rattle.comp_links.specs.Modules.{WorldModule, module_found, user_modules, user_imports}
 use Rattle.comp_links.specs.Targets.{UserModule, Adapter}
 use Rattle.shim_targets.specs.ShimTargets.{which_of, StandsForOne, StandsForExport}
+use Rattle.shim_targets.proofs.ReturnNeeds.{return_needs_stand}
 use Rattle.shim_targets.proofs.AdapterNeeds.{adapter_shim, adapter_needed, numbers_back}
 use Rattle.shim_targets.proofs.CallNeeds.{Stands, call_needs_stand}
+use Rattle.shim_targets.proofs.FunctionNeeds.{all_through, unless_shared, wait_stands, poll_stands, new_error_stands, message_stands}
 use Rattle.shim_targets.proofs.Calls.{world_call, interface_call}
 use Rattle.shim_targets.proofs.Lists.{all_both, all_flat}
 use Rattle.shim_targets.proofs.Roles.{import_role}
@@ -90,6 +93,11 @@ module _ (w : ComponentWorld) (ok : IsEncodable w) (of : UserModule) (m : Valida
   import_stands name field (imports.AdapterExport adapter function type) there h =
       subst (AllByRecursion (Stands w)) (sym (adapter_needed (record { module_name = name; field = field; role = imports.AdapterExport adapter function type }) adapter function type h.numbers))
       (λ place. inr (record { of = Adapter adapter; name = function }, adapter_stands w adapter function type h (record { module_name = name; field = field; role = imports.AdapterExport adapter function type }) place), tt)
+  import_stands name field (imports.ExportedTaskReturn key interface f) there h = return_needs_stand w ok of m found (record { module_name = name; field = field; role = imports.ExportedTaskReturn key interface f }) key interface f refl there h
+  import_stands name field imports.WaitableSetWait there h = unless_shared w ok of m functions.Wait (wait_stands w of m found name field there)
+  import_stands name field imports.WaitableSetPoll there h = unless_shared w ok of m functions.Poll (poll_stands w of m found name field there)
+  import_stands name field (imports.ErrorContextNew encoding) there h = unless_shared w ok of m (functions.NewError encoding) (new_error_stands w of m found name field encoding there)
+  import_stands name field (imports.ErrorContextDebugMessage encoding) there h = all_through w ok of m (functions.ErrorMessage encoding) (message_stands w of m found name field encoding there)
   import_stands name field (imports.WorldFunc (keys.Interface other) function abi) there h = absurd (true≢false (sym h))
   import_stands name field role there h = tt
 

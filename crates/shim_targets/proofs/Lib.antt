@@ -20,3 +20,8 @@ pub mod CallOptions
 pub mod DestructorShims
 pub mod AdapterShims
 pub mod Worked
+pub mod Returned
+mod ExportKeys
+mod ReturnNeeds
+mod FunctionNeeds
+pub mod Owners

@@ -1,10 +1,10 @@
 -- An import that needs a memory has its shim, and the options of one that has none name nothing that a module exports.
 use Rattle.std.proofs.Common.{◌≡◌, ◌∙◌, ◌⊎◌, inl, inr, ℕ, suc, Bool, true, false, true≢false, List, [], ◌∷◌, ◌++◌, map, Contains, if◌then◌else◌, is_some, Some, None, refl, sym, ap, subst}
-use Rattle.std.specs.Prelude.{IsTrue, IsSome}
+use Rattle.std.specs.Prelude.{IsTrue, IsSome, not}
 use Rattle.std.specs.List.{flat_map, list_any}
 use Rattle.std.specs.Option.{option_and_then}
 use Rattle.std.proofs.lemmas.List.Elements.{Contains-append_left}
-use Rattle.std.proofs.lemmas.Option.{none-some}
+use Rattle.std.proofs.lemmas.Option.{none-some, same_Some}
 use Rattle.standard_kinds.specs.declared.kinds.StringEncoding.{StringEncoding}
 use Rattle.wit_data.specs.declared.worlds.WorldKey.TheVariants as keys
 use Rattle.comp_roles.specs.CoreImports.{CoreImport}
@@ -23,11 +23,15 @@ use Rattle.shim_plan.specs.Needed.{realloc_shim, import_realloc, import_needs, e
 use Rattle.comp_worlds.specs.Offered.{shared_memory}
 use Rattle.shim_plan.specs.Plans.{same_kind, kinds_of, shim_of, numbered, lacking}
 use Rattle.shim_plan.specs.declared.kinds.ShimKind.{ShimKind}
+use Rattle.shim_plan.specs.declared.kinds.ShimKind.TheVariants as kinds
+use Rattle.shim_plan.specs.declared.memory_functions.MemoryFunction.{MemoryFunction}
+use Rattle.shim_plan.specs.declared.memory_functions.MemoryFunction.TheVariants as functions
 use Rattle.shim_plan.specs.declared.needs.NeededShim.{NeededShim}
+use Rattle.shim_plan.specs.declared.reallocs.ReallocSite.TheVariants as sites
 use Rattle.world_shims.specs.WorldShims.{modules_in, shims_of}
 use Rattle.comp_links.specs.Links.{lower_needs}
 use Rattle.comp_links.specs.Modules.{UserImport, module_found, user_imports}
-use Rattle.comp_links.specs.Roles.{encoding_in, import_encoding}
+use Rattle.comp_links.specs.Roles.{encoding_in, import_encoding, is_always_shimmed}
 use Rattle.comp_links.specs.Targets.{UserModule}
 use Rattle.shim_targets.specs.CallOptions.{NamesNoExport}
 use Rattle.shim_targets.specs.ShimTargets.{which_of, kind_of_import}
@@ -38,6 +42,9 @@ use Rattle.shim_targets.proofs.NoOptions.{role_without}
 use Rattle.shim_targets.proofs.ReallocShims.{Pair}
 use Rattle.shim_targets.proofs.Roles.{import_role}
 use Rattle.comp_links.proofs.Named.{listed_found}
+use Rattle.comp_options.proofs.ImportSets.{no_realloc_returned}
+use Rattle.shim_plan.specs.Needed.{Returned, return_shim, realloc_needs, function_options, function_shim, through_needs}
+use Rattle.shim_targets.proofs.ReturnNeeds.{return_needed}
 use Rattle.shim_targets.proofs.Users.{IsImportOf, import_of, of_module, needed_in}
 
 -- ---- each kind that is needed has a shim
@@ -89,6 +96,15 @@ has_shim w n c =
 
 -- ---- imports that need a memory, where main imports none
 
+-- a function that works on a memory has its shim, and one that may have it has it where main imports none
+through_needed : (w : ComponentWorld) (of : UserModule) (m : ValidatedModule) (function : MemoryFunction) → Contains (through_needs w (which_of of) m function) (function_shim (which_of of) function)
+through_needed w of m function = contains_first (function_shim (which_of of) function) (realloc_needs w (which_of of) m sites.AfterInstantiation (function_options function))
+
+unshared_needed : (w : ComponentWorld) (of : UserModule) (m : ValidatedModule) (function : MemoryFunction) → shared_memory w ≡ None →
+    Contains (if not (is_some (shared_memory w)) then through_needs w (which_of of) m function else []) (function_shim (which_of of) function)
+unshared_needed w of m function unshared =
+    subst (λ o. Contains (if not (is_some o) then through_needs w (which_of of) m function else []) (function_shim (which_of of) function)) (sym unshared) (through_needed w of m function)
+
 -- what is needed of an import has one of this kind
 record IsKindNeeded (w : ComponentWorld) (of : UserModule) (m : ValidatedModule) (i : CoreImport) (kind : ShimKind) : Type 0 where
   shim : NeededShim
@@ -113,30 +129,43 @@ import_needed w ok unshared of m name field (imports.MainModuleMemory type) ther
 import_needed w ok unshared of m name field (imports.MainModuleExport export sort) there h encoding encoded memory kind is = absurd (none-some kind is)
 import_needed w ok unshared of m name field (imports.AdapterExport adapter function type) there h encoding encoded memory kind is = absurd (none-some kind is)
 import_needed w ok unshared of m name field (imports.Item item) there h encoding encoded memory kind is = absurd (none-some kind is)
+import_needed w ok unshared of m name field (imports.ExportedTaskReturn key interface f) there h encoding encoded memory kind is =
+    let r : Returned = record { key = key; interface = interface; function = f } in
+    record { shim = return_shim w (which_of of) r encoding; there = return_needed w of m r unshared memory encoding encoded; same = same_Some (return_shim w (which_of of) r encoding).kind kind is }
+import_needed w ok unshared of m name field imports.WaitableSetWait there h encoding encoded memory kind is =
+    record { shim = function_shim (which_of of) functions.Wait; there = unshared_needed w of m functions.Wait unshared; same = same_Some kinds.WaitableSetWait kind is }
+import_needed w ok unshared of m name field imports.WaitableSetPoll there h encoding encoded memory kind is =
+    record { shim = function_shim (which_of of) functions.Poll; there = unshared_needed w of m functions.Poll unshared; same = same_Some kinds.WaitableSetPoll kind is }
+import_needed w ok unshared of m name field (imports.ErrorContextNew own) there h encoding encoded memory kind is =
+    record { shim = function_shim (which_of of) (functions.NewError own); there = unshared_needed w of m (functions.NewError own) unshared; same = same_Some (kinds.ErrorContextNew own) kind is }
+import_needed w ok unshared of m name field (imports.ErrorContextDebugMessage own) there h encoding encoded memory kind is =
+    record { shim = function_shim (which_of of) (functions.ErrorMessage own); there = through_needed w of m (functions.ErrorMessage own); same = same_Some (kinds.ErrorContextDebugMessage (which_of of) own) kind is }
 import_needed w ok unshared of m name field (imports.WorldFunc (keys.Interface other) function abi) there h encoding encoded memory kind is = absurd (true≢false (sym h))
 import_needed w ok unshared of m name field role there h encoding encoded memory kind is = absurd (none-some kind is)
 
 -- so has one that needs a realloc, where main imports its memory
 realloc_needed_by : (w : ComponentWorld) → IsEncodable w → is_some (shared_memory w) ≡ true → (of : UserModule) (m : ValidatedModule) (name field : List ℕ) (role : Import) → Contains (user_imports w) (record { of = of; core = record { module_name = name; field = field; role = role } }) →
-    IsImportRole w role → IsTrue (needs (lower_needs w role) 2) → (r : Pair) → import_realloc w (which_of of) m ≡ Some r → IsKindNeeded w of m (record { module_name = name; field = field; role = role }) (realloc_shim r).kind
-realloc_needed_by w ok shared of m name field (imports.WorldFunc (keys.Name text) function abi) there h realloc r found =
+    IsImportRole w role → is_always_shimmed role ≡ false → IsTrue (needs (lower_needs w role) 2) → (r : Pair) → import_realloc w (which_of of) m ≡ Some r → IsKindNeeded w of m (record { module_name = name; field = field; role = role }) (realloc_shim r).kind
+realloc_needed_by w ok shared of m name field (imports.WorldFunc (keys.Name text) function abi) there h apart realloc r found =
     let i : CoreImport = record { module_name = name; field = field; role = imports.WorldFunc (keys.Name text) function abi } in
     let lowered = world_call w ok (record { of = of; core = i }) there text function abi refl h in
     record { shim = realloc_shim r; there = realloc_needed w of m i None (keys.Name text) function abi lowered shared realloc r found; same = refl }
-realloc_needed_by w ok shared of m name field (imports.InterfaceFunc key id function abi) there h realloc r found =
+realloc_needed_by w ok shared of m name field (imports.InterfaceFunc key id function abi) there h apart realloc r found =
     let i : CoreImport = record { module_name = name; field = field; role = imports.InterfaceFunc key id function abi } in
     let lowered = interface_call w ok (record { of = of; core = i }) there key id function abi refl h in
     record { shim = realloc_shim r; there = realloc_needed w of m i (Some key) key function abi lowered shared realloc r found; same = refl }
-realloc_needed_by w ok shared of m name field (imports.ImportedResourceDrop key interface id) there h realloc r found = absurd (true≢false (sym realloc))
-realloc_needed_by w ok shared of m name field (imports.ExportedResourceDrop key id) there h realloc r found = absurd (true≢false (sym realloc))
-realloc_needed_by w ok shared of m name field (imports.ExportedResourceRep key id) there h realloc r found = absurd (true≢false (sym realloc))
-realloc_needed_by w ok shared of m name field (imports.ExportedResourceNew key id) there h realloc r found = absurd (true≢false (sym realloc))
-realloc_needed_by w ok shared of m name field (imports.MainModuleMemory type) there h realloc r found = absurd (true≢false (sym realloc))
-realloc_needed_by w ok shared of m name field (imports.MainModuleExport export sort) there h realloc r found = absurd (true≢false (sym realloc))
-realloc_needed_by w ok shared of m name field (imports.AdapterExport adapter function type) there h realloc r found = absurd (true≢false (sym realloc))
-realloc_needed_by w ok shared of m name field (imports.Item item) there h realloc r found = absurd (true≢false (sym realloc))
-realloc_needed_by w ok shared of m name field (imports.WorldFunc (keys.Interface other) function abi) there h realloc r found = absurd (true≢false (sym h))
-realloc_needed_by w ok shared of m name field role there h realloc r found = absurd (true≢false (sym realloc))
+realloc_needed_by w ok shared of m name field (imports.ImportedResourceDrop key interface id) there h apart realloc r found = absurd (true≢false (sym realloc))
+realloc_needed_by w ok shared of m name field (imports.ExportedResourceDrop key id) there h apart realloc r found = absurd (true≢false (sym realloc))
+realloc_needed_by w ok shared of m name field (imports.ExportedResourceRep key id) there h apart realloc r found = absurd (true≢false (sym realloc))
+realloc_needed_by w ok shared of m name field (imports.ExportedResourceNew key id) there h apart realloc r found = absurd (true≢false (sym realloc))
+realloc_needed_by w ok shared of m name field (imports.MainModuleMemory type) there h apart realloc r found = absurd (true≢false (sym realloc))
+realloc_needed_by w ok shared of m name field (imports.MainModuleExport export sort) there h apart realloc r found = absurd (true≢false (sym realloc))
+realloc_needed_by w ok shared of m name field (imports.AdapterExport adapter function type) there h apart realloc r found = absurd (true≢false (sym realloc))
+realloc_needed_by w ok shared of m name field (imports.Item item) there h apart realloc r found = absurd (true≢false (sym realloc))
+realloc_needed_by w ok shared of m name field (imports.ExportedTaskReturn key interface f) there h apart realloc r found = absurd (true≢false (sym realloc ∙ no_realloc_returned w.resolve.types f))
+realloc_needed_by w ok shared of m name field (imports.ErrorContextDebugMessage encoding) there h apart realloc r found = absurd (true≢false apart)
+realloc_needed_by w ok shared of m name field (imports.WorldFunc (keys.Interface other) function abi) there h apart realloc r found = absurd (true≢false (sym h))
+realloc_needed_by w ok shared of m name field role there h apart realloc r found = absurd (true≢false (sym realloc))
 
 -- a kind that is needed of an import of a module has a shim
 needed_there : (w : ComponentWorld) (of : UserModule) (m : ValidatedModule) → module_found w of ≡ Some m → (i : CoreImport) → Contains (imports_of m) i → (kind : ShimKind) → IsKindNeeded w of m i kind → IsSome (shim_of kind (shims_of w))
@@ -161,12 +190,21 @@ shim_there w ok unshared i there encoding encoded memory kind is =
     let found : module_found w i.of ≡ Some m = ap (module_found w) (sym o.same) ∙ listed_found w ok.valid o.world_module o.listed in
     found_there w ok unshared i.of m found i.core o.there encoding (sym (ap (option_and_then (encoding_in i.core.role)) found) ∙ encoded) memory kind is
 
+-- a function that reads the debug message of an error context has one, wherever main's memory is
+pub message_there : (w : ComponentWorld) (of : UserModule) (m : ValidatedModule) → module_found w of ≡ Some m → (i : CoreImport) → Contains (imports_of m) i → (encoding : StringEncoding) → i.role ≡ imports.ErrorContextDebugMessage encoding →
+    IsSome (shim_of (kinds.ErrorContextDebugMessage (which_of of) encoding) (shims_of w))
+message_there w of m found i c encoding is =
+    let shim : NeededShim = function_shim (which_of of) (functions.ErrorMessage encoding) in
+    let there : Contains (import_needs w (which_of of) m i) shim =
+    subst (λ (role : Import). Contains (import_needs w (which_of of) m (record { module_name = i.module_name; field = i.field; role = role })) shim) (sym is) (through_needed w of m (functions.ErrorMessage encoding)) in
+    needed_there w of m found i c (kinds.ErrorContextDebugMessage (which_of of) encoding) (record { shim = shim; there = there; same = refl })
+
 -- the realloc of calls of an import has a shim, where main imports its memory
-pub realloc_there : (w : ComponentWorld) → IsEncodable w → is_some (shared_memory w) ≡ true → (of : UserModule) (m : ValidatedModule) → module_found w of ≡ Some m → (i : CoreImport) → Contains (imports_of m) i → IsTrue (needs (lower_needs w i.role) 2) →
+pub realloc_there : (w : ComponentWorld) → IsEncodable w → is_some (shared_memory w) ≡ true → (of : UserModule) (m : ValidatedModule) → module_found w of ≡ Some m → (i : CoreImport) → Contains (imports_of m) i → is_always_shimmed i.role ≡ false → IsTrue (needs (lower_needs w i.role) 2) →
     (r : Pair) → import_realloc w (which_of of) m ≡ Some r → IsSome (shim_of (realloc_shim r).kind (shims_of w))
-realloc_there w ok shared of m found i c realloc r is =
+realloc_there w ok shared of m found i c apart realloc r is =
     let there : Contains (user_imports w) (record { of = of; core = i }) = of_module w of m i found c in
-    needed_there w of m found i c (realloc_shim r).kind (realloc_needed_by w ok shared of m i.module_name i.field i.role there (import_role w ok (record { of = of; core = i }) there) realloc r is)
+    needed_there w of m found i c (realloc_shim r).kind (realloc_needed_by w ok shared of m i.module_name i.field i.role there (import_role w ok (record { of = of; core = i }) there) apart realloc r is)
 
 -- ---- imports that have no shim
 

@@ -1,5 +1,5 @@
 -- The first import of a user module that needs a string encoding and has none.
-use Rattle.std.proofs.Common.{◌≡◌, ◌∙◌, ℕ, List, Contains, Option, Some, None, refl, sym, ap, append_assoc}
+use Rattle.std.proofs.Common.{◌≡◌, ◌∙◌, ℕ, Bool, true, false, List, [], Contains, Option, Some, None, if◌then◌else◌, refl, sym, ap, append_assoc}
 use Rattle.std.specs.Prelude.{IsTrue, codes}
 use Rattle.std.specs.List.{slice_get, flat_map}
 use Rattle.std.specs.Option.{option_and_then}
@@ -19,7 +19,7 @@ use Rattle.comp_worlds.specs.declared.world.ComponentWorld.{ComponentWorld}
 use Rattle.comp_worlds.specs.declared.world.ValidatedModule.{ValidatedModule}
 use Rattle.shim_plan.specs.Encodings.{place_of, unencoded_if, unencoded_lowering, unencoded_import, unencoded_in, unencoded}
 use Rattle.comp_worlds.specs.Lookups.{found_module}
-use Rattle.shim_plan.specs.Needed.{lowering_of_call}
+use Rattle.shim_plan.specs.Needed.{lowering_of_call, returns_through}
 use Rattle.world_shims.specs.WorldShims.{modules_in}
 use Rattle.comp_links.specs.Links.{module_of}
 use Rattle.comp_links.specs.Modules.{UserImport, module_found, user_imports}
@@ -53,6 +53,14 @@ at_import w m name field (imports.WorldFunc key function abi) place e =
 at_import w m name field (imports.InterfaceFunc key id function abi) place e =
     let is = at_call m (record { module_name = name; field = field; role = imports.InterfaceFunc key id function abi }) (Some key) key (record { name = function; abi = abi }) (lowering_of_call w (record { interface = Some key; key = key; function = record { name = function; abi = abi } })) place e in
     record { needed = refl; none = is.0; is = is.1 }
+at_import w m name field (imports.ExportedTaskReturn key interface f) place e = by (returns_through w (record { key = key; interface = interface; function = f })) e
+  where
+    i : CoreImport
+    i = record { module_name = name; field = field; role = imports.ExportedTaskReturn key interface f }
+
+    by : (b : Bool) → slice_get (if b then unencoded_if i (of_function key f.name m.metadata.export_encodings) else []) 0 ≡ Some place → IsUnencoded m name field (imports.ExportedTaskReturn key interface f) place
+    by true e = let is = missing i (of_function key f.name m.metadata.export_encodings) place e in record { needed = refl; none = is.0; is = is.1 }
+    by false e = absurd (none-some place e)
 at_import w m name field role place e = absurd (none-some place e)
 
 -- the first of a module that is found

@@ -4,7 +4,7 @@ use Rattle.std.specs.Prelude.{Contains, length, codes}
 use Rattle.std.specs.List.{AllByRecursion, flat_map}
 use Rattle.std.specs.Map.{keys_of}
 use Rattle.std.specs.Option.{option_or}
-use Rattle.wit_data.specs.declared.types.TypeDef.{TypeDef}
+use Rattle.wit_data.specs.declared.resolve.Resolve.{Resolve}
 use Rattle.wit_data.specs.declared.worlds.WorldKey.{WorldKey}
 use Rattle.comp_lists.proofs.Lists.{AllByRecursion-contains, AllByRecursion-weaker, Contains-map}
 use Rattle.wit_data.specs.declared.worlds.World.{World}
@@ -44,9 +44,9 @@ use Rattle.supported_worlds.proofs.Order.{passes}
 pub same_modules : (p : WorldParts) (w : World) (t : Places) (found : Option (List ℕ)) → ArePlaces p.resolve.types w.imports t → found ≡ modules_left_out p w t.types t.interfaces.root → found ≡ modules_left_out p w (places_of p.resolve.types w.imports) (length w.imports)
 same_modules p w t found h is = let i = h.interfaces in is ∙ ap₂ (modules_left_out p w) h.types i.root
 
--- a role of an exported resource
-pub own_found : (types : List TypeDef) (es : Entries) (keys : List WorldKey) (m : ValidatedModule) (set : InterfaceSet) (found : Option (List ℕ)) → IsSetOf (required_of es keys) set → found ≡ first_some (own_group_left_out types es (keys_of set)) m.imports.modules → found ≡ own_left_out types es keys m
-own_found types es keys m set found h is = is ∙ ap (λ ids. first_some (own_group_left_out types es ids) m.imports.modules) h.keys
+-- a role of an exported resource, or of an exported function
+pub own_found : (r : Resolve) (es : Entries) (keys : List WorldKey) (m : ValidatedModule) (set : InterfaceSet) (found : Option (List ℕ)) → IsSetOf (required_of es keys) set → found ≡ first_some (own_group_left_out r es (keys_of set)) m.imports.modules → found ≡ own_left_out r es keys m
+own_found r es keys m set found h is = is ∙ ap (λ ids. first_some (own_group_left_out r es ids) m.imports.modules) h.keys
 
 -- where no item is left out, the other parts decide
 pub rest_decides : (p : WorldParts) (w : World) (found : Option (List ℕ)) → w ≡ items_of p → None ≡ world_left_out w → found ≡ option_or (twice_left_out (all_required p) w) (named_left_out p w) → found ≡ left_out p
@@ -72,7 +72,7 @@ group_out p group = group_left_out p.resolve.types (places_of p.resolve.types (i
 
 -- by its exported resources, and the keys that the module has to export
 abbrev pub own_group_out : WorldParts → List WorldKey → List ℕ × ImportInstance → Option (List ℕ)
-own_group_out p keys group = own_group_left_out p.resolve.types (items_of p).exports (required_of (items_of p).exports keys) group
+own_group_out p keys group = own_group_left_out p.resolve (items_of p).exports (required_of (items_of p).exports keys) group
 
 -- each import of the groups is encoded
 pub imports_pass : (p : WorldParts) (groups : List (List ℕ × ImportInstance)) → AllByRecursion (λ g. group_out p g ≡ None) groups → AllByRecursion (λ i. role_left_out p i.role ≡ None) (flat_map imports_from groups)
@@ -116,17 +116,17 @@ pub record IsEncoded (p : WorldParts) : Type 0 where
 
 -- what is left out of a module of a world, and of an adapter
 abbrev module_out : WorldParts → UserModule → Option (List ℕ)
-module_out p m = module_left_out p.resolve.types (items_of p).exports (places_of p.resolve.types (items_of p).imports) (length (items_of p).imports) m.keys m.info
+module_out p m = module_left_out p.resolve (items_of p).exports (places_of p.resolve.types (items_of p).imports) (length (items_of p).imports) m.keys m.info
 
 abbrev roles_out : WorldParts → ValidatedModule → Option (List ℕ)
 roles_out p m = roles_left_out p.resolve.types (places_of p.resolve.types (items_of p).imports) (length (items_of p).imports) m
 
 abbrev adapter_out : WorldParts → List ℕ × WorldAdapter → Option (List ℕ)
-adapter_out p a = adapter_left_out p.resolve.types (items_of p).exports (places_of p.resolve.types (items_of p).imports) (length (items_of p).imports) a
+adapter_out p a = adapter_left_out p.resolve (items_of p).exports (places_of p.resolve.types (items_of p).imports) (length (items_of p).imports) a
 
 module_encoded : (p : WorldParts) (m : UserModule) → module_out p m ≡ None → IsModuleEncoded p m
 module_encoded p m h =
-    let s = neither (own_left_out p.resolve.types (items_of p).exports m.keys m.info) (roles_out p m.info) h in
+    let s = neither (own_left_out p.resolve (items_of p).exports m.keys m.info) (roles_out p m.info) h in
     let r = neither (first_some (group_out p) m.info.imports.modules) (first_some (λ e. export_left_out p.resolve.types e.1) m.info.exports.exports) s.1 in
     record {
       own_groups = none_picked (own_group_out p m.keys) m.info.imports.modules s.0;
@@ -234,7 +234,7 @@ module _ (p : WorldParts) (what : List ℕ) where
     ]
 
     of_module : module_out p m ≡ Some what → IsLeftOut p (refusals.LeftOut what)
-    of_module e = elim (one_of (own_left_out p.resolve.types (items_of p).exports m.keys m.info) (roles_out p m.info) what e) [
+    of_module e = elim (one_of (own_left_out p.resolve (items_of p).exports m.keys m.info) (roles_out p m.info) what e) [
       | inl a ↦ let t = one_picked (own_group_out p m.keys) m.info.imports.modules what a in of_own t.element t.there t.picks
       | inr b ↦ of_roles b
     ]

@@ -10,6 +10,7 @@ use Rattle.std.proofs.lemmas.Slice.Eq.{bytes_eq-Decides}
 use Rattle.comp_lists.specs.Found.{found}
 use Rattle.comp_lists.proofs.Lists.{AllByRecursion-front, AllByRecursion-back, AllByRecursion-at, AllByRecursion-contains, AllByRecursion-weaker}
 use Rattle.comp_lists.proofs.Lookups.{some_of}
+use Rattle.wit_data.proofs.SameFunctions.{one_function}
 use Rattle.wit_data.specs.Keys.{is_same_key}
 use Rattle.wit_data.specs.declared.functions.AbiVariant.TheVariants.{GuestImport, GuestExport, GuestImportAsync, GuestExportAsync, GuestExportAsyncStackful}
 use Rattle.wit_data.specs.declared.functions.Function.{Function}
@@ -42,7 +43,7 @@ use Rattle.world_values.specs.Mentions.{interface_in, interfaces_of, same_interf
 use Rattle.comp_worlds.specs.Lookups.{found_module}
 use Rattle.comp_worlds.specs.Typed.{post_return_type, type_of_import, type_of_export, FitsRole, FitsImport, FitsExport}
 use Rattle.comp_worlds.specs.WorldContents.{root_function, exported_item, core_name_in, keys_required}
-use Rattle.comp_worlds.specs.Worlds.{IsWorld, IsUserModule, IsImportItem, IsExportItem, IsResource, IsImportRole, IsImportGroup, IsNotOfMain, IsFirstGroup, IsOwnResource, IsForOwnKey, ExportsFunctionOf, IsExportRole, IsRequired}
+use Rattle.comp_worlds.specs.Worlds.{IsWorld, IsUserModule, IsImportItem, IsExportItem, IsResource, IsImportRole, IsImportGroup, IsNotOfMain, IsFirstGroup, IsOwnResource, IsOwnFunction, IsForOwnKey, ExportsFunctionOf, IsExportRole, IsRequired}
 use Rattle.comp_worlds.specs.Uses.{imports_of}
 use Rattle.comp_worlds.specs.WorldTables.{whole_of}
 use Rattle.comp_worlds.specs.declared.world.ValidatedModule.{ValidatedModule}
@@ -60,7 +61,7 @@ use Rattle.supported_worlds.specs.LeftOut.{items_of, import_item_left_out, expor
 use Rattle.supported_worlds.specs.Links.{IsRoleLinked, IsTypeLinked, IsFromInstance, IsImportLinked, IsModuleLinked, AreLinked}
 use Rattle.supported_worlds.specs.Modules.{UserModule, main_of, module_of}
 use Rattle.supported_worlds.specs.Causes.{role_left_out, own_role_out}
-use Rattle.supported_worlds.specs.Placed.{places_of, is_resource, is_droppable, is_resource_at, is_own_resource}
+use Rattle.supported_worlds.specs.Placed.{places_of, is_resource, is_droppable, is_resource_at, is_required_at, is_own_resource, is_same_function, is_own_function}
 use Rattle.supported_worlds.specs.Guarantees.{HasFoundImport, IsUsed, OffersExport, IsSoundModule, HasSoundParts}
 use Rattle.supported_worlds.proofs.Interfaces.{named_interface, own_are, other_key, one_found, entry_there, name_there as function_there, found_there}
 use Rattle.comp_roles.proofs.Firsts.{none_picked}
@@ -265,6 +266,38 @@ module _ (p : WorldParts) (present : HasSoundParts p) (linked : AreLinked p) (en
         required = known key (own_key owed key id what h);
       }
 
+  -- a function that is exported at a key, at the root or in an interface that a module has to export
+  root_function_own : (key : WorldKey) (f : Function) → option_map_or (is_same_function f) (root_function_at (items_of p).exports key) false ≡ true → IsOwnFunction (whole_of p) key None f
+  root_function_own key f h = by (lookup (is_same_key key) (items_of p).exports) refl h
+    where
+      by : (o : Option WorldItem) → exported_item (whole_of p) key ≡ o → option_map_or (is_same_function f) (option_and_then function_in o) false ≡ true → IsOwnFunction (whole_of p) key None f
+      by (Some (items.Function g)) is e =
+          record { exported = ap (function_of_item p.resolve f.name) is ∙ ap Some (sym (one_function f g e)); of = ap (option_and_then interface_in) is; required = λ some. absurd (true≢false (sym some)) }
+      by (Some (items.Interface id)) is e = absurd (true≢false (sym e))
+      by (Some (items.NamedType id)) is e = absurd (true≢false (sym e))
+      by None is e = absurd (true≢false (sym e))
+
+  interface_function_own : (owed : List WorldKey) → AreKnown p owed → (key : WorldKey) (id : InterfaceId) (f : Function) → is_own_function p.resolve (items_of p).exports (required_of (items_of p).exports owed) key (Some id) f ≡ true → IsOwnFunction (whole_of p) key (Some id) f
+  interface_function_own owed known key id f h =
+      let es = (items_of p).exports in
+      let required = required_of es owed in
+      let b = both (is_required_at es required key id) (option_map_or (is_same_function f) (found f.name (functions_of p.resolve id)) false) h in
+      let there = required_at es required key id b.0 in
+      record {
+        exported = ap (function_of_item p.resolve f.name) there.exported ∙ named (found f.name (functions_of p.resolve id)) b.1;
+        of = ap (option_and_then interface_in) there.exported;
+        required = λ some. known key (required_key es owed key id exports_apart there);
+      }
+    where
+      named : (o : Option Function) → option_map_or (is_same_function f) o false ≡ true → o ≡ Some f
+      named (Some g) e = ap Some (sym (one_function f g e))
+      named None e = absurd (true≢false (sym e))
+
+  own_function : (owed : List WorldKey) → AreKnown p owed → (key : WorldKey) (interface : Option InterfaceId) (f : Function) →
+      unless (is_own_function p.resolve (items_of p).exports (required_of (items_of p).exports owed) key interface f) (codes "task-return") ≡ None → IsOwnFunction (whole_of p) key interface f
+  own_function owed known key None f h = root_function_own key f (passes (is_own_function p.resolve (items_of p).exports (required_of (items_of p).exports owed) key None f) (codes "task-return") h)
+  own_function owed known key (Some id) f h = interface_function_own owed known key id f (passes (is_own_function p.resolve (items_of p).exports (required_of (items_of p).exports owed) key (Some id) f) (codes "task-return") h)
+
   import_role : (owed : List WorldKey) → AreKnown p owed → (role : Import) → role_left_out p role ≡ None → own_role_out p owed role ≡ None → IsCalled p.resolve p.world role → IsRoleLinked (whole_of p) role → IsImportRole (whole_of p) role
   import_role owed known (imports.WorldFunc (keys.Name text) name GuestImport) h own called there =
       (name_there text (items_of p).imports (subst (λ (o : Option Function). IsSome o) (imported_is (keys.Name text)) called.1), called.0, tt)
@@ -282,6 +315,11 @@ module _ (p : WorldParts) (present : HasSoundParts p) (linked : AreLinked p) (en
   import_role owed known (imports.ExportedResourceDrop key id) h own called there = own_resource owed known key id (codes "exported-drop") own
   import_role owed known (imports.ExportedResourceRep key id) h own called there = own_resource owed known key id (codes "exported-rep") own
   import_role owed known (imports.ExportedResourceNew key id) h own called there = own_resource owed known key id (codes "exported-new") own
+  import_role owed known (imports.ExportedTaskReturn key interface f) h own called there = own_function owed known key interface f own
+  import_role owed known imports.WaitableSetWait h own called there = tt
+  import_role owed known imports.WaitableSetPoll h own called there = tt
+  import_role owed known (imports.ErrorContextNew encoding) h own called there = tt
+  import_role owed known (imports.ErrorContextDebugMessage encoding) h own called there = tt
   import_role owed known (imports.MainModuleMemory type) h own called there = there
   import_role owed known (imports.MainModuleExport name kind) h own called there = there
   import_role owed known (imports.AdapterExport adapter name type) h own called there = there
@@ -394,6 +432,11 @@ module _ (p : WorldParts) (present : HasSoundParts p) (linked : AreLinked p) (en
   fits_role (imports.ExportedResourceDrop key id) type h fits there = of_type (type_of_import p.resolve (items_of p) (imports.ExportedResourceDrop key id)) type refl fits
   fits_role (imports.ExportedResourceRep key id) type h fits there = of_type (type_of_import p.resolve (items_of p) (imports.ExportedResourceRep key id)) type refl fits
   fits_role (imports.ExportedResourceNew key id) type h fits there = of_type (type_of_import p.resolve (items_of p) (imports.ExportedResourceNew key id)) type refl fits
+  fits_role (imports.ExportedTaskReturn key interface f) type h fits there = of_type (type_of_import p.resolve (items_of p) (imports.ExportedTaskReturn key interface f)) type refl fits
+  fits_role imports.WaitableSetWait type h fits there = of_type (type_of_import p.resolve (items_of p) imports.WaitableSetWait) type refl fits
+  fits_role imports.WaitableSetPoll type h fits there = of_type (type_of_import p.resolve (items_of p) imports.WaitableSetPoll) type refl fits
+  fits_role (imports.ErrorContextNew encoding) type h fits there = of_type (type_of_import p.resolve (items_of p) (imports.ErrorContextNew encoding)) type refl fits
+  fits_role (imports.ErrorContextDebugMessage encoding) type h fits there = of_type (type_of_import p.resolve (items_of p) (imports.ErrorContextDebugMessage encoding)) type refl fits
   fits_role (imports.MainModuleMemory memory) type h fits there = of_type (type_of_import p.resolve (items_of p) (imports.MainModuleMemory memory)) type refl fits
   fits_role (imports.MainModuleExport name kind) type h fits there = there
   fits_role (imports.AdapterExport adapter name function) type h fits there = of_type (type_of_import p.resolve (items_of p) (imports.AdapterExport adapter name function)) type refl fits

@@ -27,6 +27,7 @@ use Rattle.wit_data.specs.declared.worlds.WorldKey.TheVariants as keys
 use Rattle.wit_data.specs.Values.{values_from}
 use Rattle.comp_roles.specs.declared.exports.Export.TheVariants as exports
 use Rattle.comp_roles.specs.declared.imports.Import.TheVariants as imports
+use Rattle.comp_roles.specs.declared.payloads.PayloadInfo.{PayloadInfo}
 use Rattle.comp_roles.specs.declared.imports.ImportInstance.TheVariants as instances
 use Rattle.comp_roles.specs.declared.libraries.Item.{Item}
 use Rattle.comp_roles.specs.declared.libraries.MainOrAdapter.TheVariants as modules
@@ -494,8 +495,8 @@ destructor_of_values_is_reported = refl
 abbrev exported_first : List (WorldKey × WorldItem)
 exported_first = (importing_interfaces (an_interface ∷ another_interface ∷ [])).imports
 
-abbrev a_resource : List TypeDef
-a_resource = of_first (codes "r") kinds.Resource ∷ []
+abbrev a_resource : Resolve
+a_resource = resolve_of (of_first (codes "r") kinds.Resource ∷ []) []
 
 own_drop_is_encoded : own_role_left_out a_resource exported_first (an_interface ∷ []) (imports.ExportedResourceDrop (keys.Interface an_interface) a_type) ≡ None
 own_drop_is_encoded = refl
@@ -506,12 +507,31 @@ unrequired_drop_is_reported = refl
 new_of_another_interface_is_reported : own_role_left_out a_resource exported_first (an_interface ∷ another_interface ∷ []) (imports.ExportedResourceNew (keys.Interface another_interface) a_type) ≡ Some (codes "exported-new")
 new_of_another_interface_is_reported = refl
 
-representation_of_values_is_reported : own_role_left_out (an_interface_type ∷ []) exported_first (an_interface ∷ []) (imports.ExportedResourceRep (keys.Interface an_interface) a_type) ≡ Some (codes "exported-rep")
+representation_of_values_is_reported : own_role_left_out (resolve_of (an_interface_type ∷ []) []) exported_first (an_interface ∷ []) (imports.ExportedResourceRep (keys.Interface an_interface) a_type) ≡ Some (codes "exported-rep")
 representation_of_values_is_reported = refl
 
+-- `task.return` of a function that is exported, of another one of its name, and of none
+abbrev a_function : Function
+a_function = record { name = codes "f"; kind = AsyncFreestanding; params = []; result = None }
+
+abbrev another_function : Function
+another_function = record { name = codes "f"; kind = Freestanding; params = []; result = None }
+
+abbrev one_exported : List (WorldKey × WorldItem)
+one_exported = (keys.Name (codes "f"), items.Function a_function) ∷ []
+
+task_return_is_encoded : own_role_left_out (resolve_of [] []) one_exported [] (imports.ExportedTaskReturn (keys.Name (codes "f")) None a_function) ≡ None
+task_return_is_encoded = refl
+
+task_return_of_another_is_reported : own_role_left_out (resolve_of [] []) one_exported [] (imports.ExportedTaskReturn (keys.Name (codes "f")) None another_function) ≡ Some (codes "task-return")
+task_return_of_another_is_reported = refl
+
+task_return_of_none_is_reported : own_role_left_out (resolve_of [] []) one_exported [] (imports.ExportedTaskReturn (keys.Name (codes "g")) None a_function) ≡ Some (codes "task-return")
+task_return_of_none_is_reported = refl
+
 -- of the imports from one module the first that is left out is reported
-first_field_is_reported : group_left_out [] [] 0 (codes "$root", instances.Names ((codes "f", imports.WorldFunc f (codes "f") GuestImport) ∷ (codes "i", imports.BackpressureInc) ∷ (codes "s", imports.WaitableSetWait) ∷ (codes "p", imports.WaitableSetPoll) ∷ [])) ≡ Some (codes "waitable-set-wait")
-first_field_is_reported = refl
+first_field_is_reported : (p : PayloadInfo) → group_left_out [] [] 0 (codes "$root", instances.Names ((codes "f", imports.WorldFunc f (codes "f") GuestImport) ∷ (codes "w", imports.WaitableSetWait) ∷ (codes "s", imports.StreamNew p) ∷ (codes "n", imports.FutureNew p) ∷ [])) ≡ Some (codes "stream-new")
+first_field_is_reported p = refl
 
 whole_is_encoded : group_left_out [] [] 0 (codes "m", instances.Whole modules.Main) ≡ None
 whole_is_encoded = refl

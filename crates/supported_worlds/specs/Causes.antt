@@ -20,9 +20,9 @@ use Rattle.supported_worlds.specs.Placed.{places_of}
 abbrev pub role_left_out : WorldParts → Import → Option (List ℕ)
 role_left_out p role = import_left_out p.resolve.types (places_of p.resolve.types (items_of p).imports) (length (items_of p).imports) role
 
--- one of an exported resource, unless its module, which has to export these keys, has to export the interface of that
+-- one of an exported resource or function, unless its module, which has to export these keys, has to export that
 abbrev pub own_role_out : WorldParts → List WorldKey → Import → Option (List ℕ)
-own_role_out p keys role = own_role_left_out p.resolve.types (items_of p).exports (required_of (items_of p).exports keys) role
+own_role_out p keys role = own_role_left_out p.resolve (items_of p).exports (required_of (items_of p).exports keys) role
 
 pub data IsLeftOut (p : WorldParts) : Refusal → Type 0 where
   -- an import or an export of the world

@@ -3,11 +3,12 @@
 -- functions made of these and of named types of interfaces that are imported or exported, types
 -- that it imports, in their order and with all resources of the root among them, core imports and
 -- exports with the role of such a function, core imports that drop a resource, or make or read a
--- handle of one that their module has to export, or are main's memory, an export of main, a
--- function that an adapter exports, an item of an argument of a library, a built-in function
--- without operands or a function of the thread-local base, and core exports that are a post-return,
--- a callback, a destructor, a memory or a realloc; of main, of adapters and of libraries. All else
--- is left out, and reported by the name of its kind. (The names are those of this project's record.)
+-- handle of one that their module has to export, or return from a function that is exported, or are
+-- a wait, a function of error contexts, main's memory, an export of main, a function that an adapter
+-- exports, an item of an argument of a library, a built-in function without operands or a function of
+-- the thread-local base, and core exports that are a post-return, a callback, a destructor, a memory or
+-- a realloc; of main, of adapters and of libraries. All else is left out, and reported by the name of
+-- its kind. (The names are those of this project's record.)
 use Rattle.std.specs.Prelude.{ℕ, Bool, true, ◌++◌, List, length, codes, Option, Some, None, Result, Ok, Err, get_or, is_some, if◌then◌else◌}
 use Rattle.std.specs.List.{flat_map}
 use Rattle.std.specs.Map.{lookup}
@@ -45,7 +46,7 @@ use Rattle.record_faults.specs.declared.fault.Refusal.TheVariants as refusals
 use Rattle.supported_worlds.specs.Distinct.{are_apart}
 use Rattle.supported_worlds.specs.Kinds.{import_kind, export_kind}
 use Rattle.supported_worlds.specs.Naming.{are_exports_named}
-use Rattle.supported_worlds.specs.Placed.{places_of, is_world_placed, imported_numbers, are_in_place, is_droppable, is_own_resource, is_resource_at}
+use Rattle.supported_worlds.specs.Placed.{places_of, is_world_placed, imported_numbers, are_in_place, is_droppable, is_own_resource, is_own_function, is_resource_at}
 
 -- ---- items of a world
 
@@ -106,8 +107,9 @@ resources_left_out types entries = unless (are_in_place types 0 (imported_number
 
 -- an import of a module, unless it is a function at the root or of an interface, or drops a
 -- resource, by the places of the types, and that of the root; or has a role that an exported
--- resource may have; or is main's memory, an export of main, a function that an adapter exports, an
--- item of an argument, a built-in function without operands, or a function of the thread-local base
+-- resource or an exported function may have; or is a wait, a function of error contexts, main's
+-- memory, an export of main, a function that an adapter exports, an item of an argument, a built-in
+-- function without operands, or a function of the thread-local base
 abbrev pub import_left_out : List TypeDef → List ℕ → ℕ → Import → Option (List ℕ)
 import_left_out types places root (imports.WorldFunc (keys.Name text) name GuestImport) = None
 import_left_out types places root (imports.WorldFunc (keys.Name text) name GuestImportAsync) = None
@@ -117,18 +119,25 @@ import_left_out types places root (imports.ImportedResourceDrop key interface id
 import_left_out types places root (imports.ExportedResourceDrop key id) = None
 import_left_out types places root (imports.ExportedResourceRep key id) = None
 import_left_out types places root (imports.ExportedResourceNew key id) = None
+import_left_out types places root (imports.ExportedTaskReturn key interface f) = None
+import_left_out types places root imports.WaitableSetWait = None
+import_left_out types places root imports.WaitableSetPoll = None
+import_left_out types places root (imports.ErrorContextNew encoding) = None
+import_left_out types places root (imports.ErrorContextDebugMessage encoding) = None
 import_left_out types places root (imports.MainModuleMemory type) = None
 import_left_out types places root (imports.MainModuleExport name kind) = None
 import_left_out types places root (imports.AdapterExport adapter name type) = None
 import_left_out types places root (imports.Item item) = None
 import_left_out types places root role = unless (is_some (plain_intrinsic true role)) (import_kind role)
 
--- such a role, unless it is of a resource of an interface that the module has to export at the key
-abbrev pub own_role_left_out : List TypeDef → Entries → List InterfaceId → Import → Option (List ℕ)
-own_role_left_out types es required (imports.ExportedResourceDrop key id) = unless (is_own_resource types es required key id) (codes "exported-drop")
-own_role_left_out types es required (imports.ExportedResourceRep key id) = unless (is_own_resource types es required key id) (codes "exported-rep")
-own_role_left_out types es required (imports.ExportedResourceNew key id) = unless (is_own_resource types es required key id) (codes "exported-new")
-own_role_left_out types es required role = None
+-- such a role, unless it is of a resource of an interface that the module has to export at the key;
+-- and `task.return`, unless it is of a function that is exported at the key
+abbrev pub own_role_left_out : Resolve → Entries → List InterfaceId → Import → Option (List ℕ)
+own_role_left_out r es required (imports.ExportedResourceDrop key id) = unless (is_own_resource r.types es required key id) (codes "exported-drop")
+own_role_left_out r es required (imports.ExportedResourceRep key id) = unless (is_own_resource r.types es required key id) (codes "exported-rep")
+own_role_left_out r es required (imports.ExportedResourceNew key id) = unless (is_own_resource r.types es required key id) (codes "exported-new")
+own_role_left_out r es required (imports.ExportedTaskReturn key interface f) = unless (is_own_function r es required key interface f) (codes "task-return")
+own_role_left_out r es required role = None
 
 -- an export of a module, unless it is a function at the root or of an interface in one of the forms
 -- of exports, the post-return or the callback of one, the destructor of a resource, a memory, or a
@@ -162,16 +171,16 @@ abbrev pub group_left_out : List TypeDef → List ℕ → ℕ → List ℕ × Im
 group_left_out types places root group = instance_left_out types places root group.1
 
 -- the first such role of an exported resource that is left out
-abbrev pub own_instance_left_out : List TypeDef → Entries → List InterfaceId → ImportInstance → Option (List ℕ)
-own_instance_left_out types es required (instances.Names fields) = first_some (λ f. own_role_left_out types es required f.1) fields
-own_instance_left_out types es required (instances.Whole which) = None
+abbrev pub own_instance_left_out : Resolve → Entries → List InterfaceId → ImportInstance → Option (List ℕ)
+own_instance_left_out r es required (instances.Names fields) = first_some (λ f. own_role_left_out r es required f.1) fields
+own_instance_left_out r es required (instances.Whole which) = None
 
-abbrev pub own_group_left_out : List TypeDef → Entries → List InterfaceId → List ℕ × ImportInstance → Option (List ℕ)
-own_group_left_out types es required group = own_instance_left_out types es required group.1
+abbrev pub own_group_left_out : Resolve → Entries → List InterfaceId → List ℕ × ImportInstance → Option (List ℕ)
+own_group_left_out r es required group = own_instance_left_out r es required group.1
 
 -- those of a module, by the keys that it has to export
-abbrev pub own_left_out : List TypeDef → Entries → List WorldKey → ValidatedModule → Option (List ℕ)
-own_left_out types es keys m = first_some (own_group_left_out types es (required_of es keys)) m.imports.modules
+abbrev pub own_left_out : Resolve → Entries → List WorldKey → ValidatedModule → Option (List ℕ)
+own_left_out r es keys m = first_some (own_group_left_out r es (required_of es keys)) m.imports.modules
 
 -- ---- modules
 
@@ -181,12 +190,12 @@ roles_left_out types places root m =
     option_or (first_some (group_left_out types places root) m.imports.modules) (first_some (λ e. export_left_out types e.1) m.exports.exports)
 
 -- what of a module is left out that has to export these keys: the roles of exported resources first
-abbrev pub module_left_out : List TypeDef → Entries → List ℕ → ℕ → List WorldKey → ValidatedModule → Option (List ℕ)
-module_left_out types es places root keys m = option_or (own_left_out types es keys m) (roles_left_out types places root m)
+abbrev pub module_left_out : Resolve → Entries → List ℕ → ℕ → List WorldKey → ValidatedModule → Option (List ℕ)
+module_left_out r es places root keys m = option_or (own_left_out r es keys m) (roles_left_out r.types places root m)
 
 -- what of an adapter is left out
-abbrev pub adapter_left_out : List TypeDef → Entries → List ℕ → ℕ → List ℕ × WorldAdapter → Option (List ℕ)
-adapter_left_out types es places root a = module_left_out types es places root a.1.required_exports a.1.info
+abbrev pub adapter_left_out : Resolve → Entries → List ℕ → ℕ → List ℕ × WorldAdapter → Option (List ℕ)
+adapter_left_out r es places root a = module_left_out r es places root a.1.required_exports a.1.info
 
 -- ---- the whole
 
@@ -201,7 +210,7 @@ world_left_out w = option_or (first_some import_item_left_out w.imports) (first_
 -- what of the modules is left out: of main first, then of the adapters in order
 abbrev pub modules_left_out : WorldParts → World → List ℕ → ℕ → Option (List ℕ)
 modules_left_out p w places root =
-    option_or (module_left_out p.resolve.types w.exports places root p.main_exports p.main) (first_some (adapter_left_out p.resolve.types w.exports places root) p.adapters)
+    option_or (module_left_out p.resolve w.exports places root p.main_exports p.main) (first_some (adapter_left_out p.resolve w.exports places root) p.adapters)
 
 -- what is left out of a world whose interfaces are apart: the order of its items first, then its
 -- resources, then its modules

@@ -8,6 +8,7 @@ use Rattle.std.specs.Map.{lookup}
 use Rattle.std.specs.Option.{option_map_or, option_and_then}
 use Rattle.std.specs.Str.{bytes_eq}
 use Rattle.comp_lists.specs.Found.{found}
+use Rattle.wit_data.specs.contracts.functions.FunctionPartialEq.TheImpl as same_function
 use Rattle.wit_data.specs.declared.functions.Function.{Function}
 use Rattle.wit_data.specs.declared.ids.InterfaceId.{InterfaceId}
 use Rattle.wit_data.specs.declared.ids.TypeId.{TypeId}
@@ -25,7 +26,7 @@ use Rattle.wit_data.specs.Keys.{is_same_key}
 use Rattle.wit_data.specs.Live.{named_types}
 use Rattle.wit_data.specs.Parts.{parts}
 use Rattle.wit_data.specs.Values.{kind_at, values}
-use Rattle.world_values.specs.Items.{functions_of}
+use Rattle.world_values.specs.Items.{functions_of, root_function_at}
 use Rattle.world_values.specs.Mentions.{interface_types, interface_in, same_interface}
 use Rattle.comp_worlds.specs.Encodable.{Entries, place_in, placing, is_resource_kind, is_lent, stays_in}
 use Rattle.comp_worlds.specs.WorldContents.{world_type, interface_of_owner, interface_at, name_at}
@@ -173,3 +174,13 @@ is_own_at es required key t = is_resource t && option_map_or (is_required_at es 
 
 abbrev pub is_own_resource : List TypeDef → Entries → List InterfaceId → WorldKey → TypeId → Bool
 is_own_resource types es required key id = option_map_or (is_own_at es required key) (slice_get types id.index) false
+
+-- whether two functions are one
+abbrev pub is_same_function : Function → Function → Bool
+is_same_function = same_function.eq-value.it
+
+-- whether this is the function that is exported at a key: at the root, or in this interface, which
+-- is one of those that have to be exported
+abbrev pub is_own_function : Resolve → Entries → List InterfaceId → WorldKey → Option InterfaceId → Function → Bool
+is_own_function r es required key None f = option_map_or (is_same_function f) (root_function_at es key) false
+is_own_function r es required key (Some id) f = is_required_at es required key id && option_map_or (is_same_function f) (found f.name (functions_of r id)) false

@@ -68,11 +68,11 @@ fn placed_left_out(
         ≡ modules_left_out parts.now world.now places.now.types places.now.interfaces.root) }
     ensures apart { IfOk result (λ o. option_copied o ≡ None → ModulesApart parts.now) }
 {
-    let types = parts.resolve.types.as_slice();
+    let resolve = &parts.resolve;
     let keys = parts.main_exports.as_slice();
-    match module_left_out(alloc, types, &world.exports, places, keys, &parts.main)? {
+    match module_left_out(alloc, resolve, &world.exports, places, keys, &parts.main)? {
         Some(what) => Ok(Some(what)),
-        None => adapters_left_out(alloc, types, &world.exports, places, &parts.adapters),
+        None => adapters_left_out(alloc, resolve, &world.exports, places, &parts.adapters),
     }
 }
 

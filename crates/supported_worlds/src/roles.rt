@@ -59,6 +59,11 @@ fn import_left_out(types: &[TypeDef], places: &Places, role: &Import) -> Option<
         Import::ExportedResourceDrop(..)
         | Import::ExportedResourceRep(..)
         | Import::ExportedResourceNew(..)
+        | Import::ExportedTaskReturn(..)
+        | Import::WaitableSetWait
+        | Import::WaitableSetPoll
+        | Import::ErrorContextNew { .. }
+        | Import::ErrorContextDebugMessage { .. }
         | Import::MainModuleMemory(_)
         | Import::MainModuleExport { .. }
         | Import::Item(_)

@@ -33,9 +33,16 @@ fn answer_of_bytes(alloc: Global, call: &str, given: &str) -> Result<String, All
 pub(crate) fn answer(alloc: Global, input: &str) -> Result<String, AllocError> {
     let (call, given) = word_and_rest(input);
     match call {
-        "check" | "build" | "measure" | "equal" | "read" | "check_names" | "describe" => {
-            answer_of_bytes(alloc, call, given)
-        }
+        "check"
+        | "build"
+        | "measure"
+        | "equal"
+        | "read"
+        | "check_names"
+        | "describe"
+        | "links"
+        | "mermaid"
+        | "dot" => { answer_of_bytes(alloc, call, given) }
         "is_formed" => formed(alloc, given),
         _ => called(alloc, call, given),
     }

@@ -6,6 +6,7 @@ use comp_check::{CheckFault, check};
 use comp_lines::describe;
 use comp_names::check_names;
 use comp_read::read_component;
+use found_links::{Form, find_links, show_links};
 use std::alloc::{AllocError, Global};
 
 /// The text of a fault, where it isn't that memory was refused.
@@ -64,11 +65,28 @@ fn described(alloc: Global, definitions: &Defs) -> Result<String, AllocError> {
     }
 }
 
-/// The result of a call on definitions: whether their names are right, their lines, or the definitions.
+/// The links of definitions in a form, with ` | ` between two lines.
+fn linked(alloc: Global, form: Form, definitions: &Defs) -> Result<String, AllocError> {
+    let links = find_links(alloc, definitions.as_slice())?;
+    let shown = show_links(alloc, form, links.as_slice())?;
+    let mut text = String::new(alloc);
+    for line in shown.as_str().trim_end().split('\n') {
+        if !text.is_empty() {
+            text.push_str(" | ")?;
+        }
+        text.push_str(line.trim_start())?;
+    }
+    Ok(text)
+}
+
+/// The result of a call on definitions: whether their names are right, their lines, their links, or the definitions.
 fn answer_of(alloc: Global, call: &str, definitions: &Defs) -> Result<String, AllocError> {
     match call {
         "check_names" => names_checked(alloc, definitions),
         "describe" => described(alloc, definitions),
+        "links" => linked(alloc, Form::Text, definitions),
+        "mermaid" => linked(alloc, Form::Mermaid, definitions),
+        "dot" => linked(alloc, Form::Dot, definitions),
         _ => format!(in alloc; "{:?}", definitions.as_slice()),
     }
 }

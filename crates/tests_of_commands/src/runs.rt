@@ -49,7 +49,7 @@ fn refused(alloc: Global, calls: u32, fault: StoreFault) -> Result<Answer, Alloc
 #[test]
 fn wrong_arguments_are_reported_before_anything_is_read(rt: HostRuntime) {
     let alloc = rt.alloc();
-    let wrong: [&[&str]; 22] = [
+    let wrong: [&[&str]; 25] = [
         &[],
         &["--Help"],
         &["--help", "--version"],
@@ -69,6 +69,9 @@ fn wrong_arguments_are_reported_before_anything_is_read(rt: HostRuntime) {
         &["record", "out.wasm"],
         &["record", "out.wasm", "main.wasm", "--no-names"],
         &["records", "out.wasm", "main.wasm"],
+        &["links"],
+        &["links", "main.wasm", "--text"],
+        &["links", "main.wasm", "--dot", "--dot"],
         &["explain"],
         &["explain", "P99"],
         &["explain", "P9", "P10"],
@@ -79,7 +82,7 @@ fn wrong_arguments_are_reported_before_anything_is_read(rt: HostRuntime) {
         assert_eq!(rt; answer.status, 2);
         assert_eq!(rt;
             answer.err.as_slice(),
-            b"usage: component_new new OUT MAIN [options] | record OUT MODULE | defs FILE | explain CODE\n".as_slice()
+            b"usage: component_new new OUT MAIN [options] | record OUT MODULE | defs FILE | links FILE | explain CODE\n".as_slice()
         );
         assert!(rt; answer.out.is_empty() && store.log.is_empty());
     }
@@ -237,6 +240,63 @@ fn definitions_are_printed(rt: HostRuntime) -> Result<(), Fail> {
     Ok(())
 }
 
+#[test]
+fn links_are_printed(rt: HostRuntime) -> Result<(), Fail> {
+    let alloc = rt.alloc();
+    let text =
+        "module 0 \"$root\" \"f\" = import \"f\", lowered\nexports \"g\" = module 0 \"g\", lifted\n";
+    let mermaid = "flowchart LR\n\
+        \x20 n6d6f64756c652030[\"module 0\"] -->|\"  #quot;$root#quot; #quot;f#quot;, lowered\"| n696d706f7274202266\
+        22[\"import #quot;f#quot;\"]\n\
+        \x20 n6578706f727473[\"exports\"] -->|\"  #quot;g#quot;, lifted\"| n6d6f64756c65203020226722[\"module 0 #quo\
+        t;g#quot;\"]\n";
+    let dot = "digraph links {\n\
+        \x20 rankdir=LR;\n\
+        \x20 \"module 0\" -> \"import \\\"f\\\"\" [label=\" \\\"$root\\\" \\\"f\\\", lowered\"];\n\
+        \x20 \"exports\" -> \"module 0 \\\"g\\\"\" [label=\" \\\"g\\\", lifted\"];\n\
+        }\n";
+    assert!(rt; ends(alloc, &["links", "main.wasm"], COMPONENT, 0, text, "")?);
+    assert!(rt;
+        ends(
+            alloc,
+            &["links", "main.wasm", "--mermaid"],
+            COMPONENT,
+            0,
+            mermaid,
+            ""
+        )?
+    );
+    assert!(rt;
+        ends(
+            alloc,
+            &["links", "main.wasm", "--dot"],
+            COMPONENT,
+            0,
+            dot,
+            ""
+        )?
+    );
+    Ok(())
+}
+
+#[test]
+fn links_that_can_not_be_read_are_reported(rt: HostRuntime) -> Result<(), Fail> {
+    let alloc = rt.alloc();
+    let runs = [
+        (
+            &COMPONENT[..100],
+            "main.wasm",
+            "error: C2 Grammar place=96\n",
+        ),
+        (MAIN, "main.wasm", "error: C2 Grammar place=0\n"),
+        (MAIN, "b.wasm", "error: read \"b.wasm\"\n"),
+    ];
+    for (main, file, err) in runs {
+        assert!(rt; ends(alloc, &["links", file], main, 1, "", err)?);
+    }
+    Ok(())
+}
+
 /// The status of a run whose standard output refuses all for this reason, and what it printed on standard error.
 fn refused_output(
     alloc: Global,
@@ -261,8 +321,9 @@ fn refused_output(
 #[test]
 fn an_output_that_takes_nothing_is_reported(rt: HostRuntime) -> Result<(), Fail> {
     let alloc = rt.alloc();
-    let runs: [&[&str]; 4] = [
+    let runs: [&[&str]; 5] = [
         &["defs", "main.wasm"],
+        &["links", "main.wasm"],
         &["explain", "P9"],
         &["--help"],
         &["--version"],
@@ -278,8 +339,9 @@ fn an_output_that_takes_nothing_is_reported(rt: HostRuntime) -> Result<(), Fail>
 #[test]
 fn nothing_is_reported_where_nobody_reads_the_output(rt: HostRuntime) -> Result<(), Fail> {
     let alloc = rt.alloc();
-    let runs: [&[&str]; 4] = [
+    let runs: [&[&str]; 5] = [
         &["defs", "main.wasm"],
+        &["links", "main.wasm"],
         &["explain", "P9"],
         &["--help"],
         &["--version"],
@@ -296,9 +358,10 @@ fn nothing_is_reported_where_nobody_reads_the_output(rt: HostRuntime) -> Result<
 fn help_and_version_are_printed(rt: HostRuntime) -> Result<(), Fail> {
     let alloc = rt.alloc();
     let help =
-        "usage: component_new new OUT MAIN [options] | record OUT MODULE | defs FILE | explain CODE\n\
+        "usage: component_new new OUT MAIN [options] | record OUT MODULE | defs FILE | links FILE | explain CODE\n\
         \x20 --adapt NAME=FILE  new: add the adapter in FILE under this name; any number of times\n\
         \x20 --canonical        new: have the canonical part of versions in names, and the rest as suffixes\n\
+        \x20 --dot, --mermaid   links: print a graph, in the language of Graphviz or of Mermaid\n\
         \x20 --no-merge         new: don't merge imports of compatible versions\n\
         \x20 --no-names         new: don't name the functions of the core modules that are generated\n\
         \x20 --validate         new: check the names of the component's imports and exports\n\
@@ -368,7 +431,7 @@ fn an_argument_that_is_not_text_is_reported(rt: HostRuntime) -> Result<(), Fail>
         (&[b"\xed\xa0\x80"], "error: argument 1 is not UTF-8\n"),
         (
             &[b"new", b"\xc3\xa9"],
-            "usage: component_new new OUT MAIN [options] | record OUT MODULE | defs FILE | explain CODE\n",
+            "usage: component_new new OUT MAIN [options] | record OUT MODULE | defs FILE | links FILE | explain CODE\n",
         ),
     ];
     for (arguments, line) in starts {

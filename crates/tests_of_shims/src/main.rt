@@ -2,10 +2,11 @@
 //! says how it is read; the file says where its expected answers are from).
 //!
 //! In reading order: `modules` (modules that are described by words), `worlds` (the worlds of
-//! these), `shims` (the questions).
+//! these), `returns` (whether shims can be planned for a world), `shims` (the questions).
 #![tactic(auto)]
 
 mod modules;
+mod returns;
 mod shims;
 mod worlds;
 

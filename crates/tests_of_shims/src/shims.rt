@@ -14,6 +14,7 @@
 
 ghost use Rattle.std.specs.Prelude.{◌≡◌};
 
+use crate::returns::is_sound;
 use crate::worlds::world;
 use bitflags::Flags;
 use comp_lists::{Seq, Text};
@@ -99,6 +100,9 @@ fn append(
     world: &ComponentWorld,
     which: CustomModule<'_>,
 ) -> Result<Option<String>, AllocError> {
+    if !is_sound(alloc, world)? {
+        return Ok(Some(String::from_str(alloc, "not a world")?));
+    }
     let before = shims.len();
     match shims.append_indirect(world, which) {
         Ok(()) => Ok(None),

@@ -5,7 +5,9 @@ use comp_lists::{Keyed, Seq, Text};
 use comp_roles::LibraryInfo;
 use comp_worlds::{ComponentWorld, ImportedInterface, ValidatedModule, WorldAdapter};
 use std::alloc::{AllocError, Global};
-use wit_data::{InterfaceId, Resolve, TypeDef, TypeDefKind, TypeOwner, WorldId, WorldKey};
+use wit_data::{
+    Interface, InterfaceId, Resolve, TypeDef, TypeDefKind, TypeOwner, WorldId, WorldKey,
+};
 
 /// The modules of a world, and how what they import is lowered.
 #[derive(Drop)]
@@ -61,6 +63,17 @@ fn types(alloc: Global) -> Result<Seq<TypeDef>, AllocError> {
     Ok(types)
 }
 
+/// The interface of the resource.
+fn interfaces(alloc: Global) -> Result<Seq<Interface>, AllocError> {
+    let mut interfaces = Seq::new(alloc);
+    interfaces.push(Interface {
+        id: None,
+        types: Keyed::new(alloc),
+        functions: Keyed::new(alloc),
+    })?;
+    Ok(interfaces)
+}
+
 fn imported(lowerings: Lowerings, interface: Option<InterfaceId>) -> ImportedInterface {
     ImportedInterface {
         lowerings,
@@ -105,6 +118,7 @@ fn adapters(alloc: Global, draft: ModuleDraft) -> Result<Keyed<Text, WorldAdapte
 /// A world with these parts, and without items.
 fn world_of(
     alloc: Global,
+    interfaces: Seq<Interface>,
     types: Seq<TypeDef>,
     main: ValidatedModule,
     adapters: Keyed<Text, WorldAdapter>,
@@ -112,7 +126,7 @@ fn world_of(
 ) -> ComponentWorld {
     ComponentWorld {
         resolve: Resolve {
-            interfaces: Seq::new(alloc),
+            interfaces,
             types,
             worlds: Seq::new(alloc),
         },
@@ -135,8 +149,9 @@ fn with_main(
     import_map: Keyed<Option<WorldKey>, ImportedInterface>,
 ) -> Result<ComponentWorld, AllocError> {
     let main = validated(alloc, main)?;
+    let interfaces = interfaces(alloc)?;
     let types = types(alloc)?;
-    Ok(world_of(alloc, types, main, adapters, import_map))
+    Ok(world_of(alloc, interfaces, types, main, adapters, import_map))
 }
 
 /// The world of a draft.

@@ -1,9 +1,11 @@
 -- The core signature of a function (Canonical ABI: `flatten_functype`, MAX_FLAT_PARAMS,
--- MAX_FLAT_ASYNC_PARAMS, MAX_FLAT_RESULTS).
-use Rattle.std.specs.Prelude.{ℕ, nat_lt, Bool, false, List, [], ◌∷◌, ◌++◌, length, Some, is_some, if◌then◌else◌}
+-- MAX_FLAT_ASYNC_PARAMS, MAX_FLAT_RESULTS; `canon task.return`).
+use Rattle.std.specs.Prelude.{ℕ, nat_lt, Bool, false, List, [], ◌∷◌, ◌++◌, length, map, Some, None, is_some, if◌then◌else◌}
 use Rattle.std.specs.List.{flat_map}
+use Rattle.std.specs.Option.{option_to_list}
 use Rattle.wit_data.specs.declared.types.TypeDef.{TypeDef}
 use Rattle.wit_data.specs.declared.functions.Function.{Function}
+use Rattle.wit_data.specs.declared.functions.FunctionKind.TheVariants.{Freestanding}
 use Rattle.wit_data.specs.declared.functions.AbiVariant.{AbiVariant}
 use Rattle.wit_data.specs.declared.functions.AbiVariant.TheVariants as abis
 use Rattle.wit_data.specs.declared.signatures.WasmType.{WasmType}
@@ -55,3 +57,7 @@ signature abi types f =
       indirect_params = is_indirect abi types f;
       retptr = is_returned_in_memory abi types f;
     }
+
+-- `task.return` is passed the result of a function: it is called as a function whose one parameter is that
+abbrev pub returning : Function → Function
+returning f = record { name = []; kind = Freestanding; params = map (λ t. record { name = []; ty = t }) (option_to_list f.result); result = None }

@@ -1,8 +1,12 @@
 //! Functions, and the forms in which they are called.
 
+ghost use Rattle.std.specs.Prelude.{◌≡◌, IfOk};
+ghost use Rattle.wit_data.specs.Signatures.{returning};
+
 use crate::ids::TypeId;
 use crate::types::Type;
 use comp_lists::{Seq, Text};
+use std::alloc::{AllocError, Global};
 
 /// What a function is to a resource, and whether it is asynchronous (component model, WIT: `func`).
 #[derive(Clone, Copy, Debug, PartialEq, Eq)]
@@ -55,4 +59,22 @@ pub enum AbiVariant {
     GuestExportAsync,
     /// An export that is asynchronous without a callback: it keeps its stack while it waits.
     GuestExportAsyncStackful,
+}
+
+/// The function that `task.return` of a function is called as: its one parameter is the result of
+/// that (Canonical ABI: `canon task.return`).
+pub fn returning(alloc: Global, function: &Function) -> Result<Function, AllocError>
+    ensures { IfOk result (λ f. f ≡ returning function.now) }
+{
+    let mut params = Seq::new(alloc);
+    if let Some(ty) = function.result {
+        let name = Text::new(alloc);
+        params.push(Param { name, ty })?;
+    }
+    Ok(Function {
+        name: Text::new(alloc),
+        kind: FunctionKind::Freestanding,
+        params,
+        result: None,
+    })
 }

@@ -35,7 +35,7 @@ mod versions;
 mod worlds;
 
 pub use contents::TypeContents;
-pub use functions::{AbiVariant, Function, FunctionKind, Param};
+pub use functions::{AbiVariant, Function, FunctionKind, Param, returning};
 pub use ids::{InterfaceId, TypeId, WorldId};
 pub use liveness::{live_marks, marked_of};
 pub use names::IdName;

@@ -6,10 +6,11 @@ ghost use Rattle.wit_data.specs.Parts.{RefersBack, IsBelow};
 ghost use Rattle.wit_data.specs.Flat.{flat};
 ghost use Rattle.wit_data.specs.Sound.{IsSound, HasFunction};
 ghost use Rattle.wit_data.specs.Signatures as signatures;
+ghost use Rattle.wit_data.specs.declared.functions.AbiVariant.TheVariants.{GuestImport};
 ghost use Rattle.wit_data.specs.declared.signatures.WasmType.TheVariants.{I32};
 
 use crate::flattening::{MANY, flat_count, flatten};
-use crate::functions::{AbiVariant, Function, Param};
+use crate::functions::{AbiVariant, Function, Param, returning};
 use crate::resolve::Resolve;
 use crate::types::TypeDef;
 use comp_lists::Seq;
@@ -136,6 +137,23 @@ impl Resolve {
             indirect_params,
             retptr,
         })
+    }
+
+    /// The core signature of `task.return` of a function, which takes the core values of its result.
+    #[tactic(auto, using(crate::proofs::ReturnTypes::returning_present))]
+    pub fn task_return_signature(
+        &self,
+        alloc: Global,
+        function: &Function,
+    ) -> Result<WasmSignature, AllocError>
+        requires sound { IsSound self.now }
+        requires present { HasFunction self.now function.now }
+        ensures { IfOk result (λ s. s
+            ≡ signatures.signature GuestImport self.now.types (signatures.returning function.now)) }
+    {
+        let returned = returning(alloc, function)?;
+        let signature = self.wasm_signature(alloc, AbiVariant::GuestImport, &returned)?;
+        Ok(signature)
     }
 
     /// The core values of the parameters, or one pointer to them.

@@ -6,11 +6,10 @@ use Rattle.byte_encoding.specs.declared.fault.BuildFault.{BuildFault}
 use Rattle.byte_encoding.specs.declared.fault.BuildFault.TheVariants.{Memory, TooMany}
 use Rattle.comp_bytes.specs.declared.space.Space.TheVariants as spaces
 use Rattle.comp_bytes.specs.declared.types.ComponentValType.{ComponentValType}
-use Rattle.comp_bytes.specs.declared.types.ComponentValType.TheVariants as values
 use Rattle.comp_bytes.specs.References.{Reference, own}
-use Rattle.comp_trees.specs.Trees.{Tree, PrimitiveOf}
-use Rattle.comp_trees.specs.DefinedTrees.{TypeTree, OfValues}
-use Rattle.comp_trees.specs.DefinedScopes.{Denotes}
+use Rattle.comp_trees.specs.Trees.{Tree}
+use Rattle.comp_trees.specs.DefinedTrees.{TypeTree}
+use Rattle.comp_trees.specs.DefinedScopes.{Denotes, IsValue}
 
 -- more types stand behind the old ones
 pub record Longer (old new : List TypeTree) : Type 0 where
@@ -25,11 +24,7 @@ pub record AddsOne (old new : List TypeTree) (t : TypeTree) : Type 0 where
 abbrev pub AreTypes : ℕ → List Reference → Type 0
 AreTypes count references = AllByRecursion (λ r. (r ≡ own spaces.Type r.index) × (r.index < count)) references
 
--- the value type is this: a primitive one, or one of the types of the scope
-abbrev pub IsValue : List TypeTree → ComponentValType → Tree → Type 0
-IsValue scope (values.Primitive p) t = PrimitiveOf p ≡ t
-IsValue scope (values.Defined index) t = Denotes scope index (OfValues t)
-
+-- the value type is this
 pub record ValueDenotes (scope : List TypeTree) (v : ComponentValType) (t : Tree) : Type 0 where
   pub is : IsValue scope v t
 

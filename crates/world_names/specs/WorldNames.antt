@@ -80,6 +80,10 @@ abbrev pub of_items : Resources → List (ItemKey × Item) → Resources
 of_items table [] = table
 of_items table (e ∷ es) = of_items (with_item table e.0 e.1) es
 
+-- those of a world: of its interfaces, and among the types that it imports
+abbrev pub resources_of : Wit → Resources
+resources_of wit = of_items (of_interfaces [] wit.interfaces) wit.imports
+
 -- ---- exported interfaces by the ids that compatible versions share; one that two of them share is refused
 
 abbrev pub Exported : Type 0
@@ -107,7 +111,7 @@ exported_after table (e ∷ es) = exported_after (with_exported table e.1) es
 abbrev pub tables_of : Wit → Tables
 tables_of wit = record {
   functions = functions_after [] wit.interfaces;
-  resources = of_items (of_interfaces [] wit.interfaces) wit.imports;
+  resources = resources_of wit;
   imported_versions = greatest_after [] (candidates wit.imports);
   exported_versions = exported_after [] wit.exports;
 }

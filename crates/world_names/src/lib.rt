@@ -14,4 +14,4 @@ mod tables;
 
 pub use labels::{Side, canonical_label, imported_label, labelled};
 pub use scopes::{Scope, has_function, is_own_resource, of_interface, owned, resource, root};
-pub use tables::WorldNames;
+pub use tables::{Resources, WorldNames, resources_of};

@@ -3,7 +3,7 @@
 ghost use Rattle.std.specs.Prelude.{◌≡◌, [], Some, IfOk, OnOk};
 ghost use Rattle.record_versions.specs.Compatible as versions;
 ghost use Rattle.record_versions.specs.Groups.{candidates, greatest_after};
-ghost use Rattle.world_names.specs.WorldNames.{owned, with_functions, functions_after, with_alias, with_named, with_type, with_types, of_interfaces, with_item, of_items, with_compatible, with_exported, exported_after, tables_of, with_tables, names_of};
+ghost use Rattle.world_names.specs.WorldNames.{owned, with_functions, functions_after, with_alias, with_named, with_type, with_types, of_interfaces, with_item, of_items, with_compatible, with_exported, exported_after, resources_of, tables_of, with_tables, names_of};
 
 use comp_lists::{Keyed, Text, TryClone};
 use name_parts::{Reading, Refusal};
@@ -17,7 +17,7 @@ use std::alloc::{AllocError, Global};
 type Functions = Keyed<TypeName, ()>;
 
 /// Resources by their names, each with the resource that it is.
-type Resources = Keyed<TypeName, TypeName>;
+pub type Resources = Keyed<TypeName, TypeName>;
 
 /// Exported interfaces by the ids that compatible versions share.
 type Exported = Keyed<Text, Reading<InterfaceName>>;
@@ -200,9 +200,9 @@ fn add_items(
     Ok(())
 }
 
-fn resources_of(alloc: Global, wit: &Wit) -> Result<Resources, AllocError>
-    ensures { IfOk result (λ t. t ≡ of_items
-        (of_interfaces [] wit.now.interfaces) wit.now.imports) }
+/// The resources of a world by their names, each with the resource that it is. The only error is out of memory.
+pub fn resources_of(alloc: Global, wit: &Wit) -> Result<Resources, AllocError>
+    ensures { IfOk result (λ t. t ≡ resources_of wit.now) }
 {
     let mut table = Keyed::new(alloc);
     add_interfaces(alloc, &mut table, &wit.interfaces)?;

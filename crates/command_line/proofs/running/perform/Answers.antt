@@ -6,6 +6,7 @@ use Rattle.command_line.specs.declared.arguments.Request.TheVariants as requests
 use Rattle.command_line.proofs.Recorded.{reported_recorded}
 use Rattle.command_line.proofs.Refusing.{without_memory}
 use Rattle.command_line.proofs.Steps.{nothing_happened, reported_text}
+use Rattle.command_line.proofs.Shown.{reported_linked}
 use Rattle.command_line.proofs.Supplying.{reported_made}
 use Rattle.command_line.proofs.running.perform.Goals as goal
 
@@ -32,6 +33,17 @@ returns-in-Ok-Some-Record-clause-performed g c =
       did = (recorded.2, refl);
       counted = reported_recorded c.in-Ok-Some-Record.out c.in-Ok-Some-Record.file recorded.0 c.put_recorded.result recorded.2;
     })
+
+pub returns-in-Ok-Some-Links-clause-performed : goal.returns-in-Ok-Some-Links-clause-performed
+returns-in-Ok-Some-Links-clause-performed g c =
+    let file = c.in-Ok-Some-Links.file in
+    let form = c.in-Ok-Some-Links.form in
+    let linked = c.print_links.ensures.linked in
+    let before = g.W.Write.contents c.args.out.now in
+    let after = g.W.Write.contents c.print_links.new.out in
+    let asked : request_of (map string_bytes c.args.words.now) ≡ Some (requests.Links file form) = search rules in
+    subst (λ request. Performed g.L.Lower c.args.lower request (g.S.Store.events c.args.store.now) (g.S.Store.events c.print_links.new.store) before after c.print_links.result) (sym asked)
+    (record { events = linked.0; happened = linked.1; did = linked.2; counted = reported_linked file form linked.0 before after c.print_links.result linked.2 })
 
 pub returns-in-Ok-Some-Explain-clause-performed : goal.returns-in-Ok-Some-Explain-clause-performed
 returns-in-Ok-Some-Explain-clause-performed g c =

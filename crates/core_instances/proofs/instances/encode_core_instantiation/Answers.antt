@@ -13,7 +13,7 @@ use Rattle.main_fixup.specs.declared.sources.FillSources.{FillSources}
 use Rattle.main_instance.specs.Sources.{AreSources, IsShimInstance, shared_export}
 use Rattle.main_instance.specs.declared.instances.ImportSources.{ImportSources}
 use Rattle.root_imports.specs.Growing.{Grows-then, longer_by}
-use Rattle.root_imports.specs.Keeping.{Root, RootMoved}
+use Rattle.root_imports.specs.Keeping.{Root, RootKept, RootMoved}
 use Rattle.root_imports.specs.declared.met_types.MetTypes.{MetTypes}
 use Rattle.comp_worlds.specs.ExportOrder.{AreExportsInOrder}
 use Rattle.comp_worlds.specs.Made.{AreMadeInOrder}
@@ -26,7 +26,7 @@ use Rattle.exported_types.specs.ExportedTypes.{AreShimSources}
 use Rattle.exported_types.proofs.SourcesKept.{shim_instance-kept}
 use Rattle.root_imports.specs.Met.{AreExportsMet}
 use Rattle.root_imports.specs.RootScopes.{AreTablesRight}
-use Rattle.root_imports.proofs.Keeping.{kept_none, kept_items, moved_items, moved_kept, moved_then}
+use Rattle.root_imports.proofs.Keeping.{kept_none, kept_items, moved_kept, moved_then}
 use Rattle.world_shims.specs.WorldShims.{shims_of}
 use Rattle.core_instances.specs.Instances.{HasUserModules, IsMainUser, AreImportsMade, IsFixupNext, MayAddFixup}
 use Rattle.core_instances.proofs.Made.{sources_after, fills_after, made_after}
@@ -49,6 +49,10 @@ typed old a b tables same extends h = moved_types old a b (moved_shims old a tab
 
 typed_grows : (old a b : Root) → a ≡ record old { items = a.items } → Grows a.world.now a.items.defs b.items.defs (resources_marked a.world.now) → Grows old.world.now a.items.defs b.items.defs (resources_marked old.world.now)
 typed_grows old a b same h = subst (λ (r : Root). Grows r.world.now a.items.defs b.items.defs (resources_marked r.world.now)) same h
+
+-- a further step that keeps the types that are at hand
+moved_users : (old b d : Root) → RootMoved old.world.now old b → RootKept b.world.now b d → RootMoved old.world.now old d
+moved_users old b d k h = moved_then old.world.now old b d k (moved_kept old.world.now b d (subst (λ x. RootKept x.now b d) k.world h))
 
 -- and those up to the instances of the user modules
 users_grow : (old a b d : Root) → a ≡ record old { items = a.items } → RootMoved old.world.now old b → Grows a.world.now a.items.defs b.items.defs (resources_marked a.world.now) → Grows b.world.now b.items.defs d.items.defs (users_marked b.world.now) →
@@ -107,7 +111,7 @@ instantiate_users-requires-clause-sources c =
     let main : IsMainUser w c.main_user.result = subst (λ x. IsMainUser x.now c.main_user.result) k.world c.main_user.ensures in
     let made : AreImportsMade w s.functions.now b.met b.items.defs b.maps b.instances = subst (λ l. AreImportsMade w l b.met b.items.defs b.maps b.instances) (sym f.functions) (made_after c.args.root.now b k c.requires.made) in
     subst (λ x. AreSources x.now s b.met b.items.defs b.maps b.instances) (sym k.world)
-    (sources_after (extends_none b.items) s (same_is_user w c.main_user.result s.user f.user (main_is_user w c.main_user.result main)) made (subst (λ x. AreExportsMet x.now b.met) a_world c.in_ok-define_exported_types.ensures.met) (f.shims ∙ c.in_ok-shims.ensures.ok) (subst (IsShimInstance w b.items.defs) (sym f.instance) there) (subst (IsMemoryIf b.items.defs (shared_export w)) (sym f.memory) memory) (ap user_of_name (f.user.named ∙ main.named)) (f.user.found ∙ main.found))
+    (sources_after (extends_none b.items) s (same_is_user w c.main_user.result s.user f.user (main_is_user w c.main_user.result main)) made (subst (λ x. AreExportsMet x.now b.met) a_world c.in_ok-define_exported_types.ensures.met) (subst (λ x. AreExportsInOrder x.now) a_world c.in_ok-define_exported_types.ensures.ordered) (f.shims ∙ c.in_ok-shims.ensures.ok) (subst (IsShimInstance w b.items.defs) (sym f.instance) there) (subst (IsMemoryIf b.items.defs (shared_export w)) (sym f.memory) memory) (ap user_of_name (f.user.named ∙ main.named)) (f.user.found ∙ main.found))
 
 pub instantiate_users-requires-clause-main : goal.instantiate_users-requires-clause-main
 instantiate_users-requires-clause-main c = main_same c.define_exported_types.new.root.world.now c.main_user.result c.sources_of-sources.result.user c.sources_of-sources.ensures.user c.main_user.ensures
@@ -124,21 +128,24 @@ instantiate_users-requires-clause-there c =
 
 pub returns-in_err-instances-clause-moved : goal.returns-in_err-instances-clause-moved
 returns-in_err-instances-clause-moved c =
-    moved_items c.args.root.now.world.now c.args.root.now c.define_exported_types.new.root c.instantiate_users.new.root (typed c.args.root.now c.encode_shim_instantiation.new.root c.define_exported_types.new.root c.requires.made.tables c.in_ok-generated.ensures.same c.in_ok-generated.ensures.extends c.in_ok-define_exported_types.ensures.moved) c.in_err-instances.ensures.same c.in_err-instances.ensures.extends
+    moved_users c.args.root.now c.define_exported_types.new.root c.instantiate_users.new.root (typed c.args.root.now c.encode_shim_instantiation.new.root c.define_exported_types.new.root c.requires.made.tables c.in_ok-generated.ensures.same c.in_ok-generated.ensures.extends c.in_ok-define_exported_types.ensures.moved) c.in_err-instances.ensures.kept
 
 pub encode_indirect_lowerings-requires-clause-sources : goal.encode_indirect_lowerings-requires-clause-sources
 encode_indirect_lowerings-requires-clause-sources c =
     let w = c.args.root.now.world.now in
     let b : Root = c.define_exported_types.new.root in
-    let new = c.instantiate_users.new.root.items in
+    let d : Root = c.instantiate_users.new.root in
     let f = c.in_ok-instances.ensures in
     let k : RootMoved w c.args.root.now b = typed c.args.root.now c.encode_shim_instantiation.new.root c.define_exported_types.new.root c.requires.made.tables c.in_ok-generated.ensures.same c.in_ok-generated.ensures.extends c.in_ok-define_exported_types.ensures.moved in
+    let later : RootMoved w c.args.root.now d = moved_users c.args.root.now b d k f.kept in
+    let a_world : c.encode_shim_instantiation.new.root.world ≡ c.args.root.now.world = ap (λ (r : Root). r.world) c.in_ok-generated.ensures.same in
     let s : FillSources = c.fill_sources-sources.result in
     let g = c.fill_sources-sources.ensures in
-    let made : AreImportsMade w s.functions.now b.met b.items.defs b.maps b.instances = subst (λ l. AreImportsMade w l b.met b.items.defs b.maps b.instances) (sym g.functions) (made_after c.args.root.now b k c.requires.made) in
-    let users : AreUserInstances w new.defs s.instances.now = subst (AreUserInstances w new.defs) (sym g.instances) (subst (λ x. AreUserInstances x.now new.defs c.in_ok-instances.instances) k.world f.made) in
-    subst (λ (r : Root). AreFillSources r.world.now s r.met new.defs r.maps r.instances) (sym f.same)
-    (subst (λ x. AreFillSources x.now s b.met new.defs b.maps b.instances) (sym k.world) (fills_after f.extends s made users))
+    let made : AreImportsMade w s.functions.now d.met d.items.defs d.maps d.instances = subst (λ l. AreImportsMade w l d.met d.items.defs d.maps d.instances) (sym g.functions) (made_after c.args.root.now d later c.requires.made) in
+    let users : AreUserInstances w d.items.defs s.instances.now = subst (AreUserInstances w d.items.defs) (sym g.instances) (subst (λ x. AreUserInstances x.now d.items.defs c.in_ok-instances.instances) k.world f.made) in
+    let exports : AreExportsMet w d.met = subst (λ (m : MetTypes). AreExportsMet w m) (sym f.kept.met) (subst (λ x. AreExportsMet x.now b.met) a_world c.in_ok-define_exported_types.ensures.met) in
+    let ordered : AreExportsInOrder w = subst (λ x. AreExportsInOrder x.now) a_world c.in_ok-define_exported_types.ensures.ordered in
+    subst (λ x. AreFillSources x.now s d.met d.items.defs d.maps d.instances) (sym later.world) (fills_after (extends_none d.items) s made users exports ordered)
 
 pub encode_indirect_lowerings-requires-clause-next : goal.encode_indirect_lowerings-requires-clause-next
 encode_indirect_lowerings-requires-clause-next c =
@@ -148,24 +155,20 @@ encode_indirect_lowerings-requires-clause-next c =
     let new = c.instantiate_users.new.root.items.defs in
     let o : Option ℕ = c.in_ok-generated.generated.instance in
     let k : RootMoved w c.args.root.now c.define_exported_types.new.root = typed c.args.root.now c.encode_shim_instantiation.new.root c.define_exported_types.new.root c.requires.made.tables c.in_ok-generated.ensures.same c.in_ok-generated.ensures.extends c.in_ok-define_exported_types.ensures.moved in
-    let world : c.instantiate_users.new.root.world ≡ c.args.root.now.world = ap (λ (r : Root). r.world) c.in_ok-instances.ensures.same ∙ k.world in
+    let world : c.instantiate_users.new.root.world ≡ c.args.root.now.world = c.in_ok-instances.ensures.kept.world ∙ k.world in
     subst (λ x. IsFixupNext x.now new o) (sym world) (fixup_next w c.args.debug_names old mid new o c.requires.users c.in_ok-generated.ensures.added (users_grow c.args.root.now c.encode_shim_instantiation.new.root c.define_exported_types.new.root c.instantiate_users.new.root c.in_ok-generated.ensures.same k c.in_ok-define_exported_types.ensures.grows c.in_ok-instances.ensures.grows))
 
 pub returns-in_err-encode_indirect_lowerings-clause-moved : goal.returns-in_err-encode_indirect_lowerings-clause-moved
 returns-in_err-encode_indirect_lowerings-clause-moved c =
-    let w = c.args.root.now.world.now in
     let b : Root = c.define_exported_types.new.root in
     let d : Root = c.instantiate_users.new.root in
-    moved_items w c.args.root.now d c.encode_indirect_lowerings.new.root (moved_items w c.args.root.now b d (typed c.args.root.now c.encode_shim_instantiation.new.root c.define_exported_types.new.root c.requires.made.tables c.in_ok-generated.ensures.same c.in_ok-generated.ensures.extends c.in_ok-define_exported_types.ensures.moved) c.in_ok-instances.ensures.same c.in_ok-instances.ensures.extends) c.in_err-encode_indirect_lowerings.ensures.same
-    c.in_err-encode_indirect_lowerings.ensures.extends
+    moved_users c.args.root.now d c.encode_indirect_lowerings.new.root (moved_users c.args.root.now b d (typed c.args.root.now c.encode_shim_instantiation.new.root c.define_exported_types.new.root c.requires.made.tables c.in_ok-generated.ensures.same c.in_ok-generated.ensures.extends c.in_ok-define_exported_types.ensures.moved) c.in_ok-instances.ensures.kept) c.in_err-encode_indirect_lowerings.ensures.kept
 
 pub returns-clause-moved : goal.returns-clause-moved
 returns-clause-moved c =
-    let w = c.args.root.now.world.now in
     let b : Root = c.define_exported_types.new.root in
     let d : Root = c.instantiate_users.new.root in
-    moved_items w c.args.root.now d c.encode_indirect_lowerings.new.root (moved_items w c.args.root.now b d (typed c.args.root.now c.encode_shim_instantiation.new.root c.define_exported_types.new.root c.requires.made.tables c.in_ok-generated.ensures.same c.in_ok-generated.ensures.extends c.in_ok-define_exported_types.ensures.moved) c.in_ok-instances.ensures.same c.in_ok-instances.ensures.extends) c.in_ok-encode_indirect_lowerings.ensures.same
-    c.in_ok-encode_indirect_lowerings.ensures.extends
+    moved_users c.args.root.now d c.encode_indirect_lowerings.new.root (moved_users c.args.root.now b d (typed c.args.root.now c.encode_shim_instantiation.new.root c.define_exported_types.new.root c.requires.made.tables c.in_ok-generated.ensures.same c.in_ok-generated.ensures.extends c.in_ok-define_exported_types.ensures.moved) c.in_ok-instances.ensures.kept) c.in_ok-encode_indirect_lowerings.ensures.kept
 
 pub returns-clause-added : goal.returns-clause-added
 returns-clause-added c =
@@ -177,14 +180,14 @@ returns-clause-added c =
     let o : Option ℕ = c.in_ok-generated.generated.instance in
     let d = c.args.debug_names in
     let k : RootMoved w c.args.root.now c.define_exported_types.new.root = typed c.args.root.now c.encode_shim_instantiation.new.root c.define_exported_types.new.root c.requires.made.tables c.in_ok-generated.ensures.same c.in_ok-generated.ensures.extends c.in_ok-define_exported_types.ensures.moved in
-    let world : c.instantiate_users.new.root.world ≡ c.args.root.now.world = ap (λ (r : Root). r.world) c.in_ok-instances.ensures.same ∙ k.world in
+    let world : c.instantiate_users.new.root.world ≡ c.args.root.now.world = c.in_ok-instances.ensures.kept.world ∙ k.world in
     let filled : MayAddFixup w d late new = subst (λ x. MayAddFixup x.now d late new) world c.in_ok-encode_indirect_lowerings.ensures.added in
     all_added w d old mid late new o c.in_ok-generated.ensures.added c.in_ok-cell.ensures.alike (users_grow c.args.root.now c.encode_shim_instantiation.new.root c.define_exported_types.new.root c.instantiate_users.new.root c.in_ok-generated.ensures.same k c.in_ok-define_exported_types.ensures.grows c.in_ok-instances.ensures.grows) filled
 
 pub returns-clause-made : goal.returns-clause-made
 returns-clause-made c =
     let k : RootMoved c.args.root.now.world.now c.args.root.now c.define_exported_types.new.root = typed c.args.root.now c.encode_shim_instantiation.new.root c.define_exported_types.new.root c.requires.made.tables c.in_ok-generated.ensures.same c.in_ok-generated.ensures.extends c.in_ok-define_exported_types.ensures.moved in
-    instances_kept (longer c.in_ok-encode_indirect_lowerings.ensures.extends) (subst (λ x. AreUserInstances x.now c.instantiate_users.new.root.items.defs c.in_ok-instances.instances) k.world c.in_ok-instances.ensures.made)
+    instances_kept (longer c.in_ok-encode_indirect_lowerings.ensures.kept.extends) (subst (λ x. AreUserInstances x.now c.instantiate_users.new.root.items.defs c.in_ok-instances.instances) k.world c.in_ok-instances.ensures.made)
 
 pub returns-clause-supplied : goal.returns-clause-supplied
 returns-clause-supplied c =
@@ -195,7 +198,7 @@ pub returns-clause-lowered : goal.returns-clause-lowered
 returns-clause-lowered c =
     let w = c.args.root.now.world.now in
     let k : RootMoved w c.args.root.now c.define_exported_types.new.root = typed c.args.root.now c.encode_shim_instantiation.new.root c.define_exported_types.new.root c.requires.made.tables c.in_ok-generated.ensures.same c.in_ok-generated.ensures.extends c.in_ok-define_exported_types.ensures.moved in
-    let world : c.instantiate_users.new.root.world ≡ c.args.root.now.world = ap (λ (r : Root). r.world) c.in_ok-instances.ensures.same ∙ k.world in
+    let world : c.instantiate_users.new.root.world ≡ c.args.root.now.world = c.in_ok-instances.ensures.kept.world ∙ k.world in
     let offered : AllByRecursion (HasShimOptions w) (shims_of w) = subst (λ x. AllByRecursion (HasShimOptions x.now) (shims_of x.now)) world c.in_ok-encode_indirect_lowerings.ensures.offered in
     all_lowered w c.requires.made.valid offered (subst (λ x. AllByRecursion (λ (i : UserImport). IsSuppliedImport x.now i.of i.core.role) (user_imports x.now)) k.world c.in_ok-instances.ensures.supplied)
 
@@ -210,5 +213,5 @@ returns-clause-ordered c = subst (λ x. AreExportsInOrder x.now) (ap (λ (r : Ro
 
 pub returns-clause-met : goal.returns-clause-met
 returns-clause-met c =
-    let same : c.encode_indirect_lowerings.new.root.met ≡ c.define_exported_types.new.root.met = ap (λ (r : Root). r.met) c.in_ok-encode_indirect_lowerings.ensures.same ∙ ap (λ (r : Root). r.met) c.in_ok-instances.ensures.same in
+    let same : c.encode_indirect_lowerings.new.root.met ≡ c.define_exported_types.new.root.met = c.in_ok-encode_indirect_lowerings.ensures.kept.met ∙ c.in_ok-instances.ensures.kept.met in
     subst (λ (m : MetTypes). AreExportsMet c.args.root.now.world.now m) (sym same) (subst (λ x. AreExportsMet x.now c.define_exported_types.new.root.met) (ap (λ (r : Root). r.world) c.in_ok-generated.ensures.same) c.in_ok-define_exported_types.ensures.met)

@@ -1,4 +1,4 @@
-use Rattle.std.proofs.Common.{◌<◌, [], ◌∷◌, arith, ap, inl}
+use Rattle.std.proofs.Common.{◌<◌, [], ◌∷◌, arith, ap, inl, refl}
 use Rattle.comp_builder.specs.Built.{Built}
 use Rattle.comp_bytes.specs.Spaces.{items_in}
 use Rattle.comp_bytes.specs.declared.def.Def.TheVariants as defs
@@ -6,18 +6,20 @@ use Rattle.comp_bytes.specs.declared.def.Item.TheVariants as items
 use Rattle.comp_bytes.specs.declared.space.Space.TheVariants as spaces
 use Rattle.comp_terms.specs.Rules.{Grows, InstanceOf}
 use Rattle.core_options.specs.MainOptions.{user_of, module_named}
-use Rattle.comp_items.proofs.Extending.{extends_adds, extends_then}
+use Rattle.comp_items.proofs.Extending.{extends_adds}
 use Rattle.comp_worlds.specs.Uses.{imports_of}
 use Rattle.main_instance.proofs.Serving.{groups_encoded}
 use Rattle.core_instances.proofs.UserInstances.{user_supplied}
+use Rattle.root_imports.proofs.Keeping.{kept_items}
 use Rattle.root_imports.specs.Growing.{Grows-by, Grows-then}
 use Rattle.core_instances.proofs.Counting.{no_fewer}
 use Rattle.core_instances.proofs.users.instantiate_user.Goals as goal
 
-pub returns-clause-extends : goal.returns-clause-extends
-returns-clause-extends c =
-    extends_then c.args.root.now.items c.arguments.new.root.items c.core_instance.new.self c.in_ok-arguments.ensures.extends
-    (extends_adds c.arguments.new.root.items c.core_instance.new.self c.core_instance.result spaces.CoreInstance (defs.Item (items.CoreInstantiate c.args.sources.now.user.number c.in_ok-arguments.arguments)) _ c.core_instance.ensures.adds)
+pub returns-clause-kept : goal.returns-clause-kept
+returns-clause-kept c =
+    let mid = c.arguments.new.root in
+    kept_items c.args.root.now.world.now c.args.root.now mid (record mid { items = c.core_instance.new.self }) c.in_ok-arguments.ensures.kept refl
+    (extends_adds mid.items c.core_instance.new.self c.core_instance.result spaces.CoreInstance (defs.Item (items.CoreInstantiate c.args.sources.now.user.number c.in_ok-arguments.arguments)) _ c.core_instance.ensures.adds)
 
 pub returns-clause-grows : goal.returns-clause-grows
 returns-clause-grows c =

@@ -9,23 +9,20 @@ use Rattle.comp_bytes.specs.declared.def.Item.TheVariants as items
 use Rattle.comp_bytes.proofs.ItemIndices.{in_range}
 use Rattle.comp_items.proofs.Kept.{at-kept}
 use Rattle.comp_items.specs.Items.{Extends}
-use Rattle.comp_items.proofs.Extending.{extends_adds, extends_then}
+use Rattle.comp_items.proofs.Extending.{extends_adds}
 use Rattle.comp_items.proofs.Remembering.{longer}
 use Rattle.comp_terms.specs.Generated.{fixup_number}
 use Rattle.comp_terms.specs.Rules.{Grows, ModuleIs, InstanceOf, InstantiatesFixup, IsFixupArgument, instances_in, made_before_fixup}
-use Rattle.comp_worlds.specs.declared.world.ComponentWorld.{ComponentWorld}
 use Rattle.fixup_modules.specs.declared.instances.ImportedInstance.{ImportedInstance}
 use Rattle.world_shims.specs.WorldShims.{shims_of, initialize_of, fixup_instances}
 use Rattle.root_imports.specs.Growing.{Grows-then, longer_by}
-use Rattle.root_imports.specs.declared.root_scope.RootScope.{RootScope}
+use Rattle.root_imports.proofs.Keeping.{kept_items, kept_none, kept_then}
+use Rattle.root_imports.specs.Keeping.{Root, RootKept}
 use Rattle.main_fixup.specs.Filling.{HasShimOptions, IsSourceThere, HasSourceOptions}
 use Rattle.main_fixup.proofs.EachArgument.{all_there, all_offered, shims-kept}
 use Rattle.main_fixup.proofs.Filled.{sources-kept}
 use Rattle.main_fixup.proofs.Instantiating.{module_added, fixup_added, instances_same}
 use Rattle.main_fixup.proofs.fixup.encode_fixup.Goals as goal
-
-abbrev Root : Type 0
-Root = RootScope ComponentWorld
 
 pub fixup_arguments-requires-clause-sources : goal.fixup_arguments-requires-clause-sources
 fixup_arguments-requires-clause-sources c =
@@ -69,11 +66,19 @@ returns-clause-offered c =
     let offered = subst (AllByRecursion (λ (i : List ℕ × ImportedInstance). HasSourceOptions w i.1)) c.requires.instances c.in_ok-arguments.ensures.offered in
     all_offered w (shims_of w) (initialize_of w) refl offered
 
-pub returns-clause-extends : goal.returns-clause-extends
-returns-clause-extends c =
-    let old = c.args.root.now.items in
-    let mid = c.core_module.new.self in
-    let given = c.fixup_arguments.new.root.items in
-    let g : Extends old mid = search (extends_adds, rules) in
-    extends_then old given c.core_instance.new.self (extends_then old mid given g c.in_ok-arguments.ensures.extends)
-    (extends_adds given c.core_instance.new.self c.core_instance.result spaces.CoreInstance (defs.Item (items.CoreInstantiate c.in_ok-index.index c.in_ok-arguments.arguments)) _ c.core_instance.ensures.adds)
+pub returns-in_err-arguments-clause-kept : goal.returns-in_err-arguments-clause-kept
+returns-in_err-arguments-clause-kept c =
+    let w = c.args.root.now.world.now in
+    let mid : Root = record c.args.root.now { items = c.core_module.new.self } in
+    let g : Extends c.args.root.now.items c.core_module.new.self = search (extends_adds, rules) in
+    kept_then w c.args.root.now mid c.fixup_arguments.new.root (kept_items w c.args.root.now c.args.root.now mid (kept_none w c.args.root.now c.requires.sources.tables) refl g) c.in_err-arguments.ensures.kept
+
+pub returns-clause-kept : goal.returns-clause-kept
+returns-clause-kept c =
+    let w = c.args.root.now.world.now in
+    let mid : Root = record c.args.root.now { items = c.core_module.new.self } in
+    let given : Root = c.fixup_arguments.new.root in
+    let g : Extends c.args.root.now.items c.core_module.new.self = search (extends_adds, rules) in
+    let k : RootKept w c.args.root.now given = kept_then w c.args.root.now mid given (kept_items w c.args.root.now c.args.root.now mid (kept_none w c.args.root.now c.requires.sources.tables) refl g) c.in_ok-arguments.ensures.kept in
+    kept_items w c.args.root.now given (record given { items = c.core_instance.new.self }) k refl
+    (extends_adds given.items c.core_instance.new.self c.core_instance.result spaces.CoreInstance (defs.Item (items.CoreInstantiate c.in_ok-index.index c.in_ok-arguments.arguments)) _ c.core_instance.ensures.adds)

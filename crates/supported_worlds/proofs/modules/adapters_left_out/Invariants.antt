@@ -12,5 +12,5 @@ invariant-loop-name l =
     goal.iterator-loop-name.can_next l.name-iterator ×
     goal.iterator-loop-name.is_finite l.name-iterator ×
     AllByRecursion (λ a. are_apart same_interface (required_of l.exports a.1.required_exports) ≡ true) l.name-iterator ×
-    (first_some (adapter_left_out l.types l.exports l.places.types l.places.interfaces.root) l.name-iterator ≡ first_some (adapter_left_out l.types l.exports l.places.types l.places.interfaces.root) l.adapters) ×
+    (first_some (adapter_left_out l.resolve l.exports l.places.types l.places.interfaces.root) l.name-iterator ≡ first_some (adapter_left_out l.resolve l.exports l.places.types l.places.interfaces.root) l.adapters) ×
     AdaptersStill l.name-iterator l.adapters

@@ -8,4 +8,4 @@ abbrev pub invariant-loop-instance : goal.invariant-loop-instance
 invariant-loop-instance l =
     goal.iterator-loop-instance.can_next l.instance-iterator ×
     goal.iterator-loop-instance.is_finite l.instance-iterator ×
-    (first_some (own_group_left_out l.types l.exports (keys_of l.required)) l.instance-iterator ≡ first_some (own_group_left_out l.types l.exports (keys_of l.required)) l.groups)
+    (first_some (own_group_left_out l.resolve l.exports (keys_of l.required)) l.instance-iterator ≡ first_some (own_group_left_out l.resolve l.exports (keys_of l.required)) l.groups)

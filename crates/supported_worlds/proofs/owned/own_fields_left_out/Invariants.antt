@@ -8,4 +8,4 @@ abbrev pub invariant-loop-role : goal.invariant-loop-role
 invariant-loop-role l =
     goal.iterator-loop-role.can_next l.role-iterator ×
     goal.iterator-loop-role.is_finite l.role-iterator ×
-    (first_some (λ f. own_role_left_out l.types l.exports (keys_of l.required) f.1) l.role-iterator ≡ first_some (λ f. own_role_left_out l.types l.exports (keys_of l.required) f.1) l.fields)
+    (first_some (λ f. own_role_left_out l.resolve l.exports (keys_of l.required) f.1) l.role-iterator ≡ first_some (λ f. own_role_left_out l.resolve l.exports (keys_of l.required) f.1) l.fields)

@@ -1,21 +1,18 @@
-use Rattle.std.proofs.Common.{◌≡◌, ◌∙◌, ℕ, List, [], ◌∷◌, subst, sym, ap, refl}
+use Rattle.std.proofs.Common.{◌≡◌, ◌∙◌, ℕ, List, [], ◌∷◌, subst, sym}
 use Rattle.comp_terms.specs.Planned.{IsArgumentFor}
 use Rattle.comp_terms.specs.Rules.{Grows}
 use Rattle.comp_roles.specs.CoreImports.{imports_from}
-use Rattle.comp_worlds.specs.declared.world.ComponentWorld.{ComponentWorld}
-use Rattle.root_imports.specs.declared.root_scope.RootScope.{RootScope}
 use Rattle.core_options.specs.Causes.{IsCauseAmong}
 use Rattle.core_options.specs.MainOptions.{user_of}
-use Rattle.main_instance.specs.Sources.{AreSources, imports_by}
+use Rattle.main_instance.specs.Sources.{imports_by}
 use Rattle.comp_bytes.specs.declared.def.CoreArgument.{CoreArgument}
 use Rattle.comp_roles.specs.declared.imports.ImportInstance.{ImportInstance}
 use Rattle.core_options.specs.Causes.{IsCause}
-use Rattle.main_instance.proofs.Growth.{sources-kept}
+use Rattle.root_imports.proofs.Keeping.{kept_none, kept_then}
+use Rattle.root_imports.specs.Keeping.{RootKept}
+use Rattle.main_instance.proofs.Growth.{sources-moved}
 use Rattle.main_instance.proofs.Serving.{GroupsSoFar, groups_start, groups_step, group_present, group_refused, handed_on}
 use Rattle.main_instance.proofs.instances.ImportSources.arguments.Goals as goal
-
-abbrev Root : Type 0
-Root = RootScope ComponentWorld
 
 pub loop-module-init : goal.loop-module-init
 loop-module-init c =
@@ -23,7 +20,7 @@ loop-module-init c =
     let none : c.new-arguments.result ≡ [] = c.new-arguments.ensures in (
       tt,
       tt,
-      refl,
+      kept_none c.args.root.now.world.now c.args.root.now c.requires.sources.tables,
       subst (λ (es : List CoreArgument). GroupsSoFar c.args.root.now.world.now (user_of c.args.self.now.user.which) c.args.self.now.user.found.now.imports.modules c.args.root.now.items c.args.root.now.items es c.into_iter-module-iterator.result) (sym none)
           (subst (λ (gs : List (List ℕ × ImportInstance)). GroupsSoFar c.args.root.now.world.now (user_of c.args.self.now.user.which) c.args.self.now.user.found.now.imports.modules c.args.root.now.items c.args.root.now.items [] gs) (sym items)
           (groups_start c.args.root.now.world.now (user_of c.args.self.now.user.which) c.args.self.now.user.found.now.imports.modules c.args.root.now.items)),
@@ -34,21 +31,20 @@ loop-module-preserved c =
     let w = c.args.root.now.world.now in
     let mid = c.loop-module.root.items in
     let of = c.in_ok-argument.ensures in
-    let same = c.loop-module.invariant.2 in
-    let world = ap (λ (r : Root). r.world) same in
+    let world = c.loop-module.invariant.2.world in
     let group : List ℕ × ImportInstance = (c.in-Some.module.now, c.in-Some.instance.now) in
     let before : GroupsSoFar c.args.root.now.world.now (user_of c.args.self.now.user.which) c.args.self.now.user.found.now.imports.modules c.args.root.now.items c.loop-module.root.items c.loop-module.arguments (group ∷ c.next.new.self) =
     subst (λ (gs : List (List ℕ × ImportInstance)). GroupsSoFar c.args.root.now.world.now (user_of c.args.self.now.user.which) c.args.self.now.user.found.now.imports.modules c.args.root.now.items c.loop-module.root.items c.loop-module.arguments gs) c.in-Some.ensures.steps c.loop-module.invariant.3 in (
       tt,
       tt,
-      of.same ∙ ap (λ (r : Root). record r { items = c.argument.new.root.items }) same,
+      kept_then w c.args.root.now c.loop-module.root c.argument.new.root c.loop-module.invariant.2 (subst (λ r. RootKept r.now c.loop-module.root c.argument.new.root) world of.kept),
       groups_step w (user_of c.args.self.now.user.which) c.args.self.now.user.found.now.imports.modules c.args.root.now.items mid c.argument.new.root.items c.loop-module.arguments c.push.new.self c.in_ok-argument.argument c.next.new.self group before
-          of.extends (subst (λ r. Grows r.now mid.defs c.argument.new.root.items.defs []) world of.grows) (subst (λ r. IsArgumentFor r.now (user_of c.args.self.now.user.which) c.argument.new.root.items.defs c.in_ok-argument.argument group) world of.serves) c.in_ok-push.ensures.ok,
+          of.kept.extends (subst (λ r. Grows r.now mid.defs c.argument.new.root.items.defs []) world of.grows) (subst (λ r. IsArgumentFor r.now (user_of c.args.self.now.user.which) c.argument.new.root.items.defs c.in_ok-argument.argument group) world of.serves) c.in_ok-push.ensures.ok,
     )
 
 pub argument-requires-clause-sources : goal.argument-requires-clause-sources
 argument-requires-clause-sources c =
-    subst (λ (r : Root). AreSources r.world.now c.args.self.now r.met c.loop-module.root.items.defs r.maps r.instances) (sym c.loop-module.invariant.2) (sources-kept c.loop-module.invariant.3.extends c.requires.sources)
+    sources-moved c.args.root.now c.loop-module.root c.loop-module.invariant.2 c.requires.sources
 
 pub argument-requires-clause-present : goal.argument-requires-clause-present
 argument-requires-clause-present c =
@@ -64,4 +60,9 @@ returns-in_err-argument-clause-cause c =
     subst (λ (gs : List (List ℕ × ImportInstance)). GroupsSoFar c.args.root.now.world.now (user_of c.args.self.now.user.which) c.args.self.now.user.found.now.imports.modules c.args.root.now.items c.loop-module.root.items c.loop-module.arguments gs) c.in-Some.ensures.steps c.loop-module.invariant.3 in
     handed_on c.from_residual.result c.in_err-argument.field-0.0 (IsCause c.args.root.now.world.now) c.from_residual.ensures.1
     (group_refused c.args.root.now.world.now (user_of c.args.self.now.user.which) c.args.self.now.user.found.now c.requires.sources.user.named before.done c.next.new.self group before.split c.in_err-argument.field-0.0
-    (subst (λ (r : Root). IsCauseAmong r.world.now (imports_by (user_of c.args.self.now.user.which) (imports_from group)) [] c.in_err-argument.field-0.0) c.loop-module.invariant.2 c.in_err-argument.ensures.cause))
+    (subst (λ r. IsCauseAmong r.now (imports_by (user_of c.args.self.now.user.which) (imports_from group)) [] c.in_err-argument.field-0.0) c.loop-module.invariant.2.world c.in_err-argument.ensures.cause))
+
+pub returns-in_err-argument-clause-kept : goal.returns-in_err-argument-clause-kept
+returns-in_err-argument-clause-kept c =
+    let world = c.loop-module.invariant.2.world in
+    kept_then c.args.root.now.world.now c.args.root.now c.loop-module.root c.argument.new.root c.loop-module.invariant.2 (subst (λ r. RootKept r.now c.loop-module.root c.argument.new.root) world c.in_err-argument.ensures.kept)

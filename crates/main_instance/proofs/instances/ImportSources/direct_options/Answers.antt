@@ -14,8 +14,8 @@ realloc_alias-requires-clause-planned c =
     let s = c.requires.sources in
     let d = c.requires.direct in
     let i = import_at c.args.call.place c.args.call.import.now in
-    let same = needed_is w s.valid (user_of u.which) u.found.now s.user.named i d.present c.in_ok-needed.needed c.in_ok-needed.ensures in
-    realloc_planned_for w s.valid (user_of u.which) u.found.now s.user.named i d.present d.plain c.in_ok-needed.needed.0 same
+    let same = needed_is w s.valid (user_of u.which) u.found.now s.user.named i d.present d.called c.in_ok-needed.needed c.in_ok-needed.ensures in
+    realloc_planned_for w s.valid (user_of u.which) u.found.now s.user.named i d.present d.called d.plain c.in_ok-needed.needed.0 same
 
 pub returns-clause-named : goal.returns-clause-named
 returns-clause-named c =
@@ -24,10 +24,10 @@ returns-clause-named c =
     let s = c.requires.sources in
     let d = c.requires.direct in
     let i = import_at c.args.call.place c.args.call.import.now in
-    let same = needed_is w s.valid (user_of u.which) u.found.now s.user.named i d.present c.in_ok-needed.needed c.in_ok-needed.ensures in
+    let same = needed_is w s.valid (user_of u.which) u.found.now s.user.named i d.present d.called c.in_ok-needed.needed c.in_ok-needed.ensures in
     let later = sources-kept c.in_ok-realloc.ensures.extends s in
     let o = c.in_ok-options.ensures in
-    direct_named w s.valid (user_of u.which) u.found.now s.user.named i d.present d.plain c.in_ok-needed.needed.0 same c.realloc_alias.new.root.items.defs c.args.self.now.memory c.in_ok-realloc.realloc c.args.call.encoding c.in_ok-options.options d.encoded later.memory
+    direct_named w s.valid (user_of u.which) u.found.now s.user.named i d.present d.called d.plain c.in_ok-needed.needed.0 same c.realloc_alias.new.root.items.defs c.args.self.now.memory c.in_ok-realloc.realloc c.args.call.encoding c.in_ok-options.options d.encoded later.memory
     c.in_ok-realloc.ensures.realloc o.ok o.memory o.realloc
 
 pub returns-clause-realloc : goal.returns-clause-realloc
@@ -37,9 +37,9 @@ returns-clause-realloc c =
     let s = c.requires.sources in
     let d = c.requires.direct in
     let i = import_at c.args.call.place c.args.call.import.now in
-    let same = needed_is w s.valid (user_of u.which) u.found.now s.user.named i d.present c.in_ok-needed.needed c.in_ok-needed.ensures in
+    let same = needed_is w s.valid (user_of u.which) u.found.now s.user.named i d.present d.called c.in_ok-needed.needed c.in_ok-needed.ensures in
     let later = sources-kept c.in_ok-realloc.ensures.extends s in
-    direct_realloc w s.valid (user_of u.which) u.found.now s.user.named i d.present d.plain c.in_ok-needed.needed.0 same c.realloc_alias.new.root.items.defs c.args.self.now.memory c.in_ok-realloc.realloc later.memory c.in_ok-realloc.ensures.realloc
+    direct_realloc w s.valid (user_of u.which) u.found.now s.user.named i d.present d.called d.plain c.in_ok-needed.needed.0 same c.realloc_alias.new.root.items.defs c.args.self.now.memory c.in_ok-realloc.realloc later.memory c.in_ok-realloc.ensures.realloc
     c.in_ok-options.ensures.realloc
 
 pub returns-in_err-options-clause-cause : goal.returns-in_err-options-clause-cause
@@ -49,9 +49,9 @@ returns-in_err-options-clause-cause c =
     let s = c.requires.sources in
     let d = c.requires.direct in
     let i = import_at c.args.call.place c.args.call.import.now in
-    let same = needed_is w s.valid (user_of u.which) u.found.now s.user.named i d.present c.in_ok-needed.needed c.in_ok-needed.ensures in
+    let same = needed_is w s.valid (user_of u.which) u.found.now s.user.named i d.present d.called c.in_ok-needed.needed c.in_ok-needed.ensures in
     let later = sources-kept c.in_ok-realloc.ensures.extends s in
     let refused = c.in_err-options in
     handed_on c.from_residual-in_err-options.result refused.field-0.0 (IsCauseAmong w (record { of = user_of u.which; core = i } ∷ []) []) c.from_residual-in_err-options.ensures.1
-    (direct_refused w s.valid (user_of u.which) u.found.now s.user.named i d.present d.plain c.in_ok-needed.needed.0 same c.realloc_alias.new.root.items.defs c.args.self.now.memory c.in_ok-realloc.realloc c.in_ok-place.place c.in_ok-place.ensures later.memory
+    (direct_refused w s.valid (user_of u.which) u.found.now s.user.named i d.present d.called d.plain c.in_ok-needed.needed.0 same c.realloc_alias.new.root.items.defs c.args.self.now.memory c.in_ok-realloc.realloc c.in_ok-place.place c.in_ok-place.ensures later.memory
     c.in_ok-realloc.ensures.realloc refused.field-0.0 refused.ensures.cause)

@@ -16,6 +16,7 @@ use Rattle.root_imports.specs.declared.root_scope.RootScope.{RootScope}
 use Rattle.main_instance.specs.Calls.{IsUnencoded, import_at, lowering_kind}
 use Rattle.main_instance.specs.Direct.{IsDirectCall}
 use Rattle.main_instance.specs.Sources.{AreSources, IsShimAlias, IsUsedOfInterface}
+use Rattle.shim_plan.specs.Needed.{call_of}
 use Rattle.shim_targets.specs.ShimTargets.{which_of}
 use Rattle.main_instance.proofs.GivenCalls.{call_encoded, call_given, call_plain, direct_given, direct_supplied, shim_supplied}
 use Rattle.main_instance.proofs.Growth.{sources-kept}
@@ -46,6 +47,7 @@ lower_interface_function-requires-clause-direct c =
     (record {
       present = c.requires.present;
       encoded = call_encoded w s.valid u s.user i c.requires.present role c.requires.role e encoded kind refl;
+      called = subst (λ (r : Import). IsSome (call_of r)) (sym c.requires.role) refl;
       plain = call_plain w s.valid u s.user i c.requires.present role c.requires.role e encoded kind refl ds none;
     })
 

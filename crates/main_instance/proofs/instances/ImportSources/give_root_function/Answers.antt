@@ -19,6 +19,7 @@ use Rattle.wit_data.specs.declared.worlds.WorldKey.TheVariants as keys
 use Rattle.main_instance.specs.Calls.{IsUnencoded, import_at, lowering_kind}
 use Rattle.main_instance.specs.Direct.{IsDirectCall}
 use Rattle.main_instance.specs.Sources.{AreSources, IsShimAlias}
+use Rattle.shim_plan.specs.Needed.{call_of}
 use Rattle.shim_targets.specs.ShimTargets.{which_of}
 use Rattle.main_instance.proofs.GivenCalls.{call_encoded, call_given, call_plain, direct_given, direct_supplied, shim_supplied}
 use Rattle.main_instance.proofs.Growth.{sources-kept}
@@ -48,6 +49,7 @@ lower_function-requires-clause-direct c =
     (record {
       present = c.requires.present;
       encoded = call_encoded w s.valid u s.user i c.requires.present role c.requires.role e encoded kind refl;
+      called = subst (λ (r : Import). IsSome (call_of r)) (sym c.requires.role) refl;
       plain = call_plain w s.valid u s.user i c.requires.present role c.requires.role e encoded kind refl ds none;
     })
 

@@ -1,5 +1,8 @@
-use Rattle.std.proofs.Common.{ap}
+use Rattle.std.proofs.Common.{ap, refl, rules}
 use Rattle.comp_builder.specs.Built.{Built}
+use Rattle.comp_items.specs.Items.{Extends}
+use Rattle.comp_items.proofs.Extending.{extends_adds}
+use Rattle.root_imports.proofs.Keeping.{kept_items}
 use Rattle.root_imports.specs.Growing.{Grows-then}
 use Rattle.core_options.specs.MainOptions.{user_of}
 use Rattle.main_instance.proofs.Serving.{ServesGroup, serve_group}
@@ -17,3 +20,9 @@ returns-clause-grows c = let s = served c in Grows-then c.in_ok-entries.ensures.
 
 pub returns-clause-serves : goal.returns-clause-serves
 returns-clause-serves c = let s = served c in rw c.in_ok-name.ensures s.serves
+
+pub returns-clause-kept : goal.returns-clause-kept
+returns-clause-kept c =
+    let mid = c.entries.new.root in
+    let g : Extends mid.items c.inline_instance.new.self = search (extends_adds, rules) in
+    kept_items c.args.root.now.world.now c.args.root.now mid (record mid { items = c.inline_instance.new.self }) c.in_ok-entries.ensures.kept refl g
