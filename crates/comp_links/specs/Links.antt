@@ -17,6 +17,7 @@ use Rattle.wit_data.specs.declared.worlds.WorldKey.TheVariants as keys
 use Rattle.comp_bytes.specs.declared.canon.Intrinsic.{Intrinsic}
 use Rattle.comp_bytes.specs.declared.canon.Intrinsic.TheVariants as intrinsics
 use Rattle.built_ins.specs.BuiltIns.{plain_intrinsic}
+use Rattle.built_ins.specs.Payloads.{PayloadCall, named_call}
 use Rattle.comp_options.specs.Options.{needs, import_set, export_set, task_return_set, wait_set, error_new_set, error_message_set, memory_bit, realloc_bit, encoding_bit, async_bit}
 use Rattle.comp_roles.specs.FunctionExports.{is_dtor}
 use Rattle.comp_roles.specs.Functions.{of_function}
@@ -31,7 +32,7 @@ use Rattle.comp_roles.specs.declared.libraries.MainOrAdapter.TheVariants as modu
 use Rattle.comp_worlds.specs.declared.world.ComponentWorld.{ComponentWorld}
 use Rattle.comp_worlds.specs.declared.world.ValidatedModule.{ValidatedModule}
 use Rattle.comp_roles.specs.declared.exports.Export.{Export}
-use Rattle.comp_links.specs.Targets.{UserModule, Main, Adapter, ExportRef, TargetOption, Memory, Realloc, Encoding, Async, PostReturn, Callback, Target, OfRoot, OfInterface, NoType, operand_if_any, Lowered, ExportOf, MainMemory, New, Rep, Drop, OfResource, BuiltIn, TlsGet, TlsSet, Lifted, Unlinked}
+use Rattle.comp_links.specs.Targets.{UserModule, Main, Adapter, ExportRef, TargetOption, Memory, Realloc, Encoding, Async, PostReturn, Callback, Target, OfRoot, OfInterface, NoType, operand_if_any, payload_operand, Lowered, ExportOf, MainMemory, New, Rep, Drop, OfResource, BuiltIn, TlsGet, TlsSet, Lifted, Unlinked}
 use Rattle.comp_links.specs.Modules.{WorldModule, module_found}
 use Rattle.comp_links.specs.Lists.{RequiredFunction, ProvidedType}
 use Rattle.comp_links.specs.Roles.{import_encoding, export_encoding}
@@ -164,10 +165,15 @@ abbrev pub link_of_intrinsic : Import → Option Intrinsic → Target
 link_of_intrinsic role (Some i) = BuiltIn i NoType []
 link_of_intrinsic role None = link_of_cell role
 
+-- one of a stream or a future, where the role has such a function
+abbrev pub link_of_payload : ComponentWorld → Import → Option PayloadCall → Target
+link_of_payload w role (Some c) = BuiltIn c.intrinsic (payload_operand c.info.ty) []
+link_of_payload w role None = link_of_intrinsic role (plain_intrinsic w.can_use_context_slot_1 role)
+
 -- what an import of a user module is to be given, by its role: a function of the world is lowered,
 -- a resource has functions for its handles, the result of an exported function is returned, a wait
 -- and a function of error contexts have their options, what another module exports is given as it
--- is, and another built-in function, or one of the cell, is that
+-- is, and another built-in function, of a stream or a future or of no type, or one of the cell, is that
 abbrev pub link_of : ComponentWorld → UserModule → Import → Target
 link_of w m (imports.WorldFunc (keys.Name text) function abi) = Lowered (OfRoot text) (lower_options w m (imports.WorldFunc (keys.Name text) function abi))
 link_of w m (imports.InterfaceFunc key id function abi) = Lowered (OfInterface id function) (lower_options w m (imports.InterfaceFunc key id function abi))
@@ -184,7 +190,7 @@ link_of w m (imports.MainModuleMemory type) = MainMemory
 link_of w m (imports.MainModuleExport name kind) = ExportOf (record { of = Main; name = name })
 link_of w m (imports.AdapterExport adapter name type) = ExportOf (record { of = Adapter adapter; name = name })
 link_of w m (imports.Item item) = ExportOf (record { of = module_of item.which; name = item.name })
-link_of w m role = link_of_intrinsic role (plain_intrinsic w.can_use_context_slot_1 role)
+link_of w m role = link_of_payload w role (named_call role)
 
 -- the same by the names of its module and field: a module whose imports from one other are all
 -- given by a whole instance gets what that exports under these names

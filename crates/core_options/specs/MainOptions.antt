@@ -1,9 +1,10 @@
 -- What the options of lowerings and lifts name (Canonical ABI: `canon lower`, `canon lift` and
 -- their options): exports of the instances of user modules.
-use Rattle.std.specs.Prelude.{◌≡◌, ℕ, List, Option, Some, None, IsTrue, IfSome, IsSome, slice_get}
+use Rattle.std.specs.Prelude.{◌≡◌, ℕ, List, [], Option, Some, None, IsTrue, IfSome, IsSome, slice_get}
 use Rattle.std.specs.List.{AllZip}
 use denote.Ref.{Bor}
 use Rattle.standard_kinds.specs.declared.kinds.ExportKind.TheVariants as kinds
+use Rattle.built_ins.specs.Payloads.{PayloadCall}
 use Rattle.comp_lists.specs.Found.{found}
 use Rattle.comp_bytes.specs.declared.canon.CanonicalOption.{CanonicalOption}
 use Rattle.comp_bytes.specs.declared.canon.Intrinsic.{Intrinsic}
@@ -22,7 +23,7 @@ use Rattle.comp_worlds.specs.Lookups.{module_name}
 use Rattle.comp_worlds.specs.Offered.{memory_of_main}
 use Rattle.comp_worlds.specs.declared.modules.CustomModule.{CustomModule}
 use Rattle.comp_worlds.specs.declared.modules.CustomModule.TheVariants as named
-use Rattle.comp_links.specs.Targets.{UserModule as User, Main, Adapter, ExportRef, WorldFunction, TargetOption, NoType, operand_if_any, BuiltIn}
+use Rattle.comp_links.specs.Targets.{UserModule as User, Main, Adapter, ExportRef, WorldFunction, TargetOption, NoType, operand_if_any, payload_operand, BuiltIn}
 use Rattle.comp_links.specs.Modules.{WorldModule, user_modules, module_found, UserImport}
 use Rattle.comp_links.specs.Lists.{IsOriginOf, RequiredFunction}
 use Rattle.comp_trees.specs.Trees.{Origin, FunctionTree}
@@ -175,6 +176,12 @@ pub record HasLowerOptions (w : ComponentWorld) (i : UserImport) : Type 0 where
 -- the core function of this index returns a result of this type, with these options
 abbrev pub IsReturn : ComponentWorld → List Def → Option Ty → List TargetOption → ℕ → Type 0
 IsReturn w ds result options index = IsItemFor w ds spaces.CoreFunc index (BuiltIn task_return (operand_if_any result) options)
+
+-- ---- streams and futures
+
+-- the core function of this index is this function of a stream or a future
+abbrev pub IsPayloadFunction : ComponentWorld → List Def → PayloadCall → ℕ → Type 0
+IsPayloadFunction w ds c index = IsItemFor w ds spaces.CoreFunc index (BuiltIn c.intrinsic (payload_operand c.info.ty) [])
 
 -- ---- waits and error contexts
 

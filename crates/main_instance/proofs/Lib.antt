@@ -9,5 +9,6 @@ mod OwnHandles
 pub mod BuiltIns
 pub mod OfMain
 pub mod Cells
+pub mod PayloadCalls
 pub mod ReturnCalls
 pub mod Functions

@@ -6,6 +6,7 @@ ghost use Rattle.std.specs.List.{AllZip, IsDistinct};
 ghost use Rattle.std.specs.Option.{option_copied};
 ghost use Rattle.std.specs.Str.{bytes_eq};
 ghost use Rattle.built_ins.specs.BuiltIns.{plain_intrinsic};
+ghost use Rattle.built_ins.specs.Payloads.{called_payload};
 ghost use Rattle.comp_bytes.specs.Spaces.{kind_space};
 ghost use Rattle.comp_bytes.specs.declared.space.Space.TheVariants.{CoreFunc};
 ghost use Rattle.comp_items.specs.Items.{Extends};
@@ -21,6 +22,7 @@ ghost use Rattle.core_options.specs.Causes.{IsCause, IsCauseAmong};
 ghost use Rattle.main_instance.specs.Calls.{import_at, lowering_kind};
 ghost use Rattle.main_instance.specs.Direct.{IsDirectCall, IsLoweringWith};
 ghost use Rattle.core_options.specs.MainOptions.{user_of};
+ghost use Rattle.shim_plan.specs.Needed as plans;
 ghost use Rattle.shim_targets.specs.ShimTargets.{which_of};
 ghost use Rattle.main_instance.specs.Sources.{imports_by, AreSources, IsShimAlias, IsUsedOfInterface};
 ghost use Rattle.root_imports.specs.Keeping.{RootKept};
@@ -35,12 +37,12 @@ use crate::calls::{CorePlace, import_encoding, kind_of_call};
 use crate::direct::DirectCall;
 use crate::returns::ReturnedFunction;
 use crate::shims::shim_alias;
-use built_ins::plain_intrinsic;
+use built_ins::{called_payload, plain_intrinsic};
 use byte_encoding::BuildFault;
 use comp_bytes::{CoreArgument, CoreInlineExport};
 use comp_lists::{Keyed, Seq, Text};
 use comp_worlds::{ComponentWorld, Import, ImportInstance};
-use core_options::{StateFault, UserModule};
+use core_options::{StateFault, UserModule, payload_function};
 use root_imports::RootScope;
 use shim_plan::{MemoryFunction, ShimKind, Shims};
 use standard_kinds::{ExportKind, StringEncoding};
@@ -348,7 +350,8 @@ impl ImportSources<'_> {
         }
     }
 
-    /// What an import is given that is no built-in function without operands.
+    /// What an import is given that is no built-in function without operands, no function of a stream
+    /// or a future, no wait and no function of error contexts.
     ///
     /// `E7` where the import is main's memory and main has none, `E8` where the function of the
     /// import is lowered with a realloc and there is none for the module, `E9` where it has no
@@ -366,6 +369,8 @@ impl ImportSources<'_> {
             (record { module_name = «module».now; field = field.now; role = import.now }) }
         requires linked { plain_intrinsic root.old.world.now.can_use_context_slot_1 import.now
             ≡ None }
+        requires typed { called_payload import.now ≡ None }
+        requires other { plans.memory_function import.now ≡ None }
         ensures kept { RootKept root.old.world.now root.old root.new }
         ensures grows { OnOk result (Grows root.old.world.now root.old.items.defs root.new.items.defs
             []) }
@@ -431,6 +436,50 @@ impl ImportSources<'_> {
                 let index = self.give_return(root, place, import, returned)?;
                 Ok((ExportKind::Func, index))
             }
+            Import::TlsBaseGet { .. } => {
+                let index = self.cell_getter(root)?;
+                Ok((ExportKind::Func, index))
+            }
+            Import::TlsBaseSet { .. } => {
+                let index = self.cell_setter(root)?;
+                Ok((ExportKind::Func, index))
+            }
+            _ => unreachable!(),
+        }
+    }
+
+    /// What an import is given that is no built-in function without operands, and no function of a stream
+    /// or a future: a wait or a function of error contexts has its shim, or is given as itself.
+    ///
+    /// `E7`, `E8` and `E9` as in [`ImportSources::materialize_import`].
+    fn link_function(
+        &self,
+        root: &mut RootScope<'_, ComponentWorld>,
+        module: &Text,
+        field: &Text,
+        import: &Import,
+    ) -> Result<(ExportKind, u32), StateFault>
+        requires sources { AreSources root.old.world.now self.now root.old.met root.old.items.defs root.old.maps
+            root.old.instances }
+        requires present { Contains (imports_of self.now.user.found.now)
+            (record { module_name = «module».now; field = field.now; role = import.now }) }
+        requires linked { plain_intrinsic root.old.world.now.can_use_context_slot_1 import.now
+            ≡ None }
+        requires typed { called_payload import.now ≡ None }
+        ensures kept { RootKept root.old.world.now root.old root.new }
+        ensures grows { OnOk result (Grows root.old.world.now root.old.items.defs root.new.items.defs
+            []) }
+        ensures made { IfOk result (λ item. IsGivenFor root.old.world.now (user_of self.now.user.which)
+            root.new.items.defs (kind_space item.0) item.1 import.now) }
+        ensures supplied { OnOk result (IsSuppliedImport root.old.world.now (user_of self.now.user.which)
+            import.now) }
+        ensures cause { IfErr result (IsCauseAmong root.old.world.now (record {
+          of = user_of self.now.user.which;
+          core = record { module_name = «module».now; field = field.now; role = import.now };
+        } ∷ []) []) }
+    {
+        let place = CorePlace { module, field };
+        match import {
             Import::WaitableSetWait => {
                 let index = self.give_function(root, place, import, MemoryFunction::Wait)?;
                 Ok((ExportKind::Func, index))
@@ -453,15 +502,45 @@ impl ImportSources<'_> {
                 let index = self.shim_of_function(root, place, import, function)?;
                 Ok((ExportKind::Func, index))
             }
-            Import::TlsBaseGet { .. } => {
-                let index = self.cell_getter(root)?;
+            _ => self.link_import(root, module, field, import),
+        }
+    }
+
+    /// What an import is given that is no built-in function without operands: a function of a stream or
+    /// a future is given as itself, of the type that it has.
+    ///
+    /// `E7`, `E8` and `E9` as in [`ImportSources::materialize_import`].
+    fn link_built_in(
+        &self,
+        root: &mut RootScope<'_, ComponentWorld>,
+        module: &Text,
+        field: &Text,
+        import: &Import,
+    ) -> Result<(ExportKind, u32), StateFault>
+        requires sources { AreSources root.old.world.now self.now root.old.met root.old.items.defs root.old.maps
+            root.old.instances }
+        requires present { Contains (imports_of self.now.user.found.now)
+            (record { module_name = «module».now; field = field.now; role = import.now }) }
+        requires linked { plain_intrinsic root.old.world.now.can_use_context_slot_1 import.now
+            ≡ None }
+        ensures kept { RootKept root.old.world.now root.old root.new }
+        ensures grows { OnOk result (Grows root.old.world.now root.old.items.defs root.new.items.defs
+            []) }
+        ensures made { IfOk result (λ item. IsGivenFor root.old.world.now (user_of self.now.user.which)
+            root.new.items.defs (kind_space item.0) item.1 import.now) }
+        ensures supplied { OnOk result (IsSuppliedImport root.old.world.now (user_of self.now.user.which)
+            import.now) }
+        ensures cause { IfErr result (IsCauseAmong root.old.world.now (record {
+          of = user_of self.now.user.which;
+          core = record { module_name = «module».now; field = field.now; role = import.now };
+        } ∷ []) []) }
+    {
+        match called_payload(import) {
+            Some(info) => {
+                let index = payload_function(root, import, info)?;
                 Ok((ExportKind::Func, index))
             }
-            Import::TlsBaseSet { .. } => {
-                let index = self.cell_setter(root)?;
-                Ok((ExportKind::Func, index))
-            }
-            _ => unreachable!(),
+            None => self.link_function(root, module, field, import),
         }
     }
 
@@ -498,7 +577,7 @@ impl ImportSources<'_> {
                 let index = root.items.built_in(intrinsic)?;
                 Ok((ExportKind::Func, index))
             }
-            None => self.link_import(root, module, field, import),
+            None => self.link_built_in(root, module, field, import),
         }
     }
 
