@@ -363,8 +363,8 @@ impl ImportSources<'_> {
         field: &Text,
         import: &Import,
     ) -> Result<(ExportKind, u32), StateFault>
-        requires sources { AreSources root.old.world.now self.now root.old.met root.old.items.defs root.old.maps
-            root.old.instances }
+        requires sources { AreSources root.old.world.now self.now root.old.met root.old.items.defs
+            root.old.maps root.old.instances }
         requires present { Contains (imports_of self.now.user.found.now)
             (record { module_name = «module».now; field = field.now; role = import.now }) }
         requires linked { plain_intrinsic root.old.world.now.can_use_context_slot_1 import.now
@@ -372,12 +372,12 @@ impl ImportSources<'_> {
         requires typed { called_payload import.now ≡ None }
         requires other { plans.memory_function import.now ≡ None }
         ensures kept { RootKept root.old.world.now root.old root.new }
-        ensures grows { OnOk result (Grows root.old.world.now root.old.items.defs root.new.items.defs
-            []) }
-        ensures made { IfOk result (λ item. IsGivenFor root.old.world.now (user_of self.now.user.which)
-            root.new.items.defs (kind_space item.0) item.1 import.now) }
-        ensures supplied { OnOk result (IsSuppliedImport root.old.world.now (user_of self.now.user.which)
-            import.now) }
+        ensures grows { OnOk result
+            (Grows root.old.world.now root.old.items.defs root.new.items.defs []) }
+        ensures made { IfOk result (λ item. IsGivenFor root.old.world.now
+            (user_of self.now.user.which) root.new.items.defs (kind_space item.0) item.1 import.now) }
+        ensures supplied { OnOk result
+            (IsSuppliedImport root.old.world.now (user_of self.now.user.which) import.now) }
         ensures cause { IfErr result (IsCauseAmong root.old.world.now (record {
           of = user_of self.now.user.which;
           core = record { module_name = «module».now; field = field.now; role = import.now };
@@ -459,20 +459,20 @@ impl ImportSources<'_> {
         field: &Text,
         import: &Import,
     ) -> Result<(ExportKind, u32), StateFault>
-        requires sources { AreSources root.old.world.now self.now root.old.met root.old.items.defs root.old.maps
-            root.old.instances }
+        requires sources { AreSources root.old.world.now self.now root.old.met root.old.items.defs
+            root.old.maps root.old.instances }
         requires present { Contains (imports_of self.now.user.found.now)
             (record { module_name = «module».now; field = field.now; role = import.now }) }
         requires linked { plain_intrinsic root.old.world.now.can_use_context_slot_1 import.now
             ≡ None }
         requires typed { called_payload import.now ≡ None }
         ensures kept { RootKept root.old.world.now root.old root.new }
-        ensures grows { OnOk result (Grows root.old.world.now root.old.items.defs root.new.items.defs
-            []) }
-        ensures made { IfOk result (λ item. IsGivenFor root.old.world.now (user_of self.now.user.which)
-            root.new.items.defs (kind_space item.0) item.1 import.now) }
-        ensures supplied { OnOk result (IsSuppliedImport root.old.world.now (user_of self.now.user.which)
-            import.now) }
+        ensures grows { OnOk result
+            (Grows root.old.world.now root.old.items.defs root.new.items.defs []) }
+        ensures made { IfOk result (λ item. IsGivenFor root.old.world.now
+            (user_of self.now.user.which) root.new.items.defs (kind_space item.0) item.1 import.now) }
+        ensures supplied { OnOk result
+            (IsSuppliedImport root.old.world.now (user_of self.now.user.which) import.now) }
         ensures cause { IfErr result (IsCauseAmong root.old.world.now (record {
           of = user_of self.now.user.which;
           core = record { module_name = «module».now; field = field.now; role = import.now };
@@ -517,19 +517,19 @@ impl ImportSources<'_> {
         field: &Text,
         import: &Import,
     ) -> Result<(ExportKind, u32), StateFault>
-        requires sources { AreSources root.old.world.now self.now root.old.met root.old.items.defs root.old.maps
-            root.old.instances }
+        requires sources { AreSources root.old.world.now self.now root.old.met root.old.items.defs
+            root.old.maps root.old.instances }
         requires present { Contains (imports_of self.now.user.found.now)
             (record { module_name = «module».now; field = field.now; role = import.now }) }
         requires linked { plain_intrinsic root.old.world.now.can_use_context_slot_1 import.now
             ≡ None }
         ensures kept { RootKept root.old.world.now root.old root.new }
-        ensures grows { OnOk result (Grows root.old.world.now root.old.items.defs root.new.items.defs
-            []) }
-        ensures made { IfOk result (λ item. IsGivenFor root.old.world.now (user_of self.now.user.which)
-            root.new.items.defs (kind_space item.0) item.1 import.now) }
-        ensures supplied { OnOk result (IsSuppliedImport root.old.world.now (user_of self.now.user.which)
-            import.now) }
+        ensures grows { OnOk result
+            (Grows root.old.world.now root.old.items.defs root.new.items.defs []) }
+        ensures made { IfOk result (λ item. IsGivenFor root.old.world.now
+            (user_of self.now.user.which) root.new.items.defs (kind_space item.0) item.1 import.now) }
+        ensures supplied { OnOk result
+            (IsSuppliedImport root.old.world.now (user_of self.now.user.which) import.now) }
         ensures cause { IfErr result (IsCauseAmong root.old.world.now (record {
           of = user_of self.now.user.which;
           core = record { module_name = «module».now; field = field.now; role = import.now };
@@ -556,17 +556,17 @@ impl ImportSources<'_> {
         field: &Text,
         import: &Import,
     ) -> Result<(ExportKind, u32), StateFault>
-        requires sources { AreSources root.old.world.now self.now root.old.met root.old.items.defs root.old.maps
-            root.old.instances }
+        requires sources { AreSources root.old.world.now self.now root.old.met root.old.items.defs
+            root.old.maps root.old.instances }
         requires present { Contains (imports_of self.now.user.found.now)
             (record { module_name = «module».now; field = field.now; role = import.now }) }
         ensures kept { RootKept root.old.world.now root.old root.new }
-        ensures grows { OnOk result (Grows root.old.world.now root.old.items.defs root.new.items.defs
-            []) }
-        ensures made { IfOk result (λ item. IsGivenFor root.old.world.now (user_of self.now.user.which)
-            root.new.items.defs (kind_space item.0) item.1 import.now) }
-        ensures supplied { OnOk result (IsSuppliedImport root.old.world.now (user_of self.now.user.which)
-            import.now) }
+        ensures grows { OnOk result
+            (Grows root.old.world.now root.old.items.defs root.new.items.defs []) }
+        ensures made { IfOk result (λ item. IsGivenFor root.old.world.now
+            (user_of self.now.user.which) root.new.items.defs (kind_space item.0) item.1 import.now) }
+        ensures supplied { OnOk result
+            (IsSuppliedImport root.old.world.now (user_of self.now.user.which) import.now) }
         ensures cause { IfErr result (IsCauseAmong root.old.world.now (record {
           of = user_of self.now.user.which;
           core = record { module_name = «module».now; field = field.now; role = import.now };
