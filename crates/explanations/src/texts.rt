@@ -142,7 +142,7 @@ pub(crate) const P7: &str = "\
 pub(crate) const P8: &str = "\
     P8: something that can't be encoded yet, by its kind, or a type that passes a limit;\n\
     docs/ERRORS.md lists the kinds.\n\
-    Example: `P8 LeftOut what=\"stream-new\"`\n\
+    Example: `P8 LeftOut what=\"stream-read\"`\n\
     What to do: leave it out of the world, or wait.\n";
 
 pub(crate) const P9: &str = "\
