@@ -12,4 +12,4 @@ mod intrinsics;
 mod payloads;
 
 pub use intrinsics::plain_intrinsic;
-pub use payloads::{called_payload, payload_intrinsic};
+pub use payloads::{called_payload, is_access, payload_intrinsic};

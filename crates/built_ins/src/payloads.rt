@@ -1,15 +1,14 @@
-//! The built-in functions of streams and futures without options, by roles.
+//! The built-in functions of streams and futures, by roles.
 
 ghost use Rattle.std.specs.Prelude.{◌≡◌};
 ghost use Rattle.std.specs.Option.{option_copied};
-ghost use Rattle.built_ins.specs.Payloads.{called_payload, intrinsic_called};
+ghost use Rattle.built_ins.specs.Payloads.{called_payload, intrinsic_called, is_access};
 
 use comp_bytes::Intrinsic;
 use comp_roles::{Import, PayloadInfo};
 
-/// The stream or the future of an import of this role, if it is given a built-in function without
-/// options (Canonical ABI: `canon stream.new` and its neighbours): one that makes it, cancels a read
-/// or a write, or drops an end.
+/// The stream or the future of an import of this role, if it is given a built-in function of one
+/// (Canonical ABI: `canon stream.new` and its neighbours).
 pub fn called_payload(role: &Import) -> Option<&PayloadInfo>
     ensures { option_copied result ≡ called_payload role.now }
 {
@@ -20,15 +19,32 @@ pub fn called_payload(role: &Import) -> Option<&PayloadInfo>
         | Import::FutureNew(info)
         | Import::FutureDropReadable(info)
         | Import::FutureDropWritable(info) => Some(info),
-        Import::StreamCancelRead { info, .. }
+        Import::StreamRead { info, .. }
+        | Import::StreamWrite { info, .. }
+        | Import::StreamCancelRead { info, .. }
         | Import::StreamCancelWrite { info, .. }
+        | Import::FutureRead { info, .. }
+        | Import::FutureWrite { info, .. }
         | Import::FutureCancelRead { info, .. }
         | Import::FutureCancelWrite { info, .. } => Some(info),
         _ => None,
     }
 }
 
-/// That function, where its type has this index.
+/// Whether that reads or writes elements, which has options.
+pub fn is_access(role: &Import) -> bool
+    ensures { result ≡ is_access role.now }
+{
+    match role {
+        Import::StreamRead { .. }
+        | Import::StreamWrite { .. }
+        | Import::FutureRead { .. }
+        | Import::FutureWrite { .. } => true,
+        _ => false,
+    }
+}
+
+/// A function without options, where its type has this index.
 pub fn payload_intrinsic(role: &Import, ty: u32) -> Option<Intrinsic>
     ensures { result ≡ intrinsic_called ty role.now }
 {

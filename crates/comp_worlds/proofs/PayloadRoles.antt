@@ -14,11 +14,15 @@ use Rattle.comp_worlds.specs.declared.world.ComponentWorld.{ComponentWorld}
 -- the stream or the future of such a function is that of the role
 pub called_in : (role : Import) (p : PayloadInfo) → called_payload role ≡ Some p → payload_in role ≡ Some p
 called_in (imports.StreamNew q) p e = e
+called_in (imports.StreamRead q is_async) p e = e
+called_in (imports.StreamWrite q is_async) p e = e
 called_in (imports.StreamCancelRead q is_async) p e = e
 called_in (imports.StreamCancelWrite q is_async) p e = e
 called_in (imports.StreamDropReadable q) p e = e
 called_in (imports.StreamDropWritable q) p e = e
 called_in (imports.FutureNew q) p e = e
+called_in (imports.FutureRead q is_async) p e = e
+called_in (imports.FutureWrite q is_async) p e = e
 called_in (imports.FutureCancelRead q is_async) p e = e
 called_in (imports.FutureCancelWrite q is_async) p e = e
 called_in (imports.FutureDropReadable q) p e = e
@@ -45,11 +49,15 @@ plain_in role h = absurd (true≢false (sym h))
 -- and it is one of a validated world
 pub called_right : (w : ComponentWorld) (role : Import) (p : PayloadInfo) → called_payload role ≡ Some p → IsImportRole w role → IsPayload w p
 called_right w (imports.StreamNew q) p e h = subst (IsPayload w) (same_Some q p e) h
+called_right w (imports.StreamRead q is_async) p e h = subst (IsPayload w) (same_Some q p e) h
+called_right w (imports.StreamWrite q is_async) p e h = subst (IsPayload w) (same_Some q p e) h
 called_right w (imports.StreamCancelRead q is_async) p e h = subst (IsPayload w) (same_Some q p e) h
 called_right w (imports.StreamCancelWrite q is_async) p e h = subst (IsPayload w) (same_Some q p e) h
 called_right w (imports.StreamDropReadable q) p e h = subst (IsPayload w) (same_Some q p e) h
 called_right w (imports.StreamDropWritable q) p e h = subst (IsPayload w) (same_Some q p e) h
 called_right w (imports.FutureNew q) p e h = subst (IsPayload w) (same_Some q p e) h
+called_right w (imports.FutureRead q is_async) p e h = subst (IsPayload w) (same_Some q p e) h
+called_right w (imports.FutureWrite q is_async) p e h = subst (IsPayload w) (same_Some q p e) h
 called_right w (imports.FutureCancelRead q is_async) p e h = subst (IsPayload w) (same_Some q p e) h
 called_right w (imports.FutureCancelWrite q is_async) p e h = subst (IsPayload w) (same_Some q p e) h
 called_right w (imports.FutureDropReadable q) p e h = subst (IsPayload w) (same_Some q p e) h

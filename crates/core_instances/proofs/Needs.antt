@@ -15,10 +15,10 @@ use Rattle.comp_roles.specs.declared.imports.Import.TheVariants as imports
 use Rattle.comp_worlds.specs.Encodable.{IsEncodable}
 use Rattle.comp_worlds.specs.Offered.{shared_memory}
 use Rattle.comp_worlds.specs.declared.world.ComponentWorld.{ComponentWorld}
-use Rattle.comp_links.specs.Links.{lower_needs, lower_realloc}
+use Rattle.comp_links.specs.Links.{lower_needs, lower_realloc, is_always_shimmed}
 use Rattle.comp_links.specs.Modules.{UserImport, user_imports}
 use Rattle.comp_links.specs.Targets.{UserModule}
-use Rattle.comp_links.specs.Roles.{encoding_in, import_encoding, is_always_shimmed}
+use Rattle.comp_links.specs.Roles.{encoding_in, import_encoding}
 use Rattle.comp_links.specs.Supplied.{IsSuppliedImport}
 use Rattle.shim_plan.specs.Plans.{shim_of}
 use Rattle.shim_plan.specs.declared.kinds.ShimKind.{ShimKind}

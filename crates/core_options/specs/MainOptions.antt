@@ -27,7 +27,7 @@ use Rattle.comp_links.specs.Targets.{UserModule as User, Main, Adapter, ExportRe
 use Rattle.comp_links.specs.Modules.{WorldModule, user_modules, module_found, UserImport}
 use Rattle.comp_links.specs.Lists.{IsOriginOf, RequiredFunction}
 use Rattle.comp_trees.specs.Trees.{Origin, FunctionTree}
-use Rattle.comp_links.specs.Links.{task_return, set_wait, set_poll, error_new, error_message, options_in, lower_needs, lower_realloc, lift_needs, lift_realloc}
+use Rattle.comp_links.specs.Links.{task_return, set_wait, set_poll, error_new, error_message, options_in, lower_needs, role_realloc, lift_needs, lift_realloc}
 use Rattle.comp_terms.specs.Terms.{CoreExport, TermOption, IsImportedFunction, IsInstanceOf, IsExported, IsOption}
 use Rattle.comp_terms.specs.Planned.{IsItemFor, IsTypeOf, IsExportFor, memory_from, main_memory, IsReallocFor, IsOptionFor}
 use Rattle.shim_plan.specs.Needed.{function_options, function_encoding}
@@ -169,7 +169,7 @@ pub record HasLiftOptions (w : ComponentWorld) (r : RequiredFunction) : Type 0 w
 -- and that a call of an imported function needs
 pub record HasLowerOptions (w : ComponentWorld) (i : UserImport) : Type 0 where
   pub memory : IsTrue (needs (lower_needs w i.core.role) memory_bit) → IsSome (memory_of_main w.main)
-  pub realloc : IsTrue (needs (lower_needs w i.core.role) realloc_bit) → IsSome (lower_realloc w i.of)
+  pub realloc : IsTrue (needs (lower_needs w i.core.role) realloc_bit) → IsSome (role_realloc w i.of i.core.role)
 
 -- ---- returns
 

@@ -135,7 +135,12 @@ initializing = record { params = []; results = []; indirect_params = false; retp
 abbrev joining : WasmSignature
 joining = record { params = numbers.I32 ∷ numbers.I32 ∷ []; results = []; indirect_params = false; retptr = false }
 
--- a wait takes a set and an address, and making an error context an address and a length
+-- a read or a write of a stream takes its end, an address, and how many elements are there
+abbrev accessing : WasmSignature
+accessing = record { params = numbers.I32 ∷ numbers.I32 ∷ numbers.I32 ∷ []; results = numbers.I32 ∷ []; indirect_params = false; retptr = false }
+
+-- a wait takes a set and an address, making an error context an address and a length, and a read or a write of a future its
+-- end and an address
 abbrev waiting : WasmSignature
 waiting = record { params = numbers.I32 ∷ numbers.I32 ∷ []; results = numbers.I32 ∷ []; indirect_params = false; retptr = false }
 
@@ -203,11 +208,15 @@ plain_typed core r role e ty fits is = absurd (none-some ty is)
 built_in_typed : (core : CoreModule) (r : Resolve) (role : Import) (e : EntityType) (ty : ExternType) → is_function core e (expected_import r world_id role) ≡ true
     → type_of_built_in role (named_call role) ≡ Some ty → extern_type core e ≡ Some ty
 built_in_typed core r (imports.StreamNew p) e ty fits is = entity_of core e (getting numbers.I64) fits ∙ is
+built_in_typed core r (imports.StreamRead p is_async) e ty fits is = entity_of core e accessing fits ∙ is
+built_in_typed core r (imports.StreamWrite p is_async) e ty fits is = entity_of core e accessing fits ∙ is
 built_in_typed core r (imports.StreamCancelRead p is_async) e ty fits is = entity_of core e handling fits ∙ is
 built_in_typed core r (imports.StreamCancelWrite p is_async) e ty fits is = entity_of core e handling fits ∙ is
 built_in_typed core r (imports.StreamDropReadable p) e ty fits is = entity_of core e dropping fits ∙ is
 built_in_typed core r (imports.StreamDropWritable p) e ty fits is = entity_of core e dropping fits ∙ is
 built_in_typed core r (imports.FutureNew p) e ty fits is = entity_of core e (getting numbers.I64) fits ∙ is
+built_in_typed core r (imports.FutureRead p is_async) e ty fits is = entity_of core e waiting fits ∙ is
+built_in_typed core r (imports.FutureWrite p is_async) e ty fits is = entity_of core e waiting fits ∙ is
 built_in_typed core r (imports.FutureCancelRead p is_async) e ty fits is = entity_of core e handling fits ∙ is
 built_in_typed core r (imports.FutureCancelWrite p is_async) e ty fits is = entity_of core e handling fits ∙ is
 built_in_typed core r (imports.FutureDropReadable p) e ty fits is = entity_of core e dropping fits ∙ is

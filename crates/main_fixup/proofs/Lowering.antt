@@ -13,9 +13,9 @@ use Rattle.comp_roles.specs.declared.imports.Import.{Import}
 use Rattle.core_types.specs.declared.types.MemoryType.{MemoryType}
 use Rattle.comp_worlds.specs.Offered.{memory_of_main, shared_memory}
 use Rattle.comp_worlds.specs.declared.world.ComponentWorld.{ComponentWorld}
-use Rattle.comp_links.specs.Links.{options_in, link_of, lower_needs, lower_options, lower_realloc, task_return}
+use Rattle.comp_links.specs.Links.{options_in, link_of, lower_needs, lower_options, lower_realloc, task_return, is_always_shimmed}
 use Rattle.comp_links.specs.Modules.{UserImport, user_imports}
-use Rattle.comp_links.specs.Roles.{import_encoding, is_always_shimmed, field_path}
+use Rattle.comp_links.specs.Roles.{import_encoding, field_path}
 use Rattle.comp_links.specs.Targets.{UserModule as User, ExportRef, Target, TargetOption, Lowered, BuiltIn, operand_if_any}
 use Rattle.comp_terms.specs.Generated.{OfImport}
 use Rattle.comp_terms.specs.Planned.{IsItemFor, IsTermFor, main_memory}

@@ -25,9 +25,9 @@ use Rattle.comp_worlds.specs.declared.modules.CustomModule.{CustomModule}
 use Rattle.comp_worlds.specs.declared.modules.CustomModule.TheVariants as named
 use Rattle.comp_worlds.specs.declared.world.ComponentWorld.{ComponentWorld}
 use Rattle.comp_worlds.specs.declared.world.ValidatedModule.{ValidatedModule}
-use Rattle.comp_links.specs.Links.{options_in, export_at, lower_needs, lower_options, lower_realloc}
+use Rattle.comp_links.specs.Links.{options_in, export_at, lower_needs, lower_options, lower_realloc, is_always_shimmed}
 use Rattle.comp_links.specs.Modules.{module_found, user_imports}
-use Rattle.comp_links.specs.Roles.{import_encoding, is_always_shimmed, field_path}
+use Rattle.comp_links.specs.Roles.{import_encoding, field_path}
 use Rattle.comp_links.specs.Targets.{UserModule as User, Main, Adapter, WorldFunction, Lowered}
 use Rattle.comp_links.specs.Targets as targets
 use Rattle.comp_terms.specs.Generated.{shims_number}

@@ -14,9 +14,9 @@ use Rattle.comp_roles.specs.declared.imports.Import.TheVariants as imports
 use Rattle.comp_worlds.specs.Encodable.{IsEncodable}
 use Rattle.comp_worlds.specs.Offered.{shared_memory}
 use Rattle.comp_worlds.specs.declared.world.ComponentWorld.{ComponentWorld}
-use Rattle.comp_links.specs.Links.{lower_needs}
+use Rattle.comp_links.specs.Links.{lower_needs, is_always_shimmed}
 use Rattle.comp_links.specs.Modules.{UserImport, user_imports}
-use Rattle.comp_links.specs.Roles.{import_encoding, is_always_shimmed}
+use Rattle.comp_links.specs.Roles.{import_encoding}
 use Rattle.comp_links.specs.Targets.{UserModule, Adapter, ExportOf}
 use Rattle.comp_terms.specs.Generated.{shims_number, OfImport, OfExport}
 use Rattle.comp_terms.specs.Shimmed.{shim_owner}

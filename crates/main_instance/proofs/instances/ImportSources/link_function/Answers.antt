@@ -1,5 +1,5 @@
 use Rattle.std.proofs.Common.{◌∙◌, ap, sym, true≢false}
-use Rattle.comp_links.specs.Roles.{is_always_shimmed}
+use Rattle.comp_links.specs.Links.{is_always_shimmed}
 use Rattle.main_instance.proofs.instances.ImportSources.link_function.Goals as goal
 
 pub shim_of_function-requires-clause-planned : goal.shim_of_function-requires-clause-planned
