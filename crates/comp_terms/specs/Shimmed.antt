@@ -42,8 +42,8 @@ shim_owner of (imports.ErrorContextNew encoding) = Main
 shim_owner of role = of
 
 -- the name of the shim of a read or a write
-abbrev pub access_name : CoreImport → PayloadInfo → List ℕ
-access_name i p = i.module_name ++ codes "-" ++ p.name
+abbrev pub access_text : CoreImport → PayloadInfo → List ℕ
+access_text i p = i.module_name ++ codes "-" ++ p.name
 
 -- the name of the shim of a core import, by its role, in faults
 abbrev pub shim_name : CoreImport → Import → List ℕ
@@ -52,8 +52,8 @@ shim_name i imports.WaitableSetPoll = codes "waitable-set.poll"
 shim_name i (imports.ErrorContextNew encoding) = codes "error-new"
 shim_name i (imports.ErrorContextDebugMessage encoding) = codes "error-debug-message"
 shim_name i (imports.ExportedTaskReturn key interface f) = codes "task-return-" ++ f.name
-shim_name i (imports.StreamRead p is_async) = access_name i p
-shim_name i (imports.StreamWrite p is_async) = access_name i p
-shim_name i (imports.FutureRead p is_async) = access_name i p
-shim_name i (imports.FutureWrite p is_async) = access_name i p
+shim_name i (imports.StreamRead p is_async) = access_text i p
+shim_name i (imports.StreamWrite p is_async) = access_text i p
+shim_name i (imports.FutureRead p is_async) = access_text i p
+shim_name i (imports.FutureWrite p is_async) = access_text i p
 shim_name i role = codes "indirect-" ++ i.module_name ++ codes "-" ++ i.field

@@ -21,4 +21,4 @@ returns-in_ok-index-in-Some-clause-made c of tree named denotes =
     payload_made c.args.root.now.items.defs c.built_in.new.self.defs c.in_ok-index-in-Some.index c.args.ty c.args.role.now i called c.in_ok-index-in-Some.ensures.made of tree named denotes
 
 pub unreachable-requires : goal.unreachable-requires
-unreachable-requires c = true≢false (sym (call_known c.args.ty c.args.role.now c.requires.called) ∙ ap is_some (sym c.payload_intrinsic.ensures ∙ c.in-None.is))
+unreachable-requires c = true≢false (sym (call_known c.args.ty c.args.role.now c.requires.apart c.requires.called) ∙ ap is_some (sym c.payload_intrinsic.ensures ∙ c.in-None.is))
