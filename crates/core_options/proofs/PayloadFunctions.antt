@@ -1,5 +1,5 @@
 -- Functions of streams and futures: each is what the link table names, of the type at an index.
-use Rattle.std.proofs.Common.{◌≡◌, ◌∙◌, ℕ, List, [], Option, Some, IsSome, refl, ap, subst, sym}
+use Rattle.std.proofs.Common.{◌≡◌, ◌∙◌, ℕ, Bool, List, [], Option, Some, IsSome, refl, ap, subst, sym}
 use Rattle.std.specs.Prelude.{option_map}
 use Rattle.std.specs.List.{AllByRecursion, AllZip}
 use Rattle.std.proofs.lemmas.Option.{none-some, same_Some}
@@ -13,7 +13,9 @@ use Rattle.comp_bytes.specs.declared.def.Def.{Def}
 use Rattle.comp_bytes.specs.declared.types.ComponentValType.TheVariants as values
 use Rattle.comp_inventories.specs.Inventories.{scope_of}
 use Rattle.comp_links.specs.Lists.{resource_of}
-use Rattle.comp_links.specs.Targets.{TargetOption, payload_operand, operand_tree}
+use Rattle.comp_links.specs.Links.{link_of, lower_options}
+use Rattle.comp_links.specs.Targets.{UserModule as User, TargetOption, payload_operand, operand_tree, BuiltIn}
+use Rattle.comp_terms.specs.Generated.{access_role}
 use Rattle.comp_roles.specs.declared.imports.Import.{Import}
 use Rattle.comp_roles.specs.declared.imports.Import.TheVariants as imports
 use Rattle.comp_roles.specs.declared.payloads.PayloadFuncKind.{PayloadFuncKind}
@@ -92,3 +94,11 @@ access_term w old new kind ty type index options wanted denotes named made = rec
   is = access_made old new index type kind options made (payload_tree w ty) named.terms denotes named.are;
   asked = (refl, payload_is w ty, named.asked);
 }
+
+-- what the link table names for an import that is one
+pub access_linked : (w : ComponentWorld) (of : User) (p : PayloadInfo) (kind : PayloadFuncKind) (is_async : Bool) →
+    link_of w of (access_role p kind is_async) ≡ BuiltIn (access_name kind) (payload_operand p.ty) (lower_options w of (access_role p kind is_async))
+access_linked w of p ends.FutureRead is_async = refl
+access_linked w of p ends.FutureWrite is_async = refl
+access_linked w of p ends.StreamRead is_async = refl
+access_linked w of p ends.StreamWrite is_async = refl

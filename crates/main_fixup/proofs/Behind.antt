@@ -47,7 +47,7 @@ use Rattle.interface_needs.proofs.PayloadNeeds.{payload_for}
 use Rattle.interface_needs.specs.RootNeeds.{IsPayloadFor}
 use Rattle.shim_targets.proofs.Owners.{AccessImport, access_import_of}
 use Rattle.shim_targets.proofs.Users.{among_all}
-use Rattle.world_values.specs.Mentions.{payload_in}
+use Rattle.core_options.proofs.PayloadFunctions.{access_linked}
 use Rattle.root_imports.proofs.Supplying.{payload_supplied, return_result, return_supplied}
 use Rattle.root_imports.specs.Imports.{IsResult}
 use Rattle.root_imports.specs.Met.{AreExportsMet, IsSuppliedFor}
@@ -308,25 +308,12 @@ module _ (w : ComponentWorld) (s : Shim) (h : StandsForOne w s) where
 
 -- ---- reads and writes
 
--- the role of one, and what the link table names for it
+-- the role of one
 accessed_back : (p : PayloadInfo) (kind : PayloadFuncKind) (is_async : Bool) → accessed_of (access_role p kind is_async) ≡ Some (access_to p kind is_async)
 accessed_back p ends.FutureRead is_async = refl
 accessed_back p ends.FutureWrite is_async = refl
 accessed_back p ends.StreamRead is_async = refl
 accessed_back p ends.StreamWrite is_async = refl
-
-payload_back : (p : PayloadInfo) (kind : PayloadFuncKind) (is_async : Bool) → payload_in (access_role p kind is_async) ≡ Some p
-payload_back p ends.FutureRead is_async = refl
-payload_back p ends.FutureWrite is_async = refl
-payload_back p ends.StreamRead is_async = refl
-payload_back p ends.StreamWrite is_async = refl
-
-access_linked : (w : ComponentWorld) (of : User) (p : PayloadInfo) (kind : PayloadFuncKind) (is_async : Bool) →
-    link_of w of (access_role p kind is_async) ≡ BuiltIn (access_name kind) (payload_operand p.ty) (lower_options w of (access_role p kind is_async))
-access_linked w of p ends.FutureRead is_async = refl
-access_linked w of p ends.FutureWrite is_async = refl
-access_linked w of p ends.StreamRead is_async = refl
-access_linked w of p ends.StreamWrite is_async = refl
 
 module _ (w : ComponentWorld) (ok : IsEncodable w) (s : Shim) (h : StandsForOne w s) (which : MainOrAdapter) (p : PayloadInfo) (kind : PayloadFuncKind) (is_async : Bool) (is : s.kind ≡ kinds.PayloadFunc which p kind is_async) where
   access_stands : (i : UserImport) × StandsFor w s i × (caller (module_of which) (access_role p kind is_async) ≡ caller (shim_owner i.of i.core.role) i.core.role)
@@ -353,7 +340,7 @@ module _ (w : ComponentWorld) (ok : IsEncodable w) (s : Shim) (h : StandsForOne 
   access_payload = own_access.right access_stands.1.is.right
 
   pub access_types : IsPayloadFor w (payload_scope p) p.ty
-  access_types = payload_for w ok access_given.core (among_all w access_given access_stands.1.present) p (sym (ap payload_in same_role) ∙ payload_back p kind is_async) access_payload
+  access_types = payload_for w ok access_given.core (among_all w access_given access_stands.1.present) p own_access.payload access_payload
 
   pub access_supplied : (met : MetTypes) → AreExportsMet w met → AreExportsInOrder w → IsSuppliedFor w met (payload_scope p)
   access_supplied met exports ordered = payload_supplied w ok met exports ordered p access_payload

@@ -131,6 +131,10 @@ built_in_linked w of imports.WaitableSetWait intrinsic h = absurd (none-some int
 built_in_linked w of imports.WaitableSetPoll intrinsic h = absurd (none-some intrinsic h)
 built_in_linked w of (imports.ErrorContextNew own) intrinsic h = absurd (none-some intrinsic h)
 built_in_linked w of (imports.ErrorContextDebugMessage own) intrinsic h = absurd (none-some intrinsic h)
+built_in_linked w of (imports.StreamRead p is_async) intrinsic h = absurd (none-some intrinsic h)
+built_in_linked w of (imports.StreamWrite p is_async) intrinsic h = absurd (none-some intrinsic h)
+built_in_linked w of (imports.FutureRead p is_async) intrinsic h = absurd (none-some intrinsic h)
+built_in_linked w of (imports.FutureWrite p is_async) intrinsic h = absurd (none-some intrinsic h)
 built_in_linked w of role intrinsic h = plain_linked w role intrinsic h (named_call role) refl
 
 -- such a function is given for it
@@ -165,6 +169,10 @@ needs_nothing w imports.WaitableSetWait intrinsic h = absurd (none-some intrinsi
 needs_nothing w imports.WaitableSetPoll intrinsic h = absurd (none-some intrinsic h)
 needs_nothing w (imports.ErrorContextNew own) intrinsic h = absurd (none-some intrinsic h)
 needs_nothing w (imports.ErrorContextDebugMessage own) intrinsic h = absurd (none-some intrinsic h)
+needs_nothing w (imports.StreamRead p is_async) intrinsic h = absurd (none-some intrinsic h)
+needs_nothing w (imports.StreamWrite p is_async) intrinsic h = absurd (none-some intrinsic h)
+needs_nothing w (imports.FutureRead p is_async) intrinsic h = absurd (none-some intrinsic h)
+needs_nothing w (imports.FutureWrite p is_async) intrinsic h = absurd (none-some intrinsic h)
 needs_nothing w role intrinsic h = record { encoding = refl; memory = refl; options = refl }
 
 pub built_in_supplied : (w : ComponentWorld) (of : UserModule) (role : Import) (intrinsic : Intrinsic) → plain_intrinsic w.can_use_context_slot_1 role ≡ Some intrinsic → IsSuppliedImport w of role

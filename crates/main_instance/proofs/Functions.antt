@@ -82,7 +82,7 @@ module _ (w : ComponentWorld) (ok : IsEncodable w) (u : UserModule) (user : IsUs
   no_memory h = true≢false (sym h ∙ of_role.other)
 
   -- its shim is there, where main imports no memory, or always
-  pub function_shim_there : (is_always_shimmed i.role ≡ false → shared_memory w ≡ None) → IsSome (shim_of kind (shims_of w))
+  pub function_shim_there : (is_always_shimmed w i.role ≡ false → shared_memory w ≡ None) → IsSome (shim_of kind (shims_of w))
   function_shim_there planned = function_there w ok (record { of = user_of u.which; core = i }) among function is planned
 
   -- it is what the import is given

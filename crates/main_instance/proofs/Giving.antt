@@ -70,7 +70,7 @@ module _ (w : ComponentWorld) (ok : IsEncodable w) (i : UserImport) (present : C
       }))
 
   -- then main imports no memory, unless such an import has a shim always
-  pub unshared_by_shim : is_always_shimmed i.core.role ≡ false → IsShimAlias w ds kind (Some index) → shared_memory w ≡ None
+  pub unshared_by_shim : is_always_shimmed w i.core.role ≡ false → IsShimAlias w ds kind (Some index) → shared_memory w ≡ None
   unshared_by_shim apart h = given_unshared w ok i.of i.core.role encoding kind of_kind apart h.0 h.1
 
   -- without one, its options name nothing that a module exports, unless main imports its memory

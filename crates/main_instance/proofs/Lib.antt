@@ -10,5 +10,6 @@ pub mod BuiltIns
 pub mod OfMain
 pub mod Cells
 pub mod PayloadCalls
+pub mod AccessCalls
 pub mod ReturnCalls
 pub mod Functions

@@ -19,7 +19,7 @@ use Rattle.comp_builder.specs.Built.{Built}
 use Rattle.comp_bytes.specs.ItemIndices.{IsAt}
 use Rattle.comp_roles.specs.CoreImports.{CoreImport, imports_from, fields_of}
 use Rattle.comp_options.specs.Options.{needs}
-use Rattle.comp_links.specs.Links.{lower_needs, lower_realloc, is_always_shimmed}
+use Rattle.comp_links.specs.Links.{lower_needs, role_realloc, is_always_shimmed}
 use Rattle.comp_worlds.specs.Encodable.{IsEncodable}
 use Rattle.comp_worlds.specs.Offered.{shared_memory}
 use Rattle.comp_worlds.specs.Uses.{imports_of}
@@ -71,7 +71,7 @@ module _ (w : ComponentWorld) (of : User) (m : ValidatedModule) (there : module_
   pub encoding_found : (role : Import) (o : Option StringEncoding) → encoding_in role m ≡ o → import_encoding w of role ≡ o
   encoding_found role o e = ap (option_and_then (encoding_in role)) there ∙ e
 
-  pub has_encoding : (role : Import) (encoding : StringEncoding) → encoding_in role m ≡ Some encoding → (IsTrue (is_main_memory role) → ⊥) → (IsSome (shared_memory w) → is_always_shimmed role ≡ false → IsTrue (needs (lower_needs w role) 2) → IsSome (lower_realloc w of)) → IsSuppliedImport w of role
+  pub has_encoding : (role : Import) (encoding : StringEncoding) → encoding_in role m ≡ Some encoding → (IsTrue (is_main_memory role) → ⊥) → (IsSome (shared_memory w) → is_always_shimmed w role ≡ false → IsTrue (needs (lower_needs w role) 2) → IsSome (role_realloc w of role)) → IsSuppliedImport w of role
   has_encoding role encoding e other realloc = record { encoding = λ needed. ap is_some (encoding_found role (Some encoding) e); memory = λ memory. absurd (other memory); realloc = realloc }
 
   -- what it lacks is a cause

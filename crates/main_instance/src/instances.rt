@@ -1,7 +1,7 @@
 //! The instance of a user module: each of its imports is given what its role needs.
 #![tactic(auto, using(crate::proofs::Growth::growing))]
 
-ghost use Rattle.std.specs.Prelude.{◌≡◌, [], ◌∷◌, None, IfOk, IfErr, OnOk, IsSome, IsTrue, map, Contains};
+ghost use Rattle.std.specs.Prelude.{◌≡◌, [], ◌∷◌, Some, None, IfOk, IfErr, OnOk, IsSome, IsTrue, map, Contains};
 ghost use Rattle.std.specs.List.{AllZip, IsDistinct};
 ghost use Rattle.std.specs.Option.{option_copied};
 ghost use Rattle.std.specs.Str.{bytes_eq};
@@ -11,7 +11,7 @@ ghost use Rattle.comp_bytes.specs.Spaces.{kind_space};
 ghost use Rattle.comp_bytes.specs.declared.space.Space.TheVariants.{CoreFunc};
 ghost use Rattle.comp_items.specs.Items.{Extends};
 ghost use Rattle.comp_links.specs.Supplied.{IsSuppliedImport};
-ghost use Rattle.comp_links.specs.Links.{lower_needs, lower_options, lower_realloc};
+ghost use Rattle.comp_links.specs.Links.{lower_needs, lower_options, role_realloc};
 ghost use Rattle.comp_options.specs.Options.{needs, realloc_bit};
 ghost use Rattle.comp_links.specs.Targets.{OfRoot, OfInterface, Drop, Lowered, OfResource};
 ghost use Rattle.comp_lists.specs.Found.{found};
@@ -41,10 +41,10 @@ use built_ins::{called_payload, plain_intrinsic};
 use byte_encoding::BuildFault;
 use comp_bytes::{CoreArgument, CoreInlineExport};
 use comp_lists::{Keyed, Seq, Text};
-use comp_worlds::{ComponentWorld, Import, ImportInstance};
+use comp_worlds::{ComponentWorld, Import, ImportInstance, PayloadInfo};
 use core_options::{StateFault, UserModule, payload_function};
 use root_imports::RootScope;
-use shim_plan::{MemoryFunction, ShimKind, Shims};
+use shim_plan::{MemoryFunction, ShimKind, Shims, accessed_of};
 use standard_kinds::{ExportKind, StringEncoding};
 use wit_data::{AbiVariant, InterfaceId, TypeId, WorldKey};
 
@@ -92,7 +92,8 @@ impl ImportSources<'_> {
             (user_of self.now.user.which) call.entry.import.now)) }
         ensures realloc { OnOk result (IsTrue
             (needs (lower_needs root.old.world.now call.entry.import.now) realloc_bit)
-            → IsSome (lower_realloc root.old.world.now (user_of self.now.user.which))) }
+            → IsSome (role_realloc root.old.world.now (user_of self.now.user.which)
+            call.entry.import.now)) }
         ensures cause { IfErr result (IsCauseAmong root.old.world.now (record {
           of = user_of
               self.now.user.which;
@@ -129,7 +130,8 @@ impl ImportSources<'_> {
             (user_of self.now.user.which) call.entry.import.now))) }
         ensures realloc { OnOk result (IsTrue
             (needs (lower_needs root.old.world.now call.entry.import.now) realloc_bit)
-            → IsSome (lower_realloc root.old.world.now (user_of self.now.user.which))) }
+            → IsSome (role_realloc root.old.world.now (user_of self.now.user.which)
+            call.entry.import.now)) }
         ensures cause { IfErr result (IsCauseAmong root.old.world.now (record {
           of = user_of
               self.now.user.which;
@@ -165,7 +167,8 @@ impl ImportSources<'_> {
             root.old.world.now (user_of self.now.user.which) call.entry.import.now))) }
         ensures realloc { OnOk result (IsTrue
             (needs (lower_needs root.old.world.now call.entry.import.now) realloc_bit)
-            → IsSome (lower_realloc root.old.world.now (user_of self.now.user.which))) }
+            → IsSome (role_realloc root.old.world.now (user_of self.now.user.which)
+            call.entry.import.now)) }
         ensures cause { IfErr result (IsCauseAmong root.old.world.now (record {
           of = user_of
               self.now.user.which;
@@ -506,8 +509,45 @@ impl ImportSources<'_> {
         }
     }
 
-    /// What an import is given that is no built-in function without operands: a function of a stream or
-    /// a future is given as itself, of the type that it has.
+    /// What an import of a function of a stream or a future is given: a read or a write has its shim, or
+    /// is given as itself, and another one is given as itself, of the type that it has.
+    ///
+    /// `E7`, `E8` and `E9` as in [`ImportSources::materialize_import`].
+    fn link_payload(
+        &self,
+        root: &mut RootScope<'_, ComponentWorld>,
+        place: CorePlace<'_>,
+        import: &Import,
+        info: &PayloadInfo,
+    ) -> Result<u32, StateFault>
+        requires sources { AreSources root.old.world.now self.now root.old.met root.old.items.defs
+            root.old.maps root.old.instances }
+        requires present { Contains (imports_of self.now.user.found.now)
+            (import_at place import.now) }
+        requires payload { called_payload import.now ≡ Some info.now }
+        ensures kept { RootKept root.old.world.now root.old root.new }
+        ensures grows { OnOk result
+            (Grows root.old.world.now root.old.items.defs root.new.items.defs []) }
+        ensures given { IfOk result (λ index. IsGivenFor root.old.world.now
+            (user_of self.now.user.which) root.new.items.defs CoreFunc index import.now) }
+        ensures supplied { OnOk result
+            (IsSuppliedImport root.old.world.now (user_of self.now.user.which) import.now) }
+        ensures cause { IfErr result (IsCauseAmong root.old.world.now (record {
+          of = user_of self.now.user.which;
+          core = import_at place.entry import.now;
+        } ∷ []) []) }
+    {
+        match accessed_of(import) {
+            Some(access) => self.give_access(root, place, import, access),
+            None => {
+                let index = payload_function(root, import, info)?;
+                Ok(index)
+            }
+        }
+    }
+
+    /// What an import is given that is no built-in function without operands: one of a stream or a
+    /// future, or else another.
     ///
     /// `E7`, `E8` and `E9` as in [`ImportSources::materialize_import`].
     fn link_built_in(
@@ -537,7 +577,8 @@ impl ImportSources<'_> {
     {
         match called_payload(import) {
             Some(info) => {
-                let index = payload_function(root, import, info)?;
+                let place = CorePlace { module, field };
+                let index = self.link_payload(root, place, import, info)?;
                 Ok((ExportKind::Func, index))
             }
             None => self.link_function(root, module, field, import),

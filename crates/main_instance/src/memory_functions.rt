@@ -83,7 +83,7 @@ impl ImportSources<'_> {
         requires role { plans.memory_function import.now ≡ Some function }
         requires present { Contains (imports_of self.now.user.found.now)
             (import_at place import.now) }
-        requires planned { is_always_shimmed import.now ≡ false
+        requires planned { is_always_shimmed root.old.world.now import.now ≡ false
             → shared_memory root.old.world.now ≡ None }
         ensures same { root.new ≡ record root.old { items = root.new.items } }
         ensures extends { Extends root.old.items root.new.items }

@@ -41,6 +41,6 @@ pub use fault::ShimFault;
 pub use kinds::ShimKind;
 pub use laws::equal_kinds_are_one;
 pub use memory_functions::MemoryFunction;
-pub use payloads::{PayloadAccess, accessed_of};
+pub use payloads::{PayloadAccess, access_needs_shim, accessed_of};
 pub use reallocs::{ReallocSite, realloc_needs_shim};
 pub use shims::{Shim, Shims};

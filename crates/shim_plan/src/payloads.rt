@@ -120,9 +120,9 @@ fn access_text(
     Ok(Text::from_string(format!(in alloc; "{from}-{name}")?))
 }
 
-/// Whether one needs a shim: always, where its options have a realloc, and else where main imports no
-/// memory.
-fn passes_through(world: &ComponentWorld, options: RequiredOptions) -> bool
+/// Whether a read or a write with these options has a shim: always, where they have a realloc, and else
+/// where main imports no memory.
+pub fn access_needs_shim(world: &ComponentWorld, options: RequiredOptions) -> bool
     ensures { result ≡ specs.passes_through world.now options }
 {
     options.contains(RequiredOptions::REALLOC) || world.main.imports.imported_memory().is_none()
@@ -194,7 +194,7 @@ impl UserModule<'_> {
             (core_import import.now) (specs.accessed_payload access.now)) }
     {
         let options = access.options(self.world);
-        if passes_through(self.world, options) {
+        if access_needs_shim(self.world, options) {
             self.add_accessed(needs, alloc, import, access, options)
         } else {
             Ok(())

@@ -31,6 +31,7 @@ use Rattle.shim_targets.proofs.Users.{IsImportOf, import_of}
 use Rattle.shim_targets.specs.ShimTargets.{which_of, kind_of_import}
 use Rattle.standard_kinds.specs.declared.kinds.StringEncoding.{StringEncoding}
 use Rattle.world_shims.specs.WorldShims.{shims_of}
+use Rattle.world_values.specs.Mentions.{payload_in}
 
 -- ---- modules
 
@@ -130,6 +131,7 @@ function_there w ok i c function is unshared = by (is_always_shimmed w i.core.ro
 -- an import that is one: the kind of its shim, and what it needs
 pub record AccessImport (w : ComponentWorld) (of : UserModule) (role : Import) (a : Accessed) : Type 0 where
   pub same : role ≡ access_role a.info a.kind a.is_async
+  pub payload : payload_in role ≡ Some a.info
   pub encoded : (m : ValidatedModule) → encoding_in role m ≡ Some (payload_encoding a.info a.info.ty m)
   pub kind : (encoding : StringEncoding) → kind_of_import of role encoding ≡ Some (access_kind (which_of of) a)
   pub needed : lower_needs w role ≡ (access_options w a).0
@@ -140,16 +142,16 @@ pub record AccessImport (w : ComponentWorld) (of : UserModule) (role : Import) (
   pub other : is_main_memory role ≡ false
 
 access_by_stream_read : (w : ComponentWorld) (of : UserModule) (p : PayloadInfo) (is_async : Bool) → AccessImport w of (imports.StreamRead p is_async) (access_to p ends.StreamRead is_async)
-access_by_stream_read w of p is_async = record { same = refl; encoded = λ m. refl; kind = λ encoding. refl; needed = refl; always = refl; reallocated = refl; own = refl; right = λ h. h; other = refl }
+access_by_stream_read w of p is_async = record { same = refl; payload = refl; encoded = λ m. refl; kind = λ encoding. refl; needed = refl; always = refl; reallocated = refl; own = refl; right = λ h. h; other = refl }
 
 access_by_stream_write : (w : ComponentWorld) (of : UserModule) (p : PayloadInfo) (is_async : Bool) → AccessImport w of (imports.StreamWrite p is_async) (access_to p ends.StreamWrite is_async)
-access_by_stream_write w of p is_async = record { same = refl; encoded = λ m. refl; kind = λ encoding. refl; needed = refl; always = refl; reallocated = refl; own = refl; right = λ h. h; other = refl }
+access_by_stream_write w of p is_async = record { same = refl; payload = refl; encoded = λ m. refl; kind = λ encoding. refl; needed = refl; always = refl; reallocated = refl; own = refl; right = λ h. h; other = refl }
 
 access_by_future_read : (w : ComponentWorld) (of : UserModule) (p : PayloadInfo) (is_async : Bool) → AccessImport w of (imports.FutureRead p is_async) (access_to p ends.FutureRead is_async)
-access_by_future_read w of p is_async = record { same = refl; encoded = λ m. refl; kind = λ encoding. refl; needed = refl; always = refl; reallocated = refl; own = refl; right = λ h. h; other = refl }
+access_by_future_read w of p is_async = record { same = refl; payload = refl; encoded = λ m. refl; kind = λ encoding. refl; needed = refl; always = refl; reallocated = refl; own = refl; right = λ h. h; other = refl }
 
 access_by_future_write : (w : ComponentWorld) (of : UserModule) (p : PayloadInfo) (is_async : Bool) → AccessImport w of (imports.FutureWrite p is_async) (access_to p ends.FutureWrite is_async)
-access_by_future_write w of p is_async = record { same = refl; encoded = λ m. refl; kind = λ encoding. refl; needed = refl; always = refl; reallocated = refl; own = refl; right = λ h. h; other = refl }
+access_by_future_write w of p is_async = record { same = refl; payload = refl; encoded = λ m. refl; kind = λ encoding. refl; needed = refl; always = refl; reallocated = refl; own = refl; right = λ h. h; other = refl }
 
 pub access_import_of : (w : ComponentWorld) (of : UserModule) (role : Import) (a : Accessed) → accessed_of role ≡ Some a → AccessImport w of role a
 access_import_of w of (imports.StreamRead p is_async) a h = subst (AccessImport w of (imports.StreamRead p is_async)) (same_Some (access_to p ends.StreamRead is_async) a h) (access_by_stream_read w of p is_async)

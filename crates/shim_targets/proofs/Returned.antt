@@ -30,7 +30,7 @@ found_by w users.Main = refl
 found_by w (users.Adapter name) = refl
 
 -- the type of a stream or a future is there
-payload_there : (w : ComponentWorld) (p : PayloadInfo) (ty : PayloadType) → IsTyped w p ty → HasPayload w.resolve ty
+pub payload_there : (w : ComponentWorld) (p : PayloadInfo) (ty : PayloadType) → IsTyped w p ty → HasPayload w.resolve ty
 payload_there w p (payloads.Typed id name) h = h.0.present
 payload_there w p payloads.UnitStream h = tt
 payload_there w p payloads.UnitFuture h = tt
