@@ -1,5 +1,5 @@
 -- What the arguments of a user module's instantiation are, and what its imports find among them.
-use Rattle.std.proofs.Common.{◌≡◌, ◌∙◌, inl, inr, ℕ, List, [], ◌∷◌, map, refl, sym, ap, subst, Option, Some, None, true, false, true≢false, is_some, IsSome, IsTrue, Contains}
+use Rattle.std.proofs.Common.{◌≡◌, ◌∙◌, inl, inr, ℕ, Bool, List, [], ◌∷◌, map, refl, sym, ap, subst, Option, Some, None, true, false, true≢false, is_some, IsSome, IsTrue, Contains}
 use Rattle.standard_kinds.specs.declared.kinds.StringEncoding.{StringEncoding}
 use Rattle.std.proofs.lemmas.Option.{same_Some, none-some}
 use Rattle.std.specs.List.{AllZip, AllByRecursion}
@@ -8,7 +8,7 @@ use Rattle.comp_lists.specs.Found.{found}
 use Rattle.comp_lists.proofs.Lists.{AllZip-weaker}
 use Rattle.built_ins.proofs.Typed.{usable_too, plain_typed}
 use Rattle.built_ins.specs.BuiltIns.{plain_intrinsic, plain_type, plain_import_type}
-use Rattle.built_ins.specs.Payloads.{PayloadCall, named_call, payload_signature}
+use Rattle.built_ins.specs.Payloads.{PayloadCall, named_call, payload_signature, is_access}
 use Rattle.comp_bytes.specs.Spaces.{kind_space}
 use Rattle.comp_bytes.specs.declared.canon.Intrinsic.{Intrinsic}
 use Rattle.comp_bytes.specs.declared.canon.Intrinsic.TheVariants as intrinsics
@@ -45,6 +45,9 @@ use Rattle.comp_worlds.specs.WorldContents.{function_exported, items_of}
 use Rattle.comp_worlds.specs.Worlds.{IsWorld, IsImportRole, IsImportGroup}
 use Rattle.comp_roles.specs.declared.imports.Import.{Import}
 use Rattle.comp_roles.specs.declared.imports.Import.TheVariants as imports
+use Rattle.comp_roles.specs.declared.payloads.PayloadFuncKind.{PayloadFuncKind}
+use Rattle.comp_roles.specs.declared.payloads.PayloadFuncKind.TheVariants as ends
+use Rattle.comp_roles.specs.declared.payloads.PayloadInfo.{PayloadInfo}
 use Rattle.comp_roles.specs.declared.imports.ImportInstance.{ImportInstance}
 use Rattle.comp_roles.specs.declared.imports.ImportInstance.TheVariants as instances
 use Rattle.comp_roles.specs.declared.libraries.MainOrAdapter.{MainOrAdapter}
@@ -58,12 +61,12 @@ use Rattle.comp_links.specs.Targets.{UserModule, Main, Adapter, ExportRef, World
 use Rattle.comp_links.specs.Modules.{WorldModule, user_modules, IsModule, function_imported}
 use Rattle.comp_links.specs.Roles.{import_encoding}
 use Rattle.comp_links.specs.Lists.{resource_of}
-use Rattle.comp_links.specs.Links.{options_in, lower_realloc, lower_options, link_of_intrinsic, link_of_payload, link_of, link_in, link_at, module_of, task_return, set_wait, set_poll, error_new, error_message}
+use Rattle.comp_links.specs.Links.{options_in, lower_realloc, lower_options, link_of_intrinsic, link_of_payload, link_of, link_in, link_at, module_of, task_return, set_wait, set_poll, error_new, error_message, stream_read, stream_write, future_read, future_write}
 use Rattle.shim_plan.specs.declared.kinds.ShimKind.{ShimKind}
 use Rattle.shim_plan.specs.declared.kinds.ShimKind.TheVariants as shim_kinds
 use Rattle.shim_plan.specs.declared.shims.Shim.{Shim}
 use Rattle.world_shims.specs.WorldShims.{type_of_shim}
-use Rattle.comp_terms.specs.Generated.{interface_imported, export_key, returning_at, role_of_kind, export_of_kind, IsShimOf, Purpose, OfImport, OfExport, target_of, HasPurpose}
+use Rattle.comp_terms.specs.Generated.{interface_imported, export_key, returning_at, role_of_kind, export_of_kind, IsShimOf, Purpose, OfImport, OfExport, target_of, HasPurpose, access_role}
 use Rattle.comp_terms.specs.Terms.{intrinsic_of}
 use Rattle.comp_terms.specs.Shimmed.{has_shim, has_shim_in, has_shim_at}
 use Rattle.comp_terms.specs.Planned.{type_of_function, IsItemFor, IsShimFor, IsOwnShim, IsGivenFor, IsEntryFor, IsArgumentFor}
@@ -107,9 +110,9 @@ built_in_opaque w s address role None usable type none same fits h = let no : Is
 built_in_opaque w s address role (Some i) usable type none same fits h = intrinsic_opaque w s address i usable type (same i refl) fits h
 
 -- so is a function of a stream or a future
-payload_opaque : (w : ComponentWorld) (s : Store) (address : ℕ) (role : Import) (c : PayloadCall) → named_call role ≡ Some c → (type : FuncType) → Some (externs.Func (payload_signature c.intrinsic)) ≡ Some (externs.Func type) →
-    IsBuiltInAt w s address c.intrinsic (operand_tree (resource_of w) w.resolve.types (payload_operand c.info.ty)) [] → (item : CoreItem) × IsOpaqueOf s address type item
-payload_opaque w s address role c is type fits h =
+payload_opaque : (w : ComponentWorld) (s : Store) (address : ℕ) (role : Import) (c : PayloadCall) → named_call role ≡ Some c → (type : FuncType) → (options : List TargetOption) → Some (externs.Func (payload_signature c.intrinsic)) ≡ Some (externs.Func type) →
+    IsBuiltInAt w s address c.intrinsic (operand_tree (resource_of w) w.resolve.types (payload_operand c.info.ty)) options → (item : CoreItem) × IsOpaqueOf s address type item
+payload_opaque w s address role c is type options fits h =
     let tree : Option Tree = operand_tree (resource_of w) w.resolve.types (payload_operand c.info.ty) in
     let typed : externs.Func (intrinsic_signature c.intrinsic tree) ≡ externs.Func type = ap externs.Func (payload_core tree role c is) ∙ same_Some (externs.Func (payload_signature c.intrinsic)) (externs.Func type) fits in
     (IntrinsicOf c.intrinsic tree h.held, subst (λ t. IsOpaqueOf s address t (IntrinsicOf c.intrinsic tree h.held)) (ap (function_type_in type) typed) h.is)
@@ -117,7 +120,7 @@ payload_opaque w s address role c is type fits h =
 -- or another built-in function
 typed_opaque : (w : ComponentWorld) (s : Store) (address : ℕ) (role : Import) (o : Option PayloadCall) → named_call role ≡ o → (type : FuncType) → base_of_role role ≡ None → type_of_built_in role o ≡ Some (externs.Func type) → IsServedAs w s address (link_of_payload w role o) →
     (item : CoreItem) × IsOpaqueOf s address type item
-typed_opaque w s address role (Some c) is type none fits h = payload_opaque w s address role c is type fits h
+typed_opaque w s address role (Some c) is type none fits h = payload_opaque w s address role c is type [] fits h
 typed_opaque w s address role None is type none fits h = built_in_opaque w s address role (plain_intrinsic w.can_use_context_slot_1 role) (plain_intrinsic true role) type none (usable_too w.can_use_context_slot_1 role) fits h
 
 -- the core type of a built-in function
@@ -223,7 +226,18 @@ IsThrough imports.WaitableSetWait = Unit {0}
 IsThrough imports.WaitableSetPoll = Unit {0}
 IsThrough (imports.ErrorContextNew encoding) = Unit {0}
 IsThrough (imports.ErrorContextDebugMessage encoding) = Unit {0}
+IsThrough (imports.StreamRead p is_async) = Unit {0}
+IsThrough (imports.StreamWrite p is_async) = Unit {0}
+IsThrough (imports.FutureRead p is_async) = Unit {0}
+IsThrough (imports.FutureWrite p is_async) = Unit {0}
 IsThrough role = ⊥
+
+-- a read or a write has one
+access_through : (p : PayloadInfo) (kind : PayloadFuncKind) (is_async : Bool) → IsThrough (access_role p kind is_async)
+access_through p ends.FutureRead is_async = tt
+access_through p ends.FutureWrite is_async = tt
+access_through p ends.StreamRead is_async = tt
+access_through p ends.StreamWrite is_async = tt
 
 -- a shim stands for these alone, as an import
 shim_through : (w : ComponentWorld) (shim : Shim) (from : UserModule) (other : Import) → IsShimOf w shim from other → IsThrough other
@@ -250,6 +264,7 @@ shim_through w shim from other h = by shim.kind h.of_kind
     by shim_kinds.WaitableSetPoll k = subst IsThrough (ap (λ (x : UserModule × Import). x.1) (same_Some (Main, imports.WaitableSetPoll) (from, other) k)) tt
     by (shim_kinds.ErrorContextNew encoding) k = subst IsThrough (ap (λ (x : UserModule × Import). x.1) (same_Some (Main, imports.ErrorContextNew encoding) (from, other) k)) tt
     by (shim_kinds.ErrorContextDebugMessage which encoding) k = subst IsThrough (ap (λ (x : UserModule × Import). x.1) (same_Some (module_of which, imports.ErrorContextDebugMessage encoding) (from, other) k)) tt
+    by (shim_kinds.PayloadFunc which p kind is_async) k = subst IsThrough (ap (λ (x : UserModule × Import). x.1) (same_Some (module_of which, access_role p kind is_async) (from, other) k)) (access_through p kind is_async)
     by kind k = absurd (none-some (from, other) k)
 
 -- a call is lowered, and a function with options is the built-in function
@@ -262,6 +277,10 @@ through_target P of_lowered of_built_in w from imports.WaitableSetWait h = of_bu
 through_target P of_lowered of_built_in w from imports.WaitableSetPoll h = of_built_in set_poll refl NoType (lower_options w from imports.WaitableSetPoll)
 through_target P of_lowered of_built_in w from (imports.ErrorContextNew encoding) h = of_built_in error_new refl NoType (lower_options w from (imports.ErrorContextNew encoding))
 through_target P of_lowered of_built_in w from (imports.ErrorContextDebugMessage encoding) h = of_built_in error_message refl NoType (lower_options w from (imports.ErrorContextDebugMessage encoding))
+through_target P of_lowered of_built_in w from (imports.StreamRead p is_async) h = of_built_in stream_read refl (payload_operand p.ty) (lower_options w from (imports.StreamRead p is_async))
+through_target P of_lowered of_built_in w from (imports.StreamWrite p is_async) h = of_built_in stream_write refl (payload_operand p.ty) (lower_options w from (imports.StreamWrite p is_async))
+through_target P of_lowered of_built_in w from (imports.FutureRead p is_async) h = of_built_in future_read refl (payload_operand p.ty) (lower_options w from (imports.FutureRead p is_async))
+through_target P of_lowered of_built_in w from (imports.FutureWrite p is_async) h = of_built_in future_write refl (payload_operand p.ty) (lower_options w from (imports.FutureWrite p is_async))
 through_target P of_lowered of_built_in w from other h = absurd h
 
 -- and has no base
@@ -273,6 +292,10 @@ through_no_base imports.WaitableSetWait h = refl
 through_no_base imports.WaitableSetPoll h = refl
 through_no_base (imports.ErrorContextNew encoding) h = refl
 through_no_base (imports.ErrorContextDebugMessage encoding) h = refl
+through_no_base (imports.StreamRead p is_async) h = refl
+through_no_base (imports.StreamWrite p is_async) h = refl
+through_no_base (imports.FutureRead p is_async) h = refl
+through_no_base (imports.FutureWrite p is_async) h = refl
 through_no_base role h = absurd h
 
 -- so a shim stands for a lowering, for a built-in function, or for an export
@@ -304,6 +327,14 @@ module _ (w : ComponentWorld) (ok : IsWorld w) (s : Store) (of : UserModule) whe
   served_opaque address imports.WaitableSetPoll type right none fits h = memory_opaque w s address set_poll (lower_options w of imports.WaitableSetPoll) type fits h
   served_opaque address (imports.ErrorContextNew encoding) type right none fits h = memory_opaque w s address error_new (lower_options w of (imports.ErrorContextNew encoding)) type fits h
   served_opaque address (imports.ErrorContextDebugMessage encoding) type right none fits h = memory_opaque w s address error_message (lower_options w of (imports.ErrorContextDebugMessage encoding)) type fits h
+  served_opaque address (imports.StreamRead p is_async) type right none fits h =
+      payload_opaque w s address (imports.StreamRead p is_async) (record { intrinsic = stream_read; info = p }) refl type (lower_options w of (imports.StreamRead p is_async)) fits h
+  served_opaque address (imports.StreamWrite p is_async) type right none fits h =
+      payload_opaque w s address (imports.StreamWrite p is_async) (record { intrinsic = stream_write; info = p }) refl type (lower_options w of (imports.StreamWrite p is_async)) fits h
+  served_opaque address (imports.FutureRead p is_async) type right none fits h =
+      payload_opaque w s address (imports.FutureRead p is_async) (record { intrinsic = future_read; info = p }) refl type (lower_options w of (imports.FutureRead p is_async)) fits h
+  served_opaque address (imports.FutureWrite p is_async) type right none fits h =
+      payload_opaque w s address (imports.FutureWrite p is_async) (record { intrinsic = future_write; info = p }) refl type (lower_options w of (imports.FutureWrite p is_async)) fits h
   served_opaque address (imports.MainModuleMemory memory) type right none fits h = absurd h
   served_opaque address (imports.MainModuleExport name kind) type right none fits h = absurd (none-some (externs.Func type) fits)
   served_opaque address (imports.Item item) type right none fits h = absurd (none-some (externs.Func type) fits)
@@ -441,6 +472,10 @@ lowered_through w of imports.WaitableSetWait right f options is = tt
 lowered_through w of imports.WaitableSetPoll right f options is = tt
 lowered_through w of (imports.ErrorContextNew encoding) right f options is = tt
 lowered_through w of (imports.ErrorContextDebugMessage encoding) right f options is = tt
+lowered_through w of (imports.StreamRead p is_async) right f options is = tt
+lowered_through w of (imports.StreamWrite p is_async) right f options is = tt
+lowered_through w of (imports.FutureRead p is_async) right f options is = tt
+lowered_through w of (imports.FutureWrite p is_async) right f options is = tt
 lowered_through w of (imports.ImportedResourceDrop key interface id) right f options is = cc
 lowered_through w of (imports.ExportedResourceDrop key id) right f options is = cc
 lowered_through w of (imports.ExportedResourceRep key id) right f options is = cc
@@ -464,10 +499,10 @@ not_optional w role (Some i) e name with_options operand options is =
     let typed : IsSome (plain_type i) = ap is_some (ap (option_and_then plain_type) (sym (usable_too w.can_use_context_slot_1 role i e))) ∙ plain_typed w.can_use_context_slot_1 role (ap is_some e) in
     true≢false (sym (ap (λ (t : Target). may_have_shim (name_in t)) is ∙ with_options) ∙ plain_has_none i typed)
 
--- nor has one of a stream or a future
-typed_not_optional : (w : ComponentWorld) (role : Import) (o : Option PayloadCall) → named_call role ≡ o → (name : Intrinsic) → may_have_shim name ≡ true → (operand : Operand) (options : List TargetOption) → link_of_payload w role o ≡ BuiltIn name operand options → ⊥
-typed_not_optional w role (Some c) e name with_options operand options is = true≢false (sym (ap (λ (t : Target). may_have_shim (name_in t)) is ∙ with_options) ∙ payload_has_none role c e)
-typed_not_optional w role None e name with_options operand options is = not_optional w role (plain_intrinsic w.can_use_context_slot_1 role) refl name with_options operand options is
+-- nor has one of a stream or a future that neither reads nor writes
+typed_not_optional : (w : ComponentWorld) (role : Import) → is_access role ≡ false → (o : Option PayloadCall) → named_call role ≡ o → (name : Intrinsic) → may_have_shim name ≡ true → (operand : Operand) (options : List TargetOption) → link_of_payload w role o ≡ BuiltIn name operand options → ⊥
+typed_not_optional w role apart (Some c) e name with_options operand options is = true≢false (sym (ap (λ (t : Target). may_have_shim (name_in t)) is ∙ with_options) ∙ payload_has_none role c apart e)
+typed_not_optional w role apart None e name with_options operand options is = not_optional w role (plain_intrinsic w.can_use_context_slot_1 role) refl name with_options operand options is
 
 built_in_through : (w : ComponentWorld) (of : UserModule) (role : Import) → IsImportRole w role → (name : Intrinsic) → may_have_shim name ≡ true → (operand : Operand) (options : List TargetOption) → link_of w of role ≡ BuiltIn name operand options → IsThrough role
 built_in_through w of (imports.WorldFunc (keys.Name text) function abi) right name with_options operand options is = tt
@@ -477,6 +512,10 @@ built_in_through w of imports.WaitableSetWait right name with_options operand op
 built_in_through w of imports.WaitableSetPoll right name with_options operand options is = tt
 built_in_through w of (imports.ErrorContextNew encoding) right name with_options operand options is = tt
 built_in_through w of (imports.ErrorContextDebugMessage encoding) right name with_options operand options is = tt
+built_in_through w of (imports.StreamRead p is_async) right name with_options operand options is = tt
+built_in_through w of (imports.StreamWrite p is_async) right name with_options operand options is = tt
+built_in_through w of (imports.FutureRead p is_async) right name with_options operand options is = tt
+built_in_through w of (imports.FutureWrite p is_async) right name with_options operand options is = tt
 built_in_through w of (imports.ImportedResourceDrop key interface id) right name with_options operand options is = cc
 built_in_through w of (imports.ExportedResourceDrop key id) right name with_options operand options is = cc
 built_in_through w of (imports.ExportedResourceRep key id) right name with_options operand options is = cc
@@ -485,7 +524,7 @@ built_in_through w of (imports.MainModuleMemory memory) right name with_options 
 built_in_through w of (imports.MainModuleExport field kind) right name with_options operand options is = cc
 built_in_through w of (imports.AdapterExport adapter field function) right name with_options operand options is = cc
 built_in_through w of (imports.Item item) right name with_options operand options is = cc
-built_in_through w of role right name with_options operand options is = absurd (typed_not_optional w role (named_call role) refl name with_options operand options is)
+built_in_through w of role right name with_options operand options is = absurd (typed_not_optional w role refl (named_call role) refl name with_options operand options is)
 
 -- the core type of what a target names
 abbrev type_of_target : ComponentWorld → Target → Option ExternType
@@ -503,6 +542,10 @@ through_typed w of imports.WaitableSetWait right h = refl
 through_typed w of imports.WaitableSetPoll right h = refl
 through_typed w of (imports.ErrorContextNew encoding) right h = refl
 through_typed w of (imports.ErrorContextDebugMessage encoding) right h = refl
+through_typed w of (imports.StreamRead p is_async) right h = refl
+through_typed w of (imports.StreamWrite p is_async) right h = refl
+through_typed w of (imports.FutureRead p is_async) right h = refl
+through_typed w of (imports.FutureWrite p is_async) right h = refl
 through_typed w of role right h = absurd h
 
 through_fits : (w : ComponentWorld) (role : Import) → IsThrough role → (type : ExternType) → FitsRole w role type → type_of_import w.resolve (items_of w) role ≡ Some type
@@ -513,6 +556,10 @@ through_fits w imports.WaitableSetWait h type fits = fits
 through_fits w imports.WaitableSetPoll h type fits = fits
 through_fits w (imports.ErrorContextNew encoding) h type fits = fits
 through_fits w (imports.ErrorContextDebugMessage encoding) h type fits = fits
+through_fits w (imports.StreamRead p is_async) h type fits = fits
+through_fits w (imports.StreamWrite p is_async) h type fits = fits
+through_fits w (imports.FutureRead p is_async) h type fits = fits
+through_fits w (imports.FutureWrite p is_async) h type fits = fits
 through_fits w role h type fits = absurd h
 
 -- a shim for what an import of a role is to be given has the core type of each import that fits the role

@@ -112,6 +112,10 @@ module _ (w : ComponentWorld) (ok : IsWorld w) where
   offered_matches of imports.WaitableSetPoll e right is m listed same t offered type fits = cc
   offered_matches of (imports.ErrorContextNew encoding) e right is m listed same t offered type fits = cc
   offered_matches of (imports.ErrorContextDebugMessage encoding) e right is m listed same t offered type fits = cc
+  offered_matches of (imports.StreamRead p is_async) e right is m listed same t offered type fits = cc
+  offered_matches of (imports.StreamWrite p is_async) e right is m listed same t offered type fits = cc
+  offered_matches of (imports.FutureRead p is_async) e right is m listed same t offered type fits = cc
+  offered_matches of (imports.FutureWrite p is_async) e right is m listed same t offered type fits = cc
   offered_matches of (imports.MainModuleMemory memory) e right is m listed same t offered type fits = cc
   offered_matches of role e right is m listed same t offered type fits = absurd (payload_no_export w role (named_call role) e is)
 

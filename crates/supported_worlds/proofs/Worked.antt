@@ -543,6 +543,10 @@ unit_stream_is_encoded = refl
 imported_stream_is_encoded : import_left_out (unnamed (kinds.Stream None) ∷ []) (0 ∷ []) 0 (imports.StreamDropReadable (met_in true f)) ≡ None
 imported_stream_is_encoded = refl
 
+-- so may it be read
+read_stream_is_encoded : import_left_out (unnamed (kinds.Stream None) ∷ []) (0 ∷ []) 0 (imports.StreamRead (met_in true f) true) ≡ None
+read_stream_is_encoded = refl
+
 stream_behind_the_root_is_reported : import_left_out (unnamed (kinds.Stream None) ∷ []) (1 ∷ []) 0 (imports.StreamDropReadable (met_in true f)) ≡ Some (codes "stream-drop-readable")
 stream_behind_the_root_is_reported = refl
 

@@ -4,7 +4,7 @@
 -- that it imports, in their order and with all resources of the root among them, core imports and
 -- exports with the role of such a function, core imports that drop a resource, or make or read a
 -- handle of one that their module has to export, or return from a function that is exported, or are
--- a wait, a function of error contexts, one of a stream or a future that passes no elements, main's
+-- a wait, a function of error contexts, one of a stream or a future, main's
 -- memory, an export of main, a function that an adapter exports, an item of an argument of a library,
 -- a built-in function without operands or a function of the thread-local base, and core exports that
 -- are a post-return, a callback, a destructor, a memory or a realloc; of main, of adapters and of
