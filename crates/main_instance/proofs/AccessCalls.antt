@@ -10,7 +10,7 @@ use Rattle.comp_links.specs.Supplied.{IsSuppliedImport}
 use Rattle.comp_links.specs.Targets.{UserModule as User, ExportRef, BuiltIn, payload_operand}
 use Rattle.comp_options.specs.OptionLists.{options_of, lacks_memory, lacks_realloc}
 use Rattle.comp_options.specs.Options.{needs, memory_bit, realloc_bit}
-use Rattle.comp_options.specs.Payloads.{HasPayload}
+use Rattle.comp_options.specs.Known.{HasPayload}
 use Rattle.comp_roles.specs.CoreImports.{CoreImport}
 use Rattle.comp_roles.specs.declared.imports.Import.{Import}
 use Rattle.comp_terms.specs.Planned.{IsGivenFor, IsItemFor, main_memory}

@@ -12,7 +12,7 @@ use Rattle.comp_worlds.specs.declared.world.ValidatedModule.{ValidatedModule}
 use Rattle.std.proofs.lemmas.Option.{none-some, same_Some}
 use Rattle.wit_data.specs.Sound.{HasFunction}
 use Rattle.wit_data.specs.declared.resolve.Resolve.{Resolve}
-use Rattle.comp_options.specs.Payloads.{HasPayload}
+use Rattle.comp_options.specs.Known.{HasPayload}
 use Rattle.shim_plan.specs.Needed.{Returned, returned_of, Accessed, accessed_of, access_to, HasOwnTypes, AreReturned, AreAllReturned}
 
 -- that of an import

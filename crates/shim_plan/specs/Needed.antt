@@ -37,7 +37,8 @@ use Rattle.comp_options.specs.Options.{needs, memory_bit, realloc_bit, task_retu
 use Rattle.comp_roles.specs.declared.payloads.PayloadFuncKind.{PayloadFuncKind}
 use Rattle.comp_roles.specs.declared.payloads.PayloadFuncKind.TheVariants as ends
 use Rattle.comp_roles.specs.declared.payloads.PayloadInfo.{PayloadInfo}
-use Rattle.comp_options.specs.Payloads.{payload_set, HasPayload}
+use Rattle.comp_options.specs.Payloads.{payload_set}
+use Rattle.comp_options.specs.Known.{HasPayload}
 use Rattle.comp_options.specs.declared.required.RequiredOptions.{RequiredOptions}
 use Rattle.comp_worlds.specs.Imported.{is_same_import_key}
 use Rattle.comp_worlds.specs.Lookups.{found_module, resolved_realloc}

@@ -4,7 +4,7 @@
 
 ghost use Rattle.std.specs.Prelude.{◌≡◌, [], ◌∷◌, ◌++◌, None, IfOk, IfSome, OnOk};
 ghost use Rattle.std.specs.Option.{option_map};
-ghost use Rattle.comp_options.specs.Payloads.{HasPayload};
+ghost use Rattle.comp_options.specs.Known.{HasPayload};
 ghost use Rattle.comp_roles.specs.Borrowed.{core_import};
 ghost use Rattle.wit_data.specs.Sound.{IsSound};
 ghost use Rattle.shim_plan.specs.Needed as specs;

@@ -10,7 +10,7 @@ use Rattle.comp_roles.specs.declared.libraries.MainOrAdapter.TheVariants as user
 use Rattle.comp_roles.specs.declared.payloads.PayloadInfo.{PayloadInfo}
 use Rattle.comp_roles.specs.declared.payloads.PayloadType.{PayloadType}
 use Rattle.comp_roles.specs.declared.payloads.PayloadType.TheVariants as payloads
-use Rattle.comp_options.specs.Payloads.{HasPayload}
+use Rattle.comp_options.specs.Known.{HasPayload}
 use Rattle.comp_worlds.specs.Encodable.{IsEncodable}
 use Rattle.comp_worlds.specs.Payloads.{IsTyped}
 use Rattle.comp_worlds.specs.Lookups.{found_module}

@@ -4,7 +4,7 @@
 ghost use Rattle.std.specs.Prelude.{◌↔◌, IsTrue, IfOk};
 ghost use Rattle.std.specs.List.{AllByRecursion};
 ghost use Rattle.wit_data.specs.Sound.{IsSound};
-ghost use Rattle.comp_options.specs.Payloads.{HasPayload};
+ghost use Rattle.comp_options.specs.Known.{HasPayload};
 ghost use Rattle.comp_worlds.specs.Uses.{imports_of};
 ghost use Rattle.shim_plan.specs.Needed.{HasOwnTypes, AreAllReturned};
 
