@@ -28,15 +28,16 @@ pub(crate) const E6: &str = "\
 
 pub(crate) const E7: &str = "\
     E7: a function is lowered or lifted with a memory, or its `task.return` needs one, or a\n\
-    module imports a wait, a poll or a function of error contexts, or an adapter or a library\n\
-    imports main's memory, and main neither imports nor exports one that has the role\n\
-    `memory`. For an imported function `place` is the name of its shim,\n\
-    `indirect-MODULE-FIELD` with the module and field of the core import; for a `task.return`\n\
-    it is `task-return-FUNCTION`; for the others of these `waitable-set.wait`,\n\
-    `waitable-set.poll`, `error-new` and `error-debug-message`; for an exported one it is the\n\
-    function's name; for an imported memory it is `MODULE::FIELD`. A function needs a memory\n\
-    where it has a string or a list in a parameter or its result, more than 16 core values as\n\
-    parameters, or more than one as the result.\n\
+    module imports a wait, a poll, a function of error contexts, or a read from a stream or a\n\
+    future or a write to it, or an adapter or a library imports main's memory, and main\n\
+    neither imports nor exports one that has the role `memory`. For an imported function\n\
+    `place` is the name of its shim, `indirect-MODULE-FIELD` with the module and field of the\n\
+    core import; for a `task.return` it is `task-return-FUNCTION`; for the others of these\n\
+    `waitable-set.wait`, `waitable-set.poll`, `error-new` and `error-debug-message`; for a\n\
+    read or a write it is `MODULE-FIELD`; for an exported one it is the function's name; for\n\
+    an imported memory it is `MODULE::FIELD`. A function needs a memory where it has a string\n\
+    or a list in a parameter or its result, more than 16 core values as parameters, or more\n\
+    than one as the result.\n\
     Example: `E7 NoMemory place=\"indirect-$root-log\"`, `E7 NoMemory place=\"g\"`, `E7 NoMemory\n\
     place=\"env::memory\"`\n\
     What to do: export a memory from main, and give it the role `memory`.\n";
@@ -46,9 +47,10 @@ pub(crate) const E8: &str = "\
     the role `import-realloc`, or else `realloc`; exports `export-realloc`, or else `realloc`;\n\
     a library that has none takes main's `realloc`. An import needs it for a string or a list\n\
     in its result, or where it reads the debug message of an error context, an export for one\n\
-    in a parameter, or for more than 16 core values as parameters. `place` is as for E7, but\n\
-    `MODULE::FIELD` of the import where main imports its memory, since it has no shim then; a\n\
-    debug message has one there too.\n\
+    in a parameter, a read from a stream or a future for one in its elements, as an import or\n\
+    an export, whichever its function is, or for more than 16 core values as parameters.\n\
+    `place` is as for E7, but `MODULE::FIELD` of the import where main imports its memory,\n\
+    since it has no shim then; a debug message and a read have one there too.\n\
     Example: `E8 NoRealloc place=\"indirect-a:b/i-f\"`, `E8 NoRealloc place=\"g\"`\n\
     What to do: export a realloc, and give it its role.\n";
 
@@ -142,7 +144,7 @@ pub(crate) const P7: &str = "\
 pub(crate) const P8: &str = "\
     P8: something that can't be encoded yet, by its kind, or a type that passes a limit;\n\
     docs/ERRORS.md lists the kinds.\n\
-    Example: `P8 LeftOut what=\"stream-read\"`\n\
+    Example: `P8 LeftOut what=\"flags\"`\n\
     What to do: leave it out of the world, or wait.\n";
 
 pub(crate) const P9: &str = "\
