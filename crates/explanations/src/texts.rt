@@ -1,8 +1,8 @@
 //! What codes mean, and what to do. `tests/docs.py --write` writes this file, after docs/ERRORS.md.
 
 pub(crate) const E1: &str = "\
-    E1: out of memory, wherever in `new`, `record`, `links` or `explain`; or before the\n\
-    program's own arguments were read.\n\
+    E1: out of memory, wherever in `new`, `record`, `links`, `lint` or `explain`; or before\n\
+    the program's own arguments were read.\n\
     Example: `E1 Memory`\n\
     What to do: about two copies of the module have to fit in memory.\n";
 
