@@ -1,7 +1,7 @@
 -- The link table of a world: what each import of a user module is to be given, and what each required
 -- export is to be lifted from (Canonical ABI: `canon lower`, `canon lift`). It depends on the role of an import or
 -- an export, and on nothing else.
-use Rattle.std.specs.Prelude.{ℕ, Bool, true, List, [], ◌∷◌, ◌++◌, Option, Some, None, unwrap_or}
+use Rattle.std.specs.Prelude.{ℕ, Bool, true, false, List, [], ◌∷◌, ◌++◌, Option, Some, None, unwrap_or}
 use Rattle.std.specs.Option.{option_map, option_map_or, option_and_then}
 use Rattle.comp_lists.specs.Found.{found}
 use Rattle.standard_kinds.specs.declared.kinds.StringEncoding.{StringEncoding}

@@ -3,7 +3,7 @@
 //! Canonical ABI: `canon stream.new`, `canon future.new` and their neighbours.
 #![tactic(auto, using(comp_items::proofs::Extending::extends_none, comp_items::proofs::Extending::extends_same, comp_items::proofs::Extending::extends_then))]
 
-ghost use Rattle.std.specs.Prelude.{◌≡◌, false, [], List, Some, IfOk, IfErr, OnOk, IsSome};
+ghost use Rattle.std.specs.Prelude.{◌≡◌, false, [], List, Some, unwrap_or, IfOk, IfErr, OnOk, IsSome};
 ghost use Rattle.std.specs.List.{AllByRecursion};
 ghost use Rattle.std.specs.Option.{option_and_then};
 ghost use Rattle.built_ins.specs.Payloads.{PayloadCall, named_call, called_payload, is_access};
@@ -26,11 +26,13 @@ ghost use Rattle.interface_needs.specs.RootNeeds.{IsPayloadFor};
 ghost use Rattle.root_imports.specs.Keeping.{RootKept};
 ghost use Rattle.root_imports.specs.Met.{IsSuppliedFor};
 ghost use Rattle.root_imports.specs.RootScopes.{AreTablesRight, ArePassed, IsRefusal};
+ghost use Rattle.standard_kinds.specs.declared.kinds.StringEncoding.TheVariants.{UTF8};
 
+use crate::options::encoding_of;
 use built_ins::payload_intrinsic;
 use byte_encoding::BuildFault;
 use comp_bytes::{CanonicalOption, Intrinsic};
-use comp_lists::{Keyed, Seq, Text, TryClone};
+use comp_lists::{Keyed, Seq, Text};
 use comp_worlds::{
     ComponentWorld, FunctionKey, Import, PayloadFuncKind, PayloadInfo, PayloadType, ValidatedModule,
 };
@@ -158,13 +160,17 @@ fn encoding_at(
         ≡ option_and_then (λ key. of_function key function.now encodings.now) key.now) }
 {
     match key {
-        Some(key) => {
-            let key = key.try_clone(alloc)?;
-            let function = function.clone(alloc)?;
-            let key = FunctionKey { key, function };
-            Ok(encodings.get(&key).copied())
-        }
+        Some(key) => encoding_of(alloc, encodings, key, function),
         None => Ok(None),
+    }
+}
+
+fn or_utf8(known: Option<StringEncoding>) -> StringEncoding
+    ensures { result ≡ unwrap_or known UTF8 }
+{
+    match known {
+        Some(encoding) => encoding,
+        None => StringEncoding::UTF8,
     }
 }
 
@@ -183,7 +189,7 @@ pub fn payload_encoding(
         PayloadType::Typed { function, .. } => {
             let encodings = encodings_of(found, info.imported);
             let known = encoding_at(alloc, encodings, &info.key, function)?;
-            Ok(known.unwrap_or(StringEncoding::UTF8))
+            Ok(or_utf8(known))
         }
         PayloadType::UnitFuture | PayloadType::UnitStream => Ok(StringEncoding::UTF8),
     }

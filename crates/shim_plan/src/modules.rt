@@ -86,6 +86,7 @@ impl<'a> UserModule<'a> {
             imported }
     {
         let own = self.found.exports.payload_realloc(imported);
-        self.world.resolve_realloc(lent_module(self.which), own)
+        let which = lent_module(self.which);
+        self.world.resolve_realloc(which, own)
     }
 }

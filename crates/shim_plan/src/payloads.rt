@@ -81,15 +81,16 @@ impl PayloadAccess<'_> {
 fn params_of(alloc: Global, kind: PayloadFuncKind) -> Result<Seq<WasmType>, AllocError>
     ensures { IfOk result (λ params. params ≡ specs.access_params kind) }
 {
-    let params = match kind {
+    match kind {
         PayloadFuncKind::StreamRead | PayloadFuncKind::StreamWrite => {
-            Vec::from_array(alloc, [WasmType::I32, WasmType::I32, WasmType::I32])?
+            let params = Vec::from_array(alloc, [WasmType::I32, WasmType::I32, WasmType::I32])?;
+            Ok(Seq::from_vec(params))
         }
         PayloadFuncKind::FutureRead | PayloadFuncKind::FutureWrite => {
-            Vec::from_array(alloc, [WasmType::I32, WasmType::I32])?
+            let params = Vec::from_array(alloc, [WasmType::I32, WasmType::I32])?;
+            Ok(Seq::from_vec(params))
         }
-    };
-    Ok(Seq::from_vec(params))
+    }
 }
 
 /// Its core signature.

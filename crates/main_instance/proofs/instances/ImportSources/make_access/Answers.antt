@@ -12,7 +12,7 @@ use Rattle.main_instance.specs.Calls.{import_at}
 use Rattle.root_imports.proofs.Supplying.{payload_supplied}
 use Rattle.shim_plan.specs.Needed.{access_options, accessed_payload, accesses_through, passes_through}
 use Rattle.standard_kinds.specs.declared.kinds.StringEncoding.{StringEncoding}
-use Rattle.main_instance.proofs.payloads.ImportSources.make_access.Goals as goal
+use Rattle.main_instance.proofs.instances.ImportSources.make_access.Goals as goal
 
 pub access_function-requires-clause-of : goal.access_function-requires-clause-of
 access_function-requires-clause-of c =

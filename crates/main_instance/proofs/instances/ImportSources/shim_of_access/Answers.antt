@@ -10,7 +10,7 @@ use Rattle.shim_plan.specs.Plans.{shim_of}
 use Rattle.shim_plan.specs.declared.kinds.ShimKind.{ShimKind}
 use Rattle.shim_targets.specs.ShimTargets.{which_of}
 use Rattle.world_shims.specs.WorldShims.{shims_of}
-use Rattle.main_instance.proofs.payloads.ImportSources.shim_of_access.Goals as goal
+use Rattle.main_instance.proofs.instances.ImportSources.shim_of_access.Goals as goal
 
 pub shim_there-requires-clause-needed : goal.shim_there-requires-clause-needed
 shim_there-requires-clause-needed c =

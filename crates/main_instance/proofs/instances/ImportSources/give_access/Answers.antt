@@ -1,7 +1,7 @@
 use Rattle.main_instance.proofs.AccessCalls.{access_sound}
 use Rattle.main_instance.specs.Calls.{import_at}
 use Rattle.shim_plan.specs.Needed.{accessed_payload}
-use Rattle.main_instance.proofs.payloads.ImportSources.give_access.Goals as goal
+use Rattle.main_instance.proofs.instances.ImportSources.give_access.Goals as goal
 
 pub options-needed-requires-clause-present : goal.options-needed-requires-clause-present
 options-needed-requires-clause-present c =
