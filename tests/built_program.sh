@@ -51,7 +51,7 @@ holds() {
     if cmp -s "$2" "$3"; then echo "ok: $1"; else echo "FAILED: $1"; failed=1; fi
 }
 
-usage='usage: component_new new OUT MAIN [options] | record OUT MODULE | defs FILE | links FILE | explain CODE'
+usage='usage: component_new new OUT MAIN [options] | lint MAIN [options] | record OUT MODULE | defs FILE | links FILE | explain CODE'
 expect 'a module with its record' 0 '' new made.wasm main.wasm
 holds 'its component' made.wasm "$top/examples/component.wasm"
 expect 'the empty module' 0 '' new empty_made.wasm empty.wasm
@@ -203,8 +203,8 @@ if [ "$got" -eq 1 ] && cmp -s err line; then echo 'ok: a full output'; else echo
 if [ "$(cat status)" -eq 1 ] && [ ! -s err ]; then echo 'ok: an output that nobody reads'; else echo 'FAILED: an output that nobody reads'; failed=1; fi
 
 cat >help <<'HELP'
-usage: component_new new OUT MAIN [options] | record OUT MODULE | defs FILE | links FILE | explain CODE
-  --adapt NAME=FILE  new: add the adapter in FILE under this name; any number of times
+usage: component_new new OUT MAIN [options] | lint MAIN [options] | record OUT MODULE | defs FILE | links FILE | explain CODE
+  --adapt NAME=FILE  new, lint: add the adapter in FILE under this name; any number of times
   --canonical        new: have the canonical part of versions in names, and the rest as suffixes
   --dot, --mermaid   links: print a graph, in the language of Graphviz or of Mermaid
   --no-merge         new: don't merge imports of compatible versions
