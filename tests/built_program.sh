@@ -279,6 +279,17 @@ prints 'the links of no file' 1 none 'error: read "none.wasm"' links none.wasm
 expect 'no FILE of links' 2 "$usage" links
 expect 'another form of links' 2 "$usage" links main.wasm --text
 
+# What validators refuse, found before there is a component.
+for example in main counters/main downloads/main log/main people/main search/main squares/main store/main strings/main visitors/main; do
+    expect "$example: no warnings" 0 '' lint "$top/examples/$example.wasm"
+done
+expect 'no warnings of an adapter' 0 '' lint "$top/examples/lines/main.wasm" --adapt "lines=$top/examples/lines/adapter.wasm"
+printf 'L10 NoRecord "main"\nL10 NoRecord "a"\n' >warned
+prints 'warnings of a module and an adapter' 1 warned '' lint empty.wasm --adapt a=empty.wasm
+prints 'warnings of a component' 1 none 'error: E3 Lower: P2 NotModule' lint "$top/examples/component.wasm"
+expect 'no MAIN of lint' 2 "$usage" lint
+expect 'a flag of another command behind MAIN' 2 "$usage" lint main.wasm --validate
+
 not_text=$(printf 'a\377b')
 expect 'a FILE that is not UTF-8' 2 'error: argument 2 is not UTF-8' defs "$not_text"
 expect 'an OUT that is not UTF-8' 2 'error: argument 2 is not UTF-8' new "$not_text" main.wasm

@@ -171,7 +171,7 @@ def explained(code, cause, example, remedy):
 
 
 def texts():
-    rows = sorted(error_rows().items(), key=lambda it: ("ECPFR".index(it[0][0]), int(it[0][1:])))
+    rows = sorted(error_rows().items(), key=lambda it: ("ECPFRL".index(it[0][0]), int(it[0][1:])))
     return TEXTS_HEAD + "".join("\n" + explained(code, *cells) for code, cells in rows)
 
 

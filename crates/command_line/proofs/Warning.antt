@@ -1,5 +1,5 @@
 -- Warnings that are printed, or why there are none.
-use Rattle.std.proofs.Common.{◌≡◌, ◌∙◌, ◌==◌, ◌⊎◌, ℕ, Bool, true, false, List, length, Option, Result, Ok, Err, refl, sym, ap, subst, inl, inr}
+use Rattle.std.proofs.Common.{◌≡◌, ◌∙◌, ◌==◌, ℕ, Bool, true, false, List, length, Option, Result, Ok, Err, refl, sym, ap, subst, inl, inr}
 use Rattle.std.specs.Prelude.{⊤}
 use Rattle.std.specs.Result.{IsErrAnd}
 use Rattle.fitted_modules.specs.declared.modules.Modules.{Modules}
@@ -10,7 +10,7 @@ use Rattle.name_warnings.specs.Lines.{shown}
 use Rattle.command_line.specs.Events.{device_faults}
 use Rattle.command_line.specs.Faults.{is_whole, run_warned, of_linting, reported_fault, reported_faults}
 use Rattle.command_line.specs.Files.{FilesRead}
-use Rattle.command_line.specs.Linting.{PrintsFound, IsLintFault, Lints, LintsRead, Linted}
+use Rattle.command_line.specs.Linting.{IsLintFault, Lints, LintsRead, Linted}
 use Rattle.command_line.specs.Messages.{Puts, PrintsWarnings}
 use Rattle.command_line.specs.declared.adapters.Adapter.{Adapter}
 use Rattle.command_line.specs.declared.fault.RunFault.{RunFault}
@@ -20,18 +20,18 @@ use Rattle.command_line.specs.declared.fault.Written.TheVariants as written
 use Rattle.command_line.specs.declared.store.Event.{Event}
 use Rattle.command_line.proofs.FilesRead.{failed_as, reported_files}
 
-ended : (F : Type 0) (text : List ℕ) (none : Bool) (w : Written) (before after : Option (List ℕ)) → none ≡ (length text == 0) → Puts before after text (is_whole w) →
-    PrintsWarnings {F = F} text before after (run_warned none w)
+ended : (F : Type 0) (text : List ℕ) (empty : Bool) (w : Written) (before after : Option (List ℕ)) → empty ≡ (length text == 0) → Puts before after text (is_whole w) →
+    PrintsWarnings {F = F} text before after (run_warned empty w)
 ended F text true written.Whole before after n h = (sym n, h)
 ended F text false written.Whole before after n h = (sym n, h)
-ended F text none written.Refused before after n h = h
-ended F text none written.Closed before after n h = h
+ended F text empty written.Refused before after n h = h
+ended F text empty written.Closed before after n h = h
 
 module _ {F : Type 0} where
   -- a text was put
-  pub warned_as : (text : List ℕ) (none : Bool) (w : Written) (before after : Option (List ℕ)) (r : Result ⊤ (RunFault F)) → none ≡ (length text == 0) → Puts before after text (is_whole w) → r ≡ run_warned none w →
+  pub warned_as : (text : List ℕ) (empty : Bool) (w : Written) (before after : Option (List ℕ)) (r : Result ⊤ (RunFault F)) → empty ≡ (length text == 0) → Puts before after text (is_whole w) → r ≡ run_warned empty w →
       PrintsWarnings text before after r
-  warned_as text none w before after r n h e = subst (λ (x : Result ⊤ (RunFault F)). PrintsWarnings text before after x) (sym e) (ended F text none w before after n h)
+  warned_as text empty w before after r n h e = subst (λ (x : Result ⊤ (RunFault F)). PrintsWarnings text before after x) (sym e) (ended F text empty w before after n h)
 
   -- the warnings are printed
   pub warnings_shown : (m : Modules) (text printed : List ℕ) (before after : Option (List ℕ)) (r : Result ⊤ (RunFault F)) → printed ≡ text → text ≡ shown (all_warnings m) → AreRead (listed m) → PrintsWarnings printed before after r →

@@ -71,9 +71,9 @@ run_written written.Closed = Err Closed
 
 -- the end of a run that writes warnings on standard output, of which there may be none
 abbrev pub run_warned : {F : Type 0} → Bool → Written → Result ⊤ (RunFault F)
-run_warned none written.Whole = if none then Ok tt else Err Warned
-run_warned none written.Refused = Err Out
-run_warned none written.Closed = Err Closed
+run_warned empty written.Whole = if empty then Ok tt else Err Warned
+run_warned empty written.Refused = Err Out
+run_warned empty written.Closed = Err Closed
 
 -- 1 where the fault is a refusal of the device
 abbrev pub reported_fault : {F : Type 0} → RunFault F → ℕ

@@ -83,12 +83,12 @@ pub(crate) fn run_written<F>(written: Written) -> Result<(), RunFault<F>>
     }
 }
 
-/// The end of a run that writes warnings on standard output. `none` is whether there are none.
-pub(crate) fn run_warned<F>(none: bool, written: Written) -> Result<(), RunFault<F>>
-    ensures { result ≡ run_warned none written }
+/// The end of a run that writes warnings on standard output. `empty` is whether there are none.
+pub(crate) fn run_warned<F>(empty: bool, written: Written) -> Result<(), RunFault<F>>
+    ensures { result ≡ run_warned empty written }
 {
     match written {
-        Written::Whole => { if none { Ok(()) } else { Err(RunFault::Warned) } }
+        Written::Whole => { if empty { Ok(()) } else { Err(RunFault::Warned) } }
         Written::Refused => Err(RunFault::Out),
         Written::Closed => Err(RunFault::Closed),
     }

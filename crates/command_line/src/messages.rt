@@ -74,8 +74,8 @@ pub(crate) fn print<W: Write, F>(out: &mut W, text: &[u8]) -> Result<(), RunFaul
 pub(crate) fn print_warnings<W: Write, F>(out: &mut W, text: &[u8]) -> Result<(), RunFault<F>>
     ensures { PrintsWarnings text.now (W.contents out.old) (W.contents out.new) result }
 {
-    let none = text.is_empty();
-    run_warned(none, put(out, text))
+    let empty = text.is_empty();
+    run_warned(empty, put(out, text))
 }
 
 /// Writes a front of the text, and all of it unless the writer fails.

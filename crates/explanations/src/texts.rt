@@ -1,8 +1,8 @@
 //! What codes mean, and what to do. `tests/docs.py --write` writes this file, after docs/ERRORS.md.
 
 pub(crate) const E1: &str = "\
-    E1: out of memory, wherever in `new`, `record`, `links` or `explain`; or before the\n\
-    program's own arguments were read.\n\
+    E1: out of memory, wherever in `new`, `record`, `links`, `lint` or `explain`; or before\n\
+    the program's own arguments were read.\n\
     Example: `E1 Memory`\n\
     What to do: about two copies of the module have to fit in memory.\n";
 
@@ -257,3 +257,72 @@ pub(crate) const R1: &str = "\
     records, and a record has one.\n\
     Example: `R1 SeveralEncodings`\n\
     What to do: write a record for each of them by hand.\n";
+
+pub(crate) const L1: &str = "\
+    L1: a name isn't in kebab case: labels are words joined by hyphens, each in letters of one\n\
+    case and digits, of which the first begins with a letter; names of functions may say of\n\
+    which resource they are, and ids of interfaces have a namespace, a package and a name.\n\
+    Example: `L1 NotKebab \"main\" \"interfaces\" \"a:b/i\" \"functions\" \"f\" \"params\" \"My_Key\"`\n\
+    What to do: rename it.\n";
+
+pub(crate) const L2: &str = "\
+    L2: a name is there before in its list: of labels, of parameters, of the types and\n\
+    functions of an interface, or of a side of the world.\n\
+    Example: `L2 NameTwice \"main\" \"interfaces\" \"a:b/i\" \"types\" \"r\" \"x\"`\n\
+    What to do: rename one.\n";
+
+pub(crate) const L3: &str = "\
+    L3: a name differs from one before it in its list in the case of letters alone, or in that\n\
+    the one is of a method and the other of a static function.\n\
+    Example: `L3 NameCase \"main\" \"imports\" \"GET\"`\n\
+    What to do: rename one.\n";
+
+pub(crate) const L4: &str = "\
+    L4: a resource is the type of a value, where only a handle of it can be: of a parameter,\n\
+    of a result, or in a type.\n\
+    Example: `L4 ResourceValue \"main\" \"interfaces\" \"a:b/i\" \"functions\" \"f\" \"result\"`\n\
+    What to do: take `own` or `borrow` of it.\n";
+
+pub(crate) const L5: &str = "\
+    L5: a result holds a borrowed handle, perhaps in a type that it names.\n\
+    Example: `L5 BorrowResult \"main\" \"imports\" \"f\" \"result\"`\n\
+    What to do: give an owned handle.\n";
+
+pub(crate) const L6: &str = "\
+    L6: a constructor gives neither an owned handle of its resource, nor a result with one for\n\
+    success.\n\
+    Example: `L6 ConstructorResult \"main\" \"interfaces\" \"a:b/i\" \"functions\" \"[constructor]r\"`\n\
+    What to do: give `own` of the resource.\n";
+
+pub(crate) const L7: &str = "\
+    L7: the first parameter of a method isn't a borrowed handle of its resource, or isn't\n\
+    named `self`.\n\
+    Example: `L7 MethodSelf \"main\" \"interfaces\" \"a:b/i\" \"functions\" \"[method]r.f\"`\n\
+    What to do: put `self`, a `borrow` of the resource, in front.\n";
+
+pub(crate) const L8: &str = "\
+    L8: a record, a variant, an enum or flags without a name are in a parameter, in a result,\n\
+    or in another type.\n\
+    Example: `L8 UnnamedType \"main\" \"imports\" \"f\" \"params\" \"x\"`\n\
+    What to do: give the type a name, and refer to that.\n";
+
+pub(crate) const L9: &str = "\
+    L9: a stream has characters for its items, as `stream<char>`.\n\
+    Example: `L9 CharStream \"main\" \"imports\" \"f\" \"result\"`\n\
+    What to do: take a stream of bytes, or of texts.\n";
+
+pub(crate) const L10: &str = "\
+    L10: a module has no record and no package, and imports nothing: its component is empty.\n\
+    Example: `L10 NoRecord \"main\"`\n\
+    What to do: attach a record (docs/RECORD.md).\n";
+
+pub(crate) const L11: &str = "\
+    L11: a record gives a role to a core import or core export that the module lacks, so that\n\
+    it has no effect.\n\
+    Example: `L11 FieldMissing \"main\" \"core-exports\" \"make_buckt\"`\n\
+    What to do: correct the names of the role, or drop it.\n";
+
+pub(crate) const L12: &str = "\
+    L12: a post-return is that of a function which no core export has the role of.\n\
+    Example: `L12 PostReturnAlone \"main\" \"core-exports\" \"cabi_post_f\"`\n\
+    What to do: add the role of the function.\n";

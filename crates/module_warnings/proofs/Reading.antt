@@ -1,5 +1,5 @@
 -- The entries of a module, or why they can't be read.
-use Rattle.std.proofs.Common.{◌≡◌, ◌∙◌, ℕ, Bool, List, Result, Ok, Err, refl, sym, subst}
+use Rattle.std.proofs.Common.{◌≡◌, ℕ, Bool, List, Result, Ok, Err, refl, sym, subst}
 use Rattle.std.specs.Prelude.{◌≢◌}
 use Rattle.core_sections.specs.Entries.{module_of}
 use Rattle.core_sections.specs.declared.core_module.CoreModule.{CoreModule}
@@ -8,8 +8,7 @@ use Rattle.core_sections.specs.declared.fault.SectionFault.TheVariants as sectio
 use Rattle.package_lower.specs.Causes.{DecodeCause}
 use Rattle.package_lower.specs.Layer.{decoded}
 use Rattle.package_lower.specs.declared.fault.LowerFault.{LowerFault}
-use Rattle.record_faults.specs.declared.fault.PlainFault.{PlainFault}
-use Rattle.module_warnings.specs.Modules.{entries_of, of_core, IsUnread, IsRead, IsCoreFault, LintRefusal}
+use Rattle.module_warnings.specs.Modules.{entries_of, of_core, IsRead, IsCoreFault, LintRefusal}
 use Rattle.module_warnings.specs.declared.fault.LintFault.{LintFault}
 use Rattle.module_warnings.specs.declared.fault.LintFault.TheVariants as faults
 

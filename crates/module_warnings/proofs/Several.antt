@@ -1,5 +1,5 @@
 -- Warnings of several modules, one after the other.
-use Rattle.std.proofs.Common.{◌≡◌, ◌∙◌, ◌⊎◌, ℕ, Bool, false, List, [], ◌∷◌, ◌++◌, Result, Ok, Err, refl, sym, ap, ap₂, subst, append_assoc, append-nil, inl, inr}
+use Rattle.std.proofs.Common.{◌≡◌, ◌∙◌, ℕ, Bool, false, List, [], ◌∷◌, ◌++◌, Result, Ok, Err, refl, sym, ap, ap₂, subst, append_assoc, append-nil, inl, inr}
 use Rattle.std.specs.Prelude.{⊤}
 use Rattle.std.specs.List.{flat_map}
 use Rattle.std.specs.Result.{IsErrAnd}
@@ -7,7 +7,7 @@ use Rattle.fitted_modules.specs.declared.modules.Modules.{Modules}
 use Rattle.fitted_modules.specs.declared.modules.NamedModule.{NamedModule}
 use Rattle.name_warnings.specs.declared.warning.Warning.{Warning}
 use Rattle.package_lower.specs.declared.lower.PackageLower.{PackageLower}
-use Rattle.module_warnings.specs.Linting.{listed, warnings_of, all_warnings, AreRead, IsCaused, IsFound, FindsOne, IsAdded, LintsOne, AreAdded, LintsEach}
+use Rattle.module_warnings.specs.Linting.{listed, warnings_of, all_warnings, AreRead, IsCaused, IsFound, IsAdded, LintsOne, AreAdded, LintsEach}
 use Rattle.module_warnings.specs.Modules.{warnings_in, LintCause, NoRefusal}
 use Rattle.module_warnings.specs.declared.fault.LintFault.{LintFault}
 use Rattle.module_warnings.specs.declared.fault.LintFault.TheVariants as faults

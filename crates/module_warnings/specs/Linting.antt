@@ -1,5 +1,5 @@
 -- The warnings of a main module and its adapters. (This project's own.)
-use Rattle.std.specs.Prelude.{◌≡◌, ◌⊎◌, ℕ, false, List, [], ◌∷◌, ◌++◌, ⊤, codes, Result, Ok, Err}
+use Rattle.std.specs.Prelude.{◌≡◌, ◌⊎◌, false, List, [], ◌∷◌, ◌++◌, ⊤, codes, Result, Ok, Err}
 use Rattle.std.specs.List.{flat_map, AllByRecursion}
 use Rattle.fitted_modules.specs.declared.modules.Modules.{Modules}
 use Rattle.fitted_modules.specs.declared.modules.NamedModule.{NamedModule}

@@ -1,6 +1,6 @@
 -- The warnings of a core module, by what it says of its component: in sections that describe it, or by the names of its core imports
 -- and core exports. (This project's own; the rules are those of the component model.)
-use Rattle.std.specs.Prelude.{◌≡◌, ◌==◌, ◌&&◌, ℕ, Bool, not, nat_lt, List, [], ◌∷◌, ◌++◌, length, Result, Err}
+use Rattle.std.specs.Prelude.{◌≡◌, ◌==◌, ◌&&◌, ℕ, Bool, not, nat_lt, List, [], ◌∷◌, ◌++◌, length, Err}
 use Rattle.std.specs.Result.{result_unwrap_or}
 use Rattle.core_sections.specs.Entries.{module_of, no_entries}
 use Rattle.core_sections.specs.declared.core_module.CoreModule.{CoreModule}

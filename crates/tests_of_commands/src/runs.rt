@@ -49,7 +49,7 @@ fn refused(alloc: Global, calls: u32, fault: StoreFault) -> Result<Answer, Alloc
 #[test]
 fn wrong_arguments_are_reported_before_anything_is_read(rt: HostRuntime) {
     let alloc = rt.alloc();
-    let wrong: [&[&str]; 25] = [
+    let wrong: [&[&str]; 30] = [
         &[],
         &["--Help"],
         &["--help", "--version"],
@@ -75,6 +75,11 @@ fn wrong_arguments_are_reported_before_anything_is_read(rt: HostRuntime) {
         &["explain"],
         &["explain", "P99"],
         &["explain", "P9", "P10"],
+        &["lint"],
+        &["lint", "main.wasm", "--validate"],
+        &["lint", "main.wasm", "b.wasm"],
+        &["lint", "main.wasm", "--adapt"],
+        &["lint", "main.wasm", "--adapt", "a"],
     ];
     for words in wrong {
         let mut store = Files::new(alloc, "main.wasm", EMPTY).expect(&rt, "memory");

@@ -1,6 +1,7 @@
 -- Tests of the nodes of a type (component model, explainer: type definitions, labels).
 use Rattle.std.specs.Prelude.{ℕ, Bool, true, false, ◌&&◌, List, [], ◌∷◌, map, is_some, if◌then◌else◌}
 use Rattle.std.specs.Map.{lookup}
+use Rattle.standard_kinds.specs.declared.kinds.Primitive.{Primitive}
 use Rattle.standard_kinds.specs.declared.kinds.Primitive.TheVariants as primitives
 use Rattle.record_values.specs.declared.types.Node.{Node}
 use Rattle.record_values.specs.declared.types.Node.TheVariants as nodes
@@ -20,8 +21,12 @@ needs_name (nodes.Enum names) = true
 needs_name (nodes.Flags names) = true
 needs_name node = false
 
+abbrev pub is_char_type : Primitive → Bool
+is_char_type primitives.Char = true
+is_char_type p = false
+
 abbrev pub is_char : Node → Bool
-is_char (nodes.Primitive primitives.Char) = true
+is_char (nodes.Primitive p) = is_char_type p
 is_char node = false
 
 abbrev pub is_stream : Node → Bool

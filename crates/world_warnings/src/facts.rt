@@ -1,6 +1,6 @@
 //! What types are of which others are made.
 
-ghost use Rattle.std.specs.Prelude.{◌≡◌, [], IfOk, OnOk};
+ghost use Rattle.std.specs.Prelude.{◌≡◌, IfOk, OnOk};
 ghost use Rattle.std.specs.List.{list_any};
 ghost use Rattle.world_names.specs.WorldNames.{owned};
 ghost use Rattle.world_warnings.specs.Facts.{node_borrows, borrows, with_type, with_types, of_interfaces, with_item, of_items, borrowing_of, facts_of};

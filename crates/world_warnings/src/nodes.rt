@@ -2,7 +2,7 @@
 
 ghost use Rattle.std.specs.Prelude.{◌≡◌, ◌&&◌, false, IfOk, map};
 ghost use Rattle.std.specs.List.{list_any};
-ghost use Rattle.world_warnings.specs.Nodes.{is_resource_value, needs_name, is_char, is_stream, streams_char, labels_of};
+ghost use Rattle.world_warnings.specs.Nodes.{is_resource_value, needs_name, is_char_type, is_char, is_stream, streams_char, labels_of};
 
 use comp_lists::{Seq, Text};
 use record_values::{Case, Node};
@@ -59,11 +59,20 @@ pub(crate) fn has_unnamed(nodes: &[Node]) -> bool
 
 // ---- streams of characters
 
+fn is_char_type(primitive: Primitive) -> bool
+    ensures { result ≡ is_char_type primitive }
+{
+    match primitive {
+        Primitive::Char => true,
+        _ => false,
+    }
+}
+
 fn is_char(node: &Node) -> bool
     ensures { result ≡ is_char node.now }
 {
     match node {
-        Node::Primitive(Primitive::Char) => true,
+        Node::Primitive(primitive) => is_char_type(*primitive),
         _ => false,
     }
 }

@@ -1,6 +1,6 @@
 //! Warnings of types: of values in functions, and those that have a name.
 
-ghost use Rattle.std.specs.Prelude.{◌≡◌, ◌++◌, false, OnOk};
+ghost use Rattle.std.specs.Prelude.{◌≡◌, ◌++◌, OnOk};
 ghost use Rattle.std.specs.List.{flat_map};
 ghost use Rattle.world_warnings.specs.Types.{node_warnings, shape_warnings, parts_warnings, value_warnings, before_last, definition_warnings};
 
