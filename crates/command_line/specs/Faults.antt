@@ -1,5 +1,5 @@
 -- Why a run fails, and with which exit status. (The program's own.)
-use Rattle.std.specs.Prelude.{ℕ, Bool, true, false, List, ⊤, Result, Ok, Err, if◌then◌else◌}
+use Rattle.std.specs.Prelude.{ℕ, Bool, true, false, ◌&&◌, not, List, ⊤, Result, Ok, Err, if◌then◌else◌}
 use Rattle.comp_check.specs.declared.fault.CheckFault.{CheckFault}
 use Rattle.comp_check.specs.declared.fault.CheckFault.TheVariants as checks
 use Rattle.comp_encoder.specs.declared.fault.EncodeFault.TheVariants as encode_faults
@@ -71,9 +71,7 @@ run_written written.Closed = Err Closed
 
 -- the end of a run that writes warnings on standard output, of which there may be none
 abbrev pub run_warned : {F : Type 0} → Bool → Written → Result ⊤ (RunFault F)
-run_warned empty written.Whole = if empty then Ok tt else Err Warned
-run_warned empty written.Refused = Err Out
-run_warned empty written.Closed = Err Closed
+run_warned empty w = if is_whole w && not empty then Err Warned else run_written w
 
 -- 1 where the fault is a refusal of the device
 abbrev pub reported_fault : {F : Type 0} → RunFault F → ℕ

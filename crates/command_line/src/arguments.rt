@@ -247,9 +247,12 @@ impl Request {
         ensures { IfOk result (λ r. r ≡ requests.Lint main.now
             (filter_map adapter_of (adapter_words (map string_bytes words.now)))) }
     {
-        let adapters = adapters(alloc, words)?;
+        let named = adapters(alloc, words)?;
         let main = Text::from_str(alloc, main)?;
-        Ok(Request::Lint { main, adapters })
+        Ok(Request::Lint {
+            main,
+            adapters: named,
+        })
     }
 
     /// What `lint` asks for with these flags, which are none, and the adapters among the words after the file.

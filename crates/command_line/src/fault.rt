@@ -87,11 +87,10 @@ pub(crate) fn run_written<F>(written: Written) -> Result<(), RunFault<F>>
 pub(crate) fn run_warned<F>(empty: bool, written: Written) -> Result<(), RunFault<F>>
     ensures { result ≡ run_warned empty written }
 {
-    match written {
-        Written::Whole => { if empty { Ok(()) } else { Err(RunFault::Warned) } }
-        Written::Refused => Err(RunFault::Out),
-        Written::Closed => Err(RunFault::Closed),
+    if written.is_whole() && !empty {
+        return Err(RunFault::Warned);
     }
+    run_written(written)
 }
 
 /// The fault of a run that is out of memory.

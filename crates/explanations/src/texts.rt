@@ -261,7 +261,8 @@ pub(crate) const R1: &str = "\
 pub(crate) const L1: &str = "\
     L1: a name isn't in kebab case: labels are words joined by hyphens, each in letters of one\n\
     case and digits, of which the first begins with a letter; names of functions may say of\n\
-    which resource they are, and ids of interfaces have a namespace, a package and a name.\n\
+    which resource they are, and ids of interfaces have a namespace, a package and a name,\n\
+    which functions and types of the world itself may have too.\n\
     Example: `L1 NotKebab \"main\" \"interfaces\" \"a:b/i\" \"functions\" \"f\" \"params\" \"My_Key\"`\n\
     What to do: rename it.\n";
 

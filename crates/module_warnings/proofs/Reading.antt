@@ -8,7 +8,7 @@ use Rattle.core_sections.specs.declared.fault.SectionFault.TheVariants as sectio
 use Rattle.package_lower.specs.Causes.{DecodeCause}
 use Rattle.package_lower.specs.Layer.{decoded}
 use Rattle.package_lower.specs.declared.fault.LowerFault.{LowerFault}
-use Rattle.module_warnings.specs.Modules.{entries_of, of_core, IsRead, IsCoreFault, LintRefusal}
+use Rattle.module_warnings.specs.Modules.{entries_of, of_core, IsRead, IsCoreFault, LintRefusal, NoRefusal}
 use Rattle.module_warnings.specs.declared.fault.LintFault.{LintFault}
 use Rattle.module_warnings.specs.declared.fault.LintFault.TheVariants as faults
 
@@ -31,10 +31,13 @@ read_and_unread (Err f) core s h k = cc
 
 -- entries that were read have no such cause
 pub never_unread : (rest : List ℕ) (core : CoreModule) → module_of rest ≡ Ok core → IsRead rest
-never_unread rest core h = λ f u. read_and_unread (module_of rest) core u.fault h u.unread
+never_unread rest core h = record { clear = λ f u. read_and_unread (module_of rest) core u.fault h u.unread }
+
+refused_never : (rejects_older : Bool) (given : List ℕ) → ((f : LowerFault) → ¬ DecodeCause rejects_older given f) → IsRead (decoded rejects_older given).0 → (f : LintFault) → ¬ LintRefusal rejects_older given f
+refused_never rejects_older given clear read faults.Memory = λ h. h
+refused_never rejects_older given clear read (faults.Decode f) = clear f
+refused_never rejects_older given clear read (faults.Core f) = read.clear f
 
 -- nor has a module whose sections were read, too
-pub none_refused : (rejects_older : Bool) (given : List ℕ) → ((f : LowerFault) → ¬ DecodeCause rejects_older given f) → IsRead (decoded rejects_older given).0 → (f : LintFault) → ¬ LintRefusal rejects_older given f
-none_refused rejects_older given clear read faults.Memory = λ h. h
-none_refused rejects_older given clear read (faults.Decode f) = clear f
-none_refused rejects_older given clear read (faults.Core f) = read f
+pub none_refused : (rejects_older : Bool) (given rest : List ℕ) → rest ≡ (decoded rejects_older given).0 → ((f : LowerFault) → ¬ DecodeCause rejects_older given f) → IsRead rest → NoRefusal rejects_older given
+none_refused rejects_older given rest is clear read = record { clear = refused_never rejects_older given clear (subst (λ (r : List ℕ). IsRead r) is read) }

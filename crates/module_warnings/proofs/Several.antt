@@ -62,7 +62,7 @@ none_linted before all = record { found = refl; read = λ h. h; caused = λ e h.
 pub one_linted : (before now new : List Warning) (all rest : List NamedModule) (m : NamedModule) → LintedSoFar before now all (m ∷ rest) → IsAdded now new m → LintedSoFar before new all rest
 one_linted before now new all rest m h k = record {
   found = ap (λ (ws : List Warning). ws ++ flat_map warnings_of rest) k.found ∙ (append_assoc now (warnings_of m) (flat_map warnings_of rest) ∙ h.found);
-  read = λ r. h.read (k.read, r);
+  read = λ r. h.read (record { each = (k.read, r.each) });
   caused = λ e c. h.caused e (caused_later m rest e c);
 }
 
@@ -74,7 +74,7 @@ one_unread before now new all rest m e (Err f) ends h k = subst (λ (y : LintFau
 
 -- all
 pub all_linted : (before now : List Warning) (all rest : List NamedModule) → rest ≡ [] → LintedSoFar before now all rest → AreAdded before now all
-all_linted before now all [] none h = record { found = sym (append-nil now) ∙ h.found; read = h.read tt }
+all_linted before now all [] none h = record { found = sym (append-nil now) ∙ h.found; read = h.read (record { each = tt }) }
 all_linted before now all (m ∷ rest) none h = absurd (cc)
 
 -- ---- of a main module and its adapters

@@ -20,8 +20,8 @@ abbrev pub all_warnings : Modules → List Warning
 all_warnings m = flat_map warnings_of (listed m)
 
 -- all of them are read
-abbrev pub AreRead : List NamedModule → Type 0
-AreRead ms = AllByRecursion (λ m. NoRefusal false m.bytes) ms
+pub record AreRead (ms : List NamedModule) : Type 0 where
+  pub each : AllByRecursion (λ m. NoRefusal false m.bytes) ms
 
 -- one of them isn't
 abbrev pub AnyRefused : List NamedModule → LintFault → Type 0

@@ -52,8 +52,8 @@ pub record IsUnread (rest : List ℕ) (f : PlainFault) : Type 0 where
   pub is : of_core fault ≡ faults.Core f
 
 -- they can be read
-abbrev pub IsRead : List ℕ → Type 0
-IsRead rest = (f : PlainFault) → ¬ IsUnread rest f
+pub record IsRead (rest : List ℕ) : Type 0 where
+  pub clear : (f : PlainFault) → ¬ IsUnread rest f
 
 abbrev pub IsCoreFault : List ℕ → LintFault → Type 0
 IsCoreFault rest faults.Memory = Unit {0}
@@ -66,8 +66,8 @@ LintRefusal rejects_older given faults.Memory = ⊥
 LintRefusal rejects_older given (faults.Decode f) = DecodeCause rejects_older given f
 LintRefusal rejects_older given (faults.Core f) = IsUnread (decoded rejects_older given).0 f
 
-abbrev pub NoRefusal : Bool → List ℕ → Type 0
-NoRefusal rejects_older given = (f : LintFault) → ¬ LintRefusal rejects_older given f
+pub record NoRefusal (rejects_older : Bool) (given : List ℕ) : Type 0 where
+  pub clear : (f : LintFault) → ¬ LintRefusal rejects_older given f
 
 -- out of memory, or one of these
 abbrev pub LintCause : Bool → List ℕ → LintFault → Type 0

@@ -16,7 +16,7 @@ mod noting;
 mod repeats;
 mod warning;
 
-pub use forms::{add_interface_name, add_label, add_plain_name};
+pub use forms::{add_interface_name, add_label, add_plain_name, add_world_name};
 pub use labels::add_labels;
 pub use lines::show_warnings;
 pub use noting::{longer, note, note_at};

@@ -2,7 +2,7 @@
 -- place of indices. (Component model, explainer: import and export definitions.)
 use Rattle.std.specs.Prelude.{ℕ, List, [], ◌∷◌, ◌++◌, map, codes}
 use Rattle.std.specs.List.{flat_map}
-use Rattle.name_warnings.specs.Forms.{label_warnings, plain_name_warnings, interface_name_warnings}
+use Rattle.name_warnings.specs.Forms.{label_warnings, plain_name_warnings, interface_name_warnings, world_name_warnings}
 use Rattle.name_warnings.specs.Repeats.{repeats}
 use Rattle.name_warnings.specs.declared.warning.Warning.{Warning}
 use Rattle.record_values.specs.declared.names.InterfaceName.{InterfaceName}
@@ -26,8 +26,8 @@ use Rattle.world_warnings.specs.declared.facts.Facts.{Facts}
 
 -- ---- types and functions with their names
 
-abbrev pub typed_warnings : Resources → List (List ℕ) → List ℕ → List Node → List Warning
-typed_warnings resources path name ns = label_warnings path name ++ definition_warnings resources (path ++ name ∷ []) ns
+abbrev pub typed_warnings : Resources → List (List ℕ) → Typed → List Warning
+typed_warnings resources path t = label_warnings path t.name ++ definition_warnings resources (path ++ t.name ∷ []) t.nodes
 
 abbrev pub named_function_warnings : Facts → Owner → List (List ℕ) → Func → List Warning
 named_function_warnings facts owner path f = plain_name_warnings path f.name ++ function_warnings facts owner f (path ++ f.name ∷ [])
@@ -35,7 +35,7 @@ named_function_warnings facts owner path f = plain_name_warnings path f.name ++ 
 -- ---- interfaces
 
 abbrev pub types_warnings : Resources → List Typed → List (List ℕ) → List Warning
-types_warnings resources ts path = flat_map (λ t. typed_warnings resources path t.name t.nodes) ts
+types_warnings resources ts path = flat_map (typed_warnings resources path) ts
 
 abbrev pub functions_warnings : Facts → Owner → List Func → List (List ℕ) → List Warning
 functions_warnings facts owner fs path = flat_map (named_function_warnings facts owner path) fs
@@ -66,10 +66,16 @@ interfaces_warnings facts path is = flat_map (interface_warnings facts (path ++ 
 
 -- ---- the world's own items
 
+abbrev pub world_function_warnings : Facts → List (List ℕ) → Func → List Warning
+world_function_warnings facts path f = world_name_warnings path f.name ++ function_warnings facts owners.World f (path ++ f.name ∷ [])
+
+abbrev pub world_type_warnings : Resources → List (List ℕ) → List ℕ → List Node → List Warning
+world_type_warnings resources path name ns = world_name_warnings path name ++ definition_warnings resources (path ++ name ∷ []) ns
+
 abbrev pub item_at : Facts → List (List ℕ) → List ℕ → Item → List Warning
 item_at facts path name (items.Interface i) = []
-item_at facts path name (items.Function f) = named_function_warnings facts owners.World path f
-item_at facts path name (items.Type ns) = typed_warnings facts.resources path name ns
+item_at facts path name (items.Function f) = world_function_warnings facts path f
+item_at facts path name (items.Type ns) = world_type_warnings facts.resources path name ns
 
 abbrev pub item_warnings : Facts → List (List ℕ) → ItemKey × Item → List Warning
 item_warnings facts path e = item_at facts path (key_text e.0) e.1

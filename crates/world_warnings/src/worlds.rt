@@ -4,34 +4,35 @@ ghost use Rattle.std.specs.Prelude.{◌≡◌, ◌++◌, ◌∷◌, [], map, cod
 ghost use Rattle.std.specs.List.{flat_map};
 ghost use Rattle.record_values.specs.Names.{key_text};
 ghost use Rattle.name_warnings.specs.Repeats.{repeats};
-ghost use Rattle.world_warnings.specs.Worlds.{typed_warnings, types_warnings, named_function_warnings, functions_warnings, form_warnings, member_names, interface_at, interface_warnings, item_warnings, side_warnings, interfaces_warnings, warnings_of};
+ghost use Rattle.world_warnings.specs.Worlds.{typed_warnings, types_warnings, named_function_warnings, functions_warnings, form_warnings, member_names, interface_at, interface_warnings, world_function_warnings, world_type_warnings, item_warnings, side_warnings, interfaces_warnings, warnings_of};
 
 use crate::facts::{Facts, facts_of};
 use crate::functions::add_function;
 use crate::types::add_definition;
 use comp_lists::{Keyed, Seq, Text, TryClone};
-use name_warnings::{Warning, add_interface_name, add_label, add_plain_name, add_repeats, longer};
+use name_warnings::{
+    Warning, add_interface_name, add_label, add_plain_name, add_repeats, add_world_name, longer,
+};
 use record_values::{Func, Interface, InterfaceName, Item, ItemKey, Node, Owner, Typed, Wit};
 use std::alloc::{AllocError, Global};
 use world_names::Resources;
 
 // ---- types and functions with their names
 
-/// Adds the warnings of the type of a name, behind this path.
+/// Adds the warnings of a named type, behind this path.
 fn add_named_type(
     alloc: Global,
     warnings: &mut Seq<Warning>,
     resources: &Resources,
     path: &Seq<Text>,
-    name: &str,
-    nodes: &[Node],
+    typed: &Typed,
 ) -> Result<(), AllocError>
-    ensures { OnOk result (warnings.new
-        ≡ warnings.old ++ typed_warnings resources.now path.now name.now nodes.now) }
+    ensures { OnOk result
+        (warnings.new ≡ warnings.old ++ typed_warnings resources.now path.now typed.now) }
 {
-    let at = longer(alloc, path, name)?;
-    add_label(alloc, warnings, path, name)?;
-    add_definition(alloc, warnings, resources, &at, nodes)?;
+    let at = longer(alloc, path, typed.name.as_str())?;
+    add_label(alloc, warnings, path, typed.name.as_str())?;
+    add_definition(alloc, warnings, resources, &at, typed.nodes.as_slice())?;
     Ok(())
 }
 
@@ -55,20 +56,6 @@ fn add_named_function(
 
 // ---- interfaces
 
-fn add_typed(
-    alloc: Global,
-    warnings: &mut Seq<Warning>,
-    resources: &Resources,
-    path: &Seq<Text>,
-    typed: &Typed,
-) -> Result<(), AllocError>
-    ensures { OnOk result (warnings.new
-        ≡ warnings.old ++ typed_warnings resources.now path.now typed.now.name typed.now.nodes) }
-{
-    let nodes = typed.nodes.as_slice();
-    add_named_type(alloc, warnings, resources, path, typed.name.as_str(), nodes)
-}
-
 fn add_types(
     alloc: Global,
     warnings: &mut Seq<Warning>,
@@ -80,7 +67,7 @@ fn add_types(
         (warnings.new ≡ warnings.old ++ types_warnings resources.now types.now path.now) }
 {
     for typed in types {
-        add_typed(alloc, warnings, resources, path, typed)?;
+        add_named_type(alloc, warnings, resources, path, typed)?;
     }
     Ok(())
 }
@@ -246,6 +233,40 @@ fn add_interfaces(
 
 // ---- the world's own items
 
+fn add_world_function(
+    alloc: Global,
+    warnings: &mut Seq<Warning>,
+    facts: &Facts,
+    path: &Seq<Text>,
+    function: &Func,
+) -> Result<(), AllocError>
+    ensures { OnOk result (warnings.new
+        ≡ warnings.old ++ world_function_warnings facts.now path.now function.now) }
+{
+    let owner = Owner::World;
+    let at = longer(alloc, path, function.name.as_str())?;
+    add_world_name(alloc, warnings, path, function.name.as_str())?;
+    add_function(alloc, warnings, facts, &owner, &at, function)?;
+    Ok(())
+}
+
+fn add_world_type(
+    alloc: Global,
+    warnings: &mut Seq<Warning>,
+    resources: &Resources,
+    path: &Seq<Text>,
+    name: &str,
+    nodes: &[Node],
+) -> Result<(), AllocError>
+    ensures { OnOk result (warnings.new
+        ≡ warnings.old ++ world_type_warnings resources.now path.now name.now nodes.now) }
+{
+    let at = longer(alloc, path, name)?;
+    add_world_name(alloc, warnings, path, name)?;
+    add_definition(alloc, warnings, resources, &at, nodes)?;
+    Ok(())
+}
+
 fn add_item(
     alloc: Global,
     warnings: &mut Seq<Warning>,
@@ -259,12 +280,10 @@ fn add_item(
 {
     match item {
         Item::Interface(_) => Ok(()),
-        Item::Function(function) => {
-            add_named_function(alloc, warnings, facts, &Owner::World, path, function)
-        }
+        Item::Function(function) => add_world_function(alloc, warnings, facts, path, function),
         Item::Type(nodes) => {
             let name = key.text().as_str();
-            add_named_type(
+            add_world_type(
                 alloc,
                 warnings,
                 &facts.resources,
