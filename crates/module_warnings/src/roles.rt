@@ -24,9 +24,10 @@ type Functions = Keyed<TypeName, ()>;
 fn import_name(alloc: Global, import: &CoreImport) -> Result<ImportName, AllocError>
     ensures { IfOk result (λ n. n ≡ import_name import.now) }
 {
-    let module = import.module.clone(alloc)?;
-    let field = import.field.clone(alloc)?;
-    Ok(ImportName { module, field })
+    Ok(ImportName {
+        module: import.module.clone(alloc)?,
+        field: import.field.clone(alloc)?,
+    })
 }
 
 fn imports_of(alloc: Global, imports: &[CoreImport]) -> Result<CoreImports, AllocError>
