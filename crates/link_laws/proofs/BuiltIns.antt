@@ -1,6 +1,6 @@
 -- Built-in functions: those without operands have the core type of their table, and so have those of
 -- a resource's handles, of which the parts are known, and those of streams and futures.
-use Rattle.std.proofs.Common.{◌≡◌, ℕ, Bool, true, false, true≢false, Option, Some, IsSome, refl, sym, ap, subst}
+use Rattle.std.proofs.Common.{[], ◌≡◌, ℕ, Bool, true, false, true≢false, Option, Some, IsSome, refl, sym, ap, subst}
 use Rattle.std.proofs.lemmas.Option.{none-some, same_Some}
 use Rattle.built_ins.specs.BuiltIns.{plain_type}
 use Rattle.built_ins.specs.Payloads.{PayloadCall, called_of, named_call, payload_signature, is_access}

@@ -8,14 +8,14 @@ use Rattle.root_imports.specs.Growing.{Grows-by}
 use Rattle.core_options.proofs.PayloadFunctions.{payload_made, payload_right}
 use Rattle.core_options.proofs.payloads.function_of_type.Goals as goal
 
-pub returns-in_ok-index-in-Some-clause-grows : goal.returns-in_ok-index-in-Some-clause-grows
-returns-in_ok-index-in-Some-clause-grows c =
+pub returns-clause-grows : goal.returns-clause-grows
+returns-clause-grows c =
     let i = c.in-Some.intrinsic in
     let called : intrinsic_called c.args.ty c.args.role.now ≡ Some i = sym c.payload_intrinsic.ensures ∙ c.in-Some.is in
     Grows-by (defs.Item (items.Intrinsic i)) (ap (λ (b : Built). b.defs) c.in_ok-index-in-Some.ensures.adds.1) (payload_right c.args.root.now.items.defs c.args.ty c.args.role.now i called c.requires.known)
 
-pub returns-in_ok-index-in-Some-clause-made : goal.returns-in_ok-index-in-Some-clause-made
-returns-in_ok-index-in-Some-clause-made c of tree named denotes =
+pub returns-clause-made : goal.returns-clause-made
+returns-clause-made c of tree named denotes =
     let i = c.in-Some.intrinsic in
     let called : intrinsic_called c.args.ty c.args.role.now ≡ Some i = sym c.payload_intrinsic.ensures ∙ c.in-Some.is in
     payload_made c.args.root.now.items.defs c.built_in.new.self.defs c.in_ok-index-in-Some.index c.args.ty c.args.role.now i called c.in_ok-index-in-Some.ensures.made of tree named denotes

@@ -43,3 +43,11 @@ returns-clause-made c of named =
     let w = c.args.root.now.world.now in
     payload_term w c.function_of_type.new.root.items.defs c.in_ok-index.index c.args.role.now c.args.info.now c.requires.called of named
     (c.in_ok-index.ensures.made of (payload_tree w c.args.info.now.ty) named c.in_ok-ty.ensures.denotes)
+
+pub returns-in_err-index-clause-kept : goal.returns-in_err-index-clause-kept
+returns-in_err-index-clause-kept c =
+    let w = c.args.root.now.world.now in
+    let mid : Root = c.payload_type.new.self in
+    let e = c.in_ok-ty.ensures in
+    let typed : RootKept w c.args.root.now mid = kept_typed w c.args.root.now mid e.world e.met e.instances e.grows e.tables in
+    kept_items w c.args.root.now mid c.function_of_type.new.root typed c.function_of_type.ensures.same c.function_of_type.ensures.extends
