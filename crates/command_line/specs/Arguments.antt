@@ -72,10 +72,15 @@ linting main adapters flags = if are_unset flags then Some (requests.Lint main a
 abbrev pub of_main : List ℕ → List (List ℕ) → Option Request
 of_main main words = option_and_then (λ adapters. option_and_then (linting main adapters) (flags_of (flag_words words))) (adapters_of (adapter_words words))
 
+-- the same, where the file is the first of the words
+abbrev pub behind_lint : List (List ℕ) → Option Request
+behind_lint [] = None
+behind_lint (main ∷ words) = of_main main words
+
 -- the same with `lint` before it
 abbrev pub of_lint : List (List ℕ) → Option Request
-of_lint (command ∷ main ∷ words) = of_main main words
-of_lint _ = None
+of_lint [] = None
+of_lint (command ∷ words) = behind_lint words
 
 abbrev pub is_lint : List (List ℕ) → Bool
 is_lint [] = false

@@ -3,7 +3,7 @@
 ghost use Rattle.std.specs.Prelude.{◌≡◌, map, filter_map, option_map, string_bytes, IfOk, IfErr};
 ghost use Rattle.explanations.specs.Codes.{explanation as text_of};
 ghost use Rattle.command_line.specs.Adapters.{adapter_of, adapter_words};
-ghost use Rattle.command_line.specs.Arguments.{NeedsMemory, request_of, form_of as form_named, of_new, of_record, of_links, of_files, of_one_word, making, other_request, linting, of_main, of_lint, is_lint, is_listing};
+ghost use Rattle.command_line.specs.Arguments.{NeedsMemory, request_of, form_of as form_named, of_new, of_record, of_links, of_files, of_one_word, making, other_request, linting, of_main, behind_lint, of_lint, is_lint, is_listing};
 ghost use Rattle.command_line.specs.declared.arguments.Request.TheVariants as requests;
 
 use crate::adapters::{Adapter, adapters, are_adapters};
@@ -288,14 +288,25 @@ impl Request {
         }
     }
 
+    /// What `lint` asks for with these words behind it.
+    fn behind_lint(alloc: Global, words: &[String]) -> Result<Option<Request>, AllocError>
+        ensures ok { IfOk result (λ r. r ≡ behind_lint (map string_bytes words.now)) }
+        ensures err { IfErr result (λ _. NeedsMemory (behind_lint (map string_bytes words.now))) }
+    {
+        match words {
+            [] => Ok(None),
+            [main, behind @ ..] => Request::of_main(alloc, main.as_str(), behind),
+        }
+    }
+
     /// What words of which the first is `lint` ask for.
     fn of_lint(alloc: Global, words: &[String]) -> Result<Option<Request>, AllocError>
         ensures ok { IfOk result (λ r. r ≡ of_lint (map string_bytes words.now)) }
         ensures err { IfErr result (λ _. NeedsMemory (of_lint (map string_bytes words.now))) }
     {
         match words {
-            [_, main, behind @ ..] => Request::of_main(alloc, main.as_str(), behind),
-            _ => Ok(None),
+            [] => Ok(None),
+            [_command, behind @ ..] => Request::behind_lint(alloc, behind),
         }
     }
 
