@@ -250,6 +250,8 @@ module _ (r : Resolve) (present : 0 < length r.worlds) (core : CoreModule) where
   import_typed (imports.ErrorContextDebugMessage encoding) e ty fits is = entity_of core e joining fits ∙ is
   import_typed (imports.MainModuleMemory type) e ty fits is = memory_typed core e type fits ∙ is
   import_typed (imports.AdapterExport adapter name type) e ty fits is = function_is (extern_type core e) type fits ∙ is
+  import_typed (imports.MainModuleExport name kind) e ty fits is = absurd (none-some ty is)
+  import_typed (imports.Item item) e ty fits is = absurd (none-some ty is)
   import_typed role e ty fits is = built_in_typed core r role e ty fits is
 
   -- an entity is of no type that is not required

@@ -319,7 +319,7 @@ module _ (w : ComponentWorld) (ok : IsEncodable w) (s : Shim) (h : StandsForOne 
   access_stands : (i : UserImport) × StandsFor w s i × (caller (module_of which) (access_role p kind is_async) ≡ caller (shim_owner i.of i.core.role) i.core.role)
   access_stands = stands_as w s h (module_of which) (access_role p kind is_async) (ap of_export is) (ap (role_of_kind w) is)
 
-  access_given : UserImport
+  abbrev access_given : UserImport
   access_given = access_stands.0
 
   same_role : access_role p kind is_async ≡ access_given.core.role
