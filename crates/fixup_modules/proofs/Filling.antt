@@ -25,8 +25,8 @@ use Rattle.fixup_modules.specs.declared.instances.ImportedInstance.TheVariants a
 use Rattle.interned_types.specs.Interning.{interned}
 use Rattle.fixup_modules.specs.Imports.{Imported, is_kind, of_kind, count_of, entry_of, MayImport}
 use Rattle.fixup_modules.specs.Fixups.{Fixup, thunk}
-use Rattle.fixup_modules.specs.Sections.{table_name, shim_table, with_table, table_index, fill_segment, if_none, all_imported, table_of, by_calls, own_type, types_of, fixup_sections}
-use Rattle.fixup_modules.specs.Laws.{NamedShim, IsTarget, IsSupplied, FixupsFillShims, FixupsCall, call_of}
+use Rattle.fixup_modules.specs.Sections.{table_name, shim_table, with_table, table_index, fill_segment, if_none, all_imported, table_of, needs_own, own_type, types_of, fixup_sections}
+use Rattle.fixup_modules.specs.Laws.{NamedShim, IsTarget, IsSupplied, FixupsFillShims, FixupsCall, calls_of}
 use Rattle.fixup_modules.proofs.Named.{both, is_there, entries_grow}
 use Rattle.fixup_modules.proofs.Building.{type_kept}
 use Rattle.fixup_modules.proofs.Making.{segments_if, entities_of, fixup_parts, parts_are, own_if, frame_of, made_with, instance_is, failed, starts}
@@ -172,12 +172,11 @@ imports_grow f = by f.fills
     by (x ∷ xs) = entries_grow f.imported instances.Shim table_name (shim_table f)
 
 types_stay : (f : Fixup) (i : ℕ) (type : FuncType) → slice_get f.types i ≡ Some type → slice_get (types_of f) i ≡ Some type
-types_stay f i type h = by f.calls
+types_stay f i type h = by (needs_own f.users)
   where
-    by : (calls : List ℕ) → slice_get (by_calls calls f.types (λ function. f.types) (interned f.types thunk)) i ≡ Some type
-    by [] = h
-    by (g ∷ []) = h
-    by (g ∷ k ∷ gs) = type_kept f.types thunk type i h
+    by : (needed : Bool) → slice_get (if needed then interned f.types thunk else f.types) i ≡ Some type
+    by false = h
+    by true = type_kept f.types thunk type i h
 
 module _ (f : Fixup) (later : Store) (moment : Now) (supply : Import → Option Given) (given : List Given) (supplied : IsSupplied supply (all_imported f).entries given) (matching : Matching (types_of f) later moment (all_imported f).entries given) where
   -- the import that is there
@@ -308,8 +307,8 @@ fixups_fill_shims f shims debug_names types slots store now made later moment su
     ∙ ap (λ o. bind o (λ after. Some after)) filled in
     let is = made_is f debug_names k.given later moment fixed full k.is_made done in
     let tables_are : fixed.store.tables ≡ full = ap (λ (x : Made). x.store.tables) (sym is) in
-    let functions_are : fixed.store.functions ≡ later.functions ++ own_if frame (own_type f) f.calls = ap (λ (x : Made). x.store.functions) (sym is) in
-    let more = own_if frame (own_type f) f.calls in
+    let functions_are : fixed.store.functions ≡ later.functions ++ own_if frame (own_type f) f.users = ap (λ (x : Made). x.store.functions) (sym is) in
+    let more = own_if frame (own_type f) f.users in
     record {
       addresses = all.addresses;
       targets = all.targets;
@@ -362,7 +361,7 @@ fixups_call f debug_names later moment supply called fixed h =
     let is = made_is f debug_names h.given later moment fixed after.0 h.is_made after.1 in
     let same_now : (made_with f h.given later moment after.0).now ≡ moment = ap (λ l. record moment { globals = l }) (append-nil moment.globals) in
     record {
-      more_functions = own_if frame (own_type f) f.calls;
+      more_functions = own_if frame (own_type f) f.users;
       functions = ap (λ (x : Made). x.store.functions) (sym is);
       memories = ap (λ (x : Made). x.store.memories) (sym is) ∙ append-nil later.memories;
       tables = λ none. ap (λ (x : Made). x.store.tables) (sym is) ∙ unfilled none after.1;
@@ -370,7 +369,7 @@ fixups_call f debug_names later moment supply called fixed h =
           ap (λ p. started p fixed) (parts_are f debug_names)
           ∙ ap (λ (x : Made). started (fixup_parts f) x) (sym is)
           ∙ starts f h.given later moment after.0 called h.are_called (counts_given (types_of f) later moment (all_imported f).entries h.given matching).0
-          ∙ ap (λ (n : Now). deeds_done (map call_of called) n) same_now;
+          ∙ ap (λ (n : Now). deeds_done (calls_of f.users called) n) same_now;
     }
   where
     unfilled : {tables : List (List (Option ℕ))} → f.fills ≡ [] → elements_done (frame_of f h.given later moment) (segments_if (table_of f) f.fills) (later.tables ++ []) ≡ Some tables → tables ≡ later.tables

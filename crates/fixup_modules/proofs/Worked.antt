@@ -13,7 +13,7 @@ use Rattle.core_bytes.specs.Signed.{signed_within}
 use Rattle.interned_types.specs.Interning.{type_index}
 use Rattle.fixup_modules.specs.declared.instances.ImportedInstance.TheVariants as instances
 use Rattle.fixup_modules.specs.Imports.{with_import, import_index, has_other_type, is_taken, nothing_imported}
-use Rattle.fixup_modules.specs.Fixups.{Fixup, nothing_fixed, thunk, with_type, with_shim, with_initialize}
+use Rattle.fixup_modules.specs.Fixups.{Fixup, nothing_fixed, thunk, with_type, with_shim, with_initialize, with_task_hook}
 use Rattle.fixup_modules.specs.Sections.{all_imported, start_function, fixup_sections, encoded_fixup, fill_segment, table_index}
 
 -- a function of two parameters and no result
@@ -67,6 +67,18 @@ one_call = refl
 two_calls : (encoding_of (fixup_sections (with_initialize (with_initialize nothing_fixed (codes "a")) (codes "b")) false)).bytes ≡ 0x00 ∷ 0x61 ∷ 0x73 ∷ 0x6d ∷ 0x01 ∷ 0x00 ∷ 0x00 ∷ 0x00 ∷ 0x01 ∷ 0x04 ∷ 0x01 ∷ 0x60 ∷ 0x00 ∷ 0x00 ∷ 0x02 ∷ 0x13 ∷ 0x02 ∷ 0x04 ∷ 0x6d ∷ 0x61 ∷ 0x69 ∷ 0x6e ∷ 0x01 ∷ 0x61 ∷ 0x00 ∷ 0x00 ∷ 0x04 ∷ 0x6d ∷ 0x61 ∷ 0x69 ∷ 0x6e ∷ 0x01 ∷ 0x62 ∷ 0x00 ∷ 0x00 ∷ 0x03 ∷ 0x02 ∷ 0x01 ∷ 0x00 ∷ 0x08 ∷ 0x01 ∷ 0x02 ∷ 0x0a ∷ 0x08 ∷ 0x01 ∷ 0x06 ∷ 0x00 ∷ 0x10 ∷ 0x00 ∷ 0x10 ∷ 0x01 ∷ 0x0b ∷ []
 unfolding leb128 signed_within digits
 two_calls = refl
+
+-- the task hook round one call: the module that a world has whose main exports both and nothing else
+abbrev hook_and_call : Fixup
+hook_and_call = with_task_hook (with_initialize nothing_fixed (codes "i")) (codes "h")
+
+hooked_call : (encoding_of (fixup_sections hook_and_call false)).bytes ≡ 0x00 ∷ 0x61 ∷ 0x73 ∷ 0x6d ∷ 0x01 ∷ 0x00 ∷ 0x00 ∷ 0x00 ∷ 0x01 ∷ 0x08 ∷ 0x02 ∷ 0x60 ∷ 0x00 ∷ 0x00 ∷ 0x60 ∷ 0x01 ∷ 0x7f ∷ 0x00 ∷ 0x02 ∷ 0x13 ∷ 0x02 ∷ 0x04 ∷ 0x6d ∷ 0x61 ∷ 0x69 ∷ 0x6e ∷ 0x01 ∷ 0x69 ∷ 0x00 ∷ 0x00 ∷ 0x04 ∷ 0x6d ∷ 0x61 ∷ 0x69 ∷ 0x6e ∷ 0x01 ∷ 0x68 ∷ 0x00 ∷ 0x01 ∷ 0x03 ∷ 0x02 ∷ 0x01 ∷ 0x00 ∷ 0x08 ∷ 0x01 ∷ 0x02 ∷ 0x0a ∷ 0x0e ∷ 0x01 ∷ 0x0c ∷ 0x00 ∷ 0x41 ∷ 0x06 ∷ 0x10 ∷ 0x01 ∷ 0x10 ∷ 0x00 ∷ 0x41 ∷ 0x07 ∷ 0x10 ∷ 0x01 ∷ 0x0b ∷ []
+unfolding leb128 signed_within digits
+hooked_call = refl
+
+-- nothing is done at the start: the hook has nothing round which it could be called
+hook_alone : encoded_fixup (with_task_hook nothing_fixed (codes "h")) false ≡ None
+hook_alone = refl
 
 -- a shim and a call: the function of the shim is imported first, and the table last
 abbrev shim_and_call : Fixup

@@ -1,6 +1,6 @@
 -- A fixup module in the table form, as a list of sections.
 -- Core standard, structure: modules, element segments, start function; appendix, custom sections: name section.
-use Rattle.std.specs.Prelude.{◌<◌, ◌⊎◌, ℕ, zero, suc, pos, Bool, true, false, List, [], ◌∷◌, ◌++◌, length, map, Option, Some, None, codes}
+use Rattle.std.specs.Prelude.{◌≡◌, ◌<◌, ◌⊎◌, ℕ, zero, suc, pos, Bool, true, false, List, [], ◌∷◌, ◌++◌, length, map, Option, Some, None, codes, if◌then◌else◌}
 use Rattle.std.specs.Option.{option_map}
 use Rattle.standard_kinds.specs.declared.kinds.ExportKind.TheVariants as kinds
 use Rattle.core_types.specs.declared.types.FuncType.{FuncType}
@@ -13,15 +13,16 @@ use Rattle.core_bytes.specs.declared.entry.Import.{Import}
 use Rattle.core_bytes.specs.declared.entry.Naming.{Naming}
 use Rattle.core_bytes.specs.declared.section.Section.{Section}
 use Rattle.core_bytes.specs.declared.section.Section.TheVariants as sections
-use Rattle.core_runs.specs.declared.start.StartStep.TheVariants.{Thunk}
 use Rattle.core_runs.specs.Bodies.{table_of_shims, table_fill, start}
 use Rattle.interned_types.specs.Interning.{interned, type_index}
+use Rattle.fixup_modules.specs.declared.actions.StartAction.{StartAction}
+use Rattle.fixup_modules.specs.declared.actions.StartAction.TheVariants as actions
 use Rattle.fixup_modules.specs.declared.instances.ImportedInstance.TheVariants as instances
 use Rattle.fixup_modules.specs.declared.encoding.EncodedFixup.{EncodedFixup}
 use Rattle.fixup_modules.specs.declared.fault.ShimFault.{ShimFault}
 use Rattle.fixup_modules.specs.declared.fault.ShimFault.TheVariants as faults
 use Rattle.fixup_modules.specs.Imports.{Imported, with_import, import_index, of_kind, count_of, MayImport, ImportCause}
-use Rattle.fixup_modules.specs.Fixups.{Fixup, thunk, TypeCause}
+use Rattle.fixup_modules.specs.Fixups.{Fixup, thunk, step_of, TypeCause}
 
 -- ---- the table of the shims
 
@@ -58,19 +59,34 @@ table_of f = if_none f.fills None (Some (table_index f))
 
 -- ---- the start function
 
--- one of three things: by whether there is no call, one, or more
-abbrev pub by_calls : {A : Type 0} → List ℕ → A → (ℕ → A) → A → A
-by_calls [] none one more = none
-by_calls (f ∷ []) none one more = one f
-by_calls (f ∷ g ∷ fs) none one more = more
+-- One call is made by the start function that is called. All else is done by a function of the module.
+abbrev pub is_hook_call : StartAction → Bool
+is_hook_call (actions.Call function) = false
+is_hook_call (actions.CallHook function moment) = true
 
--- The only function that is called is the start function itself. More are called by a function of
--- the module, of this type; it comes after the imported ones.
+abbrev pub is_more_than_call : StartAction → List StartAction → Bool
+is_more_than_call action [] = is_hook_call action
+is_more_than_call action (next ∷ others) = true
+
+abbrev pub needs_own : List StartAction → Bool
+needs_own [] = false
+needs_own (a ∷ others) = is_more_than_call a others
+
+-- the function of the first action, where it is a call
+abbrev pub function_called : StartAction → Option ℕ
+function_called (actions.Call function) = Some function
+function_called (actions.CallHook function moment) = None
+
+abbrev pub first_call : List StartAction → Option ℕ
+first_call [] = None
+first_call (a ∷ others) = function_called a
+
+-- the type of the function of the module; it comes after the imported ones
 abbrev pub own_type : Fixup → Option ℕ
-own_type f = by_calls f.calls None (λ function. None) (Some (type_index f.types thunk))
+own_type f = if needs_own f.users then Some (type_index f.types thunk) else None
 
 abbrev pub types_of : Fixup → List FuncType
-types_of f = by_calls f.calls f.types (λ function. f.types) (interned f.types thunk)
+types_of f = if needs_own f.users then interned f.types thunk else f.types
 
 abbrev pub imported_functions : Fixup → ℕ
 imported_functions f = count_of kinds.Func (all_imported f).entries
@@ -79,11 +95,11 @@ abbrev pub own_function : Fixup → Option ℕ
 own_function f = option_map (λ type. imported_functions f) (own_type f)
 
 abbrev pub start_function : Fixup → Option ℕ
-start_function f = by_calls f.calls None (λ function. Some function) (Some (imported_functions f))
+start_function f = if needs_own f.users then Some (imported_functions f) else first_call f.users
 
 -- the body of the function of the module
-abbrev pub calling : List ℕ → Body
-calling functions = start (map (λ function. Thunk function) functions)
+abbrev pub acting : List StartAction → Body
+acting users = start (map step_of users)
 
 -- ---- names
 
@@ -128,16 +144,22 @@ fixup_sections f debug_names =
     ∷ (optional (λ type. sections.Functions (type ∷ [])) (own_type f)
     ++ (optional (λ function. sections.Start function) (start_function f)
     ++ (optional (λ table. sections.Elements (fill_segment table f.fills ∷ [])) (table_of f)
-    ++ (optional (λ type. sections.Code (calling f.calls ∷ [])) (own_type f)
+    ++ (optional (λ type. sections.Code (acting f.users ∷ [])) (own_type f)
     ++ names_of debug_names (all_imported f).entries (own_function f)))))
 
 -- the module, and the instances that are its arguments, by name
 abbrev pub module_with_instances : Fixup → Bool → EncodedFixup
 module_with_instances f debug_names = record { «module» = fixup_sections f debug_names; instances = (all_imported f).instances }
 
--- where no slot is to be filled, and nothing is to be called, there is none
+-- no slot is to be filled, and nothing is to be done at the start
+abbrev pub is_idle : List ℕ → List StartAction → Bool
+is_idle [] [] = true
+is_idle [] (a ∷ others) = false
+is_idle (x ∷ xs) users = false
+
+-- where it has nothing to do, there is none
 abbrev pub encoded_fixup : Fixup → Bool → Option EncodedFixup
-encoded_fixup f debug_names = if_none (f.fills ++ f.calls) None (Some (module_with_instances f debug_names))
+encoded_fixup f debug_names = if is_idle f.fills f.users then None else Some (module_with_instances f debug_names)
 
 -- ---- refusals
 
@@ -145,7 +167,7 @@ encoded_fixup f debug_names = if_none (f.fills ++ f.calls) None (Some (module_wi
 abbrev pub MayEncode : Fixup → Type 0
 MayEncode f = 0 < length f.fills → MayImport f.imported instances.Shim table_name (shim_table f)
 
--- Why a fixup can't be encoded: its table can't be imported, or the type of its start function can't be interned.
+-- Why a fixup can't be encoded: its table can't be imported, or the type of its own function can't be interned.
 abbrev pub EncodeCause : Fixup → ShimFault → Type 0
 EncodeCause f faults.Memory = Unit {0}
-EncodeCause f e = ((0 < length f.fills) × ImportCause f.imported instances.Shim table_name (shim_table f) e) ⊎ ((1 < length f.calls) × TypeCause f.types thunk e)
+EncodeCause f e = ((0 < length f.fills) × ImportCause f.imported instances.Shim table_name (shim_table f) e) ⊎ ((needs_own f.users ≡ true) × TypeCause f.types thunk e)

@@ -6,13 +6,14 @@ ghost use Rattle.standard_kinds.specs.declared.kinds.ExportKind.TheVariants as k
 ghost use Rattle.core_bytes.specs.declared.section.Section.TheVariants as sections;
 ghost use Rattle.fixup_modules.specs.Imports.{count_of};
 ghost use Rattle.fixup_modules.specs.Fixups.{Fixup};
-ghost use Rattle.fixup_modules.specs.Sections.{all_imported, table_of, fill_segment, own_type, types_of, start_function, calling, names_of, optional, fixup_sections, module_with_instances, encoded_fixup, MayEncode, EncodeCause};
+ghost use Rattle.fixup_modules.specs.Sections.{all_imported, table_of, fill_segment, is_hook_call, function_called, needs_own, first_call, is_idle, own_type, types_of, start_function, acting, names_of, optional, fixup_sections, module_with_instances, encoded_fixup, MayEncode, EncodeCause};
 
+use crate::actions::StartAction;
 use crate::fault::ShimFault;
 use crate::fixup::{FixupModule, thunk_type};
 use crate::imports::ImportTable;
 use crate::instances::ImportedInstance;
-use crate::sections::{calling_section, element_section, function_section};
+use crate::sections::{acting_section, element_section, function_section};
 use crate::tables::InstanceTable;
 use core_bytes::{EntityType, Module, Section};
 use core_runs::table_of_shims;
@@ -30,16 +31,16 @@ pub struct EncodedFixup {
 fn import_table(imports: &mut ImportTable, fills: &[u32]) -> Result<Option<u32>, ShimFault>
     requires { length fills.now < 2 ^ 32 }
     ensures imports { let f : Fixup = record
-        { types = []; imported = imports.old; fills = fills.now; calls = [] } in OnOk result
+        { types = []; imported = imports.old; fills = fills.now; users = [] } in OnOk result
         (imports.new ≡ all_imported f) }
     ensures index { let f : Fixup = record
-        { types = []; imported = imports.old; fills = fills.now; calls = [] } in IfOk result
+        { types = []; imported = imports.old; fills = fills.now; users = [] } in IfOk result
         (λ table. table ≡ table_of f) }
     ensures refused { let f : Fixup = record
-        { types = []; imported = imports.old; fills = fills.now; calls = [] } in OnOk result
+        { types = []; imported = imports.old; fills = fills.now; users = [] } in OnOk result
         (MayEncode f) }
     ensures cause { let f : Fixup = record
-        { types = []; imported = imports.old; fills = fills.now; calls = [] } in IfErr result
+        { types = []; imported = imports.old; fills = fills.now; users = [] } in IfErr result
         (EncodeCause f) }
 {
     if fills.is_empty() {
@@ -54,54 +55,108 @@ fn import_table(imports: &mut ImportTable, fills: &[u32]) -> Result<Option<u32>,
     Ok(Some(index))
 }
 
-/// The index of the type of the function that makes the calls, where a function of the module does.
-/// The type is interned.
-fn own_type(alloc: Global, types: &mut CoreTypes, calls: &[u32]) -> Result<Option<u32>, ShimFault>
+/// Whether the action is a call of a task hook.
+fn is_hook_call(action: StartAction) -> bool
+    ensures { result ≡ is_hook_call action }
+{
+    match action {
+        StartAction::Call(_) => false,
+        StartAction::CallHook { func: _, hook: _ } => true,
+    }
+}
+
+/// Whether a function of the module does this.
+fn needs_own(users: &[StartAction]) -> bool
+    ensures { result ≡ needs_own users.now }
+{
+    let Some((first, others)) = users.split_first() else {
+        return false;
+    };
+    if others.is_empty() {
+        is_hook_call(*first)
+    } else {
+        true
+    }
+}
+
+/// The function that an action calls without arguments.
+fn function_called(action: StartAction) -> Option<u32>
+    ensures { result ≡ function_called action }
+{
+    match action {
+        StartAction::Call(function) => Some(function),
+        StartAction::CallHook { func: _, hook: _ } => None,
+    }
+}
+
+/// The function of the first action, where it is a call.
+fn first_call(users: &[StartAction]) -> Option<u32>
+    ensures { result ≡ first_call users.now }
+{
+    let (first, _) = users.split_first()?;
+    function_called(*first)
+}
+
+/// Whether there is nothing to do: no slot is to be filled, and nothing is done at the start.
+fn is_idle(fills: &[u32], users: &[StartAction]) -> bool
+    ensures { result ≡ is_idle fills.now users.now }
+{
+    if !fills.is_empty() {
+        return false;
+    }
+    users.is_empty()
+}
+
+/// The index of the type of the module's own function, where it has one. The type is interned.
+fn own_type(
+    alloc: Global,
+    types: &mut CoreTypes,
+    users: &[StartAction],
+) -> Result<Option<u32>, ShimFault>
     ensures types { let f : Fixup = record {
       types = types.old;
       imported = record { instances = []; entries = [] };
       fills = [];
-      calls = calls.now;
+      users = users.now;
     } in
         OnOk result (types.new ≡ types_of f) }
     ensures index { let f : Fixup = record {
       types = types.old;
       imported = record { instances = []; entries = [] };
       fills = [];
-      calls = calls.now;
+      users = users.now;
     } in
         IfOk result (λ index. index ≡ own_type f) }
     ensures cause { let f : Fixup = record {
       types = types.old;
       imported = record { instances = []; entries = [] };
       fills = [];
-      calls = calls.now;
+      users = users.now;
     } in
         IfErr result (EncodeCause f) }
 {
-    if calls.len() < 2 {
+    if !needs_own(users) {
         return Ok(None);
     }
     let index = types.intern(thunk_type(alloc))?;
     Ok(Some(index))
 }
 
-/// The start function, where there is one: the only function that is called, or the one that calls them.
-fn start_function(imports: &ImportTable, calls: &[u32]) -> Option<u32>
+/// The start function, where there is one: the module's own, or the only one that is called.
+fn start_function(imports: &ImportTable, users: &[StartAction]) -> Option<u32>
     ensures { (f : Fixup)
-        → f.calls ≡ calls.now
+        → f.users ≡ users.now
         → all_imported f ≡ imports.now
         → result ≡ start_function f }
 {
-    let (first, others) = calls.split_first()?;
-    if others.is_empty() {
-        Some(*first)
-    } else {
+    if needs_own(users) {
         Some(imports.functions())
+    } else {
+        first_call(users)
     }
 }
 
-/// Adds the function that makes the calls, where there is one, and says which one is the start function.
+/// Adds the module's own function, where it has one, and says which one is the start function.
 fn put_start(
     out: &mut Module,
     alloc: Global,
@@ -137,18 +192,18 @@ fn put_segment(
     Ok(())
 }
 
-/// Adds the body of the function that makes the calls, where there is one.
+/// Adds the body of the module's own function, where it has one.
 fn put_code(
     out: &mut Module,
     alloc: Global,
     own_type: Option<u32>,
-    calls: &[u32],
+    users: &[StartAction],
 ) -> Result<(), AllocError>
     ensures { OnOk result
-        (out.new ≡ out.old ++ optional (λ type. sections.Code (calling calls.now ∷ [])) own_type) }
+        (out.new ≡ out.old ++ optional (λ type. sections.Code (acting users.now ∷ [])) own_type) }
 {
     if own_type.is_some() {
-        out.section(calling_section(alloc, calls)?)?;
+        out.section(acting_section(alloc, users)?)?;
     }
     Ok(())
 }
@@ -172,7 +227,7 @@ fn put_names(
     Ok(())
 }
 
-/// The index of the function that makes the calls, where there is one.
+/// The index of the module's own function, where it has one.
 fn own_function(imports: &ImportTable, own_type: Option<u32>) -> Option<u32>
     ensures { result ≡ option_map (λ type. count_of kinds.Func imports.now.entries) own_type }
 {
@@ -183,7 +238,7 @@ fn own_function(imports: &ImportTable, own_type: Option<u32>) -> Option<u32>
 }
 
 /// The module with these types and imports, which has the table of shims at this index, where there
-/// is a slot to fill, and a function of this type that makes the calls, where there is one.
+/// is a slot to fill, and a function of its own of this type, where it needs one.
 fn fixup_module(
     alloc: Global,
     types: &CoreTypes,
@@ -191,7 +246,7 @@ fn fixup_module(
     table: Option<u32>,
     own: Option<u32>,
     fills: &[u32],
-    calls: &[u32],
+    users: &[StartAction],
     debug_names: bool,
 ) -> Result<Module, AllocError>
     ensures { (f : Fixup)
@@ -200,41 +255,41 @@ fn fixup_module(
         → table_of f ≡ table
         → own_type f ≡ own
         → f.fills ≡ fills.now
-        → f.calls ≡ calls.now
+        → f.users ≡ users.now
         → IfOk result (λ made. made ≡ fixup_sections f debug_names) }
 {
     let mut module = Module::new(alloc);
     module.section(Section::Types(types.section(alloc)?))?;
     module.section(Section::Imports(imports.section(alloc)?))?;
-    put_start(&mut module, alloc, own, start_function(imports, calls))?;
+    put_start(&mut module, alloc, own, start_function(imports, users))?;
     put_segment(&mut module, alloc, table, fills)?;
-    put_code(&mut module, alloc, own, calls)?;
+    put_code(&mut module, alloc, own, users)?;
     put_names(&mut module, alloc, imports, own, debug_names)?;
     Ok(module)
 }
 
-/// The module that fills these slots and calls these functions, and its arguments.
+/// The module that fills these slots and does this at the start, and its arguments.
 fn encode_tasks(
     alloc: Global,
     mut types: CoreTypes,
     mut imports: ImportTable,
     fills: &[u32],
-    calls: &[u32],
+    users: &[StartAction],
     debug_names: bool,
 ) -> Result<EncodedFixup, ShimFault>
     requires { length fills.now < 2 ^ 32 }
     ensures ok { let f : Fixup = record
-        { types = types; imported = imports; fills = fills.now; calls = calls.now } in IfOk result
+        { types = types; imported = imports; fills = fills.now; users = users.now } in IfOk result
         (λ encoded. encoded ≡ module_with_instances f debug_names) }
     ensures refused { let f : Fixup = record
-        { types = types; imported = imports; fills = fills.now; calls = calls.now } in OnOk result
+        { types = types; imported = imports; fills = fills.now; users = users.now } in OnOk result
         (MayEncode f) }
     ensures cause { let f : Fixup = record
-        { types = types; imported = imports; fills = fills.now; calls = calls.now } in IfErr result
+        { types = types; imported = imports; fills = fills.now; users = users.now } in IfErr result
         (EncodeCause f) }
 {
     let table = import_table(&mut imports, fills)?;
-    let own_type = own_type(alloc, &mut types, calls)?;
+    let own_type = own_type(alloc, &mut types, users)?;
     let module = fixup_module(
         alloc,
         &types,
@@ -242,7 +297,7 @@ fn encode_tasks(
         table,
         own_type,
         fills,
-        calls,
+        users,
         debug_names,
     )?;
     Ok(EncodedFixup {
@@ -252,15 +307,15 @@ fn encode_tasks(
 }
 
 impl FixupModule {
-    /// The module, or `None` where no slot is to be filled and nothing is to be called: the types;
-    /// the imports in the order of the calls, and last the table of the shims, of as many slots as
-    /// there were shims, where there were any; the start function; the segment that fills the
-    /// table; and, where it is asked for, the names of the module and of its items. Where one
-    /// function is called, it is the start function; where more are called, a function of the
-    /// module calls them in order.
+    /// The module, or `None` where no slot is to be filled and nothing is to be done at the start:
+    /// the types; the imports in the order of the calls, and last the table of the shims, of as many
+    /// slots as there were shims, where there were any; the start function; the segment that fills
+    /// the table; and, where it is asked for, the names of the module and of its items. Where one
+    /// call is all that is done, its function is the start function; where there is more, a function
+    /// of the module does it in order.
     ///
     /// It fails as [`FixupModule::import`] of the table does, and as [`FixupModule::type_thunk`]
-    /// where more than one function is called.
+    /// where the module has a function of its own.
     ///
     /// Core standard, structure: modules, start function.
     pub fn encode(self, debug_names: bool) -> Result<Option<EncodedFixup>, ShimFault>
@@ -273,9 +328,9 @@ impl FixupModule {
             types,
             imports,
             fills,
-            calls,
+            users,
         } = self;
-        if fills.is_empty() && calls.is_empty() {
+        if is_idle(fills.as_slice(), users.as_slice()) {
             return Ok(None);
         }
         match encode_tasks(
@@ -283,7 +338,7 @@ impl FixupModule {
             types,
             imports,
             fills.as_slice(),
-            calls.as_slice(),
+            users.as_slice(),
             debug_names,
         ) {
             Ok(encoded) => Ok(Some(encoded)),

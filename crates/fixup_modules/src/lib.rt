@@ -4,19 +4,20 @@
 //! first calls of the component, such as main's initialization.
 //!
 //! A [`FixupModule`] is built call by call, and its value is what was called for: types, imports,
-//! fills and calls (`specs/Fixups.antt`). The module is one value, a function of these
+//! fills, and what the start function does (`specs/Fixups.antt`). The module is one value, a function of these
 //! (`specs/Sections.antt`). What its instance does is said by the laws of [`core_runs`] on
 //! segments, filled shims and start functions; `fixups_fill_shims` and `fixups_call` are what they
 //! say of this module.
 //!
-//! Yet to come: other steps of the start function, wrappers that call task hooks, element and data
-//! segments of others, and the form in which shims forward through globals.
+//! Yet to come: other steps of the start function, wrappers that call task hooks round functions,
+//! element and data segments of others, and the form in which shims forward through globals.
 //!
-//! In reading order: `instances` (whence is imported), `fault`, `import_name`, `counts`, `tables`
+//! In reading order: `instances` (whence is imported), `actions` (what is done at the start), `fault`, `import_name`, `counts`, `tables`
 //! and `imports` (what is imported), `fixup` (the calls), `sections` (the parts of the module),
 //! `encoding` (the whole), `laws`.
 #![tactic(auto)]
 
+mod actions;
 mod counts;
 mod encoding;
 mod fault;
@@ -28,6 +29,7 @@ mod laws;
 mod sections;
 mod tables;
 
+pub use actions::StartAction;
 pub use encoding::EncodedFixup;
 pub use fault::ShimFault;
 pub use fixup::FixupModule;

@@ -6,10 +6,11 @@ ghost use Rattle.std.specs.Prelude.{◌≡◌, ◌∷◌, ◌++◌, [], true, ma
 ghost use Rattle.core_bytes.specs.declared.section.Section.TheVariants as sections;
 ghost use Rattle.fixup_modules.specs.Imports.{is_kind, of_kind};
 ghost use Rattle.fixup_modules.specs.Counts.{entry_at, AreIndexed};
-ghost use Rattle.fixup_modules.specs.Sections.{fill_segment, calling, names_from, start_name, name_map, names_of};
+ghost use Rattle.fixup_modules.specs.Sections.{fill_segment, acting, names_from, start_name, name_map, names_of};
 ghost use Rattle.standard_kinds.specs.declared.kinds.ExportKind.TheVariants as kinds;
-ghost use Rattle.core_runs.specs.declared.start.StartStep.TheVariants.{Thunk};
+ghost use Rattle.fixup_modules.specs.Fixups.{step_of};
 
+use crate::actions::StartAction;
 use crate::import_name::ImportName;
 use crate::imports::ImportedItem;
 use comp_lists::{Keyed, Seq, Text};
@@ -44,24 +45,24 @@ pub(crate) fn function_section(alloc: Global, type_index: u32) -> Result<Section
     Ok(Section::Functions(section))
 }
 
-/// The body that calls functions in order.
-pub(crate) fn calling_section(alloc: Global, functions: &[u32]) -> Result<Section, AllocError>
-    ensures { IfOk result (λ made. made ≡ sections.Code (calling functions.now ∷ [])) }
+/// The body that does what is to be done, in order.
+pub(crate) fn acting_section(alloc: Global, users: &[StartAction]) -> Result<Section, AllocError>
+    ensures { IfOk result (λ made. made ≡ sections.Code (acting users.now ∷ [])) }
 {
-    let steps = thunk_steps(alloc, functions)?;
+    let steps = start_steps(alloc, users)?;
     let body = start_body(alloc, &[], steps.as_slice())?;
     let mut code = Code::new(alloc);
     code.body(body.locals.as_slice(), body.instructions.as_slice())?;
     Ok(Section::Code(code))
 }
 
-/// The calls of functions, as steps.
-fn thunk_steps(alloc: Global, functions: &[u32]) -> Result<Vec<StartStep>, AllocError>
-    ensures { IfOk result (λ steps. steps.items ≡ map (λ function. Thunk function) functions.now) }
+/// The actions, as steps.
+fn start_steps(alloc: Global, users: &[StartAction]) -> Result<Vec<StartStep>, AllocError>
+    ensures { IfOk result (λ steps. steps.items ≡ map step_of users.now) }
 {
     let mut steps = Vec::new(alloc);
-    for function in functions {
-        steps.push(StartStep::Thunk(*function))?;
+    for action in users {
+        steps.push(action.step())?;
     }
     Ok(steps)
 }

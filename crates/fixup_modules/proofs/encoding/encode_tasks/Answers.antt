@@ -8,7 +8,7 @@ use Rattle.fixup_modules.proofs.encoding.encode_tasks.Goals as goal
 
 pub returns-clause-ok : goal.returns-clause-ok
 returns-clause-ok c =
-    let f : Fixup = record { types = c.args.types; imported = c.args.imports; fills = c.args.fills.now; calls = c.args.calls.now } in
+    let f : Fixup = record { types = c.args.types; imported = c.args.imports; fills = c.args.fills.now; users = c.args.users.now } in
     let build : List Section → List (List ℕ × ImportedInstance) → EncodedFixup = λ sections instances. record { «module» = sections; instances = instances } in
     ap₂ build
     (c.in_ok-module.ensures f (sym c.in_ok-own_type.ensures.types) (sym c.in_ok-table.ensures.imports) (sym c.in_ok-table.ensures.index) (sym c.in_ok-own_type.ensures.index) refl refl)
