@@ -2,7 +2,7 @@
 //!
 //! Core standard, structure: modules; appendix, custom sections: name section.
 
-ghost use Rattle.std.specs.Prelude.{◌≡◌, ◌∷◌, ◌++◌, [], true, map, IfOk, OnOk};
+ghost use Rattle.std.specs.Prelude.{◌≡◌, ◌∷◌, ◌++◌, [], true, map, IfOk};
 ghost use Rattle.core_bytes.specs.declared.section.Section.TheVariants as sections;
 ghost use Rattle.fixup_modules.specs.Imports.{is_kind, of_kind};
 ghost use Rattle.fixup_modules.specs.Counts.{entry_at, AreIndexed};

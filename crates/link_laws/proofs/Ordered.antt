@@ -36,7 +36,7 @@ use Rattle.fixup_modules.specs.Fixups.{Fixup}
 use Rattle.fixup_modules.specs.Sections as fixups
 use Rattle.interned_types.specs.Interning.{interned}
 use Rattle.shim_plan.specs.declared.shims.Shim.{Shim}
-use Rattle.world_shims.specs.WorldShims.{shims_of, initialize_of, type_of_shim, types_with, functions_of, with_cell_types, cell_of, sections_of_shims, fixup_of}
+use Rattle.world_shims.specs.WorldShims.{shims_of, initialize_of, hook_of, type_of_shim, types_with, functions_of, with_cell_types, cell_of, sections_of_shims, fixup_of}
 use Rattle.shim_runs.proofs.Exported.{no_memory_name, no_getter_name, no_setter_name}
 use Rattle.shim_runs.proofs.FixupInstance.{no_exports}
 use Rattle.shim_runs.proofs.ShimInstance.{exports_alone}
@@ -83,7 +83,7 @@ module _ (types : List FuncType) (entries : List Import) (fills calls : List ℕ
       ∷ (fixups.optional (λ type. sections.Functions (type ∷ [])) own
       ++ (fixups.optional (λ function. sections.Start function) first
       ++ (fixups.optional (λ t. sections.Elements (fixups.fill_segment t fills ∷ [])) table
-      ++ (fixups.optional (λ type. sections.Code (fixups.calling calls ∷ [])) own
+      ++ (fixups.optional (λ type. sections.Code (fixups.acting users ∷ [])) own
       ++ fixups.names_of debug_names entries named))))
 
   parts_in_order : (own first table : Option ℕ) → AreSectionsAfter 0 debug_names (fixup_with_parts own first table)
@@ -99,7 +99,7 @@ module _ (types : List FuncType) (entries : List Import) (fills calls : List ℕ
 
 fixup_in_order : (f : Fixup) (debug_names : Bool) → AreSectionsAfter 0 debug_names (fixups.fixup_sections f debug_names)
 unfolding fixup_with_parts
-fixup_in_order f debug_names = parts_in_order (fixups.types_of f) (fixups.all_imported f).entries f.fills f.calls debug_names (fixups.own_function f) (fixups.own_type f) (fixups.start_function f) (fixups.table_of f)
+fixup_in_order f debug_names = parts_in_order (fixups.types_of f) (fixups.all_imported f).entries f.fills f.users debug_names (fixups.own_function f) (fixups.own_type f) (fixups.start_function f) (fixups.table_of f)
 
 -- ---- exports
 
@@ -206,7 +206,7 @@ sections_in_order w debug_names g h = by g.shims g.fixup
   where
     fixup : (o : Option (List ℕ)) → AllByRecursion (AreSections debug_names) (generated_sections (generated_for w debug_names (record { shims = None; fixup = o })))
     fixup None = tt
-    fixup (Some bytes) = (are_fixup (fixup_of (shims_of w) (initialize_of w)) debug_names, tt)
+    fixup (Some bytes) = (are_fixup (fixup_of (shims_of w) (initialize_of w) (hook_of w)) debug_names, tt)
 
     by : (o p : Option (List ℕ)) → AllByRecursion (AreSections debug_names) (generated_sections (generated_for w debug_names (record { shims = o; fixup = p })))
     by None p = fixup p

@@ -5,11 +5,10 @@ use Rattle.std.proofs.Math.Seq.{drop-length}
 use Rattle.std.proofs.lemmas.Bool.{eq-eqb}
 use Rattle.std.proofs.lemmas.Bool.Decides.{nat_tests}
 use Rattle.std.proofs.lemmas.List.{length-map}
-use Rattle.std.proofs.lemmas.List.FromFn.{length-range_with_len}
 use Rattle.std.proofs.lemmas.Simd.{map-map}
 use Rattle.std.specs.List.{slice_get, slice_set, flat_map, range_with_len, AllZip}
 use Rattle.std.specs.Prelude.{nat_le}
-use Rattle.comp_lists.proofs.Lists.{length-AllZip, slice_get-end}
+use Rattle.comp_lists.proofs.Lists.{length-AllZip}
 use Rattle.core_types.specs.declared.types.FuncType.{FuncType}
 use Rattle.core_types.specs.declared.types.MemoryType.{MemoryType}
 use Rattle.core_types.specs.declared.types.ValType.{ValType}
@@ -24,7 +23,7 @@ use Rattle.core_runs.specs.Values.{Value}
 use Rattle.core_runs.specs.Store.{Frame, Func, Opaque, signature_of, Store, Cell, Now}
 use Rattle.core_runs.specs.Store as core
 use Rattle.core_runs.specs.Bodies.{table_fill}
-use Rattle.core_runs.specs.Instances.{Given, FunctionAt, TableAt, Made, bind, cons_if, all_at, there_is, at_most, matches_each, functions_given, tables_given, globals_given, memories_given, slots_after, with_table as table_with, elements_done}
+use Rattle.core_runs.specs.Instances.{Given, FunctionAt, Made, bind, cons_if, all_at, there_is, at_most, matches_each, functions_given, tables_given, globals_given, memories_given, slots_after, with_table as table_with, elements_done}
 use Rattle.core_runs.specs.Expected.{hook_signature}
 use Rattle.core_runs.specs.Starts.{deeds_done}
 use Rattle.core_runs.proofs.Runs.{has_all}
