@@ -117,14 +117,6 @@ good_answered w c s g es questions (Gives (v ∷ values) number ∷ answers) now
     no : IsTrue false → ⊥
     no e = cc
 
--- where such a call is the last of a start function, that function returns nothing
-pub last_call : (answers : List Answer) (now : Now) (m : Machine) (next : List Value → Machine → Outcome) →
-    resumed (and_then (answered [] answers now) (λ results after. core.Returned [] after)) m next ≡ resumed (answered [] answers now) m (λ values after. next [] after)
-last_call [] now m next = refl
-last_call (Traps ∷ answers) now m next = refl
-last_call (Gives [] number ∷ answers) now m next = refl
-last_call (Gives (v ∷ values) number ∷ answers) now m next = refl
-
 -- A definition runs with these events, and the rest is run from this scope, this store and globals of these types.
 abbrev pub Continues : (w : ComponentWorld) (gen : GeneratedModules) (d : Def) (c : Scope) (s : Store) (g : List ValType) (c' : Scope) (s' : Store) (g' : List ValType) → List Event → Type 0
 Continues w gen d c s g c' s' g' seen =

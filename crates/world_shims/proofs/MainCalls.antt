@@ -43,11 +43,11 @@ pub hook_offered : (w : ComponentWorld) → IsWorld w → (name : List ℕ) → 
 hook_offered w ok name first = first_offered w is_task_hook hook_type (hook_typed w) name w.main.exports.exports ok.main.exported first
 
 -- so they are two functions
-parameters_of : ExternType → ℕ
+abbrev parameters_of : ExternType → ℕ
 parameters_of (externs.Func f) = length f.params
 parameters_of type = 0
 
-parameters : Option ExternType → ℕ
+abbrev parameters : Option ExternType → ℕ
 parameters None = 0
 parameters (Some type) = parameters_of type
 
@@ -55,7 +55,6 @@ unlike : (w : ComponentWorld) (name hook : List ℕ) → found name w.main.offer
 unlike w name hook first second = by (bytes_eq hook name) refl
   where
     by : (b : Bool) → bytes_eq hook name ≡ b → bytes_eq hook name ≡ false
-    unfolding parameters parameters_of
     by false e = e
     by true e =
         let same : hook ≡ name = (bytes_eq-Decides hook name).0 e in
